@@ -17,10 +17,10 @@ use Rattle.mg_answer.specs.Report.{report_by, report_of, asked_report, open_numb
 use Rattle.mg_answer.specs.Outcomes.{TellsOf, told_notes, told_answer, told_failed}
 use Rattle.mg_feed.specs.declared.feed_end.FeedEnd.{FeedEnd}
 use Rattle.mg_feed.specs.declared.feed_end.FeedEnd.TheVariants.{Ended, Failed, Refused, OutOfMemory as no_lines}
-use Rattle.mg_answer.specs.Text.{output_of}
+use Rattle.mg_answer.specs.Text.{output_text_of}
 use Rattle.mg_answer.specs.Told.{status_of}
-use Rattle.mg_answer.specs.Answer.{Read, Form, Telling, by_lines, output_in, Answer, ended_input, inputs_by, job_of, notes_at, failed_notes, answer_of, IsAnswer, AnswersEnded}
-use Rattle.mg_answer.specs.Devices.{Device, device, RunDevices, run_devices, Untouched, TookFront, Noted, HasRisen, Unrisen, NoneFailed}
+use Rattle.mg_answer.specs.Answer.{Read, OutputForm, Telling, by_lines, output_in, RunAnswer, ended_input, inputs_by, job_of, notes_at, failed_notes, answer_of, IsAnswer, AnswersEnded}
+use Rattle.mg_answer.specs.Devices.{Device, device, RunDevices, run_devices, Untouched, TookFront, TookNotes, HasRisen, Unrisen, NoneFailed}
 use Rattle.mg_answer.specs.Status.{IsOneOf}
 use Rattle.mg_answer.specs.Ran.{CameAs, CameTo, ReadSome, RanAll, RanShort, TookSome, Ran, IsAnswered}
 use Rattle.mg_answer.specs.Put.{TextView, HasPut}
@@ -28,7 +28,7 @@ use Rattle.mg_answer.specs.Frozen.{frozen_notes, frozen_answer, WroteFrozen}
 use Rattle.mg_answer.specs.Wrote.{Meets, MetShort, WroteBy, Wrote}
 use Rattle.mg_answer.specs.Code.Answered.{WroteSome}
 use Rattle.mg_answer.specs.declared.outcomes.Outcomes.{Outcomes}
-use Rattle.mg_answer.specs.Gathered.{Gathered}
+use Rattle.mg_answer.specs.Gathered.{GatheredInputs}
 use Rattle.mg_answer.specs.declared.status.Status.{Status}
 use Rattle.mg_answer.specs.declared.status.Status.TheVariants.{Good, StoreFault, Usage, GraphRefused, LineRefused, NodeFault, Stalled, ReadFault, WriteFault, OutOfMemory}
 use Rattle.mg_answer.proofs.Writing.{front-sent, put-sent}
@@ -40,7 +40,7 @@ use Rattle.mg_answer.proofs.Telling.{open-stalled, bounds-told}
 abbrev plain_job : Plan → Inputs → Job
 plain_job plan inputs = record { plan = plan; inputs = inputs }
 
-abbrev told : Bool → Plan → Inputs → FeedEnd → List (StreamPrefix Plain) → Answer
+abbrev told : Bool → Plan → Inputs → FeedEnd → List (StreamPrefix Plain) → RunAnswer
 told report plan inputs end streams = answer_of (by_lines report) (plain_job plan inputs) end streams
 
 abbrev failed : Bool → Plan → Inputs → FeedEnd → List (StreamPrefix Plain) → List ℕ
@@ -56,7 +56,7 @@ is-answer report plan inputs end read streams is ended solution = record {
 }
 
 ran-all : (report : Bool) (plan : Plan) (input : Device SourceTold) (end : FeedEnd) (inputs : Inputs) (status : Status) (output notes : Device SinkTold) (streams : List (StreamPrefix Plain))
-    → Gathered (inputs_of plan) input end inputs → IsSolution (plain_job plan inputs) streams
+    → GatheredInputs (inputs_of plan) input end inputs → IsSolution (plain_job plan inputs) streams
     → Meets (told report plan inputs end streams) status output notes → RanAll report plan status (run_devices input output notes)
 ran-all report plan input end inputs status output notes streams gathered solution wrote = record {
   read = gathered.read;
@@ -67,7 +67,7 @@ ran-all report plan input end inputs status output notes streams gathered soluti
 }
 
 ran-short : (report : Bool) (plan : Plan) (input : Device SourceTold) (end : FeedEnd) (inputs : Inputs) (output notes : Device SinkTold) (streams : List (StreamPrefix Plain))
-    → Gathered (inputs_of plan) input end inputs → IsSolution (plain_job plan inputs) streams
+    → GatheredInputs (inputs_of plan) input end inputs → IsSolution (plain_job plan inputs) streams
     → MetShort (told report plan inputs end streams) (failed report plan inputs end streams) output notes → RanShort report plan (run_devices input output notes)
 ran-short report plan input end inputs output notes streams gathered solution wrote = record {
   read = gathered.read;
@@ -79,7 +79,7 @@ ran-short report plan input end inputs output notes streams gathered solution wr
 }
 
 took-some : (plan : Plan) (input : Device SourceTold) (end : FeedEnd) (inputs : Inputs) (output : Device SinkTold) (streams : List (StreamPrefix Plain))
-    → Gathered (inputs_of plan) input end inputs → IsSolution (plain_job plan inputs) streams → TookFront output (output_of plan streams) → TookSome plan input output
+    → GatheredInputs (inputs_of plan) input end inputs → IsSolution (plain_job plan inputs) streams → TookFront output (output_text_of plan streams) → TookSome plan input output
 took-some plan input end inputs output streams gathered solution front = record {
   read = gathered.read;
   came = gathered.came;
@@ -99,7 +99,7 @@ no-want plan input (Refused line cause) fs ns came read by is = cc
 no-want plan input no_lines fs ns came read by is = absurd by
 
 ran-by : (report : Bool) (plan : Plan) (input : Device SourceTold) (end : FeedEnd) (inputs : Inputs) (status : Status) (output notes : Device SinkTold) (streams : List (StreamPrefix Plain))
-    → Gathered (inputs_of plan) input end inputs → IsSolution (plain_job plan inputs) streams
+    → GatheredInputs (inputs_of plan) input end inputs → IsSolution (plain_job plan inputs) streams
     → WroteBy status (told report plan inputs end streams) (failed report plan inputs end streams) output notes → Ran report plan status (run_devices input output notes)
 ran-by report plan input end inputs Good output notes streams gathered solution by = ran-all report plan input end inputs Good output notes streams gathered solution by
 ran-by report plan input end inputs LineRefused output notes streams gathered solution by = ran-all report plan input end inputs LineRefused output notes streams gathered solution by
@@ -116,21 +116,21 @@ ran-by report plan input end inputs OutOfMemory output notes streams gathered so
     (by.told ∙ ap (λ (e : FeedEnd). status_of e fs (stalled streams)) gathered.ended))
 
 pub ran-wrote : (report : Bool) (plan : Plan) (input : Device SourceTold) (end : FeedEnd) (inputs : Inputs) (status : Status) (output notes : Device SinkTold)
-    → Gathered (inputs_of plan) input end inputs → Wrote (by_lines report) (plain_job plan inputs) end status output notes → Ran report plan status (run_devices input output notes)
+    → GatheredInputs (inputs_of plan) input end inputs → Wrote (by_lines report) (plain_job plan inputs) end status output notes → Ran report plan status (run_devices input output notes)
 ran-wrote report plan input end inputs status output notes gathered wrote = ran-by report plan input end inputs status output notes wrote.streams gathered wrote.solution wrote.by
 
 pub ran-out : (report : Bool) (plan : Plan) (input : Device SourceTold) (end : FeedEnd) (inputs : Inputs) (output : Device SinkTold)
-    → Gathered (inputs_of plan) input end inputs → WroteSome (plain_job plan inputs) output → Untouched output ⊎ TookSome plan input output
+    → GatheredInputs (inputs_of plan) input end inputs → WroteSome (plain_job plan inputs) output → Untouched output ⊎ TookSome plan input output
 ran-out report plan input end inputs output gathered (inl untouched) = inl untouched
 ran-out report plan input end inputs output gathered (inr wrote) = inr (took-some plan input end inputs output wrote.streams gathered wrote.solution wrote.front)
 
 -- the note that memory ran out was taken by notes that nothing else was written to
-pub noted-then : (before middle now : SinkTold) (text : List ℕ) → middle ≡ before → Noted (device middle now) text → Noted (device before now) text
-noted-then before middle now text same noted = subst (λ (s : SinkTold). Noted (device s now) text) same noted
+pub noted-then : (before middle now : SinkTold) (text : List ℕ) → middle ≡ before → TookNotes (device middle now) text → TookNotes (device before now) text
+noted-then before middle now text same noted = subst (λ (s : SinkTold). TookNotes (device s now) text) same noted
 
 -- What was written --
 
-wrote-all : (end : FeedEnd) (fs : List Fault) (ns : List ℕ) (answer : Answer) (failed : List ℕ) (output notes : Device SinkTold) → Meets answer (status_of end fs ns) output notes
+wrote-all : (end : FeedEnd) (fs : List Fault) (ns : List ℕ) (answer : RunAnswer) (failed : List ℕ) (output notes : Device SinkTold) → Meets answer (status_of end fs ns) output notes
     → WroteBy (status_of end fs ns) answer failed output notes
 wrote-all Ended [] [] answer failed output notes wrote = wrote
 wrote-all Ended [] (n ∷ ns) answer failed output notes wrote = wrote
@@ -139,12 +139,12 @@ wrote-all (Failed lines) fs ns answer failed output notes wrote = wrote
 wrote-all (Refused line cause) fs ns answer failed output notes wrote = wrote
 wrote-all no_lines fs ns answer failed output notes wrote = wrote
 
-pub noted-from : (all : Bool) (notes : Device SinkTold) (text : List ℕ) → Sent all notes.before notes.now text → Noted notes text
+pub noted-from : (all : Bool) (notes : Device SinkTold) (text : List ℕ) → Sent all notes.before notes.now text → TookNotes notes text
 noted-from true notes text sent = inl sent
 noted-from false notes text sent = inr sent
 
 -- the notes at a write fault of the output
-wrote-failed : (answer : Answer) (failed : List ℕ) (status : Status) (noted : Bool) (said : Status → List ℕ) (output notes : Device SinkTold)
+wrote-failed : (answer : RunAnswer) (failed : List ℕ) (status : Status) (noted : Bool) (said : Status → List ℕ) (output notes : Device SinkTold)
     → status ≡ WriteFault → failed ≡ said WriteFault → Sent false output.before output.now answer.output → Sent noted notes.before notes.now (said status)
     → MetShort answer failed output notes
 wrote-failed answer failed status noted said output notes is failed_is text sent = record {
@@ -155,7 +155,7 @@ wrote-failed answer failed status noted said output notes is failed_is text sent
 }
 
 -- the notes are those of the status, which is that of a write fault where the output's failed
-wrote-by : (end : FeedEnd) (fs : List Fault) (ns : List ℕ) (answer : Answer) (failed : List ℕ) (status : Status) (written noted : Bool) (said : Status → List ℕ) (output notes : Device SinkTold)
+wrote-by : (end : FeedEnd) (fs : List Fault) (ns : List ℕ) (answer : RunAnswer) (failed : List ℕ) (status : Status) (written noted : Bool) (said : Status → List ℕ) (output notes : Device SinkTold)
     → status ≡ (if written then status_of end fs ns else WriteFault) → answer.status ≡ status_of end fs ns → answer.notes ≡ said (status_of end fs ns) → failed ≡ said WriteFault
     → Sent written output.before output.now answer.output → Sent noted notes.before notes.now (said status)
     → WroteBy (if noted then status else WriteFault) answer failed output notes
@@ -208,7 +208,7 @@ said-by status plan end outcomes ns report job streams plan_is tells =
 
 -- the text was put
 sent-of : (plan : Plan) (view view' : TextView) (written : Bool) (before now : SinkTold) → ((first : SinkTold) (text : List ℕ) → HasPut first before view text → HasPut first now view' text)
-    → (view'.failed ≡ false → view'.kept ≡ []) → written ≡ not view'.failed → (form : Form) (job : Job) (streams : List (StreamPrefix Plain)) (first : SinkTold) → job.plan ≡ plan
+    → (view'.failed ≡ false → view'.kept ≡ []) → written ≡ not view'.failed → (form : OutputForm) (job : Job) (streams : List (StreamPrefix Plain)) (first : SinkTold) → job.plan ≡ plan
     → HasPut first before view (output_in form plan streams) → Sent written first now (output_in form job.plan streams)
 sent-of plan view view' written before now flush none written_is form job streams first plan_is put =
     subst (λ (b : Bool). Sent b first now (output_in form job.plan streams)) (sym written_is)
@@ -221,7 +221,7 @@ pub wrote-told : (plan : Plan) (end : FeedEnd) (outcomes : Outcomes) (ns : List 
     → (view'.failed ≡ false → view'.kept ≡ []) → written ≡ not view'.failed → ns ≡ open_numbers outcomes.ends.items
     → status ≡ (if written then status_of end outcomes.faults ns else WriteFault)
     → said ≡ told_notes status report plan end outcomes ns → bytes ≡ said → Sent noted notes_before notes_now bytes → result ≡ (if noted then status else WriteFault)
-    → (form : Form) (job : Job) (streams : List (StreamPrefix Plain)) (first : SinkTold) → job.plan ≡ plan → IsSolution job streams → TellsOf job streams outcomes
+    → (form : OutputForm) (job : Job) (streams : List (StreamPrefix Plain)) (first : SinkTold) → job.plan ≡ plan → IsSolution job streams → TellsOf job streams outcomes
     → HasPut first before view (output_in form plan streams) → Wrote (record { form = form; report = report }) job end result (device first now) (device notes_before notes_now)
 wrote-told plan end outcomes ns report view view' status result written noted bytes said before now notes_before notes_now flush none written_is ns_is is said_is bytes_is sent result_is
     form job streams first plan_is solution tells put =
@@ -241,7 +241,7 @@ pub wrote-told-frozen : (plan : Plan) (outcomes : Outcomes) (report : Bool) (vie
     → (view'.failed ≡ false → view'.kept ≡ []) → written ≡ not view'.failed
     → status ≡ (if written then status_of Ended outcomes.faults [] else WriteFault)
     → said ≡ told_notes status report plan Ended outcomes [] → bytes ≡ said → Sent noted notes_before notes_now bytes → result ≡ (if noted then status else WriteFault)
-    → (form : Form) (job : Job) (streams : List (StreamPrefix Plain)) (first : SinkTold) → job.plan ≡ plan → IsSolution job streams → TellsOf job streams outcomes
+    → (form : OutputForm) (job : Job) (streams : List (StreamPrefix Plain)) (first : SinkTold) → job.plan ≡ plan → IsSolution job streams → TellsOf job streams outcomes
     → HasPut first before view (output_in form plan streams) → WroteFrozen (record { form = form; report = report }) job result (device first now) (device notes_before notes_now)
 wrote-told-frozen plan outcomes report view view' status result written noted bytes said before now notes_before notes_now flush none written_is is said_is bytes_is sent result_is
     form job streams first plan_is solution tells put =
@@ -275,7 +275,7 @@ wrote-so plan end outcomes ns report view view' status result written noted byte
 told-by : (report : Bool) (plan : Plan) (status : Status) (all : RunDevices) (ran : RanAll report plan status all)
     → (fs : List Fault) × (ns : List ℕ) × (status ≡ status_of ran.read.end fs ns)
 told-by report plan status all ran =
-    (faults (job_of plan ran.read) ran.is.streams, stalled ran.is.streams, ran.met.told ∙ ap (λ (a : Answer). a.status) ran.is.is)
+    (faults (job_of plan ran.read) ran.is.streams, stalled ran.is.streams, ran.met.told ∙ ap (λ (a : RunAnswer). a.status) ran.is.is)
 
 -- the input was read, unless memory ran out
 pub ran-read : (report : Bool) (plan : Plan) (status : Status) (all : RunDevices) → Ran report plan status all → status ≢ OutOfMemory → (read : Read) × CameTo (inputs_of plan) all.input read
@@ -431,7 +431,7 @@ whole-read graph input read bytes came is un =
 all-answered : (report : Bool) (plan : Plan) (status : Status) (all : RunDevices) → RanAll report plan status all → NoneFailed all → IsAnswered report plan status all
 all-answered report plan status all ran none = by all.input.before.left refl
   where
-    by : (o : Option (List ℕ)) → all.input.before.left ≡ o → IfSome o (λ bytes. (answer : Answer) × AnswersEnded report plan bytes answer × Meets answer status all.output all.notes)
+    by : (o : Option (List ℕ)) → all.input.before.left ≡ o → IfSome o (λ bytes. (answer : RunAnswer) × AnswersEnded report plan bytes answer × Meets answer status all.output all.notes)
     by None is = tt
     by (Some bytes) is = (
       ran.answer,

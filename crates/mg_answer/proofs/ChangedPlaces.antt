@@ -11,7 +11,7 @@ use Rattle.mg_feed.specs.Stands.{AllGood}
 use Rattle.mg_feed.specs.declared.feed_end.FeedEnd.TheVariants.{Ended}
 use Rattle.mg_feed.proofs.Accepting.{judged-good}
 use Rattle.mg_feed.proofs.ChangingPlaces.{places_changed}
-use Rattle.mg_answer.specs.Answer.{by_lines, Read, Answer, end_by, ended_input, is_ended, IsAnswerOf, IsAnswer, AnswersEnded}
+use Rattle.mg_answer.specs.Answer.{by_lines, Read, RunAnswer, end_by, ended_input, is_ended, IsAnswerOf, IsAnswer, AnswersEnded}
 
 -- what an input came to whose lines are all good
 abbrev all_read : List (List ℕ) → Read
@@ -26,7 +26,7 @@ reads_all graph input good =
 abbrev state_job : Plan → State → Job
 state_job plan given = record { plan = plan; inputs = record { streams = ended_streams (is_ended Ended) given.streams; sides = given.sides; ended = is_ended Ended } }
 
-pub same_answer : (report : Bool) (plan : Plan) (input other : List ℕ) (front back : List (List ℕ)) (first second : List ℕ) (answer : Answer)
+pub same_answer : (report : Bool) (plan : Plan) (input other : List ℕ) (front back : List (List ℕ)) (first second : List ℕ) (answer : RunAnswer)
     → all_lines input ≡ front ++ first ∷ second ∷ back → all_lines other ≡ front ++ second ∷ first ∷ back → AreApart first second
     → AllGood (inputs_of plan) [] (all_lines input) → AllGood (inputs_of plan) [] (all_lines other) → AnswersEnded report plan input answer → AnswersEnded report plan other answer
 same_answer report plan input other front back first second answer is also apart good good_too answers =

@@ -9,7 +9,7 @@ use Rattle.mg_calc.specs.declared.inputs.Inputs.{Inputs}
 use Rattle.mg_feed.specs.Graph.{GraphInputs}
 use Rattle.mg_feed.specs.Accepted.{State, given_by}
 use Rattle.mg_feed.specs.Given.{ended_streams}
-use Rattle.mg_feed.specs.Stands.{Stands, AllGood, nothing_taken}
+use Rattle.mg_feed.specs.Stands.{HasAccepted, AllGood, nothing_taken}
 use Rattle.mg_feed.specs.Fed.{Fed, Reading}
 use Rattle.mg_feed.specs.Came.{Came}
 use Rattle.mg_feed.specs.Ran.{MetEnd, late, Spends, Unfailed, ReadFailed, FailedBy}
@@ -24,7 +24,7 @@ use Rattle.mg_feed.specs.declared.feed_end.FeedEnd.TheVariants.{Ended, Failed, R
 use Rattle.mg_answer.specs.Answer.{Read, end_by, is_ended}
 use Rattle.mg_answer.specs.Devices.{Device, device}
 use Rattle.mg_answer.specs.Ran.{CameAs, CameTo, ReadSome}
-use Rattle.mg_answer.specs.Gathered.{Gathered}
+use Rattle.mg_answer.specs.Gathered.{GatheredInputs}
 
 abbrev read_of : List (List ℕ) → FeedEnd → Read
 read_of lines end = record { lines = lines; end = end }
@@ -77,7 +77,7 @@ read-came graph input read c = record { came = c.came; gave = c.gave; once = c.o
 
 -- what a feed that was new read
 once-read : (graph : GraphInputs) (end : FeedEnd) (before now : SourceTold) (old new : Fed) → old.view.graph ≡ graph → new.view.graph ≡ graph
-    → Stands [] (nothing_taken graph) old.view → old.read ≡ record { kept = []; ended = false } → (read : HasRead end before now old new)
+    → HasAccepted [] (nothing_taken graph) old.view → old.read ≡ record { kept = []; ended = false } → (read : HasRead end before now old new)
     → Spends (late old.read.ended) 1 before.left now.left before.reads now.reads → ReadsOnce graph before now read.came
 once-read graph end before now old new is_old is_new stands unread read spent = record {
   stops = subst (λ (g : GraphInputs). StopsInTime g [] read.came) is_new
@@ -87,7 +87,7 @@ once-read graph end before now old new is_old is_new stands unread read spent = 
 
 -- also where there was no memory
 pub some-read : (graph : GraphInputs) (end : FeedEnd) (before now : SourceTold) (old new : Fed) → old.view.graph ≡ graph → new.view.graph ≡ graph
-    → Stands [] (nothing_taken graph) old.view → old.read ≡ record { kept = []; ended = false } → HasRead end before now old new → FailedBy end before now
+    → HasAccepted [] (nothing_taken graph) old.view → old.read ≡ record { kept = []; ended = false } → HasRead end before now old new → FailedBy end before now
     → Spends (late old.read.ended) 1 before.left now.left before.reads now.reads → ReadSome graph (device before now)
 some-read graph end before now old new is_old is_new stands unread read failed spent = record {
   came = read.came;
@@ -98,7 +98,7 @@ some-read graph end before now old new is_old is_new stands unread read failed s
 
 -- the bytes that came, and the lines that were accepted of them
 pub came-to : (graph : GraphInputs) (end : FeedEnd) (before now : SourceTold) (old new : Fed) → end ≢ OutOfMemory → old.view.graph ≡ graph → new.view.graph ≡ graph
-    → Stands [] (nothing_taken graph) old.view → old.read ≡ record { kept = []; ended = false } → HasRead end before now old new
+    → HasAccepted [] (nothing_taken graph) old.view → old.read ≡ record { kept = []; ended = false } → HasRead end before now old new
     → MetEnd old.read.ended new.read.ended before now → FailedBy end before now → Spends (late old.read.ended) 1 before.left now.left before.reads now.reads
     → (lines : List (List ℕ)) × CameTo graph (device before now) (record { lines = lines; end = end }) × AllGood graph [] lines × (new.view.given ≡ given_by graph lines)
 came-to graph end before now old new some is_old is_new stands unread read met failed spent =
@@ -107,7 +107,7 @@ came-to graph end before now old new some is_old is_new stands unread read met f
     let came = both.0 in
     let ends : EndsAs end graph [] read.came read.taken new.read.ended = subst (λ (g : GraphInputs). EndsAs end g [] read.came read.taken new.read.ended) is_old both.1 in
     let met' : MetEnd false new.read.ended before now = subst (λ (r : Reading). MetEnd r.ended new.read.ended before now) unread met in
-    let now_stands : Stands read.taken (nothing_taken new.view.graph) new.view = subst (λ (g : GraphInputs). Stands read.taken (nothing_taken g) new.view) (sym is_new) came.stands in
+    let now_stands : HasAccepted read.taken (nothing_taken new.view.graph) new.view = subst (λ (g : GraphInputs). HasAccepted read.taken (nothing_taken g) new.view) (sym is_new) came.stands in
     let given : new.view.given ≡ given_by new.view.graph read.taken = given-untaken read.taken new.view now_stands in
     let is_given : new.view.given ≡ given_by graph read.taken = given ∙ ap (λ g. given_by g read.taken) is_new in (
       read.taken,
@@ -126,10 +126,10 @@ inputs-same inputs ss sides ended a b c =
     ap (λ l. inputs_from l inputs.sides inputs.ended) a ∙ ap (λ l. inputs_from ss l inputs.ended) b ∙ ap (λ e. inputs_from ss sides e) c
 
 pub gathered : (graph : GraphInputs) (end : FeedEnd) (before now : SourceTold) (old new : Fed) (b : Bool) (inputs : Inputs) → end ≢ OutOfMemory → old.view.graph ≡ graph → new.view.graph ≡ graph
-    → Stands [] (nothing_taken graph) old.view → old.read ≡ record { kept = []; ended = false } → HasRead end before now old new
+    → HasAccepted [] (nothing_taken graph) old.view → old.read ≡ record { kept = []; ended = false } → HasRead end before now old new
     → MetEnd old.read.ended new.read.ended before now → FailedBy end before now → Spends (late old.read.ended) 1 before.left now.left before.reads now.reads → b ≡ is_ended end
     → inputs.streams ≡ ended_streams b new.view.given.streams → inputs.sides ≡ new.view.given.sides → inputs.ended ≡ b
-    → Gathered graph (device before now) end inputs
+    → GatheredInputs graph (device before now) end inputs
 gathered graph end before now old new b inputs some is_old is_new stands unread read met failed spent is_b streams sides ended =
     let it = came-to graph end before now old new some is_old is_new stands unread read met failed spent in
     let given = it.3 in

@@ -13,7 +13,7 @@ use Rattle.mg_calc.specs.Meaning.{faults, stalled}
 use Rattle.mg_equations.proofs.NodeSteps.{few_sets}
 use Rattle.mg_feed.specs.declared.feed_end.FeedEnd.TheVariants.{Ended}
 use Rattle.mg_answer.specs.Told.{status_of}
-use Rattle.mg_answer.specs.Answer.{Answer, by_summary, generated_job, failed_notes, answer_of, AnswersGenerated}
+use Rattle.mg_answer.specs.Answer.{RunAnswer, by_summary, generated_job, failed_notes, answer_of, AnswersGenerated}
 use Rattle.mg_answer.specs.Devices.{RunDevices, Unrisen}
 use Rattle.mg_answer.specs.Wrote.{Meets, MetShort, Wrote}
 use Rattle.mg_answer.specs.Status.{IsOneOf}
@@ -25,7 +25,7 @@ use Rattle.mg_answer.proofs.OneAnswer.{answer-of}
 use Rattle.mg_answer.proofs.Telling.{solved-prefixes}
 
 -- there is an answer
-pub answer-generated : (report : Bool) (plan : Plan) (number : ℕ) → IsJob (generated_job plan number) → (answer : Answer) × AnswersGenerated report plan number answer
+pub answer-generated : (report : Bool) (plan : Plan) (number : ℕ) → IsJob (generated_job plan number) → (answer : RunAnswer) × AnswersGenerated report plan number answer
 answer-generated report plan number is = answer-of (by_summary report) (generated_job plan number) Ended is
 
 -- What was written --
@@ -70,7 +70,7 @@ generated-ran report plan number OutOfMemory all wrote = absurd (no-want (faults
 -- What follows --
 
 abbrev pub MetGenerated : Bool → Plan → ℕ → Status → RunDevices → Type 0
-MetGenerated report plan number status all = (answer : Answer) × AnswersGenerated report plan number answer × Meets answer status all.output all.notes
+MetGenerated report plan number status all = (answer : RunAnswer) × AnswersGenerated report plan number answer × Meets answer status all.output all.notes
 
 all-met : (report : Bool) (plan : Plan) (number : ℕ) (status : Status) (all : RunDevices) → GeneratedAll report plan number status all → MetGenerated report plan number status all
 all-met report plan number status all ran = (ran.answer, ran.is, ran.met)

@@ -20,7 +20,7 @@ use Rattle.mg_feed.specs.Accepted.{given_by, accepted}
 use Rattle.mg_feed.specs.Given.{ended_streams}
 use Rattle.mg_feed.specs.Stands.{AllGood}
 use Rattle.mg_feed.specs.declared.feed_end.FeedEnd.TheVariants.{Failed}
-use Rattle.mg_answer.specs.Text.{output_names, set_text, output_of}
+use Rattle.mg_answer.specs.Text.{output_names, set_text, output_text_of}
 use Rattle.mg_answer.specs.Answer.{Read, ended_input, is_ended, inputs_by, job_of}
 use Rattle.mg_answer.specs.Devices.{IsFront}
 use Rattle.mg_answer.proofs.Fitting.{inputs-fit, accepted-fit}
@@ -39,7 +39,7 @@ ports-extend xs ys [] e = tt
 ports-extend xs ys (n ∷ ns) e = (port-extends xs ys n e, ports-extend xs ys ns e)
 
 -- the settled sets stay, so their text does
-text-grows : (plan : Plan) (streams later : List (StreamPrefix Plain)) → AreExtendedBy streams later → IsFront (output_of plan streams) (output_of plan later)
+text-grows : (plan : Plan) (streams later : List (StreamPrefix Plain)) → AreExtendedBy streams later → IsFront (output_text_of plan streams) (output_text_of plan later)
 text-grows plan streams later e =
     let names = output_names plan in
     let lines : TimedSet Plain → List ℕ = λ timed. set_text names timed.set in
@@ -82,7 +82,7 @@ pub texts-grow : (plan : Plan) (bytes : List ℕ) (lines more : List (List ℕ))
     → AreExtendedBy (given_by (inputs_of plan) lines).streams (ended_streams (is_ended (read_of plan bytes).end) (given_by (inputs_of plan) (lines ++ more)).streams)
     → accepted (inputs_of plan) (all_lines bytes) ≡ lines ++ more → (given_by (inputs_of plan) lines).sides ≡ (given_by (inputs_of plan) (lines ++ more)).sides
     → IsSolution (record { plan = plan; inputs = given_so_far (inputs_of plan) lines }) streams
-    → IsSolution (job_of plan (read_of plan bytes)) longer → IsFront (output_of plan streams) (output_of plan longer)
+    → IsSolution (job_of plan (read_of plan bytes)) longer → IsFront (output_text_of plan streams) (output_text_of plan longer)
 texts-grow plan bytes lines more streams longer valid good grows is sides solution whole =
     let graph = inputs_of plan in
     let all = inputs_by graph (read_of plan bytes) in

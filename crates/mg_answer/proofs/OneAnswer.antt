@@ -18,35 +18,35 @@ use Rattle.mg_calc.proofs.Solutions.{one_solution}
 use Rattle.mg_calc.proofs.Jobs.{any_state, job_known}
 use Rattle.mg_feed.specs.Graph.{inputs_of}
 use Rattle.mg_feed.specs.Lines.{all_lines, whole_lines}
-use Rattle.mg_answer.specs.Answer.{Telling, by_lines, output_in, Read, Answer, end_by, ended_input, cut_input, job_of, answer_of, IsAnswerOf, IsAnswer, AnswersEnded, AnswersCut}
+use Rattle.mg_answer.specs.Answer.{Telling, by_lines, output_in, Read, RunAnswer, end_by, ended_input, cut_input, job_of, answer_of, IsAnswerOf, IsAnswer, AnswersEnded, AnswersCut}
 use Rattle.mg_answer.proofs.Fitting.{accepted-fit}
 
 -- a job has an answer
-pub answer-of : (telling : Telling) (job : Job) (end : FeedEnd) → IsJob job → (answer : Answer) × IsAnswerOf telling job end answer
+pub answer-of : (telling : Telling) (job : Job) (end : FeedEnd) → IsJob job → (answer : RunAnswer) × IsAnswerOf telling job end answer
 answer-of telling job end is =
     let it = a_solution any_state job (job_known job is) is.plan is.inputs.streams in
     (answer_of telling job end it.0, record { streams = it.0; solution = it.1; is = refl })
 
-pub answer-ended : (report : Bool) (plan : Plan) (bytes : List ℕ) → IsValid plan → (answer : Answer) × AnswersEnded report plan bytes answer
+pub answer-ended : (report : Bool) (plan : Plan) (bytes : List ℕ) → IsValid plan → (answer : RunAnswer) × AnswersEnded report plan bytes answer
 answer-ended report plan bytes valid =
     let read : Read = ended_input (inputs_of plan) bytes in
     answer-of (by_lines report) (job_of plan read) read.end (record { plan = valid; inputs = accepted-fit plan (all_lines bytes) read.end valid })
 
-pub answer-cut : (report : Bool) (plan : Plan) (bytes : List ℕ) → IsValid plan → (answer : Answer) × AnswersCut report plan bytes answer
+pub answer-cut : (report : Bool) (plan : Plan) (bytes : List ℕ) → IsValid plan → (answer : RunAnswer) × AnswersCut report plan bytes answer
 answer-cut report plan bytes valid =
     let read : Read = cut_input (inputs_of plan) bytes in
     answer-of (by_lines report) (job_of plan read) read.end (record { plan = valid; inputs = accepted-fit plan (whole_lines bytes) read.end valid })
 
 -- and no second one
-pub one-of : (telling : Telling) (job : Job) (end : FeedEnd) (answer other : Answer) → IsAnswerOf telling job end answer → IsAnswerOf telling job end other → answer ≡ other
+pub one-of : (telling : Telling) (job : Job) (end : FeedEnd) (answer other : RunAnswer) → IsAnswerOf telling job end answer → IsAnswerOf telling job end other → answer ≡ other
 one-of telling job end answer other a b =
     a.is ∙ ap (answer_of telling job end) (one_solution job a.streams b.streams a.solution b.solution) ∙ sym b.is
 
-pub one-answer : (report : Bool) (plan : Plan) (read : Read) (answer other : Answer) → IsAnswer report plan read answer → IsAnswer report plan read other → answer ≡ other
+pub one-answer : (report : Bool) (plan : Plan) (read : Read) (answer other : RunAnswer) → IsAnswer report plan read answer → IsAnswer report plan read other → answer ≡ other
 one-answer report plan read answer other a b = one-of (by_lines report) (job_of plan read) read.end answer other a b
 
 -- the answer of a run in which nothing is told
-good-by : (telling : Telling) (job : Job) (end : FeedEnd) (streams : List (StreamPrefix Plain)) (answer : Answer) → IsSolution job streams
+good-by : (telling : Telling) (job : Job) (end : FeedEnd) (streams : List (StreamPrefix Plain)) (answer : RunAnswer) → IsSolution job streams
     → end ≡ Ended → faults job streams ≡ [] → stalled streams ≡ [] → IsAnswerOf telling job end answer
     → answer ≡ record { output = output_in telling.form job.plan streams; notes = asked_report telling.report (report_of job streams); status = Good }
 good-by telling job end streams answer solution ended no_fault no_stall is =
@@ -58,12 +58,12 @@ good-by telling job end streams answer solution ended no_fault no_stall is =
     } in
     of_streams ∙ good
 
-pub good-told : (telling : Telling) (job : Job) (streams : List (StreamPrefix Plain)) (answer : Answer) → IsSolution job streams
+pub good-told : (telling : Telling) (job : Job) (streams : List (StreamPrefix Plain)) (answer : RunAnswer) → IsSolution job streams
     → faults job streams ≡ [] → stalled streams ≡ [] → IsAnswerOf telling job Ended answer
     → answer ≡ record { output = output_in telling.form job.plan streams; notes = asked_report telling.report (report_of job streams); status = Good }
 good-told telling job streams answer solution no_fault no_stall is = good-by telling job Ended streams answer solution refl no_fault no_stall is
 
-pub good-answer : (report : Bool) (plan : Plan) (bytes : List ℕ) (streams : List (StreamPrefix Plain)) (answer : Answer)
+pub good-answer : (report : Bool) (plan : Plan) (bytes : List ℕ) (streams : List (StreamPrefix Plain)) (answer : RunAnswer)
     → IsSolution (job_of plan (ended_input (inputs_of plan) bytes)) streams → first_refused_after (inputs_of plan) [] (all_lines bytes) ≡ None
     → faults (job_of plan (ended_input (inputs_of plan) bytes)) streams ≡ [] → stalled streams ≡ [] → AnswersEnded report plan bytes answer
     → answer ≡ record { output = output_in (by_lines report).form plan streams; notes = asked_report report (report_of (job_of plan (ended_input (inputs_of plan) bytes)) streams); status = Good }

@@ -9,7 +9,7 @@ use Rattle.mg_value.specs.Payload.{Plain}
 use Rattle.mg_value.specs.Prefix.{Stamped}
 use Rattle.mg_value.specs.Settled.{TimedSet}
 use Rattle.mg_answer.specs.Put.{TextView, HasPut}
-use Rattle.mg_answer.specs.Summary.{number_in, sum_of, first_time_of, last_time_of, total_of, packets_at, total_line, summary_text, SummaryView, totals_of, HasSummed}
+use Rattle.mg_answer.specs.Summary.{addend, sum_of, first_time_of, last_time_of, total_of, packets_at, total_line, summary_text, SummaryView, totals_of, HasSummed}
 use Rattle.mg_answer.specs.Code.Adding.{with_place, with_set, total_lines}
 use Rattle.mg_answer.specs.declared.total.Total.{Total}
 use Rattle.mg_answer.proofs.AddingSets.{set-none}
@@ -20,7 +20,7 @@ abbrev listed : Option (Stamped Plain) → List (Stamped Plain)
 listed None = []
 listed (Some p) = p ∷ []
 
-sum-more : (ps : List (Stamped Plain)) (p : Stamped Plain) → sum_of (ps ++ p ∷ []) ≡ sum_of ps +ℤ number_in p.value
+sum-more : (ps : List (Stamped Plain)) (p : Stamped Plain) → sum_of (ps ++ p ∷ []) ≡ sum_of ps +ℤ addend p.value
 sum-more [] p = omega (arith, ints)
 sum-more (q ∷ ps) p = let rest = sum-more ps p in omega (arith, ints, rest)
 

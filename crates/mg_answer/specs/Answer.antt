@@ -14,7 +14,7 @@ use Rattle.mg_feed.specs.Given.{ended_streams}
 use Rattle.mg_feed.specs.Generated.{generated, generated_sides}
 use Rattle.mg_feed.specs.declared.feed_end.FeedEnd.{FeedEnd}
 use Rattle.mg_feed.specs.declared.feed_end.FeedEnd.TheVariants.{Ended, Failed, Refused, OutOfMemory}
-use Rattle.mg_answer.specs.Text.{output_of}
+use Rattle.mg_answer.specs.Text.{output_text_of}
 use Rattle.mg_answer.specs.Summary.{summary_of}
 use Rattle.mg_answer.specs.Report.{report_of, asked_report}
 use Rattle.mg_answer.specs.Told.{status_of}
@@ -79,13 +79,13 @@ generated_job plan number = record { plan = plan; inputs = generated_inputs (inp
 
 -- How a solution is told: by the lines of its outputs, by a summary of these, or by another text in their place, such as a trace of the
 -- events that led to it; and with a report behind the notes or without.
-pub data Form : Type 0 where
-  packet_lines : Form
-  totals : Form
-  in_place : List ℕ → Form
+pub data OutputForm : Type 0 where
+  packet_lines : OutputForm
+  totals : OutputForm
+  in_place : List ℕ → OutputForm
 
 pub record Telling : Type 0 where
-  pub form : Form
+  pub form : OutputForm
   pub report : Bool
 
 abbrev pub by_lines : Bool → Telling
@@ -98,13 +98,13 @@ abbrev pub by_text : List ℕ → Bool → Telling
 by_text text report = record { form = in_place text; report = report }
 
 -- the output text by which the streams of a plan are told in a form
-abbrev pub output_in : Form → Plan → List (StreamPrefix Plain) → List ℕ
-output_in packet_lines plan streams = output_of plan streams
+abbrev pub output_in : OutputForm → Plan → List (StreamPrefix Plain) → List ℕ
+output_in packet_lines plan streams = output_text_of plan streams
 output_in totals plan streams = summary_of plan streams
 output_in (in_place text) plan streams = text
 
 -- what a run writes, and the status with which it ends
-pub record Answer : Type 0 where
+pub record RunAnswer : Type 0 where
   pub output : List ℕ
   pub notes : List ℕ
   pub status : Status
@@ -118,7 +118,7 @@ abbrev pub failed_notes : Telling → Job → FeedEnd → List (StreamPrefix Pla
 failed_notes telling job end streams = notes_at WriteFault telling job end streams
 
 -- the answer that the streams of a job make, by how its input ended
-abbrev pub answer_of : Telling → Job → FeedEnd → List (StreamPrefix Plain) → Answer
+abbrev pub answer_of : Telling → Job → FeedEnd → List (StreamPrefix Plain) → RunAnswer
 answer_of telling job end streams = record {
   output = output_in telling.form job.plan streams;
   notes = notes_at (status_of end (faults job streams) (stalled streams)) telling job end streams;
@@ -126,23 +126,23 @@ answer_of telling job end streams = record {
 }
 
 -- The answer of a job, by how its input ended: the one that the job's solution makes.
-pub record IsAnswerOf (telling : Telling) (job : Job) (end : FeedEnd) (answer : Answer) : Type 0 where
+pub record IsAnswerOf (telling : Telling) (job : Job) (end : FeedEnd) (answer : RunAnswer) : Type 0 where
   pub streams : List (StreamPrefix Plain)
   pub solution : IsSolution job streams
   pub is : answer ≡ answer_of telling job end streams
 
 -- the answer of a graph over an input that came to this, with a report or without
-abbrev pub IsAnswer : Bool → Plan → Read → Answer → Type 0
+abbrev pub IsAnswer : Bool → Plan → Read → RunAnswer → Type 0
 IsAnswer report plan read answer = IsAnswerOf (by_lines report) (job_of plan read) read.end answer
 
 -- the answer of a graph over an input that ended after these bytes
-abbrev pub AnswersEnded : Bool → Plan → List ℕ → Answer → Type 0
+abbrev pub AnswersEnded : Bool → Plan → List ℕ → RunAnswer → Type 0
 AnswersEnded report plan bytes answer = IsAnswer report plan (ended_input (inputs_of plan) bytes) answer
 
 -- the answer of a graph over an input of which a read failed after these bytes
-abbrev pub AnswersCut : Bool → Plan → List ℕ → Answer → Type 0
+abbrev pub AnswersCut : Bool → Plan → List ℕ → RunAnswer → Type 0
 AnswersCut report plan bytes answer = IsAnswer report plan (cut_input (inputs_of plan) bytes) answer
 
 -- the answer of a graph over a number of packets that are made: its output is a summary
-abbrev pub AnswersGenerated : Bool → Plan → ℕ → Answer → Type 0
+abbrev pub AnswersGenerated : Bool → Plan → ℕ → RunAnswer → Type 0
 AnswersGenerated report plan number answer = IsAnswerOf (by_summary report) (generated_job plan number) Ended answer

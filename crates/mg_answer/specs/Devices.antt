@@ -61,5 +61,5 @@ abbrev pub TookPart : Device SinkTold → List ℕ → Type 0
 TookPart sink text = SentPart sink.before sink.now text
 
 -- The notes took a text, or a front of it where a write failed.
-abbrev pub Noted : Device SinkTold → List ℕ → Type 0
-Noted notes text = TookText notes text ⊎ TookPart notes text
+abbrev pub TookNotes : Device SinkTold → List ℕ → Type 0
+TookNotes notes text = TookText notes text ⊎ TookPart notes text

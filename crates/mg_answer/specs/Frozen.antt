@@ -11,7 +11,7 @@ use Rattle.mg_feed.specs.declared.feed_end.FeedEnd.TheVariants.{Ended}
 use Rattle.mg_answer.specs.Report.{report_of, asked_report}
 use Rattle.mg_answer.specs.Told.{ended_status}
 use Rattle.mg_answer.specs.Notes.{bounds_of, notes_by}
-use Rattle.mg_answer.specs.Answer.{Telling, Answer, output_in, failed_notes}
+use Rattle.mg_answer.specs.Answer.{Telling, RunAnswer, output_in, failed_notes}
 use Rattle.mg_answer.specs.Devices.{Device}
 use Rattle.mg_answer.specs.Wrote.{WroteBy}
 use Rattle.mg_answer.specs.declared.status.Status.{Status}
@@ -25,7 +25,7 @@ abbrev pub frozen_notes : Status → Telling → Job → List (StreamPrefix Plai
 frozen_notes status telling job streams = notes_by status job.plan Ended (faults job streams) (bounds_of streams) [] ++ asked_report telling.report (report_of job streams)
 
 -- the answer that the streams of a frozen job make
-abbrev pub frozen_answer : Telling → Job → List (StreamPrefix Plain) → Answer
+abbrev pub frozen_answer : Telling → Job → List (StreamPrefix Plain) → RunAnswer
 frozen_answer telling job streams = record {
   output = output_in telling.form job.plan streams;
   notes = frozen_notes (frozen_status (faults job streams)) telling job streams;
@@ -33,7 +33,7 @@ frozen_answer telling job streams = record {
 }
 
 -- The answer of a frozen job: the one that the job's solution makes.
-pub record IsFrozenAnswer (telling : Telling) (job : Job) (answer : Answer) : Type 0 where
+pub record IsFrozenAnswer (telling : Telling) (job : Job) (answer : RunAnswer) : Type 0 where
   pub streams : List (StreamPrefix Plain)
   pub solution : IsSolution job streams
   pub is : answer ≡ frozen_answer telling job streams

@@ -10,7 +10,7 @@ use Rattle.mg_answer.specs.Devices.{Device}
 use Rattle.mg_answer.specs.Ran.{CameTo}
 
 -- an input came to lines, all of them good, and to this end; and the inputs are what these lines give the graph
-pub record Gathered (graph : GraphInputs) (input : Device SourceTold) (end : FeedEnd) (inputs : Inputs) : Type 0 where
+pub record GatheredInputs (graph : GraphInputs) (input : Device SourceTold) (end : FeedEnd) (inputs : Inputs) : Type 0 where
   pub read : Read
   pub came : CameTo graph input read
   pub ended : end ≡ read.end

@@ -18,7 +18,7 @@ use Rattle.mg_feed.specs.declared.line_fault.LineFault.{LineFault}
 use Rattle.mg_feed.specs.declared.line_fault.LineFault.TheVariants as lines
 use Rattle.mg_feed.specs.declared.feed_end.FeedEnd.{FeedEnd}
 use Rattle.mg_feed.specs.declared.feed_end.FeedEnd.TheVariants.{Ended, Failed, Refused, OutOfMemory}
-use Rattle.mg_answer.specs.Shown.{shown}
+use Rattle.mg_answer.specs.Shown.{escaped}
 use Rattle.mg_answer.specs.Text.{name_of}
 use Rattle.mg_answer.specs.declared.status.Status.{Status}
 use Rattle.mg_answer.specs.declared.status.Status.TheVariants as runs
@@ -34,25 +34,25 @@ value_name values.TooWide = codes "TooWide"
 value_name values.OutOfMemory = []
 
 -- the words for why a line isn't good; want of memory has none
-abbrev pub line_refusal : LineFault → List ℕ
-line_refusal lines.NotJson = codes "NotJson"
-line_refusal lines.BadShape = codes "BadShape"
-line_refusal lines.UnknownStream = codes "UnknownStream"
-line_refusal lines.BadTimestamp = codes "BadTimestamp"
-line_refusal lines.NotAscending = codes "NotAscending"
-line_refusal lines.Closed = codes "Closed"
-line_refusal lines.KindMismatch = codes "KindMismatch"
-line_refusal (lines.BadValue cause) = codes "BadValue " ++ value_name cause
-line_refusal lines.TooLong = codes "TooLong"
-line_refusal lines.TooManyLines = codes "TooManyLines"
-line_refusal lines.SideLate = codes "SideLate"
-line_refusal lines.SideTwice = codes "SideTwice"
-line_refusal lines.NotAlone = codes "NotAlone"
-line_refusal lines.OutOfMemory = []
+abbrev pub line_fault_text : LineFault → List ℕ
+line_fault_text lines.NotJson = codes "NotJson"
+line_fault_text lines.BadShape = codes "BadShape"
+line_fault_text lines.UnknownStream = codes "UnknownStream"
+line_fault_text lines.BadTimestamp = codes "BadTimestamp"
+line_fault_text lines.NotAscending = codes "NotAscending"
+line_fault_text lines.Closed = codes "Closed"
+line_fault_text lines.KindMismatch = codes "KindMismatch"
+line_fault_text (lines.BadValue cause) = codes "BadValue " ++ value_name cause
+line_fault_text lines.TooLong = codes "TooLong"
+line_fault_text lines.TooManyLines = codes "TooManyLines"
+line_fault_text lines.SideLate = codes "SideLate"
+line_fault_text lines.SideTwice = codes "SideTwice"
+line_fault_text lines.NotAlone = codes "NotAlone"
+line_fault_text lines.OutOfMemory = []
 
 -- the note that the line of a number was refused, and why
 abbrev pub line_note : ℕ → LineFault → List ℕ
-line_note line cause = codes "line " ++ decimal line ++ codes ": " ++ line_refusal cause ++ codes "\n"
+line_note line cause = codes "line " ++ decimal line ++ codes ": " ++ line_fault_text cause ++ codes "\n"
 
 -- the note that a read failed after so many whole lines
 abbrev pub read_note : ℕ → List ℕ
@@ -93,7 +93,7 @@ label_of plan number = unwrap_or (option_map (λ node. node.label) (slice_get pl
 
 -- the text of a node: its number and its label
 abbrev pub node_text : Plan → ℕ → List ℕ
-node_text plan number = codes "node " ++ decimal number ++ codes " " ++ shown (label_of plan number) ++ codes ": "
+node_text plan number = codes "node " ++ decimal number ++ codes " " ++ escaped (label_of plan number) ++ codes ": "
 
 -- the note of a node's fault: the node, the call in which it failed, and why
 abbrev pub fault_note : Plan → NodeFault → List ℕ
@@ -108,7 +108,7 @@ bounds_of streams = map (λ s. s.bound) streams
 -- the note of a stream that hasn't ended: its name and its bound
 abbrev pub stall_note : Plan → List ℕ → ℕ → List ℕ
 stall_note plan bounds number =
-    codes "stalled: " ++ shown (name_of plan number) ++ codes " " ++ time_text (slice_index_or bounds number pre_stream) ++ codes "\n"
+    codes "stalled: " ++ escaped (name_of plan number) ++ codes " " ++ time_text (slice_index_or bounds number pre_stream) ++ codes "\n"
 
 -- Arrivals --
 

@@ -6,7 +6,7 @@ use Rattle.mg_calc.specs.declared.plan.Plan.{Plan}
 use Rattle.mg_calc.specs.Equations.{Job}
 use Rattle.mg_calc.specs.Meaning.{faults as the_faults, counts}
 use Rattle.mg_feed.specs.declared.feed_end.FeedEnd.{FeedEnd}
-use Rattle.mg_answer.specs.Answer.{Answer}
+use Rattle.mg_answer.specs.Answer.{RunAnswer}
 use Rattle.mg_answer.specs.Told.{status_of}
 use Rattle.mg_answer.specs.Notes.{notes_by}
 use Rattle.mg_answer.specs.Report.{end_of, report_by, asked_report, end_bounds, open_numbers}
@@ -31,7 +31,7 @@ told_notes status report plan end outcomes stalled =
     ++ asked_report report (report_by plan outcomes.sets outcomes.ends.items)
 
 -- the answer of a run by its outcomes, whose output is this text
-abbrev pub told_answer : Bool → Plan → FeedEnd → Outcomes → List ℕ → Answer
+abbrev pub told_answer : Bool → Plan → FeedEnd → Outcomes → List ℕ → RunAnswer
 told_answer report plan end outcomes text = record {
   output = text;
   notes = told_notes (status_of end outcomes.faults (open_numbers outcomes.ends.items)) report plan end outcomes (open_numbers outcomes.ends.items);

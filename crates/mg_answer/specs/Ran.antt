@@ -13,11 +13,11 @@ use Rattle.mg_feed.specs.declared.feed_end.FeedEnd.TheVariants.{Ended, Failed, R
 use Rattle.mg_value.specs.Payload.{Plain}
 use Rattle.mg_value.specs.Prefix.{StreamPrefix}
 use Rattle.mg_calc.specs.Equations.{IsSolution}
-use Rattle.mg_answer.specs.Text.{output_of}
+use Rattle.mg_answer.specs.Text.{output_text_of}
 use Rattle.mg_answer.specs.Summary.{summary_of}
 use Rattle.mg_answer.specs.Notes.{memory_note}
-use Rattle.mg_answer.specs.Answer.{Read, Answer, by_lines, by_summary, failed_notes, ended_input, cut_input, job_of, generated_job, IsAnswer, AnswersEnded, AnswersGenerated}
-use Rattle.mg_answer.specs.Devices.{Device, RunDevices, Untouched, TookFront, Noted}
+use Rattle.mg_answer.specs.Answer.{Read, RunAnswer, by_lines, by_summary, failed_notes, ended_input, cut_input, job_of, generated_job, IsAnswer, AnswersEnded, AnswersGenerated}
+use Rattle.mg_answer.specs.Devices.{Device, RunDevices, Untouched, TookFront, TookNotes}
 use Rattle.mg_answer.specs.Wrote.{Meets, MetShort}
 use Rattle.mg_answer.specs.declared.status.Status.{Status}
 use Rattle.mg_answer.specs.declared.status.Status.TheVariants.{WriteFault, OutOfMemory}
@@ -58,7 +58,7 @@ pub record ReadSome (graph : GraphInputs) (input : Device SourceTold) : Type 0 w
 pub record RanAll (report : Bool) (plan : Plan) (status : Status) (devices : RunDevices) : Type 0 where
   pub read : Read
   pub input : CameTo (inputs_of plan) devices.input read
-  pub answer : Answer
+  pub answer : RunAnswer
   pub is : IsAnswer report plan read answer
   pub met : Meets answer status devices.output devices.notes
 
@@ -66,7 +66,7 @@ pub record RanAll (report : Bool) (plan : Plan) (status : Status) (devices : Run
 pub record RanShort (report : Bool) (plan : Plan) (devices : RunDevices) : Type 0 where
   pub read : Read
   pub input : CameTo (inputs_of plan) devices.input read
-  pub answer : Answer
+  pub answer : RunAnswer
   pub is : IsAnswer report plan read answer
   pub short : MetShort answer (failed_notes (by_lines report) (job_of plan read) read.end is.streams) devices.output devices.notes
 
@@ -76,7 +76,7 @@ pub record TookSome (plan : Plan) (input : Device SourceTold) (output : Device S
   pub came : CameTo (inputs_of plan) input read
   pub streams : List (StreamPrefix Plain)
   pub solution : IsSolution (job_of plan read) streams
-  pub front : TookFront output (output_of plan streams)
+  pub front : TookFront output (output_text_of plan streams)
 
 -- Memory ran out, before anything was written or after the input was read.
 abbrev pub RanOut : Plan → RunDevices → Type 0
@@ -85,7 +85,7 @@ RanOut plan devices = Untouched devices.output ⊎ TookSome plan devices.input d
 -- A run ended with this status. Where memory ran out the notes say that alone, and what was read of the input was read once.
 abbrev pub Ran : Bool → Plan → Status → RunDevices → Type 0
 Ran report plan WriteFault devices = RanShort report plan devices
-Ran report plan OutOfMemory devices = RanOut plan devices × Noted devices.notes memory_note × ReadSome (inputs_of plan) devices.input
+Ran report plan OutOfMemory devices = RanOut plan devices × TookNotes devices.notes memory_note × ReadSome (inputs_of plan) devices.input
 Ran report plan status devices = RanAll report plan status devices
 
 -- Memory ran out. Either the input was read, and the output took a front of the answer's text over what it came to; or it was still being
@@ -93,30 +93,30 @@ Ran report plan status devices = RanAll report plan status devices
 abbrev pub RanShortOf : Plan → RunDevices → Type 0
 RanShortOf plan devices =
     TookSome plan devices.input devices.output ⊎ IfSome devices.input.before.left (λ bytes. (streams : List (StreamPrefix Plain))
-    → IsSolution (job_of plan (ended_input (inputs_of plan) bytes)) streams → TookFront devices.output (output_of plan streams))
+    → IsSolution (job_of plan (ended_input (inputs_of plan) bytes)) streams → TookFront devices.output (output_text_of plan streams))
 
 -- A run that writes as it goes ended with this status.
 abbrev pub RanOn : Bool → Plan → Status → RunDevices → Type 0
 RanOn report plan WriteFault devices = RanShort report plan devices
-RanOn report plan OutOfMemory devices = RanShortOf plan devices × Noted devices.notes memory_note
+RanOn report plan OutOfMemory devices = RanShortOf plan devices × TookNotes devices.notes memory_note
 RanOn report plan status devices = RanAll report plan status devices
 
 -- Where the input tells its bytes, the run wrote the answer over an input that ends after them.
 abbrev pub IsAnswered : Bool → Plan → Status → RunDevices → Type 0
 IsAnswered report plan status devices =
-    IfSome devices.input.before.left (λ bytes. (answer : Answer) × AnswersEnded report plan bytes answer × Meets answer status devices.output devices.notes)
+    IfSome devices.input.before.left (λ bytes. (answer : RunAnswer) × AnswersEnded report plan bytes answer × Meets answer status devices.output devices.notes)
 
 -- A run over packets that are made --
 
 -- The run wrote the answer over the packets that are made.
 pub record GeneratedAll (report : Bool) (plan : Plan) (number : ℕ) (status : Status) (devices : RunDevices) : Type 0 where
-  pub answer : Answer
+  pub answer : RunAnswer
   pub is : AnswersGenerated report plan number answer
   pub met : Meets answer status devices.output devices.notes
 
 -- A write failed in a run over packets that are made; what was written is of the answer over these.
 pub record GeneratedShort (report : Bool) (plan : Plan) (number : ℕ) (devices : RunDevices) : Type 0 where
-  pub answer : Answer
+  pub answer : RunAnswer
   pub is : AnswersGenerated report plan number answer
   pub short : MetShort answer (failed_notes (by_summary report) (generated_job plan number) Ended is.streams) devices.output devices.notes
 
@@ -129,5 +129,5 @@ pub record GeneratedSome (plan : Plan) (number : ℕ) (output : Device SinkTold)
 -- A run over a number of packets that are made ended with this status.
 abbrev pub RanGenerated : Bool → Plan → ℕ → Status → RunDevices → Type 0
 RanGenerated report plan number WriteFault devices = GeneratedShort report plan number devices
-RanGenerated report plan number OutOfMemory devices = GeneratedSome plan number devices.output × Noted devices.notes memory_note
+RanGenerated report plan number OutOfMemory devices = GeneratedSome plan number devices.output × TookNotes devices.notes memory_note
 RanGenerated report plan number status devices = GeneratedAll report plan number status devices

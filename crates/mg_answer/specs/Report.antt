@@ -8,7 +8,7 @@ use Rattle.mg_value.specs.Prefix.{StreamPrefix}
 use Rattle.mg_calc.specs.declared.plan.Plan.{Plan}
 use Rattle.mg_calc.specs.Equations.{Job}
 use Rattle.mg_calc.specs.Meaning.{numbered, counts}
-use Rattle.mg_answer.specs.Shown.{shown}
+use Rattle.mg_answer.specs.Shown.{escaped}
 use Rattle.mg_answer.specs.Text.{name_of}
 use Rattle.mg_answer.specs.Notes.{label_of}
 use Rattle.mg_answer.specs.declared.outcomes.StreamEnd.{StreamEnd}
@@ -28,12 +28,12 @@ end_bounds ends = map (λ e. e.bound) ends
 -- the line of a node: its number, its label, and how many sets it was shown; of a source how often it was called, of a loopback how many
 -- packets it answered, and of a free node how many packets arrived
 abbrev pub node_line : Plan → ℕ × ℕ → List ℕ
-node_line plan entry = codes "node " ++ decimal entry.0 ++ codes " " ++ shown (label_of plan entry.0) ++ codes " sets=" ++ decimal entry.1 ++ codes "\n"
+node_line plan entry = codes "node " ++ decimal entry.0 ++ codes " " ++ escaped (label_of plan entry.0) ++ codes " sets=" ++ decimal entry.1 ++ codes "\n"
 
 -- the line of a stream: its name, how many packets it has, and its bound
 abbrev pub stream_line : Plan → ℕ × StreamEnd → List ℕ
 stream_line plan entry =
-    codes "stream " ++ shown (name_of plan entry.0) ++ codes " packets=" ++ decimal entry.1.packets ++ codes " bound=" ++ time_text entry.1.bound ++ codes "\n"
+    codes "stream " ++ escaped (name_of plan entry.0) ++ codes " packets=" ++ decimal entry.1.packets ++ codes " bound=" ++ time_text entry.1.bound ++ codes "\n"
 
 -- the report: a line for each node, in node order, and then one for each stream, in stream order
 abbrev pub report_by : Plan → List ℕ → List StreamEnd → List ℕ

@@ -8,9 +8,9 @@ is_control b = nat_lt b 32 || b == 127
 
 -- A control byte is written with its escape in the canonical text: `\n`, `\r`, `\t` or three octal digits. All else, a
 -- backslash too, is written as it is.
-abbrev pub shown_byte : ℕ → List ℕ
-shown_byte b = if is_control b then escape b else b ∷ []
+abbrev pub escaped_byte : ℕ → List ℕ
+escaped_byte b = if is_control b then escape b else b ∷ []
 
 -- a text as a note repeats it, byte by byte
-abbrev pub shown : List ℕ → List ℕ
-shown text = flat_map shown_byte text
+abbrev pub escaped : List ℕ → List ℕ
+escaped text = flat_map escaped_byte text

@@ -10,24 +10,24 @@ use Rattle.mg_value.specs.Prefix.{Stamped, StreamPrefix}
 use Rattle.mg_value.specs.Settled.{TimedSet, settled_sets, inputs_of}
 use Rattle.mg_calc.specs.declared.plan.Plan.{Plan}
 use Rattle.mg_calc.specs.Meaning.{numbered}
-use Rattle.mg_answer.specs.Shown.{shown}
+use Rattle.mg_answer.specs.Shown.{escaped}
 use Rattle.mg_answer.specs.Text.{output_names}
 use Rattle.mg_answer.specs.declared.total.Total.{Total}
 
 -- The totals of an output --
 
 -- the number that a payload adds to a sum: a whole number counts as itself, and every other payload as 0
-abbrev pub number_in : Plain → ℤ
-number_in (flag b) = pos 0
-number_in (int n) = n
-number_in (text s) = pos 0
-number_in (items vs) = pos 0
-number_in (entries es) = pos 0
+abbrev pub addend : Plain → ℤ
+addend (flag b) = pos 0
+addend (int n) = n
+addend (text s) = pos 0
+addend (items vs) = pos 0
+addend (entries es) = pos 0
 
 -- the sum of the whole numbers of some packets
 abbrev pub sum_of : List (Stamped Plain) → ℤ
 sum_of [] = pos 0
-sum_of (p ∷ ps) = number_in p.value +ℤ sum_of ps
+sum_of (p ∷ ps) = addend p.value +ℤ sum_of ps
 
 -- the time of the first of some packets, where there is one
 abbrev pub first_time_of : List (Stamped Plain) → Option ℕ
@@ -56,7 +56,7 @@ time_or_dash (Some t) = time_text t
 -- the line of an output in a summary: its name and its totals
 abbrev pub total_line : List ℕ → Total → List ℕ
 total_line name total =
-    shown name ++ codes " packets=" ++ decimal total.packets ++ codes " first=" ++ time_or_dash total.first
+    escaped name ++ codes " packets=" ++ decimal total.packets ++ codes " first=" ++ time_or_dash total.first
     ++ codes " last=" ++ time_or_dash total.last ++ codes " sum=" ++ signed_decimal total.sum ++ codes "\n"
 
 -- the summary of sets: a line for each output of these names, in order, with the totals of its packets in these sets

@@ -33,5 +33,5 @@ sets_text names sets = flat_map (λ timed. set_text names timed.set) sets
 
 -- The output text that the streams of a plan make: at each time that is settled on all outputs of the graph, ascending, the
 -- lines of what the outputs have there.
-abbrev pub output_of : Plan → List (StreamPrefix Plain) → List ℕ
-output_of plan streams = sets_text (output_names plan) (settled_sets Default (inputs_of streams plan.outputs))
+abbrev pub output_text_of : Plan → List (StreamPrefix Plain) → List ℕ
+output_text_of plan streams = sets_text (output_names plan) (settled_sets Default (inputs_of streams plan.outputs))

@@ -5,27 +5,27 @@ use Rattle.mg_value.specs.Payload.{Plain}
 use Rattle.mg_value.specs.Prefix.{StreamPrefix}
 use Rattle.mg_calc.specs.Equations.{Job, IsSolution}
 use Rattle.mg_feed.specs.declared.feed_end.FeedEnd.{FeedEnd}
-use Rattle.mg_answer.specs.Answer.{Telling, Answer, answer_of, failed_notes}
-use Rattle.mg_answer.specs.Devices.{Device, TookFront, TookText, TookPart, Noted}
+use Rattle.mg_answer.specs.Answer.{Telling, RunAnswer, answer_of, failed_notes}
+use Rattle.mg_answer.specs.Devices.{Device, TookFront, TookText, TookPart, TookNotes}
 use Rattle.mg_answer.specs.declared.status.Status.{Status}
 use Rattle.mg_answer.specs.declared.status.Status.TheVariants.{WriteFault}
 
 -- The output and the notes took an answer's texts, and the status is the answer's.
-pub record Meets (answer : Answer) (status : Status) (output notes : Device SinkTold) : Type 0 where
+pub record Meets (answer : RunAnswer) (status : Status) (output notes : Device SinkTold) : Type 0 where
   pub text : TookText output answer.output
   pub noted : TookText notes answer.notes
   pub told : status ≡ answer.status
 
 -- A write failed. The output took a front of the answer's text, and all of it where no write to the output failed. Where one did, the notes
 -- took the text that says so (`failed`), or a front of that; where none did, they took a front of the answer's notes.
-pub record MetShort (answer : Answer) (failed : List ℕ) (output notes : Device SinkTold) : Type 0 where
+pub record MetShort (answer : RunAnswer) (failed : List ℕ) (output notes : Device SinkTold) : Type 0 where
   pub rose : Rose output.before.faults output.now.faults ⊎ Rose notes.before.faults notes.now.faults
   pub front : TookFront output answer.output
   pub whole : Rose output.before.faults output.now.faults ⊎ TookText output answer.output
-  pub noted : (Rose output.before.faults output.now.faults × Noted notes failed) ⊎ (TookText output answer.output × TookPart notes answer.notes)
+  pub noted : (Rose output.before.faults output.now.faults × TookNotes notes failed) ⊎ (TookText output answer.output × TookPart notes answer.notes)
 
 -- what was written of an answer, by the status with which it was written
-abbrev pub WroteBy : Status → Answer → List ℕ → Device SinkTold → Device SinkTold → Type 0
+abbrev pub WroteBy : Status → RunAnswer → List ℕ → Device SinkTold → Device SinkTold → Type 0
 WroteBy WriteFault answer failed output notes = MetShort answer failed output notes
 WroteBy status answer failed output notes = Meets answer status output notes
 

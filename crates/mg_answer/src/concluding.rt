@@ -5,7 +5,7 @@ ghost use Rattle.mg_value.specs.Payload.{Plain};
 ghost use Rattle.mg_value.specs.Prefix.{StreamPrefix};
 ghost use Rattle.mg_calc.specs.Equations.{Job, IsSolution};
 ghost use Rattle.mg_answer.specs.Told.{status_of as the_status};
-ghost use Rattle.mg_answer.specs.Answer.{Form, output_in};
+ghost use Rattle.mg_answer.specs.Answer.{OutputForm, output_in};
 ghost use Rattle.mg_answer.specs.Outcomes.{TellsOf, told_notes, told_answer, told_failed};
 ghost use Rattle.mg_answer.specs.Devices.{device, TookFront};
 ghost use Rattle.mg_answer.specs.Put.{HasPut};
@@ -41,7 +41,7 @@ pub fn conclude<K: Sink, E: Sink>(
 
     // For each job of the plan: where the outcomes tell its solution, and the text that was put is the solution's output in one of the
     // forms, the answer of the job was written.
-    ensures wrote { IfOk result (λ status. (form : Form) (job : Job) (streams : List (StreamPrefix Plain)) (first : SinkTold)
+    ensures wrote { IfOk result (λ status. (form : OutputForm) (job : Job) (streams : List (StreamPrefix Plain)) (first : SinkTold)
         → job.plan ≡ run.now.plan.now → IsSolution job streams → TellsOf job streams outcomes.now
         → HasPut first (K.told output.old) text (output_in form run.now.plan.now streams)
         → Wrote (record { form = form; report = run.now.report }) job end status (device first (K.told output.new)) (device (E.told notes.old) (E.told notes.new))) }
@@ -75,7 +75,7 @@ pub fn conclude_frozen<K: Sink, E: Sink>(
     requires many { length outcomes.now.ends.items ≡ length run.now.plan.now.streams }
     requires sets { length outcomes.now.sets ≡ length run.now.plan.now.nodes }
     requires nodes { All (λ fault. fault.node < length run.now.plan.now.nodes) outcomes.now.faults }
-    ensures wrote { IfOk result (λ status. (form : Form) (job : Job) (streams : List (StreamPrefix Plain)) (first : SinkTold)
+    ensures wrote { IfOk result (λ status. (form : OutputForm) (job : Job) (streams : List (StreamPrefix Plain)) (first : SinkTold)
         → job.plan ≡ run.now.plan.now → IsSolution job streams → TellsOf job streams outcomes.now
         → HasPut first (K.told output.old) text (output_in form run.now.plan.now streams)
         → WroteFrozen (record { form = form; report = run.now.report }) job status (device first (K.told output.new)) (device (E.told notes.old) (E.told notes.new))) }

@@ -1,6 +1,6 @@
 //! The notes of a call for which there isn't memory enough, or whose text couldn't be written.
 ghost use Rattle.std.specs.Prelude.{◌≡◌};
-ghost use Rattle.mg_answer.specs.Devices.{device, Noted};
+ghost use Rattle.mg_answer.specs.Devices.{device, TookNotes};
 ghost use Rattle.mg_answer.specs.Notes.{write_note, memory_note};
 
 use crate::Status;
@@ -16,7 +16,7 @@ pub const MEMORY_NOTE: &[u8] = b"out of memory\n";
 /// Notes that a text couldn't be written, and returns the status that says so. This allocates nothing.
 pub fn note_write_fault<E: Sink>(notes: &mut E) -> Status
     ensures status { result ≡ Status.WriteFault }
-    ensures noted { Noted (device (E.told notes.old) (E.told notes.new)) write_note }
+    ensures noted { TookNotes (device (E.told notes.old) (E.told notes.new)) write_note }
 {
     let _ = put_all(notes, WRITE_NOTE);
     Status::WriteFault
@@ -25,7 +25,7 @@ pub fn note_write_fault<E: Sink>(notes: &mut E) -> Status
 /// Notes that memory ran out, and returns the status that says so. This allocates nothing.
 pub fn note_out_of_memory<E: Sink>(notes: &mut E) -> Status
     ensures status { result ≡ Status.OutOfMemory }
-    ensures noted { Noted (device (E.told notes.old) (E.told notes.new)) memory_note }
+    ensures noted { TookNotes (device (E.told notes.old) (E.told notes.new)) memory_note }
 {
     let _ = put_all(notes, MEMORY_NOTE);
     Status::OutOfMemory

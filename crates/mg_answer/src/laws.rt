@@ -20,10 +20,10 @@ ghost use Rattle.mg_feed.specs.Stands.{AllGood};
 ghost use Rattle.mg_feed.specs.Ran.{EndCame, MetEnd, FailedBy};
 ghost use Rattle.mg_feed.specs.Once.{ReadsOnce};
 ghost use Rattle.mg_feed.specs.Batch.{EndsAs};
-ghost use Rattle.mg_answer.specs.Text.{output_of};
+ghost use Rattle.mg_answer.specs.Text.{output_text_of};
 ghost use Rattle.mg_answer.specs.Summary.{summary_of};
 ghost use Rattle.mg_answer.specs.Report.{report_of, asked_report};
-ghost use Rattle.mg_answer.specs.Answer.{Read, Telling, by_lines, by_summary, Answer, ended_input, inputs_by, job_of, generated_inputs, generated_job, IsAnswerOf, AnswersEnded, AnswersCut, AnswersGenerated};
+ghost use Rattle.mg_answer.specs.Answer.{Read, Telling, by_lines, by_summary, RunAnswer, ended_input, inputs_by, job_of, generated_inputs, generated_job, IsAnswerOf, AnswersEnded, AnswersCut, AnswersGenerated};
 ghost use Rattle.mg_answer.specs.Devices.{Device, device, RunDevices, HasRisen, Unrisen, NoneFailed, IsFront, TookFront};
 ghost use Rattle.mg_answer.specs.Put.{TextView, nothing_put, HasPut};
 ghost use Rattle.mg_answer.specs.Wrote.{Wrote, Meets};
@@ -47,20 +47,20 @@ pub fn generated_packets_fit()
 /// A valid plan's graph has one answer over any bytes, whether the input ended after them or a read failed, and one over any number of
 /// packets that are made.
 pub fn there_is_one_answer()
-    ensures ended { (report : Bool) (plan : Plan) (bytes : List ℕ) → IsValid plan → (answer : Answer) × AnswersEnded report plan bytes answer }
-    ensures cut { (report : Bool) (plan : Plan) (bytes : List ℕ) → IsValid plan → (answer : Answer) × AnswersCut report plan bytes answer }
-    ensures generated { (report : Bool) (plan : Plan) (number : ℕ) → IsValid plan → number < 2 ^ 32 → (answer : Answer) × AnswersGenerated report plan number answer }
-    ensures one { (telling : Telling) (job : Job) (end : FeedEnd) (answer other : Answer) → IsAnswerOf telling job end answer → IsAnswerOf telling job end other → answer ≡ other }
+    ensures ended { (report : Bool) (plan : Plan) (bytes : List ℕ) → IsValid plan → (answer : RunAnswer) × AnswersEnded report plan bytes answer }
+    ensures cut { (report : Bool) (plan : Plan) (bytes : List ℕ) → IsValid plan → (answer : RunAnswer) × AnswersCut report plan bytes answer }
+    ensures generated { (report : Bool) (plan : Plan) (number : ℕ) → IsValid plan → number < 2 ^ 32 → (answer : RunAnswer) × AnswersGenerated report plan number answer }
+    ensures one { (telling : Telling) (job : Job) (end : FeedEnd) (answer other : RunAnswer) → IsAnswerOf telling job end answer → IsAnswerOf telling job end other → answer ≡ other }
 {}
 
 /// Where each line is good, no node fails and no stream stalls, the answer over an input that ends well is a good one: all of the output
 /// text, and no note but the report where it is asked for. Packets that are made have no line.
 pub fn what_has_no_fault_is_good()
-    ensures read { (report : Bool) (plan : Plan) (bytes : List ℕ) (streams : List (StreamPrefix Plain)) (answer : Answer)
+    ensures read { (report : Bool) (plan : Plan) (bytes : List ℕ) (streams : List (StreamPrefix Plain)) (answer : RunAnswer)
         → let job = job_of plan (ended_input (inputs_of plan) bytes) in IsSolution job streams
         → first_refused_after (inputs_of plan) [] (all_lines bytes) ≡ None → faults job streams ≡ [] → stalled streams ≡ []
-        → AnswersEnded report plan bytes answer → answer ≡ record { output = output_of plan streams; notes = asked_report report (report_of job streams); status = Good } }
-    ensures generated { (report : Bool) (plan : Plan) (number : ℕ) (streams : List (StreamPrefix Plain)) (answer : Answer)
+        → AnswersEnded report plan bytes answer → answer ≡ record { output = output_text_of plan streams; notes = asked_report report (report_of job streams); status = Good } }
+    ensures generated { (report : Bool) (plan : Plan) (number : ℕ) (streams : List (StreamPrefix Plain)) (answer : RunAnswer)
         → let job = generated_job plan number in IsSolution job streams → faults job streams ≡ [] → stalled streams ≡ []
         → AnswersGenerated report plan number answer → answer ≡ record { output = summary_of plan streams; notes = asked_report report (report_of job streams); status = Good } }
 {}
@@ -98,7 +98,7 @@ pub fn runs_that_write_as_they_go()
 pub fn runs_over_generated_packets()
     ensures answered { (report : Bool) (plan : Plan) (number : ℕ) (status : Status) (devices : RunDevices) → RanGenerated report plan number status devices
         → Unrisen devices.output.before.faults devices.output.now.faults → Unrisen devices.notes.before.faults devices.notes.now.faults → status ≢ OutOfMemory
-        → (answer : Answer) × AnswersGenerated report plan number answer × Meets answer status devices.output devices.notes }
+        → (answer : RunAnswer) × AnswersGenerated report plan number answer × Meets answer status devices.output devices.notes }
     ensures write_rose { (report : Bool) (plan : Plan) (number : ℕ) (status : Status) (devices : RunDevices) → RanGenerated report plan number status devices
         → HasRisen devices.output.before.faults devices.output.now.faults ⊎ HasRisen devices.notes.before.faults devices.notes.now.faults
         → IsOneOf status (WriteFault ∷ OutOfMemory ∷ []) }
@@ -138,13 +138,13 @@ pub fn texts_grow()
           plan = plan;
           inputs = record { streams = (given_by (inputs_of plan) lines).streams; sides = (given_by (inputs_of plan) lines).sides; ended = false };
         }) streams
-        → IsSolution (job_of plan (ended_input (inputs_of plan) bytes)) longer → IsFront (output_of plan streams) (output_of plan longer) }
+        → IsSolution (job_of plan (ended_input (inputs_of plan) bytes)) longer → IsFront (output_text_of plan streams) (output_text_of plan longer) }
 {}
 
 /// Lines of different streams may change places: where two that stand one behind the other name different streams, and all lines are good
 /// in either order, the answer is the same.
 pub fn lines_of_different_streams_answer_the_same()
-    ensures { (report : Bool) (plan : Plan) (input other : List ℕ) (front back : List (List ℕ)) (first second : List ℕ) (answer : Answer)
+    ensures { (report : Bool) (plan : Plan) (input other : List ℕ) (front back : List (List ℕ)) (first second : List ℕ) (answer : RunAnswer)
         → all_lines input ≡ front ++ first ∷ second ∷ back → all_lines other ≡ front ++ second ∷ first ∷ back → AreApart first second
         → AllGood (inputs_of plan) [] (all_lines input) → AllGood (inputs_of plan) [] (all_lines other)
         → AnswersEnded report plan input answer → AnswersEnded report plan other answer }

@@ -2,10 +2,10 @@
 ghost use Rattle.std.specs.Prelude.{◌≡◌, ◌≢◌, [], false, IfOk, OnErr};
 ghost use Rattle.mg_calc.specs.Plan.{IsValid, InputsFit};
 ghost use Rattle.mg_feed.specs.Graph.{inputs_of};
-ghost use Rattle.mg_feed.specs.Stands.{Stands, nothing_taken};
+ghost use Rattle.mg_feed.specs.Stands.{HasAccepted, nothing_taken};
 ghost use Rattle.mg_feed.specs.FeedSeen.{seen, fed};
 ghost use Rattle.mg_answer.specs.Devices.{device};
-ghost use Rattle.mg_answer.specs.Gathered.{Gathered};
+ghost use Rattle.mg_answer.specs.Gathered.{GatheredInputs};
 ghost use Rattle.mg_answer.specs.Ran.{ReadSome};
 
 use crate::told::{is_ended, ran_out};
@@ -29,7 +29,7 @@ pub fn read_whole<S: Source>(
     input: &mut S,
 ) -> Result<WholeInput, AllocError>
     requires { IsValid plan.now }
-    ensures gathered { IfOk result (λ whole. Gathered (inputs_of plan.now) (device (S.told input.old) (S.told input.new)) whole.end whole.inputs) }
+    ensures gathered { IfOk result (λ whole. GatheredInputs (inputs_of plan.now) (device (S.told input.old) (S.told input.new)) whole.end whole.inputs) }
     ensures short { OnErr result (ReadSome (inputs_of plan.now) (device (S.told input.old) (S.told input.new))) }
     ensures fits { IfOk result (λ whole. InputsFit plan.now whole.inputs) }
 {
@@ -43,10 +43,10 @@ pub fn read_whole<S: Source>(
 
 // Reads the input into a feed that has read nothing yet.
 fn read_feed<S: Source>(mut feed: Feed, input: &mut S) -> WholeInput
-    requires stands { Stands [] (nothing_taken (seen feed).graph) (seen feed) }
+    requires stands { HasAccepted [] (nothing_taken (seen feed).graph) (seen feed) }
     requires unread { (fed feed).read ≡ record { kept = []; ended = false } }
     ensures read { ReadSome (seen feed).graph (device (S.told input.old) (S.told input.new)) }
-    ensures gathered { result.end ≢ FeedEnd.OutOfMemory → Gathered (seen feed).graph (device (S.told input.old) (S.told input.new)) result.end result.inputs }
+    ensures gathered { result.end ≢ FeedEnd.OutOfMemory → GatheredInputs (seen feed).graph (device (S.told input.old) (S.told input.new)) result.end result.inputs }
 {
     let end = feed.read_all(input);
     let inputs = feed.into_inputs(is_ended(end));

@@ -1,13 +1,13 @@
 //! Texts that a note repeats, which may hold any byte.
 ghost use Rattle.std.specs.Prelude.{◌≡◌, ◌++◌, ℕ, List, OnOk, OnErr};
-ghost use Rattle.mg_answer.specs.Shown.{is_control, shown_byte, shown};
+ghost use Rattle.mg_answer.specs.Shown.{is_control, escaped_byte, escaped};
 
 use mg_feed::whole_or_none;
 use std::alloc::AllocError;
 
 /// Puts a text at a note's end, so that the note stays one line: its control bytes as escapes. After an `Err` the note is as it was.
 pub fn put_shown(note: &mut Vec<u8>, text: &[u8]) -> Result<(), AllocError>
-    ensures put { OnOk result (note.new.items ≡ note.old.items ++ shown text.now) }
+    ensures put { OnOk result (note.new.items ≡ note.old.items ++ escaped text.now) }
     ensures unchanged { OnErr result (note.new.items ≡ note.old.items) }
 {
     let len = note.len();
@@ -17,7 +17,7 @@ pub fn put_shown(note: &mut Vec<u8>, text: &[u8]) -> Result<(), AllocError>
 
 // Puts a text at a note's end. After an `Err` some of it may stand there.
 fn put_bytes(note: &mut Vec<u8>, text: &[u8]) -> Result<(), AllocError>
-    ensures put { OnOk result (note.new.items ≡ note.old.items ++ shown text.now) }
+    ensures put { OnOk result (note.new.items ≡ note.old.items ++ escaped text.now) }
     ensures part { OnErr result ((part : List ℕ) × (note.new.items ≡ note.old.items ++ part)) }
 {
     for b in text {
@@ -27,7 +27,7 @@ fn put_bytes(note: &mut Vec<u8>, text: &[u8]) -> Result<(), AllocError>
 }
 
 fn put_byte(note: &mut Vec<u8>, b: u8) -> Result<(), AllocError>
-    ensures put { OnOk result (note.new.items ≡ note.old.items ++ shown_byte b) }
+    ensures put { OnOk result (note.new.items ≡ note.old.items ++ escaped_byte b) }
     ensures unchanged { OnErr result (note.new.items ≡ note.old.items) }
 {
     match b {

@@ -3,7 +3,7 @@ ghost use Rattle.std.specs.Prelude.{◌≡◌, ◌≢◌, ◌<◌, ◌⊎◌, �
 ghost use Rattle.mg_value.specs.Prefix.{IsPrefix};
 ghost use Rattle.mg_calc.specs.Plan.{IsValid, InputsFit};
 ghost use Rattle.mg_feed.specs.Ran.{EndCame};
-ghost use Rattle.mg_answer.specs.Text.{sets_text, output_of};
+ghost use Rattle.mg_answer.specs.Text.{sets_text, output_text_of};
 ghost use Rattle.mg_answer.specs.Report.{end_of};
 ghost use Rattle.mg_answer.specs.Put.{nothing_put, HasPut};
 ghost use Rattle.mg_answer.specs.Wrote.{Wrote};
@@ -133,8 +133,8 @@ fn write_output<K: Sink>(
     requires streams { All IsPrefix streams.now }
     requires many { length streams.now ≡ length plan.now.streams }
     requires shown { All (λ s. s < length plan.now.streams) plan.now.outputs }
-    ensures { MatchResult result (λ text. HasPut (K.told output.old) (K.told output.new) text (output_of plan.now streams.now))
-        (λ _. TookFront (device (K.told output.old) (K.told output.new)) (output_of plan.now streams.now)) }
+    ensures { MatchResult result (λ text. HasPut (K.told output.old) (K.told output.new) text (output_text_of plan.now streams.now))
+        (λ _. TookFront (device (K.told output.old) (K.told output.new)) (output_text_of plan.now streams.now)) }
 {
     let sets = settled_sets(alloc, Policy::Default, streams, &plan.outputs)?;
     let mut text = OutputText::new(alloc, plan)?;

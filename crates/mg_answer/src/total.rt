@@ -1,7 +1,7 @@
 //! The totals of the packets of one output.
 ghost use Rattle.std.specs.Prelude.{◌≡◌, ◌<◌, ◌^◌, ◌-◌, ◌+◌, Some, unwrap_or};
 ghost use Rattle.std.specs.Option.{option_copied};
-ghost use Rattle.mg_answer.specs.Summary.{number_in};
+ghost use Rattle.mg_answer.specs.Summary.{addend};
 ghost use Rattle.mg_answer.specs.Code.Adding.{with_place, IsWithin};
 
 use mg_time::Timestamp;
@@ -55,7 +55,7 @@ fn first_of(first: Option<Timestamp>, at: Timestamp) -> Option<Timestamp>
 
 // Returns the whole number that a packet holds, or 0 where its payload is of another kind.
 fn number_in(packet: &Packet) -> i64
-    ensures { result ≡ number_in packet.now.value }
+    ensures { result ≡ addend packet.now.value }
 {
     match &*packet.payload {
         Payload::Int(number) => *number,

@@ -8,7 +8,7 @@ use mg_value::ValueFault;
 
 /// Returns the words for why a line was refused: none where memory ran out.
 pub fn line_refusal(fault: LineFault) -> &'static str
-    ensures { result.now ≡ notes.line_refusal fault }
+    ensures { result.now ≡ notes.line_fault_text fault }
 {
     match fault {
         LineFault::NotJson => "NotJson",
@@ -30,7 +30,7 @@ pub fn line_refusal(fault: LineFault) -> &'static str
 
 // Returns the words for why a value in a line is no payload.
 fn value_refusal(fault: ValueFault) -> &'static str
-    ensures { result.now ≡ notes.line_refusal (LineFault.BadValue fault) }
+    ensures { result.now ≡ notes.line_fault_text (LineFault.BadValue fault) }
 {
     match fault {
         ValueFault::Fraction => "BadValue Fraction",

@@ -15,7 +15,7 @@ use Rattle.mg_check.specs.Order.{IsBetween}
 use Rattle.mg_check.specs.Joining.{link_of, edges_into, writers, links, sources, order, stream_names}
 use Rattle.mg_check.specs.Joining as joining
 use Rattle.mg_check.specs.Code.Writers.{node_writers, sources_from}
-use Rattle.mg_check.specs.Code.Edges.{node_edges}
+use Rattle.mg_check.specs.Code.Edges.{node_edges_from}
 use Rattle.mg_check.specs.declared.draft.Draft.{Draft}
 use Rattle.mg_check.specs.declared.ordering.Link.{Link}
 use Rattle.mg_check.proofs.OrderFacts.{order_below}
@@ -75,12 +75,12 @@ all_writers_below graph ds =
     (All-map (IsBelow (length ds)) Input (numbers (length graph.inputs)) (all_of (λ n. IsBelow (length ds) (Input n)) (λ n. tt) (numbers (length graph.inputs))))
     (All-weaker (IsBelow (0 + length ds)) (IsBelow (length ds)) (below_more (0 + length ds) (length ds) (omega arith)) (node_writers 0 ds) (writers_below 0 ds))
 
-edges_below : (names : List (List ℕ)) (from : ℕ) (ds : List DraftView) → All (λ e. e.node < from + length ds) (node_edges names from ds)
+edges_below : (names : List (List ℕ)) (from : ℕ) (ds : List DraftView) → All (λ e. e.node < from + length ds) (node_edges_from names from ds)
 edges_below names from [] = All-nil (λ (e : Edge). e.node < from + 0)
 edges_below names from (d ∷ ds) =
-    All-append (λ (e : Edge). e.node < from + suc (length ds)) (edges_into names from d.back d.inputs) (node_edges names (from + 1) ds)
+    All-append (λ (e : Edge). e.node < from + suc (length ds)) (edges_into names from d.back d.inputs) (node_edges_from names (from + 1) ds)
     (All-map (λ (e : Edge). e.node < from + suc (length ds)) _ (enumerate_from 0 d.inputs) (all_of (λ e. from < from + suc (length ds)) (λ e. omega arith) (enumerate_from 0 d.inputs)))
-    (All-weaker (λ (e : Edge). e.node < from + 1 + length ds) (λ (e : Edge). e.node < from + suc (length ds)) (λ e less. omega (arith, less)) (node_edges names (from + 1) ds) (edges_below names (from + 1) ds))
+    (All-weaker (λ (e : Edge). e.node < from + 1 + length ds) (λ (e : Edge). e.node < from + suc (length ds)) (λ e less. omega (arith, less)) (node_edges_from names (from + 1) ds) (edges_below names (from + 1) ds))
 
 link_by : (count to : ℕ) (back : Bool) (found : Option Producer) → IfSome found (IsBelow count) → to < count
     → IfSome (if back then None else option_map (λ from. record { from = from; to = to }) (option_and_then writing_node found)) (IsBetween count)

@@ -6,7 +6,7 @@ use Rattle.std.proofs.lemmas.Bool.{true≢false}
 use Rattle.std.proofs.lemmas.Option.{none-some}
 use Rattle.mg_config.specs.Config.{NodeView}
 use Rattle.mg_calc.specs.declared.shape.OuterShape.{OuterShape}
-use Rattle.mg_check.specs.Choosing.{Chosen, outers_named, wanted, kind_of, with_kind, chosen_after, chosen}
+use Rattle.mg_check.specs.Choosing.{Chosen, outers_named, wanted, kind_of, with_kind, chosen_after, chosen_nodes}
 use Rattle.mg_check.specs.Drafts.{draft_of, drafts}
 use Rattle.mg_check.specs.declared.node_kind.NodeKind.{NodeKind}
 use Rattle.mg_check.specs.declared.fault.CheckFault.{CheckFault}
@@ -30,7 +30,7 @@ chosen_most outers before (node ∷ nodes) = by (kind_of outers before node) (ch
     by (Some kind) more rest = omega arith
 
 pub drafts-most : (outers : List OuterShape) (nodes : List NodeView) → length (drafts outers nodes) ≤ length nodes
-drafts-most outers nodes = le_trans (made_most (draft_of outers) (chosen outers nodes)) (chosen_most outers [] nodes)
+drafts-most outers nodes = le_trans (made_most (draft_of outers) (chosen_nodes outers nodes)) (chosen_most outers [] nodes)
 
 -- What no refusal says.
 none_of : {A : Type 0} (o p : Option A) → option_or o p ≡ None → (o ≡ None) × (p ≡ None)

@@ -16,7 +16,7 @@ use Rattle.std.proofs.lemmas.Bool.Decides.{Decides-eqb}
 use Rattle.std.proofs.lemmas.Map.Steps.{length-le_from_distinct_below}
 use Rattle.mg_calc.specs.Plan.{numbers}
 use Rattle.mg_check.specs.declared.ordering.Link.{Link}
-use Rattle.mg_check.specs.Order.{is_among, is_next, with_next, taken_on, order_of, left_out, IsBetween}
+use Rattle.mg_check.specs.Order.{is_among, is_next, then_next, taken_on, order_of, left_out, IsBetween}
 use Rattle.mg_check.specs.Cycle.{IsFedBy, FeedsItself, IsLargestCycle}
 use Rattle.mg_check.proofs.OrderFacts.{among-Contains, Contains-among, among-push, find-first, cases_Option, order_keeps}
 
@@ -102,13 +102,13 @@ ends : (more count : ℕ) (links : List Link) (taken : List ℕ) → IsTaken cou
 ends zero count links taken held full n within =
     ap (λ b. not b && list_all (λ link. not (eqb link.to n) || is_among taken link.from) links) (all_there count taken held.once held.below (omega (arith, full)) n within)
 ends (suc more) count links taken held full n within = elim (cases_Option (find (is_next links taken) (numbers count))) [
-  | inl none ↦ subst (λ o. is_next links (with_next taken (λ m. taken_on more count links (taken ++ m ∷ [])) o) n ≡ false) (sym none)
+  | inl none ↦ subst (λ o. is_next links (then_next taken (λ m. taken_on more count links (taken ++ m ∷ [])) o) n ≡ false) (sym none)
       (find-all (is_next links taken) 0 count none n (omega arith) (omega arith))
   | inr found ↦
       let first = find-first (is_next links taken) 0 count found.0 found.1 in
       let below : found.0 < count = (let b = first.below in omega arith) in
       let long = length-append taken (found.0 ∷ []) in
-      subst (λ o. is_next links (with_next taken (λ m. taken_on more count links (taken ++ m ∷ [])) o) n ≡ false) (sym found.1)
+      subst (λ o. is_next links (then_next taken (λ m. taken_on more count links (taken ++ m ∷ [])) o) n ≡ false) (sym found.1)
       (ends more count links (taken ++ found.0 ∷ []) (taken_more count links taken found.0 held below first.passes) (omega (arith, full, long)) n within)
 ]
 

@@ -6,7 +6,7 @@ use Rattle.std.proofs.lemmas.Bool.Decides.{nat_tests}
 use Rattle.mg_value.specs.declared.kind.Kind.{Kind}
 use Rattle.mg_value.specs.declared.kind.Kind.TheVariants.{Any, Flag, Int, Text, Items, Record}
 use Rattle.mg_calc.specs.declared.edge.Edge.{Edge}
-use Rattle.mg_check.specs.Meeting.{Reading, is_any, is_kind, met_kind, clashes, kinds_at, meetings}
+use Rattle.mg_check.specs.Meeting.{PortReading, is_any, is_kind, met_kind, clashes, kinds_at, meetings}
 use Rattle.mg_check.specs.declared.met.Met.{Met}
 use Rattle.mg_check.specs.Code.Meets.{begun, meet, meet_by, meet_at, meet_all, readings_of, met_of}
 use Rattle.mg_check.proofs.Filling.{zip_end, zip_get, past_one}
@@ -42,7 +42,7 @@ meet_on_all Items c (x ∷ xs) = let d = not (is_any x) && not (is_kind x Items)
 meet_on_all Record c (x ∷ xs) = let d = not (is_any x) && not (is_kind x Record) in meet_on_all Record (c || d) xs ∙ ap (with_clash Record) (or_assoc c d (clashes (Record ∷ xs)))
 
 -- the kinds of the ports that read a stream
-abbrev pub kinds_read : List Reading → ℕ → List Kind
+abbrev pub kinds_read : List PortReading → ℕ → List Kind
 kinds_read readings number = map (λ r. r.kind) (filter (λ r. r.stream == number) readings)
 
 same_number : (a b : ℕ) → a ≡ b → (a == b) ≡ true
@@ -54,19 +54,19 @@ other_number a b less = grind (arith, nat_tests)
 later_number : (a b : ℕ) → b < a → (a == b) ≡ false
 later_number a b less = grind (arith, nat_tests)
 
-read_by : (r : Reading) (rs : List Reading) (n : ℕ) (test : Bool) → (r.stream == n) ≡ test → kinds_read (r ∷ rs) n ≡ cond test (r.kind ∷ kinds_read rs n) (kinds_read rs n)
+read_by : (r : PortReading) (rs : List PortReading) (n : ℕ) (test : Bool) → (r.stream == n) ≡ test → kinds_read (r ∷ rs) n ≡ cond test (r.kind ∷ kinds_read rs n) (kinds_read rs n)
 read_by r rs n true known = ap (λ b. map (λ q. q.kind) (cond b (r ∷ filter (λ q. q.stream == n) rs) (filter (λ q. q.stream == n) rs))) known
 read_by r rs n false known = ap (λ b. map (λ q. q.kind) (cond b (r ∷ filter (λ q. q.stream == n) rs) (filter (λ q. q.stream == n) rs))) known
 
 -- all streams, counted from one on, with the kinds of the ports that read them
-abbrev pub met_from : List Reading → ℕ → List Met → List Met
+abbrev pub met_from : List PortReading → ℕ → List Met → List Met
 met_from rs from mets = map (λ e. meet_on e.1 (kinds_read rs e.0)) (enumerate_from from mets)
 
 read_by_none : (from : ℕ) (mets : List Met) → mets ≡ met_from [] from mets
 read_by_none from [] = refl
 read_by_none from (m ∷ mets) = ap (λ l. m ∷ l) (read_by_none (from + 1) mets)
 
-read_before : (r : Reading) (rs : List Reading) (from : ℕ) (mets : List Met) → r.stream < from → met_from rs from mets ≡ met_from (r ∷ rs) from mets
+read_before : (r : PortReading) (rs : List PortReading) (from : ℕ) (mets : List Met) → r.stream < from → met_from rs from mets ≡ met_from (r ∷ rs) from mets
 read_before r rs from [] less = refl
 read_before r rs from (m ∷ mets) less =
     ap (λ ks. meet_on m ks ∷ met_from rs (from + 1) mets) (sym (read_by r rs from false (other_number r.stream from less)))
@@ -76,7 +76,7 @@ suc_by : (m : Met) (mets : List Met) (i : ℕ) (k : Kind) (found : Option Met) �
 suc_by m mets i k None = refl
 suc_by m mets i k (Some met) = refl
 
-read_one : (r : Reading) (rs : List Reading) (from i : ℕ) (mets : List Met) → r.stream ≡ from + i → met_from rs from (meet_at mets i r.kind) ≡ met_from (r ∷ rs) from mets
+read_one : (r : PortReading) (rs : List PortReading) (from i : ℕ) (mets : List Met) → r.stream ≡ from + i → met_from rs from (meet_at mets i r.kind) ≡ met_from (r ∷ rs) from mets
 read_one r rs from i [] at = refl
 read_one r rs from zero (m ∷ mets) at =
     ap (λ ks. meet_on m ks ∷ met_from rs (from + 1) mets) (sym (read_by r rs from true (same_number r.stream from (omega arith))))
@@ -86,11 +86,11 @@ read_one r rs from (suc i) (m ∷ mets) at =
     ∙ (ap (λ ks. meet_on m ks ∷ met_from rs (from + 1) (meet_at mets i r.kind)) (sym (read_by r rs from false (later_number r.stream from (omega arith))))
     ∙ ap (λ l. meet_on m (kinds_read (r ∷ rs) from) ∷ l) (read_one r rs (from + 1) i mets (omega arith)))
 
-read_all : (rs : List Reading) (mets : List Met) → meet_all mets rs ≡ met_from rs 0 mets
+read_all : (rs : List PortReading) (mets : List Met) → meet_all mets rs ≡ met_from rs 0 mets
 read_all [] mets = read_by_none 0 mets
 read_all (r ∷ rs) mets = read_all rs (meet_at mets r.stream r.kind) ∙ read_one r rs 0 r.stream mets (omega arith)
 
-begun_all : (rs : List Reading) (from : ℕ) (written : List Kind) → met_from rs from (map begun written) ≡ map met_of (map (λ e. kinds_at rs e.0 e.1) (enumerate_from from written))
+begun_all : (rs : List PortReading) (from : ℕ) (written : List Kind) → met_from rs from (map begun written) ≡ map met_of (map (λ e. kinds_at rs e.0 e.1) (enumerate_from from written))
 begun_all rs from [] = refl
 begun_all rs from (w ∷ written) =
     ap (λ m. m ∷ met_from rs (from + 1) (map begun written)) (meet_on_all w false (kinds_read rs from))

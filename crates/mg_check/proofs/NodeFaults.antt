@@ -7,7 +7,7 @@ use Rattle.std.proofs.lemmas.List.Elements.{filter_map-append}
 use Rattle.mg_calc.specs.declared.shape.OuterShape.{OuterShape}
 use Rattle.mg_config.specs.Config.{NodeView}
 use Rattle.mg_subgraph.proofs.Steps.{taken, map-push}
-use Rattle.mg_check.specs.Choosing.{Chosen, chosen, unknown_calculator, no_more_boxes}
+use Rattle.mg_check.specs.Choosing.{Chosen, chosen_nodes, unknown_calculator, no_more_boxes}
 use Rattle.mg_check.specs.Drafts.{draft_of, has_bad_ports, has_bad_options, is_unsupported, bad_ports, bad_options, unsupported, drafts, node_refusal}
 use Rattle.mg_check.specs.DraftView.{drafts_view}
 use Rattle.mg_check.specs.Code.Choices.{choice_view, choices_view, AreChosen, IsStock, short_in}
@@ -115,9 +115,9 @@ pub refusal_is : (outers : List OuterShape) (nodes : List NodeView) (stock : Gro
     → IsStock stock outers → AreChosen choices stock nodes → AreJudged judgement outers (choices_view choices.list.items) → fault_by judgement.wrongs.items ≡ node_refusal outers nodes
 refusal_is outers nodes stock choices judgement known enough is_stock chose judge =
     ap fault_by (judge.wrongs ∙ ap (map (wrong_of outers)) (chose.list outers is_stock))
-    ∙ (faults outers (chosen outers nodes)
-    ∙ sym (ap (λ o. option_or o (option_or (no_more_boxes outers nodes) (option_or (bad_ports outers (chosen outers nodes)) (option_or (bad_options outers (chosen outers nodes)) (unsupported outers (chosen outers nodes)))))) known
-    ∙ ap (λ o. option_or o (option_or (bad_ports outers (chosen outers nodes)) (option_or (bad_options outers (chosen outers nodes)) (unsupported outers (chosen outers nodes))))) enough))
+    ∙ (faults outers (chosen_nodes outers nodes)
+    ∙ sym (ap (λ o. option_or o (option_or (no_more_boxes outers nodes) (option_or (bad_ports outers (chosen_nodes outers nodes)) (option_or (bad_options outers (chosen_nodes outers nodes)) (unsupported outers (chosen_nodes outers nodes)))))) known
+    ∙ ap (λ o. option_or o (option_or (bad_ports outers (chosen_nodes outers nodes)) (option_or (bad_options outers (chosen_nodes outers nodes)) (unsupported outers (chosen_nodes outers nodes))))) enough))
 
 pub drafts_are : (outers : List OuterShape) (nodes : List NodeView) (stock : Groups) (choices : Choices) (judgement : Judgement) → IsStock stock outers → AreChosen choices stock nodes
     → AreJudged judgement outers (choices_view choices.list.items) → drafts_view judgement.drafts.items ≡ drafts outers nodes

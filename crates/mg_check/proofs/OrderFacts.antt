@@ -10,7 +10,7 @@ use Rattle.std.proofs.lemmas.Option.{none-some, same_Some, slice_get_within, get
 use Rattle.std.specs.List.{list_all, find, range_with_len}
 use Rattle.mg_calc.specs.Plan.{numbers, StandsBefore}
 use Rattle.mg_check.specs.declared.ordering.Link.{Link}
-use Rattle.mg_check.specs.Order.{is_among, is_next, with_next, taken_on, order_of, left_out}
+use Rattle.mg_check.specs.Order.{is_among, is_next, then_next, taken_on, order_of, left_out}
 
 -- ---- numbers among numbers
 pub among-Contains : (ns : List ℕ) (n : ℕ) → is_among ns n ≡ true → Contains ns n
@@ -97,11 +97,11 @@ pub order_keeps : (P : List ℕ → Type 0) (count : ℕ) (links : List Link)
     → (more : ℕ) (taken : List ℕ) → P taken → P (taken_on more count links taken)
 order_keeps P count links step zero taken holds = holds
 order_keeps P count links step (suc more) taken holds = elim (cases_Option (find (is_next links taken) (numbers count))) [
-  | inl none ↦ subst (λ o. P (with_next taken (λ n. taken_on more count links (taken ++ n ∷ [])) o)) (sym none) holds
+  | inl none ↦ subst (λ o. P (then_next taken (λ n. taken_on more count links (taken ++ n ∷ [])) o)) (sym none) holds
   | inr found ↦
       let first = find-first (is_next links taken) 0 count found.0 found.1 in
       let below : found.0 < count = (let b = first.below in omega arith) in
-      subst (λ o. P (with_next taken (λ n. taken_on more count links (taken ++ n ∷ [])) o)) (sym found.1)
+      subst (λ o. P (then_next taken (λ n. taken_on more count links (taken ++ n ∷ [])) o)) (sym found.1)
       (order_keeps P count links step more (taken ++ found.0 ∷ []) (step taken found.0 holds below first.passes))
 ]
 

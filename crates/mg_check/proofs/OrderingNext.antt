@@ -11,8 +11,8 @@ use Rattle.std.specs.BTreeSet.{BTreeSet, contains, IsLowerBound}
 use Rattle.std.specs.BTreeMap.{is_at}
 use Rattle.mg_calc.specs.Plan.{numbers}
 use Rattle.mg_check.specs.declared.ordering.Link.{Link}
-use Rattle.mg_check.specs.Order.{is_among, is_next, taken_on, with_next, IsBetween}
-use Rattle.mg_check.specs.Code.Taking.{HasMarks, HasWaits, HasReaders, HasReleased, HasPassing, IsAfter, is_marked, is_free, waits_for, readers_of}
+use Rattle.mg_check.specs.Order.{is_among, is_next, taken_on, then_next, IsBetween}
+use Rattle.mg_check.specs.Code.Taking.{HasMarks, HasWaits, HasReaders, HasReleased, HasPassing, IsAfter, is_marked, may_be_taken, waits_for, readers_of}
 use Rattle.mg_check.proofs.OrderFacts.{first-find, none-find}
 use Rattle.mg_check.proofs.OrderingMarks.{HasMarks-push}
 use Rattle.mg_check.proofs.OrderingLinks.{HasWaits-taken, HasWaits-same, row_is}
@@ -34,7 +34,7 @@ waits_none taken links n =
     one false false = refl
 
 pub free_is_next : (count : ℕ) (links : List Link) (order : List ℕ) (taken : List Bool) (waiting : List ℕ) (n : ℕ) → n < count → HasMarks count order taken
-    → HasWaits count links (is_among order) waiting → is_free taken waiting n ≡ is_next links order n
+    → HasWaits count links (is_among order) waiting → may_be_taken taken waiting n ≡ is_next links order n
 free_is_next count links order taken waiting n lt marks waits =
     ap (λ b. not b && eqb (get_or waiting n 0) 0) (marks.marked n lt)
     ∙ ap (λ k. not (is_among order n) && eqb k 0) (waits.told n lt)
@@ -75,7 +75,7 @@ next_is_none count links order taken waiting ready after none =
 
 -- ---- a node is taken
 pub IsAfter-taken : (count : ℕ) (links : List Link) (order : List ℕ) (taken : List Bool) (waiting new : List ℕ) (ready set : BTreeSet ℕ) (m : ℕ) → m < count → is_among order m ≡ false
-    → IsAfter count links order taken waiting ready → HasReleased (readers_of links m) waiting new → HasPassing count (is_free (slice_set taken m true) new) set
+    → IsAfter count links order taken waiting ready → HasReleased (readers_of links m) waiting new → HasPassing count (may_be_taken (slice_set taken m true) new) set
     → IsAfter count links (order ++ m ∷ []) (slice_set taken m true) new set
 IsAfter-taken count links order taken waiting new ready set m inside out after released free = record {
   marks = HasMarks-push count order m taken inside after.marks;
@@ -100,11 +100,11 @@ ready_row count links order taken waiting ready m rows read row after member has
 -- the sources alone are taken
 pub IsAfter-first : (count : ℕ) (links : List Link) (sources : List ℕ) (taken marks free_marks : List Bool) (waiting free_waiting : List ℕ) (ready : BTreeSet ℕ) → All (IsBetween count) links
     → HasMarks count sources taken → marks ≡ taken → HasWaits count links (is_marked marks) waiting → free_marks ≡ taken → free_waiting ≡ waiting
-    → HasPassing count (is_free free_marks free_waiting) ready → IsAfter count links sources taken waiting ready
+    → HasPassing count (may_be_taken free_marks free_waiting) ready → IsAfter count links sources taken waiting ready
 IsAfter-first count links sources taken marks free_marks waiting free_waiting ready between has same waits same_marks same_waiting free = record {
   marks = has;
   waits = HasWaits-same count links (is_marked marks) (is_among sources) waiting (λ n lt. ap (λ ms. is_marked ms n) same ∙ has.marked n lt) between waits;
-  free = subst (λ ms. HasPassing count (is_free ms waiting) ready) same_marks (subst (λ ws. HasPassing count (is_free free_marks ws) ready) same_waiting free);
+  free = subst (λ ms. HasPassing count (may_be_taken ms waiting) ready) same_marks (subst (λ ws. HasPassing count (may_be_taken free_marks ws) ready) same_waiting free);
 }
 
 -- ---- what is taken with what comes next
@@ -113,11 +113,11 @@ pub taken_on-some : (count : ℕ) (links : List Link) (order all : List ℕ) (k 
 taken_on-some count links order all k m lt found same =
     let more : ℕ = count - (k + 1) in
     let is_more : suc more ≡ count - k = omega arith in
-    ap (λ o. with_next order (λ n. taken_on more count links (order ++ n ∷ [])) o) (sym found) ∙ ap (λ j. taken_on j count links order) is_more ∙ same
+    ap (λ o. then_next order (λ n. taken_on more count links (order ++ n ∷ [])) o) (sym found) ∙ ap (λ j. taken_on j count links order) is_more ∙ same
 
 pub taken_on-none : (count : ℕ) (links : List Link) (order : List ℕ) (k : ℕ) → find (is_next links order) (numbers count) ≡ None → taken_on k count links order ≡ order
 taken_on-none count links order zero found = refl
-taken_on-none count links order (suc k) found = ap (λ o. with_next order (λ n. taken_on k count links (order ++ n ∷ [])) o) found
+taken_on-none count links order (suc k) found = ap (λ o. then_next order (λ n. taken_on k count links (order ++ n ∷ [])) o) found
 
 pub taken_on-all : (count : ℕ) (links : List Link) (order all : List ℕ) (k : ℕ) → count ≤ k → taken_on (count - k) count links order ≡ all → order ≡ all
 taken_on-all count links order all k le same = ap (λ j. taken_on j count links order) (let e : 0 ≡ count - k = omega arith in e) ∙ same

@@ -16,7 +16,7 @@ use Rattle.mg_index.specs.Places.{is_text, place_again}
 use Rattle.mg_index.specs.Tables.{kept_place, kept_names, IsTable}
 use Rattle.mg_index.specs.declared.name_table.NameTable.{NameTable}
 use Rattle.mg_names.proofs.Standing.{any_has_place}
-use Rattle.mg_check.specs.Names.{is_name_among, first_again, number_in}
+use Rattle.mg_check.specs.Names.{is_name_among, first_again, number_among}
 
 -- the first name that stands again, by its place
 stands_by : (test : Bool) (name : List ℕ) (names : List (List ℕ)) (found : Option ℕ) (later : Option (List ℕ)) → later ≡ option_and_then (slice_get names) found
@@ -97,8 +97,8 @@ within_by n count i known = ⊎_elim
 pub place_within : (table : NameTable) (names : List (List ℕ)) (name : List ℕ) (i : ℕ) → IsTable is_text table names → Some i ≡ kept_place table name → i < length names
 place_within table names name i known is = within_by (position_or_len (bytes_eq name) names) (length names) i (is ∙ known.first name)
 
-pub number_found : (table : NameTable) (names : List (List ℕ)) (name : List ℕ) (i : ℕ) → IsTable is_text table names → Some i ≡ kept_place table name → i ≡ number_in names name
+pub number_found : (table : NameTable) (names : List (List ℕ)) (name : List ℕ) (i : ℕ) → IsTable is_text table names → Some i ≡ kept_place table name → i ≡ number_among names name
 number_found table names name i known is = ap (λ o. unwrap_or o 0) (is ∙ known.first name)
 
-pub number_missing : (table : NameTable) (names : List (List ℕ)) (name : List ℕ) → IsTable is_text table names → None ≡ kept_place table name → 0 ≡ number_in names name
+pub number_missing : (table : NameTable) (names : List (List ℕ)) (name : List ℕ) → IsTable is_text table names → None ≡ kept_place table name → 0 ≡ number_among names name
 number_missing table names name known is = ap (λ o. unwrap_or o 0) (is ∙ known.first name)

@@ -14,7 +14,7 @@ use Rattle.mg_calc.specs.declared.plan_node.PlanNode.{PlanNode}
 use Rattle.mg_calc.specs.Plan.{Ends, ends_of, ends_at, all_ends, EndsAtLoop, EndsAtFinished}
 use Rattle.mg_calc.specs.Shape.{IsLimiter}
 use Rattle.mg_check.specs.Drafts.{DraftView}
-use Rattle.mg_check.specs.Names.{number_in}
+use Rattle.mg_check.specs.Names.{number_among}
 use Rattle.mg_check.specs.Joining.{stream_names, side_names, is_back_at, edges_into, node_edges, edges}
 use Rattle.mg_check.specs.Planning.{plan_node, plan_nodes, plan_of}
 use Rattle.mg_check.specs.Code.Sound.{IsBackPort, IsSound}
@@ -23,15 +23,15 @@ use Rattle.mg_check.proofs.ValidLists.{joined, pieces}
 
 -- the edge into a port, and what it joins
 abbrev pub edge_to : List (List ℕ) → ℕ → Option ℕ → ℕ × List ℕ → Edge
-edge_to names node back e = record { stream = number_in names e.1; node = node; port = e.0; back = is_back_at back e.0 }
+edge_to names node back e = record { stream = number_among names e.1; node = node; port = e.0; back = is_back_at back e.0 }
 
 abbrev end_at : ℕ → ℕ × ℕ → Ends
 end_at node e = record { stream = e.1; node = node; port = e.0 }
 
 ends_from : (names : List (List ℕ)) (node : ℕ) (back : Option ℕ) (n : ℕ) (inputs : List (List ℕ))
-    → map ends_of (map (edge_to names node back) (enumerate_from n inputs)) ≡ map (end_at node) (enumerate_from n (map (number_in names) inputs))
+    → map ends_of (map (edge_to names node back) (enumerate_from n inputs)) ≡ map (end_at node) (enumerate_from n (map (number_among names) inputs))
 ends_from names node back n [] = refl
-ends_from names node back n (x ∷ xs) = ap (λ l. end_at node (n, number_in names x) ∷ l) (ends_from names node back (n + 1) xs)
+ends_from names node back n (x ∷ xs) = ap (λ l. end_at node (n, number_among names x) ∷ l) (ends_from names node back (n + 1) xs)
 
 -- those of each node
 abbrev pub into_node : List (List ℕ) → ℕ × DraftView → List Edge
@@ -45,7 +45,7 @@ node_ends names sides n first [] = refl
 node_ends names sides n first (d ∷ ds) =
     map-append ends_of (into_node names (n, d)) (flat_map (into_node names) (enumerate_from (n + 1) ds))
     ∙ (ap (λ l. l ++ map ends_of (flat_map (into_node names) (enumerate_from (n + 1) ds))) (ends_from names n d.back 0 d.inputs)
-    ∙ ap (λ l. ends_at n (map (number_in names) d.inputs) ++ l) (node_ends names sides (n + 1) (first + length d.outputs) ds))
+    ∙ ap (λ l. ends_at n (map (number_among names) d.inputs) ++ l) (node_ends names sides (n + 1) (first + length d.outputs) ds))
 
 pub nodes_long : (streams sides : List (List ℕ)) (first : ℕ) (ds : List DraftView) → length (plan_nodes streams sides first ds) ≡ length ds
 nodes_long streams sides first [] = refl
@@ -59,7 +59,7 @@ valid_edges graph ds =
     map-append ends_of (node_edges graph ds) (edges_into names (length ds) None (port_names graph.outputs))
     ∙ (ap (λ l. l ++ map ends_of (edges_into names (length ds) None (port_names graph.outputs))) (node_ends names sides 0 (length graph.inputs) ds)
     ∙ (ap (λ l. flat_map at_node (enumerate_from 0 nodes) ++ l) (ends_from names (length ds) None 0 (port_names graph.outputs))
-    ∙ ap (λ k. flat_map at_node (enumerate_from 0 nodes) ++ ends_at k (map (number_in names) (port_names graph.outputs))) (sym (nodes_long names sides (length graph.inputs) ds))))
+    ∙ ap (λ k. flat_map at_node (enumerate_from 0 nodes) ++ ends_at k (map (number_among names) (port_names graph.outputs))) (sym (nodes_long names sides (length graph.inputs) ds))))
 
 -- the plan's node of a draft
 pub node_of : (streams sides : List (List ℕ)) (first : ℕ) (ds : List DraftView) (k : ℕ) (d : DraftView) → slice_get ds k ≡ Some d → (from : ℕ) × (slice_get (plan_nodes streams sides first ds) k ≡ Some (plan_node streams sides from d))

@@ -12,7 +12,7 @@ use Rattle.mg_calc.specs.declared.shape.OuterShape.{OuterShape}
 use Rattle.mg_calc.specs.Shape.{ParametersFit, IsShapeOf}
 use Rattle.mg_calc.specs.Plan.{HasNumbers, FlightFits, MayHavePolicy, OutersFit, FitsNode}
 use Rattle.mg_check.specs.Drafts.{DraftView}
-use Rattle.mg_check.specs.Names.{number_in}
+use Rattle.mg_check.specs.Names.{number_among}
 use Rattle.mg_check.specs.Joining.{stream_names, side_names}
 use Rattle.mg_check.specs.Planning.{plan_node, plan_nodes, plan_of}
 use Rattle.mg_check.specs.Code.Sound.{IsSound, FitsDraft}
@@ -30,9 +30,9 @@ nodes_all P Q graph ds so all =
 
 numbered : (streams sides : List (List ℕ)) (from : ℕ) (d : DraftView) → IsSound d → HasNumbers (plan_node streams sides from d)
 numbered streams sides from d sound = record {
-  inputs = length-map d.inputs (number_in streams) ∙ sound.names.inputs;
+  inputs = length-map d.inputs (number_among streams) ∙ sound.names.inputs;
   outputs = length-range_with_len from (length d.outputs) ∙ sound.names.outputs;
-  sides = length-map d.sides (number_in sides) ∙ sound.names.sides;
+  sides = length-map d.sides (number_among sides) ∙ sound.names.sides;
 }
 
 in_flight : (streams sides : List (List ℕ)) (from : ℕ) (d : DraftView) → IsSound d → FlightFits (plan_node streams sides from d)

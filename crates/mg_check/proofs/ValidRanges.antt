@@ -18,7 +18,7 @@ use Rattle.mg_subgraph.proofs.Joins.{none_left, none_right, none_mapped, absent_
 use Rattle.mg_calc.specs.Side.{PlainSide, given_at, fixed}
 use Rattle.mg_calc.specs.Plan.{numbers, AreInRange, given_places, place_of}
 use Rattle.mg_check.specs.Drafts.{DraftView}
-use Rattle.mg_check.specs.Names.{is_name_among, first_missing, number_in}
+use Rattle.mg_check.specs.Names.{is_name_among, first_missing, number_among}
 use Rattle.mg_check.specs.Joining.{stream_names, read_names, side_names, taken_names, edges, two_producers, no_producer, side_missing, kind_clash, back_edge_misplaced, cycle, too_many, join_refusal}
 use Rattle.mg_check.specs.Planning.{plan_nodes, plan_streams, plan_sides, given_sides, fixed_sides, limit_of, workers_of, plan_of}
 use Rattle.mg_check.specs.declared.fault.CheckFault.{CheckFault}
@@ -59,7 +59,7 @@ are_joined graph ds none =
 -- Names.
 
 -- the number of a name that is there is below how many there are
-number_below : (names : List (List ℕ)) (name : List ℕ) → is_name_among names name ≡ true → number_in names name < length names
+number_below : (names : List (List ℕ)) (name : List ℕ) → is_name_among names name ≡ true → number_among names name < length names
 number_below [] name among = absurd (false≢true among)
 number_below (x ∷ xs) name among = by (position (bytes_eq name) (x ∷ xs)) refl
   where
@@ -68,7 +68,7 @@ number_below (x ∷ xs) name among = by (position (bytes_eq name) (x ∷ xs)) re
     by (Some i) found = (position-Some (bytes_eq name) (x ∷ xs) i [] found).0
 
 -- each name is there where none is missing
-none_missing : (there names : List (List ℕ)) → first_missing there names ≡ None → AllByRecursion (λ name. number_in there name < length there) names
+none_missing : (there names : List (List ℕ)) → first_missing there names ≡ None → AllByRecursion (λ name. number_among there name < length there) names
 none_missing there [] none = tt
 none_missing there (x ∷ xs) none = (
   number_below there x (not-false (is_name_among there x) (absent_here (not (is_name_among there x)) x (first_missing there xs) none)),
@@ -78,10 +78,10 @@ none_missing there (x ∷ xs) none = (
 abbrev below : ℕ → List ℕ → Type 0
 below count ns = All (λ n. n < count) ns
 
-all_below : (there names : List (List ℕ)) (count : ℕ) → length there ≡ count → AllByRecursion (λ name. number_in there name < length there) names → below count (map (number_in there) names)
+all_below : (there names : List (List ℕ)) (count : ℕ) → length there ≡ count → AllByRecursion (λ name. number_among there name < length there) names → below count (map (number_among there) names)
 all_below there names count long all =
-    All-from_recursion (λ n. n < count) (map (number_in there) names)
-    (all_mapped (λ n. n < count) (number_in there) names (subst (λ k. AllByRecursion (λ name. number_in there name < k) names) long all))
+    All-from_recursion (λ n. n < count) (map (number_among there) names)
+    (all_mapped (λ n. n < count) (number_among there) names (subst (λ k. AllByRecursion (λ name. number_among there name < k) names) long all))
 
 -- the names at each draft
 each_part : (P : List ℕ → Type 0) (names_of : DraftView → List (List ℕ)) (ds : List DraftView) → AllByRecursion P (flat_map names_of ds) → AllByRecursion (λ d. AllByRecursion P (names_of d)) ds
@@ -183,22 +183,22 @@ valid_ranges graph ds short known named =
     let long : length streams ≡ count = names_count graph ds ∙ sym (streams_long graph ds named) in
     let many : length sides ≡ packets = sym (sides_long graph ds named) in
     let few = edges_few graph ds known.few in
-    let read = both_parts (λ name. number_in streams name < length streams) (flat_map (λ d. d.inputs) ds) (port_names graph.outputs) (none_missing streams (read_names graph ds) known.read) in
-    let taken = both_parts (λ name. number_in sides name < length sides) (flat_map (λ d. d.sides) ds) (port_names graph.output_sides) (none_missing sides (taken_names graph ds) known.taken) in
+    let read = both_parts (λ name. number_among streams name < length streams) (flat_map (λ d. d.inputs) ds) (port_names graph.outputs) (none_missing streams (read_names graph ds) known.read) in
+    let taken = both_parts (λ name. number_among sides name < length sides) (flat_map (λ d. d.sides) ds) (port_names graph.output_sides) (none_missing sides (taken_names graph ds) known.taken) in
     record {
       nodes = subst (λ k. k ≤ 4096) (sym (nodes_long streams sides first ds)) short;
       edges = few.0;
-      outputs = subst (λ k. k ≤ 256) (sym (length-map (port_names graph.outputs) (number_in streams) ∙ length-map graph.outputs (λ p. p.name))) few.1;
+      outputs = subst (λ k. k ≤ 256) (sym (length-map (port_names graph.outputs) (number_among streams) ∙ length-map graph.outputs (λ p. p.name))) few.1;
       workers = few_workers graph.num_threads;
       read = All-from_recursion (λ node. below count node.inputs) (plan_nodes streams sides first ds)
-          (nodes_by (λ node. below count node.inputs) (λ d. AllByRecursion (λ name. number_in streams name < length streams) d.inputs) streams sides first ds
+          (nodes_by (λ node. below count node.inputs) (λ d. AllByRecursion (λ name. number_among streams name < length streams) d.inputs) streams sides first ds
           (λ from d all. all_below streams d.inputs count long all)
-          (each_part (λ name. number_in streams name < length streams) (λ d. d.inputs) ds read.0));
+          (each_part (λ name. number_among streams name < length streams) (λ d. d.inputs) ds read.0));
       shown = all_below streams (port_names graph.outputs) count long read.1;
       taken = All-from_recursion (λ node. below packets node.sides) (plan_nodes streams sides first ds)
-          (nodes_by (λ node. below packets node.sides) (λ d. AllByRecursion (λ name. number_in sides name < length sides) d.sides) streams sides first ds
+          (nodes_by (λ node. below packets node.sides) (λ d. AllByRecursion (λ name. number_among sides name < length sides) d.sides) streams sides first ds
           (λ from d all. all_below sides d.sides packets many all)
-          (each_part (λ name. number_in sides name < length sides) (λ d. d.sides) ds taken.0));
+          (each_part (λ name. number_among sides name < length sides) (λ d. d.sides) ds taken.0));
       given = own_count (given_places (plan_of graph ds)) (length (port_names graph.input_sides)) (places_of_all graph ds);
       limit = some_limit graph.max_queue_size;
     }

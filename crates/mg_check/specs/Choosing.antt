@@ -45,8 +45,8 @@ chosen_after outers before [] = []
 chosen_after outers before (node ∷ nodes) = with_kind (kind_of outers before node) node (chosen_after outers (before ++ node ∷ []) nodes)
 
 -- the nodes for which there is a calculator, each with it; all nodes where none is refused for want of one
-abbrev pub chosen : List OuterShape → List NodeView → List Chosen
-chosen outers nodes = chosen_after outers [] nodes
+abbrev pub chosen_nodes : List OuterShape → List NodeView → List Chosen
+chosen_nodes outers nodes = chosen_after outers [] nodes
 
 -- Refusals.
 

@@ -22,7 +22,7 @@ use Rattle.mg_kinds.specs.PortOrder.{in_order}
 use Rattle.mg_kinds.specs.declared.ports.Ports.{Ports}
 use Rattle.mg_check.specs.declared.node_kind.NodeKind.{NodeKind}
 use Rattle.mg_check.specs.declared.node_kind.NodeKind.TheVariants.{BuiltIn, Outer}
-use Rattle.mg_check.specs.Choosing.{Chosen, chosen, unknown_calculator, no_more_boxes}
+use Rattle.mg_check.specs.Choosing.{Chosen, chosen_nodes, unknown_calculator, no_more_boxes}
 use Rattle.mg_check.specs.Fitting.{node_ports, node_settings, node_shape, policy_of}
 use Rattle.mg_check.specs.declared.fault.CheckFault.{CheckFault}
 use Rattle.mg_check.specs.declared.fault.CheckFault.TheVariants.{BadPorts, BadOptions, Unsupported}
@@ -120,7 +120,7 @@ draft_of outers c =
 
 -- the drafts of the nodes with which nothing is wrong, which are all where no node is refused
 abbrev pub drafts : List OuterShape → List NodeView → List DraftView
-drafts outers nodes = filter_map (draft_of outers) (chosen outers nodes)
+drafts outers nodes = filter_map (draft_of outers) (chosen_nodes outers nodes)
 
 -- Refusals. Whether the streams and side packets of a node don't fit its calculator.
 abbrev pub has_bad_ports : List OuterShape → Chosen → Bool
@@ -146,5 +146,5 @@ unsupported outers cs = option_map (λ n. Unsupported n (codes "input_stream_han
 -- the first refusal of nodes by themselves
 abbrev pub node_refusal : List OuterShape → List NodeView → Option CheckFault
 node_refusal outers nodes =
-    option_or (unknown_calculator outers nodes) (option_or (no_more_boxes outers nodes) (option_or (bad_ports outers (chosen outers nodes))
-    (option_or (bad_options outers (chosen outers nodes)) (unsupported outers (chosen outers nodes)))))
+    option_or (unknown_calculator outers nodes) (option_or (no_more_boxes outers nodes) (option_or (bad_ports outers (chosen_nodes outers nodes))
+    (option_or (bad_options outers (chosen_nodes outers nodes)) (unsupported outers (chosen_nodes outers nodes)))))

@@ -12,8 +12,8 @@ use Rattle.mg_calc.specs.declared.plan_stream.Producer.{Producer}
 use Rattle.mg_calc.specs.declared.plan_stream.Producer.TheVariants.{Input, Node}
 use Rattle.mg_calc.specs.Plan.{numbers, writing_node}
 use Rattle.mg_check.specs.Drafts.{DraftView}
-use Rattle.mg_check.specs.Names.{first_again, first_missing, number_in}
-use Rattle.mg_check.specs.Meeting.{Reading, meetings, clashes}
+use Rattle.mg_check.specs.Names.{first_again, first_missing, number_among}
+use Rattle.mg_check.specs.Meeting.{PortReading, meetings, clashes}
 use Rattle.mg_check.specs.Order.{order_of}
 use Rattle.mg_check.specs.Cycle.{largest_cycle}
 use Rattle.mg_check.specs.declared.ordering.Link.{Link}
@@ -61,7 +61,7 @@ is_back_at (Some back) port = back == port
 -- the edges into a consumer, at whose ports these names stand; that into one port may be a back edge
 abbrev pub edges_into : List (List ℕ) → ℕ → Option ℕ → List (List ℕ) → List Edge
 edges_into names node back inputs =
-    map (λ e. record { stream = number_in names e.1; node = node; port = e.0; back = is_back_at back e.0 }) (enumerate_from 0 inputs)
+    map (λ e. record { stream = number_among names e.1; node = node; port = e.0; back = is_back_at back e.0 }) (enumerate_from 0 inputs)
 
 -- the edges into all nodes
 abbrev pub node_edges : GraphView → List DraftView → List Edge
@@ -85,7 +85,7 @@ abbrev pub read_kinds : GraphView → List DraftView → List Kind
 read_kinds graph ds = flat_map (λ d. kinds d.shape.inputs) ds ++ map (λ p. Any) graph.outputs
 
 -- for each edge its stream, and the kind of the port that reads it
-abbrev pub readings : GraphView → List DraftView → List Reading
+abbrev pub readings : GraphView → List DraftView → List PortReading
 readings graph ds = map (λ e. record { stream = e.0.stream; kind = e.1 }) (zip (edges graph ds) (read_kinds graph ds))
 
 -- the kinds that meet at each stream

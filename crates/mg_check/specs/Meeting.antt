@@ -27,14 +27,14 @@ abbrev pub clashes : List Kind → Bool
 clashes kinds = list_any (λ kind. not (is_any kind) && not (is_kind kind (met_kind kinds))) kinds
 
 -- a port that reads: the number of its stream, and its kind
-pub record Reading : Type 0 where
+pub record PortReading : Type 0 where
   pub stream : ℕ
   pub kind : Kind
 
 -- the kinds that meet at the stream of a number, which a port of this kind writes
-abbrev pub kinds_at : List Reading → ℕ → Kind → List Kind
+abbrev pub kinds_at : List PortReading → ℕ → Kind → List Kind
 kinds_at readings number written = written ∷ map (λ r. r.kind) (filter (λ r. r.stream == number) readings)
 
 -- the kinds that meet at each stream, by the kinds of the ports that write and the ports that read
-abbrev pub meetings : List Kind → List Reading → List (List Kind)
+abbrev pub meetings : List Kind → List PortReading → List (List Kind)
 meetings written readings = map (λ e. kinds_at readings e.0 e.1) (enumerate_from 0 written)

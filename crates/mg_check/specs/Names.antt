@@ -17,5 +17,5 @@ abbrev pub first_missing : List (List ℕ) → List (List ℕ) → Option (List 
 first_missing there names = find (λ name. not (is_name_among there name)) names
 
 -- the number of a name among names: its place, or 0 where it isn't there
-abbrev pub number_in : List (List ℕ) → List ℕ → ℕ
-number_in names name = unwrap_or (position (bytes_eq name) names) 0
+abbrev pub number_among : List (List ℕ) → List ℕ → ℕ
+number_among names name = unwrap_or (position (bytes_eq name) names) 0

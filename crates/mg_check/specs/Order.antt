@@ -14,14 +14,14 @@ abbrev pub is_next : List Link → List ℕ → ℕ → Bool
 is_next links taken n = not (is_among taken n) && list_all (λ link. not (link.to == n) || is_among taken link.from) links
 
 -- the nodes that are taken, or what goes on with one more if there is a next
-abbrev pub with_next : List ℕ → (ℕ → List ℕ) → Option ℕ → List ℕ
-with_next taken go_on None = taken
-with_next taken go_on (Some n) = go_on n
+abbrev pub then_next : List ℕ → (ℕ → List ℕ) → Option ℕ → List ℕ
+then_next taken go_on None = taken
+then_next taken go_on (Some n) = go_on n
 
 -- the nodes that are taken, with so many more at most behind them, one after the other
 abbrev pub taken_on : ℕ → ℕ → List Link → List ℕ → List ℕ
 taken_on zero count links taken = taken
-taken_on (suc more) count links taken = with_next taken (λ n. taken_on more count links (taken ++ n ∷ [])) (find (is_next links taken) (numbers count))
+taken_on (suc more) count links taken = then_next taken (λ n. taken_on more count links (taken ++ n ∷ [])) (find (is_next links taken) (numbers count))
 
 -- the order of so many nodes, of which these have no inputs
 abbrev pub order_of : ℕ → List ℕ → List Link → List ℕ

@@ -9,7 +9,7 @@ use Rattle.mg_calc.specs.declared.plan_node.PlanNode.{PlanNode}
 use Rattle.mg_calc.specs.declared.plan_stream.PlanStream.{PlanStream}
 use Rattle.mg_calc.specs.Plan.{numbers}
 use Rattle.mg_check.specs.Drafts.{DraftView}
-use Rattle.mg_check.specs.Names.{number_in}
+use Rattle.mg_check.specs.Names.{number_among}
 use Rattle.mg_check.specs.Meeting.{met_kind}
 use Rattle.mg_check.specs.Joining.{stream_names, side_names, edges, stream_meetings, writers, order}
 
@@ -19,9 +19,9 @@ plan_node streams sides first d = record {
   label = d.label;
   law = d.law;
   shape = d.shape;
-  inputs = map (number_in streams) d.inputs;
+  inputs = map (number_among streams) d.inputs;
   outputs = range_with_len first (length d.outputs);
-  sides = map (number_in sides) d.sides;
+  sides = map (number_among sides) d.sides;
   in_flight = d.in_flight;
   box_number = d.box_number;
   policy = d.policy;
@@ -67,7 +67,7 @@ plan_of graph ds = record {
   edges = edges graph ds;
   order = order graph ds;
   inputs = numbers (length graph.inputs);
-  outputs = map (number_in (stream_names graph ds)) (port_names graph.outputs);
+  outputs = map (number_among (stream_names graph ds)) (port_names graph.outputs);
   sides = plan_sides graph ds;
   limit = limit_of graph.max_queue_size;
   workers = workers_of graph.num_threads;

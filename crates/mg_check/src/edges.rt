@@ -3,7 +3,7 @@ ghost use Rattle.mg_kinds.specs.Kinds.{names_of};
 ghost use Rattle.mg_subgraph.specs.Refusals.{port_names};
 ghost use Rattle.mg_check.specs.DraftView.{drafts_view};
 ghost use Rattle.mg_check.specs.Joining as joining;
-ghost use Rattle.mg_check.specs.Code.Edges.{edge_at, node_edges as of_nodes};
+ghost use Rattle.mg_check.specs.Code.Edges.{edge_at, node_edges_from as of_nodes};
 
 use crate::counting::count_of;
 use crate::draft::Draft;

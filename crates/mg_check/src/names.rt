@@ -1,7 +1,7 @@
 ghost use Rattle.std.specs.Prelude.{◌≡◌, ◌≢◌, None, Some, IfOk, IfErr, OnOk, option_map, length, map, slice_get};
 ghost use Rattle.mg_index.specs.Tables.{IsTable};
 ghost use Rattle.mg_kinds.specs.Kinds.{names_of};
-ghost use Rattle.mg_check.specs.Names.{is_name_among, first_again, first_missing, number_in};
+ghost use Rattle.mg_check.specs.Names.{is_name_among, first_again, first_missing, number_among};
 ghost use Rattle.mg_index.specs.Places.{is_text};
 ghost use Rattle.mg_check.specs.declared.fault.CheckFault.TheVariants.{TwoProducers};
 
@@ -90,7 +90,7 @@ impl<'a> Names<'a> {
     /// Returns the number of a name, which is its place in the list, or 0 where it isn't there.
     #[tactic(auto, using(crate::proofs::Placed::place_within, crate::proofs::Placed::number_found, crate::proofs::Placed::number_missing))]
     pub(crate) fn number(&self, name: &str) -> u32
-        ensures { result ≡ number_in self.now name.now }
+        ensures { result ≡ number_among self.now name.now }
     {
         match self.table.get(name) {
             Some(place) => place as u32,
@@ -117,7 +117,7 @@ pub(crate) fn numbers_of(
     names: &Names,
     texts: &[&str],
 ) -> Result<NumberList, AllocError>
-    ensures { IfOk result (λ numbers. numbers ≡ map (number_in names.now) (names_of texts.now)) }
+    ensures { IfOk result (λ numbers. numbers ≡ map (number_among names.now) (names_of texts.now)) }
 {
     let mut numbers = Vec::new(alloc);
     for text in texts {

@@ -2,7 +2,7 @@ ghost use Rattle.std.specs.Prelude.{◌≡◌, ◌≢◌, ◌≤◌, None, Some,
 ghost use Rattle.mg_config.specs.Config.{graph_view};
 ghost use Rattle.mg_check.specs.DraftView.{drafts_view};
 ghost use Rattle.mg_subgraph.specs.Refusals.{port_names};
-ghost use Rattle.mg_check.specs.Names.{number_in};
+ghost use Rattle.mg_check.specs.Names.{number_among};
 ghost use Rattle.mg_check.specs.Joining.{join_refusal};
 ghost use Rattle.mg_check.specs.Planning as planning;
 ghost use Rattle.mg_check.specs.Code.Refusing.{AreJoint, AreShown, AreWired};
@@ -52,7 +52,7 @@ struct Shown {
 }
 
 fn outputs_of(alloc: Global, streams: &Names, outputs: &PortMap) -> Result<NumberList, AllocError>
-    ensures { IfOk result (λ numbers. numbers ≡ map (number_in streams.now) (port_names outputs.now)) }
+    ensures { IfOk result (λ numbers. numbers ≡ map (number_among streams.now) (port_names outputs.now)) }
 {
     let texts = port_texts(alloc, outputs)?;
     numbers_of(alloc, streams, texts.as_slice())

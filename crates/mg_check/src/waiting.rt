@@ -4,7 +4,7 @@ ghost use Rattle.std.specs.Prelude.{◌≡◌, ◌≤◌, ◌-◌, ◌==◌, ◌
 ghost use Rattle.std.specs.BTreeSet.{contains};
 ghost use Rattle.std.specs.Ordering.{nat_cmp};
 ghost use Rattle.mg_check.specs.Order.{IsBetween};
-ghost use Rattle.mg_check.specs.Code.Taking.{HasPassing, HasReleased, HasWaits, is_free, is_marked};
+ghost use Rattle.mg_check.specs.Code.Taking.{HasPassing, HasReleased, HasWaits, may_be_taken, is_marked};
 
 use crate::ordering::Link;
 use std::alloc::{AllocError, Global};
@@ -51,7 +51,7 @@ fn add_free(
 ) -> Result<(), AllocError>
     requires taken { node < length taken.now }
     requires waiting { node < length waiting.now }
-    ensures { OnOk result ((n : ℕ) → contains nat_cmp ready.new n ≡ (contains nat_cmp ready.old n || (n == node && is_free taken.now waiting.now node))) }
+    ensures { OnOk result ((n : ℕ) → contains nat_cmp ready.new n ≡ (contains nat_cmp ready.old n || (n == node && may_be_taken taken.now waiting.now node))) }
 {
     if !taken[node as usize] && waiting[node as usize] == 0 {
         ready.insert(node)?;
@@ -68,7 +68,7 @@ pub(crate) fn ready_of(
 ) -> Result<BTreeSet<u32>, AllocError>
     requires taken { length taken.now ≡ count }
     requires waiting { length waiting.now ≡ count }
-    ensures { IfOk result (λ ready. HasPassing count (is_free taken.now waiting.now) ready) }
+    ensures { IfOk result (λ ready. HasPassing count (may_be_taken taken.now waiting.now) ready) }
 {
     let mut ready = BTreeSet::new(alloc);
     for node in 0..count {
@@ -87,9 +87,9 @@ fn release_one(
     requires node { node < length waiting.old }
     requires taken { length taken.now ≡ length waiting.old }
     requires waits { 0 < slice_index waiting.old node }
-    requires ready { HasPassing (length waiting.old) (is_free taken.now waiting.old) ready.old }
+    requires ready { HasPassing (length waiting.old) (may_be_taken taken.now waiting.old) ready.old }
     ensures waiting { waiting.new ≡ slice_set waiting.old node (slice_index waiting.old node - 1) }
-    ensures ready { OnOk result (HasPassing (length waiting.old) (is_free taken.now waiting.new) ready.new) }
+    ensures ready { OnOk result (HasPassing (length waiting.old) (may_be_taken taken.now waiting.new) ready.new) }
 {
     waiting[node as usize] -= 1;
     add_free(node, taken, waiting, ready)
@@ -105,10 +105,10 @@ pub(crate) fn release(
     requires readers { All (λ n. n < length waiting.old) readers.now }
     requires taken { length taken.now ≡ length waiting.old }
     requires waits { (n : ℕ) → n < length waiting.old → count_by (λ m. m == n) readers.now ≤ slice_index waiting.old n }
-    requires ready { HasPassing (length waiting.old) (is_free taken.now waiting.old) ready.old }
+    requires ready { HasPassing (length waiting.old) (may_be_taken taken.now waiting.old) ready.old }
     ensures len { length waiting.new ≡ length waiting.old }
     ensures waiting { OnOk result (HasReleased readers.now waiting.old waiting.new) }
-    ensures ready { OnOk result (HasPassing (length waiting.old) (is_free taken.now waiting.new) ready.new) }
+    ensures ready { OnOk result (HasPassing (length waiting.old) (may_be_taken taken.now waiting.new) ready.new) }
 {
     for node in readers {
         release_one(*node, taken, waiting, ready)?;

@@ -20,11 +20,11 @@ use Rattle.mg_turns.specs.declared.seat.NetSeat.{NetSeat}
 use Rattle.mg_workers.specs.Shared.{KeptView, IsSharedOf, StaysShared}
 use Rattle.mg_workers.specs.Became.{Became}
 use Rattle.mg_workers.specs.Woven.{frame_of}
-use Rattle.mg_crew.specs.Leaves.{GoesOn}
+use Rattle.mg_crew.specs.Leaves.{NetGoesOn}
 use Rattle.mg_crew.specs.declared.putting.Place.{Place}
 use Rattle.mg_crew.specs.declared.shop.Tools.{Tools}
 use Rattle.mg_crew.specs.Code.Places.{IsPlaceAt, IsAnyOf}
-use Rattle.mg_crew.specs.Code.Seats.{AreToolsOf, IsAtWork, StaysAtWork}
+use Rattle.mg_crew.specs.Code.Seats.{AreToolsOf, IsWithoutWork, StaysAtWork}
 use Rattle.mg_crew.proofs.Sharing.{stays_itself, stays_on}
 
 -- the plan that is kept aside is the net's, and is valid
@@ -65,10 +65,10 @@ became_itself net = record { stands = λ job h. h; taken = refl; plan = refl; sp
 
 module _ {X : Type 0} {g : Ghosts X} (net : SharedNet X) (tools : Tools) where
   -- a worker that goes on after some calls
-  pub at_work_still : (before now : NetSeat X g) (place later : Place) → IsAtWork net tools before place → StaysAtWork net tools before now later → IsAtWork net tools now later
+  pub at_work_still : (before now : NetSeat X g) (place later : Place) → IsWithoutWork net tools before place → StaysAtWork net tools before now later → IsWithoutWork net tools now later
   at_work_still before now place later h k = record { shared = k.stays.shared; fits = h.fits; placed = k.placed }
 
-  pub stays_at_work : (seat : NetSeat X g) (place : Place) → IsAtWork net tools seat place → StaysAtWork net tools seat seat place
+  pub stays_at_work : (seat : NetSeat X g) (place : Place) → IsWithoutWork net tools seat place → StaysAtWork net tools seat seat place
   stays_at_work seat place h = record { stays = stays_itself net seat h.shared; placed = h.placed }
 
   -- several calls one after the other
@@ -80,7 +80,7 @@ module _ {X : Type 0} {g : Ghosts X} (net : SharedNet X) (tools : Tools) where
   seat_stays first second third place h k = record { stays = stays_on net first second third h.stays k; placed = h.placed }
 
 -- a net that is put together of the parts that were shared
-pub goes_on : (before now : NetView) (key : FrameView) (kept : KeptView) (v : View) → IsSharedOf before key kept → Unshared key v (frame_of (parts_in now)).parts → GoesOn before now
+pub goes_on : (before now : NetView) (key : FrameView) (kept : KeptView) (v : View) → IsSharedOf before key kept → Unshared key v (frame_of (parts_in now)).parts → NetGoesOn before now
 goes_on before now key kept v of u = record {
   parts = of.parts;
   apart = of.apart;

@@ -4,7 +4,7 @@ use Rattle.std.proofs.lemmas.List.{length-map}
 use Rattle.mg_calc.specs.declared.edge.Edge.{Edge}
 use Rattle.mg_calc.specs.declared.plan.Plan.{Plan}
 use Rattle.mg_throttle.specs.declared.queue.Queue.{Queue}
-use Rattle.mg_throttle.specs.Throttle.{QueueLimits, IsOf, noted}
+use Rattle.mg_throttle.specs.Throttle.{QueueLimits, AreLimitsOf, noted}
 
 pub length_noted : (qs : List Queue) (edge packets : ℕ) → length (noted qs edge packets) ≡ length qs
 length_noted [] edge packets = refl
@@ -24,5 +24,5 @@ pub first_feeder : (next : Option ℕ) (from end : ℕ) → IfSome next (λ f. (
 first_feeder None from end h = tt
 first_feeder (Some f) from end h = h.1
 
-pub length_reached : (plan : Plan) (limits : QueueLimits) (count : ℕ) → IsOf plan limits → count ≡ length plan.nodes → count ≡ length limits.reached
+pub length_reached : (plan : Plan) (limits : QueueLimits) (count : ℕ) → AreLimitsOf plan limits → count ≡ length plan.nodes → count ≡ length limits.reached
 length_reached plan limits count of is = is ∙ sym of.marked_nodes

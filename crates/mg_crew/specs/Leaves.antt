@@ -8,7 +8,7 @@ use Rattle.mg_workers.specs.Became.{CameBack}
 
 -- a net came apart, and each of its parts has become the part of the net that is there now: that is lawful for the same jobs, its standing
 -- only grew, and it gave up no packet
-pub record GoesOn (before now : NetView) : Type 0 where
+pub record NetGoesOn (before now : NetView) : Type 0 where
   pub parts : PartsView
   pub apart : HasComeApart before parts
   pub count : length (frame_of (parts_in now)).parts ≡ length (frame_of parts).parts
@@ -17,4 +17,4 @@ pub record GoesOn (before now : NetView) : Type 0 where
 -- what workers leave of a net: the net as it was; the net as it was but that the works on its desks stand in their windows again; or a net
 -- whose parts have gone on
 abbrev pub Leaves : NetView → NetView → Type 0
-Leaves before now = (now ≡ before) ⊎ (CameBack before now ⊎ GoesOn before now)
+Leaves before now = (now ≡ before) ⊎ (CameBack before now ⊎ NetGoesOn before now)

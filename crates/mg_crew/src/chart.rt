@@ -1,6 +1,6 @@
 ghost use Rattle.std.specs.Prelude.{◌≡◌, ◌+◌, ◌<◌, All, IfOk, IfSome, Some, length, vec_len};
 ghost use Rattle.mg_calc.specs.Plan.{IsValid, sources, feeders};
-ghost use Rattle.mg_throttle.specs.Throttle.{producer_of};
+ghost use Rattle.mg_calc.specs.Reaching.{producer_of};
 ghost use Rattle.mg_throttle.specs.Code.Reach.{sources_among};
 ghost use Rattle.mg_sched.specs.Places.{source_of};
 
@@ -39,7 +39,7 @@ fn flies_of(alloc: Global, plan: &Plan) -> Result<Vec<bool>, AllocError> {
 // Returns what writes the stream of an edge: a node or a graph input.
 fn producer_of(plan: &Plan, edge: Edge) -> Producer
     requires { edge.stream < length plan.now.streams }
-    ensures { producer_of plan.now edge ≡ Some result }
+    ensures { producer_of plan.now edge.stream ≡ Some result }
 {
     plan.streams.as_slice()[edge.stream as usize].producer
 }

@@ -4,7 +4,7 @@ ghost use Rattle.std.specs.Thread.{IsSync, IsSend};
 ghost use Rattle.mg_turns.specs.Calls.{view_of};
 ghost use Rattle.mg_workers.specs.Shared.{StaysShared};
 ghost use Rattle.mg_crew.specs.Code.Places.{HasPortion};
-ghost use Rattle.mg_crew.specs.Code.Seats.{IsAtWork, StaysAtWork};
+ghost use Rattle.mg_crew.specs.Code.Seats.{IsWithoutWork, StaysAtWork};
 
 use crate::putting::{Place, split};
 use crate::rounds::{go_on, look_over};
@@ -25,7 +25,7 @@ fn rest<C: Calculator, R: Wait, G: Gate>(
     place: &mut Place,
     seen: u64,
 ) -> bool
-    requires at_work { IsAtWork shop.now.net.now shop.now.tools.now seat.old place.old }
+    requires at_work { IsWithoutWork shop.now.net.now shop.now.tools.now seat.old place.old }
     ensures { StaysAtWork shop.now.net.now shop.now.tools.now seat.old seat.new place.new }
 {
     if !shop.tools.board.rest() {
@@ -48,7 +48,7 @@ fn work<C: Calculator, R: Wait, G: Gate>(
     seat: NetSeat<C>,
     place: Place,
 ) -> NetSeat<C>
-    requires at_work { IsAtWork shop.now.net.now shop.now.tools.now seat place }
+    requires at_work { IsWithoutWork shop.now.net.now shop.now.tools.now seat place }
     ensures { StaysShared shop.now.net.now seat result }
 {
     let mut seat = seat;
@@ -76,7 +76,7 @@ pub(crate) fn crew<C: Calculator + Send, R: Threads + Wait + Sync, G: Gate + Syn
     workers: u32,
 ) -> NetSeat<C>
     requires bounds { IsSend C.row × IsSync R.row × IsSync G.row }
-    requires at_work { IsAtWork shop.now.net.now shop.now.tools.now seat place }
+    requires at_work { IsWithoutWork shop.now.net.now shop.now.tools.now seat place }
     requires portion { (workers ≤ (view_of seat).portion) × ((view_of seat).portion ≤ 2 ^ 32) }
     requires place { HasPortion workers place }
     ensures { StaysShared shop.now.net.now seat result }
@@ -91,7 +91,7 @@ pub(crate) fn crew<C: Calculator + Send, R: Threads + Wait + Sync, G: Gate + Syn
     let their_place = split(alloc, &tools.levels, &mut place);
     let others = workers - 1;
     let many = move || -> NetSeat<C>
-        requires { IsSend C.row × IsSync R.row × IsSync G.row × IsAtWork net.now tools.now mine place
+        requires { IsSend C.row × IsSync R.row × IsSync G.row × IsWithoutWork net.now tools.now mine place
             × (others ≤ (view_of mine).portion) × ((view_of mine).portion ≤ 2 ^ 32) × HasPortion others place }
         ensures { StaysShared net.entry.now mine result }
     {
@@ -104,7 +104,7 @@ pub(crate) fn crew<C: Calculator + Send, R: Threads + Wait + Sync, G: Gate + Syn
         crew(rt, &shop, mine, place, others)
     };
     let one = move || -> NetSeat<C>
-        requires { IsAtWork net.now tools.now theirs their_place }
+        requires { IsWithoutWork net.now tools.now theirs their_place }
         ensures { StaysShared net.entry.now theirs result }
     {
         let shop = Shop {

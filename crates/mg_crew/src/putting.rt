@@ -2,7 +2,7 @@
 
 ghost use Rattle.std.specs.Prelude.{◌≡◌, ◌+◌, ℕ, Contains, IfSome, Some, None};
 ghost use Rattle.mg_levels.specs.Levels.{order_of, IsSeatOf};
-ghost use Rattle.mg_crew.specs.Code.Places.{IsPlaceAt, IsAnyOf, IsLeft, HasPortion};
+ghost use Rattle.mg_crew.specs.Code.Places.{IsPlaceAt, IsAnyOf, LeavesPortion, HasPortion};
 
 use crate::shop::Tools;
 use mg_levels::{LevelSeat, Levels};
@@ -36,9 +36,9 @@ impl Place {
 // Splits a seat off for one more worker, if there is memory for it.
 fn split_seat(alloc: Global, levels: &Levels, seat: &mut Option<LevelSeat>) -> Option<LevelSeat>
     requires seat { IsAnyOf levels.now seat.old }
-    requires portion { IsLeft 2 seat.old }
+    requires portion { LeavesPortion 2 seat.old }
     ensures seat { IsAnyOf levels.now seat.new }
-    ensures portion { (left : ℕ) → IsLeft (left + 1) seat.old → IsLeft left seat.new }
+    ensures portion { (left : ℕ) → LeavesPortion (left + 1) seat.old → LeavesPortion left seat.new }
     ensures other { IsAnyOf levels.now result }
 {
     match seat {

@@ -1,5 +1,5 @@
 //! What a worker does next: it takes a node from the levels, and where they are empty it brings packets from the graph inputs.
-ghost use Rattle.mg_crew.specs.Code.Seats.{IsAtWork, StaysAtWork};
+ghost use Rattle.mg_crew.specs.Code.Seats.{IsWithoutWork, StaysAtWork};
 
 use crate::putting::{Place, take};
 use crate::serving::{serve, wake_all};
@@ -18,7 +18,7 @@ fn serve_all<C: Calculator, R: Wait, G: Gate>(
     seat: &mut NetSeat<C>,
     place: &mut Place,
 ) -> Came
-    requires at_work { IsAtWork shop.now.net.now shop.now.tools.now seat.old place.old }
+    requires at_work { IsWithoutWork shop.now.net.now shop.now.tools.now seat.old place.old }
     ensures { StaysAtWork shop.now.net.now shop.now.tools.now seat.old seat.new place.new }
 {
     let mut came = Came::nothing();
@@ -36,7 +36,7 @@ fn feed_all<C: Calculator, R: Wait, G: Gate>(
     seat: &mut NetSeat<C>,
     place: &mut Place,
 ) -> Came
-    requires at_work { IsAtWork shop.now.net.now shop.now.tools.now seat.old place.old }
+    requires at_work { IsWithoutWork shop.now.net.now shop.now.tools.now seat.old place.old }
     ensures { StaysAtWork shop.now.net.now shop.now.tools.now seat.old seat.new place.new }
 {
     let mut came = Came::nothing();
@@ -58,7 +58,7 @@ fn feed<C: Calculator, R: Wait, G: Gate>(
     seat: &mut NetSeat<C>,
     place: &mut Place,
 ) -> Came
-    requires at_work { IsAtWork shop.now.net.now shop.now.tools.now seat.old place.old }
+    requires at_work { IsWithoutWork shop.now.net.now shop.now.tools.now seat.old place.old }
     ensures { StaysAtWork shop.now.net.now shop.now.tools.now seat.old seat.new place.new }
 {
     if !shop.tools.board.takes_inputs() {
@@ -75,7 +75,7 @@ pub(crate) fn look_over<C: Calculator, R: Wait, G: Gate>(
     seat: &mut NetSeat<C>,
     place: &mut Place,
 ) -> Came
-    requires at_work { IsAtWork shop.now.net.now shop.now.tools.now seat.old place.old }
+    requires at_work { IsWithoutWork shop.now.net.now shop.now.tools.now seat.old place.old }
     ensures { StaysAtWork shop.now.net.now shop.now.tools.now seat.old seat.new place.new }
 {
     let fed = feed_all(rt, shop, seat, place);
@@ -91,7 +91,7 @@ fn go_round<C: Calculator, R: Wait, G: Gate>(
     seat: &mut NetSeat<C>,
     place: &mut Place,
 ) -> Came
-    requires at_work { IsAtWork shop.now.net.now shop.now.tools.now seat.old place.old }
+    requires at_work { IsWithoutWork shop.now.net.now shop.now.tools.now seat.old place.old }
     ensures { StaysAtWork shop.now.net.now shop.now.tools.now seat.old seat.new place.new }
 {
     if place.seat.is_some() {
@@ -116,7 +116,7 @@ pub(crate) fn go_on<C: Calculator, R: Wait, G: Gate>(
     seat: &mut NetSeat<C>,
     place: &mut Place,
 ) -> bool
-    requires at_work { IsAtWork shop.now.net.now shop.now.tools.now seat.old place.old }
+    requires at_work { IsWithoutWork shop.now.net.now shop.now.tools.now seat.old place.old }
     ensures { StaysAtWork shop.now.net.now shop.now.tools.now seat.old seat.new place.new }
 {
     match take(rt, shop.tools, place) {

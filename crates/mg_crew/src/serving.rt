@@ -2,7 +2,7 @@
 ghost use Rattle.std.specs.Prelude.{◌<◌};
 ghost use Rattle.mg_turns.specs.Parts.{nodes_in};
 ghost use Rattle.mg_turns.specs.Calls.{key_of};
-ghost use Rattle.mg_crew.specs.Code.Seats.{IsAtWork, StaysAtWork};
+ghost use Rattle.mg_crew.specs.Code.Seats.{IsWithoutWork, StaysAtWork};
 
 use crate::putting::{Place, keep, put, tell_others};
 use crate::shop::{Came, Shop};
@@ -22,7 +22,7 @@ fn wake<C: Calculator, R: Wait, G: Gate>(
     place: &mut Place,
     edge: u32,
 ) -> Came
-    requires at_work { IsAtWork shop.now.net.now shop.now.tools.now seat.old place.old }
+    requires at_work { IsWithoutWork shop.now.net.now shop.now.tools.now seat.old place.old }
     requires edge { edge < shop.now.tools.now.chart.from.edges }
     ensures { StaysAtWork shop.now.net.now shop.now.tools.now seat.old seat.new place.new }
 {
@@ -44,7 +44,7 @@ pub(crate) fn wake_all<C: Calculator, R: Wait, G: Gate>(
     place: &mut Place,
     source: usize,
 ) -> Came
-    requires at_work { IsAtWork shop.now.net.now shop.now.tools.now seat.old place.old }
+    requires at_work { IsWithoutWork shop.now.net.now shop.now.tools.now seat.old place.old }
     requires source { source < shop.now.tools.now.chart.from.places }
     ensures { StaysAtWork shop.now.net.now shop.now.tools.now seat.old seat.new place.new }
 {
@@ -66,7 +66,7 @@ fn bring_laid<C: Calculator, R: Wait, G: Gate>(
     place: &mut Place,
     node: u32,
 ) -> Came
-    requires at_work { IsAtWork shop.now.net.now shop.now.tools.now seat.old place.old }
+    requires at_work { IsWithoutWork shop.now.net.now shop.now.tools.now seat.old place.old }
     requires node { node < nodes_in (key_of shop.now.net.now) }
     ensures { StaysAtWork shop.now.net.now shop.now.tools.now seat.old seat.new place.new }
 {
@@ -84,7 +84,7 @@ fn work<C: Calculator, R: Wait, G: Gate>(
     place: &mut Place,
     node: u32,
 ) -> Came
-    requires at_work { IsAtWork shop.now.net.now shop.now.tools.now seat.old place.old }
+    requires at_work { IsWithoutWork shop.now.net.now shop.now.tools.now seat.old place.old }
     requires node { node < nodes_in (key_of shop.now.net.now) }
     ensures { StaysAtWork shop.now.net.now shop.now.tools.now seat.old seat.new place.new }
 {
@@ -106,7 +106,7 @@ fn go_through<C: Calculator, R: Wait, G: Gate>(
     place: &mut Place,
     node: u32,
 ) -> Came
-    requires at_work { IsAtWork shop.now.net.now shop.now.tools.now seat.old place.old }
+    requires at_work { IsWithoutWork shop.now.net.now shop.now.tools.now seat.old place.old }
     requires node { node < nodes_in (key_of shop.now.net.now) }
     ensures { StaysAtWork shop.now.net.now shop.now.tools.now seat.old seat.new place.new }
 {
@@ -127,7 +127,7 @@ fn catch_up<C: Calculator, R: Wait, G: Gate>(
     place: &mut Place,
     node: u32,
 ) -> Came
-    requires at_work { IsAtWork shop.now.net.now shop.now.tools.now seat.old place.old }
+    requires at_work { IsWithoutWork shop.now.net.now shop.now.tools.now seat.old place.old }
     requires node { node < nodes_in (key_of shop.now.net.now) }
     ensures { StaysAtWork shop.now.net.now shop.now.tools.now seat.old seat.new place.new }
 {
@@ -147,7 +147,7 @@ fn visit<C: Calculator, R: Wait, G: Gate>(
     place: &mut Place,
     node: u32,
 ) -> Came
-    requires at_work { IsAtWork shop.now.net.now shop.now.tools.now seat.old place.old }
+    requires at_work { IsWithoutWork shop.now.net.now shop.now.tools.now seat.old place.old }
     requires node { node < nodes_in (key_of shop.now.net.now) }
     ensures { StaysAtWork shop.now.net.now shop.now.tools.now seat.old seat.new place.new }
 {
@@ -167,7 +167,7 @@ pub(crate) fn serve<C: Calculator, R: Wait, G: Gate>(
     place: &mut Place,
     node: u32,
 ) -> Came
-    requires at_work { IsAtWork shop.now.net.now shop.now.tools.now seat.old place.old }
+    requires at_work { IsWithoutWork shop.now.net.now shop.now.tools.now seat.old place.old }
     requires node { node < nodes_in (key_of shop.now.net.now) }
     ensures { StaysAtWork shop.now.net.now shop.now.tools.now seat.old seat.new place.new }
 {

@@ -5,7 +5,7 @@ ghost use Rattle.mg_turns.specs.Parts.{nodes_in};
 ghost use Rattle.mg_turns.specs.Calls.{key_of};
 ghost use Rattle.mg_workers.specs.Shared.{IsShared, StaysShared};
 ghost use Rattle.mg_crew.specs.Code.Places.{IsPlaceAt};
-ghost use Rattle.mg_crew.specs.Code.Seats.{HasSources, IsAtWork, StaysAtWork};
+ghost use Rattle.mg_crew.specs.Code.Seats.{HasSources, IsWithoutWork, StaysAtWork};
 
 use crate::putting::{Place, put};
 use crate::shop::{Shop, Tools};
@@ -118,7 +118,7 @@ pub(crate) fn note<C: Calculator, R: Wait, G: Gate>(
     place: &mut Place,
     edge: u32,
 )
-    requires at_work { IsAtWork shop.now.net.now shop.now.tools.now seat.old place.old }
+    requires at_work { IsWithoutWork shop.now.net.now shop.now.tools.now seat.old place.old }
     requires edge { edge < shop.now.tools.now.chart.from.edges }
     ensures { StaysAtWork shop.now.net.now shop.now.tools.now seat.old seat.new place.new }
 {
@@ -150,7 +150,7 @@ fn note_if_full<C: Calculator, R: Wait, G: Gate>(
     place: &mut Place,
     edge: u32,
 )
-    requires at_work { IsAtWork shop.now.net.now shop.now.tools.now seat.old place.old }
+    requires at_work { IsWithoutWork shop.now.net.now shop.now.tools.now seat.old place.old }
     requires edge { edge < shop.now.tools.now.chart.from.edges }
     ensures { StaysAtWork shop.now.net.now shop.now.tools.now seat.old seat.new place.new }
 {
@@ -167,7 +167,7 @@ pub(crate) fn note_worked<C: Calculator, R: Wait, G: Gate>(
     place: &mut Place,
     node: u32,
 )
-    requires at_work { IsAtWork shop.now.net.now shop.now.tools.now seat.old place.old }
+    requires at_work { IsWithoutWork shop.now.net.now shop.now.tools.now seat.old place.old }
     requires node { node < nodes_in (key_of shop.now.net.now) }
     ensures { StaysAtWork shop.now.net.now shop.now.tools.now seat.old seat.new place.new }
 {

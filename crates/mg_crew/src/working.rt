@@ -5,7 +5,7 @@ ghost use Rattle.mg_turns.specs.Parts.{nodes_in};
 ghost use Rattle.mg_turns.specs.Calls.{key_of, view_of};
 ghost use Rattle.mg_workers.specs.Shared.{IsShared, StaysShared, IsSharedWith};
 ghost use Rattle.mg_crew.specs.Code.Places.{IsPlaceAt};
-ghost use Rattle.mg_crew.specs.Code.Seats.{FitsWork, IsAtWork, StaysAtWork};
+ghost use Rattle.mg_crew.specs.Code.Seats.{FitsWork, IsWithoutWork, StaysAtWork};
 
 use crate::commits::finish;
 use crate::putting::{Place, put, tell_others};
@@ -83,7 +83,7 @@ fn fly<C: Calculator, R: Wait, G: Gate>(
     place: &mut Place,
     node: u32,
 ) -> Came
-    requires at_work { IsAtWork shop.now.net.now shop.now.tools.now seat.old place.old }
+    requires at_work { IsWithoutWork shop.now.net.now shop.now.tools.now seat.old place.old }
     requires node { node < nodes_in (key_of shop.now.net.now) }
     ensures { StaysAtWork shop.now.net.now shop.now.tools.now seat.old seat.new place.new }
 {
@@ -106,7 +106,7 @@ pub(crate) fn work_at<C: Calculator, R: Wait, G: Gate>(
     place: &mut Place,
     node: u32,
 ) -> Came
-    requires at_work { IsAtWork shop.now.net.now shop.now.tools.now seat.old place.old }
+    requires at_work { IsWithoutWork shop.now.net.now shop.now.tools.now seat.old place.old }
     requires node { node < nodes_in (key_of shop.now.net.now) }
     ensures { StaysAtWork shop.now.net.now shop.now.tools.now seat.old seat.new place.new }
 {

@@ -10,7 +10,7 @@ use Rattle.mg_calc.specs.declared.plan.Plan.{Plan}
 use Rattle.mg_feed.specs.Graph.{GraphInputs, inputs_of}
 use Rattle.mg_feed.specs.Accepted.{State, given_by, most_lines}
 use Rattle.mg_feed.specs.Given.{ended_streams}
-use Rattle.mg_feed.specs.Stands.{Stands, nothing_taken, taken_with, packets_of}
+use Rattle.mg_feed.specs.Stands.{HasAccepted, nothing_taken, taken_with, packets_of}
 use Rattle.mg_feed.specs.Fed.{Fed, Reading}
 use Rattle.mg_feed.specs.Ran.{MetEnd, late, Spends, Unfailed, ReadFailed}
 use Rattle.mg_feed.specs.Once.{StopsInTime}
@@ -43,13 +43,13 @@ gave_none None = tt
 gave_none (Some bytes) = (bytes, refl, refl)
 
 -- a feed that is new has read nothing
-pub nothing_read : (plan : Plan) (first : SourceTold) (fed : Fed) → fed.view.graph ≡ inputs_of plan → Stands [] (nothing_taken (inputs_of plan)) fed.view
+pub nothing_read : (plan : Plan) (first : SourceTold) (fed : Fed) → fed.view.graph ≡ inputs_of plan → HasAccepted [] (nothing_taken (inputs_of plan)) fed.view
     → fed.read ≡ record { kept = []; ended = false } → IsRead plan first More first fed [] []
 nothing_read plan first fed graph stands unread = record {
   graph = graph;
   gave = gave_none first.left;
   came = came-nothing [] (packets_of (given_by (inputs_of plan) []).streams) fed unread
-      (subst (λ (gone : List (List (Stamped Plain))). Stands [] gone fed.view) (sym (none_given (inputs_of plan))) stands);
+      (subst (λ (gone : List (List (Stamped Plain))). HasAccepted [] gone fed.view) (sym (none_given (inputs_of plan))) stands);
   met = subst (λ (r : Reading). MetEnd false r.ended first first) (sym unread) refl;
   spent = subst (λ (r : Reading). Spends 0 (late r.ended) first.left first.left first.reads first.reads) (sym unread) (spends-same 0 first.left first.reads);
   so = unfailed-same first;
@@ -78,7 +78,7 @@ pub batch_read : (plan : Plan) (first before now : SourceTold) (most : ℕ) (end
     → HasReadBatch most end before now old mid → MetEnd old.read.ended mid.read.ended before now → BatchFailedBy end before now
     → Spends (late old.read.ended) (idle_by end mid.read.ended) before.left now.left before.reads now.reads → mid.view.lines ≤ most_lines → mid.view.graph ≡ old.view.graph
     → b ≡ has_ended end → inputs.streams ≡ ended_streams b mid.view.given.streams → inputs.sides ≡ mid.view.given.sides → inputs.ended ≡ b
-    → ((ls : List (List ℕ)) (gone : List (List (Stamped Plain))) → Stands ls gone mid.view → Stands ls (taken_with gone mid.view.given.streams) new.view)
+    → ((ls : List (List ℕ)) (gone : List (List (Stamped Plain))) → HasAccepted ls gone mid.view → HasAccepted ls (taken_with gone mid.view.given.streams) new.view)
     → new.view.graph ≡ mid.view.graph → new.read ≡ mid.read → HasBatch plan first end inputs now new past lines
 batch_read plan first before now most end old mid new inputs b past lines some most_is had was read met failed spent few mid_graph is_b streams sides ended takes new_graph new_read =
     let both = read.accepted [] past lines (packets_of (given_by (inputs_of plan) lines).streams) was.came in
@@ -95,7 +95,7 @@ batch_read plan first before now most end old mid new inputs b past lines some m
         graph = new_graph ∙ graph;
         gave = gave-then first.left before.left now.left past read.came was.gave read.gave;
         came = came-taken [] (past ++ read.came) all (packets_of (given_by (inputs_of plan) lines).streams) (packets_of (given_by (inputs_of plan) all).streams) mid new came new_read new_graph
-            (subst (λ (gone : List (List (Stamped Plain))). Stands all gone new.view) taken_is (takes all (packets_of (given_by (inputs_of plan) lines).streams) came.stands));
+            (subst (λ (gone : List (List (Stamped Plain))). HasAccepted all gone new.view) taken_is (takes all (packets_of (given_by (inputs_of plan) lines).streams) came.stands));
         met = subst (λ (r : Reading). MetEnd false r.ended first now) (sym new_read) (met-then false old.read.ended mid.read.ended first before now past was.gave was.met met);
         spent = subst (λ (r : Reading). Spends 0 (idle_by end r.ended) first.left now.left first.reads now.reads) (sym new_read)
             (spends-then 0 (late old.read.ended) (idle_by end mid.read.ended) first.left before.left now.left first.reads before.reads now.reads was.spent spent);
@@ -204,8 +204,8 @@ inputs_from inputs ss sides ended a b c = λ i. record { streams = a i; sides = 
 pub first_read : (plan : Plan) (first : SourceTold) (end : BatchEnd) (inputs : Inputs) (now : SourceTold) (fed : Fed) → HasBatch plan first end inputs now fed [] [] → LinesGave fed plan first now end inputs
 first_read plan first end inputs now fed batch =
     let graph = inputs_of plan in
-    let stands : Stands batch.more (nothing_taken batch.view.graph) batch.view = subst (λ (g : GraphInputs). Stands batch.more (nothing_taken g) batch.view) (sym batch.graph)
-    (subst (λ (gone : List (List (Stamped Plain))). Stands batch.more gone batch.view) (none_given graph) batch.stands) in
+    let stands : HasAccepted batch.more (nothing_taken batch.view.graph) batch.view = subst (λ (g : GraphInputs). HasAccepted batch.more (nothing_taken g) batch.view) (sym batch.graph)
+    (subst (λ (gone : List (List (Stamped Plain))). HasAccepted batch.more gone batch.view) (none_given graph) batch.stands) in
     let given : batch.view.given ≡ given_by graph batch.more = given-untaken batch.more batch.view stands ∙ ap (λ (g : GraphInputs). given_by g batch.more) batch.graph in
     record {
       past = batch.came;

@@ -16,14 +16,14 @@ use Rattle.mg_sched.specs.Made.{job_of as made_job, FitsNew, BoxesFit, IsMade}
 use Rattle.mg_sched.specs.GivesBack.{given_back}
 use Rattle.mg_sched.proofs.PlanEdges.{all_at}
 use Rattle.mg_sched.proofs.HadBack.{count_back as as_many_back, unused_is_back, unused_lies}
-use Rattle.mg_answer.specs.Answer.{Form}
+use Rattle.mg_answer.specs.Answer.{OutputForm}
 use Rattle.mg_answer.specs.declared.status.Status.{Status}
 use Rattle.mg_edge.specs.Edge.{SinkTold}
 use Rattle.mg_drive.specs.Leaves.{HadCallsOf}
 use Rattle.mg_drive.specs.Nets.{Keeps}
 use Rattle.mg_drive.specs.Batches.{logged}
-use Rattle.mg_drive.specs.Code.Running.{Giving, Reading, Telling, Start, job_with, IsShort}
-use Rattle.mg_drive.specs.Code.Ending.{HadAllOf, CameBack, StoodWith, Writing, HasEnded, HasRun, WasShort}
+use Rattle.mg_drive.specs.Code.Running.{Giving, ReadingOn, TellingSets, Start, job_with, IsShort}
+use Rattle.mg_drive.specs.Code.Ending.{HadAllOf, CalculatorsCameBack, StoodWith, Writing, HasEnded, HasRunBatches, WasShort}
 use Rattle.mg_drive.proofs.Jobs.{plan_stood}
 use Rattle.mg_drive.proofs.RunsEnd.{start_of}
 
@@ -46,7 +46,7 @@ count_back boxes now stood = as_many_back stood.job now stood.stood ∙ ap lengt
 
 -- of a net that was made, ran and gave back what it had
 pub came_back : (plan : Plan) (inputs : Inputs) (boxes : List CalculatorTold) (made now : NetView) → IsMade plan inputs boxes made → Keeps made now → StoodWith boxes now
-    → CameBack plan boxes (given_back now)
+    → CalculatorsCameBack plan boxes (given_back now)
 came_back plan inputs boxes made now is keeps stood = record {
   count = count_back boxes now stood;
   unused = λ place none. elim (slice_get_cases boxes place).1 [
@@ -110,13 +110,13 @@ pub all_had_now : (job : LoggedJob) (boxes now : List CalculatorTold) (net : Net
 all_had_now job boxes now net fit same is had = subst (λ (bs : List CalculatorTold). HadCallsOf job.job (device boxes bs)) (sym is) (all_had job boxes net fit same had)
 
 pub came_back_then : (plan : Plan) (inputs : Inputs) (boxes handed now : List CalculatorTold) (made net : NetView) → handed ≡ boxes → IsMade plan inputs handed made → Keeps made net → StoodWith boxes net
-    → now ≡ given_back net → CameBack plan boxes now
+    → now ≡ given_back net → CalculatorsCameBack plan boxes now
 came_back_then plan inputs boxes handed now made net same is keeps stood back =
-    subst (λ (bs : List CalculatorTold). CameBack plan boxes bs) (sym back)
+    subst (λ (bs : List CalculatorTold). CalculatorsCameBack plan boxes bs) (sym back)
     (came_back plan inputs boxes made net (subst (λ (bs : List CalculatorTold). IsMade plan inputs bs made) same is) keeps stood)
 
 -- what isn't called comes back as it was
-pub same_back : (plan : Plan) (boxes now : List CalculatorTold) → now ≡ boxes → CameBack plan boxes now
+pub same_back : (plan : Plan) (boxes now : List CalculatorTold) → now ≡ boxes → CalculatorsCameBack plan boxes now
 same_back plan boxes now same = record { count = ap length same; unused = λ place none. ap (λ (l : List CalculatorTold). slice_get l place) same }
 
 -- Runs --
@@ -126,17 +126,17 @@ pub either : {X E P : Type 0} (r : Result X E) → IfOk r (λ x. P) → OnErr r 
 either (Ok x) one other = one
 either (Err e) one other = other
 
-pub stood_ended : {B : Type 0} (gives : Giving B) (writes : Writing B) (form : Form) (report : Bool) (start : Start B) (status : Status) (source : SourceTold) (sink : SinkTold) (notes : Device SinkTold) (net : NetView) → HasEnded gives writes form report start status source sink notes net
+pub stood_ended : {B : Type 0} (gives : Giving B) (writes : Writing B) (form : OutputForm) (report : Bool) (start : Start B) (status : Status) (source : SourceTold) (sink : SinkTold) (notes : Device SinkTold) (net : NetView) → HasEnded gives writes form report start status source sink notes net
     → StoodWith start.boxes net
 stood_ended {B} gives writes form report start status source sink notes net h = record { job = job_with start h.inputs; stood = h.stood; boxes_are = refl }
 
-pub stood_short : {B T : Type 0} (gives : Giving B) (reads_on : Reading B) (has_told : Telling T) (form : Form) (start : Start B) (source : SourceTold) (sink : SinkTold) (net : NetView) → IsShort gives reads_on has_told form start source sink net → StoodWith start.boxes net
+pub stood_short : {B T : Type 0} (gives : Giving B) (reads_on : ReadingOn B) (has_told : TellingSets T) (form : OutputForm) (start : Start B) (source : SourceTold) (sink : SinkTold) (net : NetView) → IsShort gives reads_on has_told form start source sink net → StoodWith start.boxes net
 stood_short {B} {T} gives reads_on has_told form start source sink net h = record { job = job_with start h.inputs; stood = h.stood; boxes_are = refl }
 
 -- a net that has ended was run
-pub run_ended : {B : Type 0} (gives : Giving B) (writes : Writing B) (form : Form) (report : Bool) (plan : Plan) (boxes now : List CalculatorTold) (began : B) (source later : SourceTold) (first sink : SinkTold) (notes : Device SinkTold) (status : Status) (net : NetView) → BoxesFit plan boxes
+pub run_ended : {B : Type 0} (gives : Giving B) (writes : Writing B) (form : OutputForm) (report : Bool) (plan : Plan) (boxes now : List CalculatorTold) (began : B) (source later : SourceTold) (first sink : SinkTold) (notes : Device SinkTold) (status : Status) (net : NetView) → BoxesFit plan boxes
     → now ≡ given_back net → HasEnded gives writes form report (start_of plan boxes source first began) status later sink notes net
-    → HasRun gives writes form report began plan status (run_devices (device source later) (device first sink) notes) (device boxes now)
+    → HasRunBatches gives writes form report began plan status (run_devices (device source later) (device first sink) notes) (device boxes now)
 run_ended {B} gives writes form report plan boxes now began source later first sink notes status net fit back h = record {
   batches = h.batches;
   end = h.end;
@@ -147,7 +147,7 @@ run_ended {B} gives writes form report plan boxes now began source later first s
 }
 
 -- or was short of memory
-pub run_short : {B T : Type 0} (gives : Giving B) (reads_on : Reading B) (has_told : Telling T) (form : Form) (plan : Plan) (boxes now : List CalculatorTold) (began : B) (source later : SourceTold) (first sink : SinkTold) (notes : Device SinkTold) (net : NetView)
+pub run_short : {B T : Type 0} (gives : Giving B) (reads_on : ReadingOn B) (has_told : TellingSets T) (form : OutputForm) (plan : Plan) (boxes now : List CalculatorTold) (began : B) (source later : SourceTold) (first sink : SinkTold) (notes : Device SinkTold) (net : NetView)
     → now ≡ given_back net → IsShort gives reads_on has_told form (start_of plan boxes source first began) later sink net
     → WasShort gives reads_on has_told form began plan (run_devices (device source later) (device first sink) notes) (device boxes now)
 run_short {B} {T} gives reads_on has_told form plan boxes now began source later first sink notes net back h = record {

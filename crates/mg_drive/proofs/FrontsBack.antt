@@ -25,14 +25,14 @@ use Rattle.mg_sched.specs.GivesBack.{given_back, StoodFor}
 use Rattle.mg_sched.proofs.CountedBack.{knows_back}
 use Rattle.mg_sched.proofs.FrontsBack.{front_back}
 use Rattle.mg_sched.proofs.Solved.{solved}
-use Rattle.mg_drive.specs.Leaves.{first_calls, KeepsAFront, IsAt, HadCallsOf, HadFronts}
+use Rattle.mg_drive.specs.Leaves.{first_calls, KeepsAFront, IsRelatedAt, HadCallsOf, HadFronts}
 use Rattle.mg_drive.proofs.BoxesBack.{box_at, log_was}
 
 -- Calculators of a net --
 
 -- one comes back with a front of its calls
 kept_front : (boxes : List CalculatorTold) (job later : LoggedJob) (net : NetView) (streams : List (StreamPrefix Plain)) (number place : ℕ) (node : PlanNode) → BoxesFit later.job.plan boxes → later.boxes ≡ boxes → StoodFor job net
-    → (later ≡ job) ⊎ Grows job later → net.plan ≡ later.job.plan → Solves later streams → slice_get later.job.plan.nodes number ≡ Some node → node.box_number ≡ Some place → IsAt place (KeepsAFront later.job streams node) (device boxes (given_back net))
+    → (later ≡ job) ⊎ Grows job later → net.plan ≡ later.job.plan → Solves later streams → slice_get later.job.plan.nodes number ≡ Some node → node.box_number ≡ Some place → IsRelatedAt place (KeepsAFront later.job streams node) (device boxes (given_back net))
 kept_front boxes job later net streams number place node fit same stood more plan_is solves there has =
     let box = box_at later.job.plan boxes number place node fit there has in
     let outer : IsOuter node.law = subst IsOuter box.2.fits.same_law box.2.outer in
@@ -61,7 +61,7 @@ pub record KeptFronts (job : Job) (boxes : Device (List CalculatorTold)) : Type 
   pub streams : List (StreamPrefix Plain)
   pub solution : IsSolution job streams
   pub each : (number place : ℕ) (node : PlanNode) → slice_get job.plan.nodes number ≡ Some node → node.box_number ≡ Some place
-      → IsAt place (KeepsAFront job streams node) boxes
+      → IsRelatedAt place (KeepsAFront job streams node) boxes
 
 pub kept_fronts : (boxes : List CalculatorTold) (job later : LoggedJob) (net : NetView) → BoxesFit later.job.plan boxes → later.boxes ≡ boxes → StoodFor job net → job.job.plan ≡ later.job.plan → (later ≡ job) ⊎ Grows job later
     → IsJob later.job → KeptFronts later.job (device boxes (given_back net))

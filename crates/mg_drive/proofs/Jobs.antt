@@ -21,7 +21,7 @@ use Rattle.mg_sched.proofs.Solved.{solved}
 use Rattle.mg_sched.proofs.OutputsTaken.{few_taken, outputs_by_default}
 use Rattle.mg_sched.specs.Extends.{GoesOnWith}
 use Rattle.mg_drive.specs.Batches.{logged, InputsGoOn}
-use Rattle.mg_drive.specs.Code.Running.{Telling, IsTold}
+use Rattle.mg_drive.specs.Code.Running.{TellingSets, IsTold}
 
 -- What stands --
 
@@ -62,7 +62,7 @@ sets_grow first later xs ys solves grows b =
     (subst (λ (l : List (TimedSet Plain)). take (length (settled_sets Default (inputs_of xs plan.outputs))) l ≡ settled_sets Default (inputs_of xs plan.outputs)) (sym two) stay)
 
 -- what was told of a job's sets was told of a later job's
-pub told_of_later : {T : Type 0} (has_told : Telling T) (first later : LoggedJob) (began sink : SinkTold) (net now : NetView) (telling : T) → StandsFor first net → Grows first later → taken_out now ≡ taken_out net
+pub told_of_later : {T : Type 0} (has_told : TellingSets T) (first later : LoggedJob) (began sink : SinkTold) (net now : NetView) (telling : T) → StandsFor first net → Grows first later → taken_out now ≡ taken_out net
     → IsTold has_told first.job began sink (taken_out net) telling → IsTold has_told later.job began sink (taken_out now) telling
 told_of_later {T} has_told first later began sink net now telling stands grows same told =
     let is = valid_plan first net stands in

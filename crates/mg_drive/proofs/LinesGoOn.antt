@@ -13,7 +13,7 @@ use Rattle.mg_feed.specs.Batch.{Fills}
 use Rattle.mg_feed.specs.Graph.{GraphInputs, inputs_of as graph_of}
 use Rattle.mg_feed.specs.Accepted.{given_by}
 use Rattle.mg_feed.specs.Given.{ended_stream, ended_streams}
-use Rattle.mg_feed.specs.Stands.{AllGood, Stands, packets_of}
+use Rattle.mg_feed.specs.Stands.{AllGood, HasAccepted, packets_of}
 use Rattle.mg_feed.specs.Fed.{Fed}
 use Rattle.mg_feed.specs.declared.feed_end.FeedEnd.TheVariants.{Ended, Failed}
 use Rattle.mg_feed.specs.declared.feed_end.BatchEnd.{BatchEnd}
@@ -23,7 +23,7 @@ use Rattle.mg_feed.proofs.Joining.{as-many, one-piece}
 use Rattle.mg_answer.specs.Answer.{Read, inputs_by}
 use Rattle.mg_answer.proofs.Fitting.{inputs-fit}
 use Rattle.mg_node.specs.Extending.{joined}
-use Rattle.mg_drive.specs.Batches.{IsMore, IsFirst, InputsGoOn, GoesOn}
+use Rattle.mg_drive.specs.Batches.{IsMore, IsFirst, InputsGoOn, BatchesGoOn}
 use Rattle.mg_drive.specs.Code.Lines.{has_ended, inputs_at, batch_size, HasBatch, LinesGave, lines_of, given_after, LinesCame, lines_left}
 use Rattle.mg_drive.proofs.BatchesRead.{first_read, first_inputs}
 
@@ -64,8 +64,8 @@ pub goes_on : (plan : Plan) (first now : SourceTold) (end : BatchEnd) (inputs : 
 goes_on plan first now end inputs fed past lines valid named batch =
     let graph = graph_of plan in
     let good = good_lines plan first now end inputs fed past lines batch in
-    let stands : Stands (lines ++ batch.more) (packets_of (given_by batch.view.graph lines).streams) batch.view =
-    subst (λ (g : GraphInputs). Stands (lines ++ batch.more) (packets_of (given_by g lines).streams) batch.view) (sym batch.graph) batch.stands in
+    let stands : HasAccepted (lines ++ batch.more) (packets_of (given_by batch.view.graph lines).streams) batch.view =
+    subst (λ (g : GraphInputs). HasAccepted (lines ++ batch.more) (packets_of (given_by g lines).streams) batch.view) (sym batch.graph) batch.stands in
     let count : length batch.view.given.streams ≡ length (given_by graph lines).streams =
     as-many lines batch.more batch.view stands ∙ ap (λ (g : GraphInputs). length (given_by g lines).streams) batch.graph in
     record {
@@ -100,7 +100,7 @@ first_lines plan before now end inputs fed valid batch =
 
 -- a batch more
 pub more_lines : (plan : Plan) (first before now : SourceTold) (end : BatchEnd) (inputs so_far : Inputs) (old fed : Fed) → IsValidWithFree plan → (gave : LinesGave old plan first before More so_far)
-    → HasBatch plan first end inputs now fed gave.past gave.lines → GoesOn (LinesGave fed plan first now end) plan so_far inputs
+    → HasBatch plan first end inputs now fed gave.past gave.lines → BatchesGoOn (LinesGave fed plan first now end) plan so_far inputs
 more_lines plan first before now end inputs so_far old fed valid gave batch = record {
   all = inputs_at (graph_of plan) (gave.lines ++ batch.more) (has_ended end);
   given = record {
@@ -141,7 +141,7 @@ same_head : (a b : Inputs) (xs ys : List Inputs) → a ∷ xs ≡ b ∷ ys → (
 same_head a b xs ys same = (ap (λ (l : List Inputs). slice_index_or l 0 a) same, ap (λ (l : List Inputs). drop 1 l) same)
 
 pub more_lines_came : (plan : Plan) (first before now : SourceTold) (end : BatchEnd) (inputs so_far : Inputs) (earlier : List Inputs) (old fed : Fed) → IsValidWithFree plan → (came : LinesCame old plan first before More (so_far ∷ earlier))
-    → HasBatch plan first end inputs now fed came.past (lines_of (came.newest ∷ came.earlier)) → GoesOn (λ all. LinesGave fed plan first now end all × LinesCame fed plan first now end (all ∷ so_far ∷ earlier)) plan so_far inputs
+    → HasBatch plan first end inputs now fed came.past (lines_of (came.newest ∷ came.earlier)) → BatchesGoOn (λ all. LinesGave fed plan first now end all × LinesCame fed plan first now end (all ∷ so_far ∷ earlier)) plan so_far inputs
 more_lines_came plan first before now end inputs so_far earlier old fed valid came batch =
     let lines = lines_of (came.newest ∷ came.earlier) in
     let heads = same_head so_far (inputs_at (graph_of plan) lines false) earlier (given_after (graph_of plan) came.earlier) came.history_is in

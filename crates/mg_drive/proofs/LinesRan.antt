@@ -25,7 +25,7 @@ use Rattle.mg_feed.specs.declared.feed_end.BatchEnd.TheVariants.{More, End}
 use Rattle.mg_feed.proofs.Accepting.{good-accepted}
 use Rattle.mg_feed.proofs.Coming.{came-front}
 use Rattle.mg_feed.proofs.Growing.{streams-grow, sides-stay}
-use Rattle.mg_answer.specs.Text.{output_names, set_text, sets_text, output_of}
+use Rattle.mg_answer.specs.Text.{output_names, set_text, sets_text, output_text_of}
 use Rattle.mg_answer.specs.Answer.{Read, by_lines, packet_lines, is_ended, ended_input, job_of}
 use Rattle.mg_answer.specs.Devices.{Device, device, RunDevices, IsFront, TookFront}
 use Rattle.mg_answer.specs.Put.{TextView, nothing_put, HasPut}
@@ -47,7 +47,7 @@ use Rattle.mg_sched.proofs.OutputsTaken.{outputs_by_default}
 use Rattle.mg_drive.specs.Batches.{IsMore, logged}
 use Rattle.mg_drive.specs.Told.{HasLines}
 use Rattle.mg_drive.specs.Leaves.{HadCallsOf}
-use Rattle.mg_drive.specs.OneRun.{CameBack, OneRun, OneShort, OneReading, ShortAtEnd, ShortBefore}
+use Rattle.mg_drive.specs.OneRun.{CalculatorsCameBack, OneRun, OneShort, OneReading, ShortAtEnd, ShortBefore}
 use Rattle.mg_drive.specs.Code.Running.{IsToldSome, FrontIn}
 use Rattle.mg_drive.specs.Code.Lines.{inputs_at, HasReadOn, ReadsOn, IsNew, LinesGave}
 use Rattle.mg_drive.proofs.Jobs.{valid_plan}
@@ -63,7 +63,7 @@ pub first_sets : (names : List (List ℕ)) (sets : List (TimedSet Plain)) (n : �
 first_sets names sets n = (sets_text names (drop n sets), ap (sets_text names) (sym (take-append-drop n sets)) ∙ flat_map-append (λ (t : TimedSet Plain). set_text names t.set) (take n sets) (drop n sets))
 
 -- all sets of a job's solution are the text that its streams make
-pub all_sets : (job : LoggedJob) (streams : List (StreamPrefix Plain)) → Solves job streams → sets_text (output_names job.job.plan) (settled_outputs job.job.plan streams) ≡ output_of job.job.plan streams
+pub all_sets : (job : LoggedJob) (streams : List (StreamPrefix Plain)) → Solves job streams → sets_text (output_names job.job.plan) (settled_outputs job.job.plan streams) ≡ output_text_of job.job.plan streams
 all_sets job streams solves = ap (sets_text (output_names job.job.plan)) (outputs_by_default job streams solves)
 
 -- nothing is told yet
@@ -81,7 +81,7 @@ front_lines job first now is (inl some) = λ streams solution.
     let names = output_names job.job.plan in
     let sets = settled_outputs job.job.plan streams in
     let has = some.is_told.told streams solution in
-    front-on (device first now) (sets_text names (take some.taken sets)) (output_of job.job.plan streams)
+    front-on (device first now) (sets_text names (take some.taken sets)) (output_text_of job.job.plan streams)
     (subst (λ (whole : List ℕ). IsFront (sets_text names (take some.taken sets)) whole) (all_sets job streams solves) (first_sets names sets some.taken))
     (put-front some.telling.failed first now some.telling.kept (sets_text names (take some.taken sets)) has.put)
 
@@ -96,7 +96,7 @@ lines_in_front plan first at fed inputs u rest fits =
 
 front_more : (plan : Plan) (first at : SourceTold) (fed : Fed) (inputs : Inputs) (output : Device SinkTold) (gave : LinesGave fed plan first at More inputs) (rest : List ℕ) → IsJob (record { plan = plan; inputs = inputs }) → (fed.read.ended ≡ true → rest ≡ [])
     → FrontIn packet_lines output.before output.now (record { plan = plan; inputs = inputs }) → (streams : List (StreamPrefix Plain))
-    → IsSolution (job_of plan (ended_input (inputs_of plan) (gave.past ++ rest))) streams → TookFront output (output_of plan streams)
+    → IsSolution (job_of plan (ended_input (inputs_of plan) (gave.past ++ rest))) streams → TookFront output (output_text_of plan streams)
 front_more plan first at fed inputs output u rest is_job fits put streams is =
     let bytes = u.past ++ rest in
     let graph = inputs_of plan in
@@ -109,7 +109,7 @@ front_more plan first at fed inputs output u rest is_job fits put streams is =
     let solution : IsSolution (record { plan = plan; inputs = record { streams = (given_by graph u.lines).streams; sides = (given_by graph u.lines).sides; ended = false } }) found.0 =
     subst (λ (ss : List (StreamPrefix Plain)). IsSolution (record { plan = plan; inputs = record { streams = ss; sides = (given_by graph u.lines).sides; ended = false } }) found.0)
     (not_ended (given_by graph u.lines).streams) read in
-    front-on output (output_of plan found.0) (output_of plan streams)
+    front-on output (output_text_of plan found.0) (output_text_of plan streams)
     (texts-grow plan bytes u.lines front.0 found.0 streams is_job.plan good (streams-grow graph u.lines front.0 (is_ended (ended_input graph bytes).end) good) front.1 same solution is) (put found.0 found.1.solution)
 
 -- the job of the lines so far goes on to that of the whole input
@@ -152,7 +152,7 @@ came_at plan first at fed end inputs u =
 
 -- the run was of that
 pub lines_ran : (report : Bool) (plan : Plan) (devices : RunDevices) (boxes : Device (List CalculatorTold)) (status : Status) (fed : Fed) (end : FeedEnd) (inputs : Inputs) → LinesGave fed plan devices.input.before devices.input.now (End end) inputs
-    → CameBack plan boxes.before boxes.now → Wrote (by_lines report) (record { plan = plan; inputs = inputs }) end status devices.output devices.notes → HadCallsOf (record { plan = plan; inputs = inputs }) boxes
+    → CalculatorsCameBack plan boxes.before boxes.now → Wrote (by_lines report) (record { plan = plan; inputs = inputs }) end status devices.output devices.notes → HadCallsOf (record { plan = plan; inputs = inputs }) boxes
     → OneReading report plan status devices boxes
 lines_ran report plan devices boxes status fed end inputs u back wrote had = record {
   read = record { lines = u.lines; end = end };
@@ -187,7 +187,7 @@ first_given plan input fed (End end) inputs u =
 
 pub lines_short : (plan : Plan) (input : Device SourceTold) (output : Device SinkTold) (boxes now : List CalculatorTold) (net : NetView) (fed : Fed) (end : BatchEnd) (at : SourceTold) (inputs : Inputs) → BoxesFit plan boxes → LinesGave fed plan input.before at end inputs
     → (at ≡ input.now) ⊎ (IsMore end × ReadsOn fed plan input.before at input.now) → IsJob (record { plan = plan; inputs = inputs }) → FrontIn packet_lines output.before output.now (record { plan = plan; inputs = inputs })
-    → StoodFor (logged plan inputs boxes) net → now ≡ given_back net → CameBack plan boxes now → ShortAtEnd plan input output (device boxes now) ⊎ ShortBefore plan input output (device boxes now)
+    → StoodFor (logged plan inputs boxes) net → now ≡ given_back net → CalculatorsCameBack plan boxes now → ShortAtEnd plan input output (device boxes now) ⊎ ShortBefore plan input output (device boxes now)
 lines_short plan input output boxes now net fed More at inputs fit u last is_job put stood back came = inr (record {
   read = (read_on plan input fed at inputs u last).read;
   first = u.past;

@@ -19,9 +19,9 @@ use Rattle.mg_free.specs.Rounds.{Taken, none_taken, output_so_far, core_inputs}
 use Rattle.mg_live.specs.Takes.{outputs_so_far}
 use Rattle.mg_live.specs.SoFar.{begins, comes, HaveCome}
 use Rattle.mg_live.proofs.Following.{is_job, batch_goes_on}
-use Rattle.mg_drive.specs.Batches.{Giving, Coming, Due, IsMore, IsFirst, InputsGoOn, GoesOn}
+use Rattle.mg_drive.specs.Batches.{Giving, Coming, Due, IsMore, IsFirst, InputsGoOn, BatchesGoOn}
 use Rattle.mg_drive.specs.Code.Live.{LiveView, IsFreshLive, LiveGives, LiveCame, IsLiveDue, ended_of, end_by, batches_left}
-use Rattle.mg_drive.specs.Code.LiveRunning.{IsOpened}
+use Rattle.mg_drive.specs.Code.LiveRunning.{IsWidened}
 use Rattle.mg_drive.proofs.Piecewise.{Piecewise, by_places, at_place, as_many_pieces, both, nothing_comes}
 
 pub end_back : (end : BatchEnd) → end_by (ended_of end) ≡ end
@@ -81,7 +81,7 @@ core_goes_on core so_far more all is sides extended pieces = record {
 -- The first batch --
 
 pub live_first : {B : Type 0} (gives : Giving B) (came : Coming B) (is_fresh : B → Plan → Type 0) (is_due : Due B) (core : Plan) (old : LiveView B) (batches : B) (before source : SourceTold) (end : BatchEnd) (ended : Option FeedEnd) (inputs more : Inputs) → ended ≡ ended_of end
-    → IsFreshLive is_fresh is_due core old → IsFirst (λ e i. gives old.batches batches old.whole before source e i × came old.batches batches old.whole before source e (i ∷ [])) old.whole end inputs → IsOpened inputs more (length old.takers)
+    → IsFreshLive is_fresh is_due core old → IsFirst (λ e i. gives old.batches batches old.whole before source e i × came old.batches batches old.whole before source e (i ∷ [])) old.whole end inputs → IsWidened inputs more (length old.takers)
     → IsFirst (LiveGives gives came is_due old.batches (record old { batches = batches; ended = ended; rested = false }) core before source) core More more
 live_first {B} gives came is_fresh is_due core old batches before source end ended inputs more ended_is f first opened =
     let whole = old.whole in
@@ -115,8 +115,8 @@ live_first {B} gives came is_fresh is_due core old batches before source end end
 -- A batch more --
 
 pub live_more : {B : Type 0} (gives : Giving B) (came : Coming B) (is_due : Due B) (began : B) (core : Plan) (old : LiveView B) (batches : B) (first before source : SourceTold) (end : BatchEnd) (ended : Option FeedEnd) (so_far inputs more : Inputs) → ended ≡ ended_of end
-    → (l : LiveGives gives came is_due began old core first before More so_far) → IsLiveDue old → GoesOn (λ all. gives began batches old.whole first source end all × came began batches old.whole first source end (all ∷ l.base ∷ l.earlier)) old.whole l.base inputs → IsOpened inputs more (length old.takers)
-    → GoesOn (LiveGives gives came is_due began (record old { batches = batches; ended = ended; rested = false }) core first source More) core so_far more
+    → (l : LiveGives gives came is_due began old core first before More so_far) → IsLiveDue old → BatchesGoOn (λ all. gives began batches old.whole first source end all × came began batches old.whole first source end (all ∷ l.base ∷ l.earlier)) old.whole l.base inputs → IsWidened inputs more (length old.takers)
+    → BatchesGoOn (LiveGives gives came is_due began (record old { batches = batches; ended = ended; rested = false }) core first source More) core so_far more
 live_more {B} gives came is_due began core old batches first before source end ended so_far inputs more ended_is l due g opened =
     let whole = old.whole in
     let split = split_of whole in
@@ -161,8 +161,8 @@ pub came_so_far : {B : Type 0} (gives : Giving B) (came : Coming B) (is_due : Du
     → came began live.batches live.whole first source More (l.base ∷ l.earlier)
 came_so_far {B} gives came is_due began core live first source so_far l due = subst (λ (e : Option FeedEnd). came began live.batches live.whole first source (end_by e) (l.base ∷ l.earlier)) due.0 l.in_turn
 
-pub opened_as : (inputs more : Inputs) (count long : ℕ) → count ≡ long → IsOpened inputs more count → IsOpened inputs more long
-opened_as inputs more count long same opened = subst (λ (n : ℕ). IsOpened inputs more n) same opened
+pub opened_as : (inputs more : Inputs) (count long : ℕ) → count ≡ long → IsWidened inputs more count → IsWidened inputs more long
+opened_as inputs more count long same opened = subst (λ (n : ℕ). IsWidened inputs more n) same opened
 
 -- In turn --
 
@@ -173,8 +173,8 @@ live_first_came {B} gives came is_due began live core first source more f = reco
   fits = f.fits;
 }
 
-pub live_more_came : {B : Type 0} (gives : Giving B) (came : Coming B) (is_due : Due B) (began : B) (live : LiveView B) (core : Plan) (first source : SourceTold) (so_far more : Inputs) (earlier : List Inputs) → GoesOn (LiveGives gives came is_due began live core first source More) core so_far more
-    → GoesOn (λ all. LiveGives gives came is_due began live core first source More all × LiveCame gives came is_due began live core first source More (all ∷ so_far ∷ earlier)) core so_far more
+pub live_more_came : {B : Type 0} (gives : Giving B) (came : Coming B) (is_due : Due B) (began : B) (live : LiveView B) (core : Plan) (first source : SourceTold) (so_far more : Inputs) (earlier : List Inputs) → BatchesGoOn (LiveGives gives came is_due began live core first source More) core so_far more
+    → BatchesGoOn (λ all. LiveGives gives came is_due began live core first source More all × LiveCame gives came is_due began live core first source More (all ∷ so_far ∷ earlier)) core so_far more
 live_more_came {B} gives came is_due began live core first source so_far more earlier g = record {
   all = g.all;
   given = (g.given, record { inputs = g.all; earlier = so_far ∷ earlier; history_is = refl; given = g.given });

@@ -20,7 +20,7 @@ use Rattle.mg_free.specs.Logs.{output_of}
 use Rattle.mg_free.specs.Rounds.{Taken, none_taken, free_inputs, output_so_far, core_inputs, core_job, AllRounds}
 use Rattle.mg_free.specs.Turns.{AreLawful, last_batch}
 use Rattle.mg_live.proofs.Following.{all_rounds, all_come}
-use Rattle.mg_answer.specs.Answer.{Form, output_in}
+use Rattle.mg_answer.specs.Answer.{OutputForm, output_in}
 use Rattle.mg_answer.specs.Devices.{Device, device, RunDevices}
 use Rattle.mg_answer.specs.Outcomes.{told_answer, told_failed}
 use Rattle.mg_answer.specs.Wrote.{WroteBy}
@@ -28,12 +28,12 @@ use Rattle.mg_answer.specs.declared.status.Status.{Status}
 use Rattle.mg_sched.specs.Views.{NetView}
 use Rattle.mg_sched.specs.Made.{BoxesFit}
 use Rattle.mg_sched.specs.GivesBack.{given_back, StoodFor}
-use Rattle.mg_drive.specs.Leaves.{HadItsCalls, KeepsAFront, IsAt, HadCallsOf}
-use Rattle.mg_drive.specs.OneRun.{CameBack, AllHad}
+use Rattle.mg_drive.specs.Leaves.{HadItsCalls, KeepsAFront, IsRelatedAt, HadCallsOf}
+use Rattle.mg_drive.specs.OneRun.{CalculatorsCameBack, AllHad}
 use Rattle.mg_drive.specs.Batches.{Giving, Coming, Due, IsMore, logged}
 use Rattle.mg_drive.specs.Live.{LiveTells}
 use Rattle.mg_drive.specs.Code.Live.{LiveView, LiveGives, LiveWrote, end_by}
-use Rattle.mg_drive.specs.Code.Running.{Reading, Telling, IsToldSome, FrontIn}
+use Rattle.mg_drive.specs.Code.Running.{ReadingOn, TellingSets, IsToldSome, FrontIn}
 use Rattle.mg_drive.specs.Code.Ending.{HasGiven}
 use Rattle.mg_drive.specs.Code.LiveRunning.{HasRunLive, CoreShort}
 use Rattle.mg_drive.proofs.FrontsBack.{KeptFronts, kept_now}
@@ -72,19 +72,19 @@ core_job_is whole core inputs base last takens one two three =
 abbrev HadIn : Device (List CalculatorTold) → List (StreamPrefix Plain) → Job → Type 0
 HadIn boxes streams job = AllHad job.plan (HadItsCalls job streams) boxes
 
-had_in : (job : Job) (streams : List (StreamPrefix Plain)) (boxes : Device (List CalculatorTold)) → IsSolution job streams → CameBack job.plan boxes.before boxes.now → HadCallsOf job boxes → HadIn boxes streams job
+had_in : (job : Job) (streams : List (StreamPrefix Plain)) (boxes : Device (List CalculatorTold)) → IsSolution job streams → CalculatorsCameBack job.plan boxes.before boxes.now → HadCallsOf job boxes → HadIn boxes streams job
 had_in job streams boxes solution back had = record {
   back = back;
-  used = subst (λ (ss : List (StreamPrefix Plain)). (number place : ℕ) (node : PlanNode) → slice_get job.plan.nodes number ≡ Some node → node.box_number ≡ Some place → IsAt place (HadItsCalls job ss node) boxes)
+  used = subst (λ (ss : List (StreamPrefix Plain)). (number place : ℕ) (node : PlanNode) → slice_get job.plan.nodes number ≡ Some node → node.box_number ≡ Some place → IsRelatedAt place (HadItsCalls job ss node) boxes)
       (one_solution job had.streams streams had.solution solution) had.each;
 }
 
 abbrev OutputsAre : List FreeNode → List Taken → List (StreamPrefix Plain) → Type 0
 OutputsAre frees takens streams = AllZip (λ free taken. output_so_far free taken ≡ output_of free.law (free_inputs streams free) taken.log) frees takens
 
-pub live_ran : {B : Type 0} (gives : Giving B) (came : Coming B) (is_due : Due B) (form : Form) (report : Bool) (began : B) (live : LiveView B) (core : Plan) (status : Status) (devices : RunDevices) (boxes : Device (List CalculatorTold)) (end : FeedEnd) (inputs : Inputs)
+pub live_ran : {B : Type 0} (gives : Giving B) (came : Coming B) (is_due : Due B) (form : OutputForm) (report : Bool) (began : B) (live : LiveView B) (core : Plan) (status : Status) (devices : RunDevices) (boxes : Device (List CalculatorTold)) (end : FeedEnd) (inputs : Inputs)
     → (l : LiveGives gives came is_due began live core devices.input.before devices.input.now (End end) inputs) → LiveWrote live.whole live.frees live.takers form report (job_in core inputs) end status devices.output devices.notes
-    → HadCallsOf (job_in core inputs) boxes → CameBack core boxes.before boxes.now → HasRunLive gives came form report began live.whole status devices boxes
+    → HadCallsOf (job_in core inputs) boxes → CalculatorsCameBack core boxes.before boxes.now → HasRunLive gives came form report began live.whole status devices boxes
 live_ran {B} gives came is_due form report began live core status devices boxes end inputs l w had back =
     let split = split_of live.whole in
     let order = turned l.base l.earlier in
@@ -125,21 +125,21 @@ live_ran {B} gives came is_due form report began live core status devices boxes 
 
 -- Memory ran out --
 
-kept_in : (job : Job) (boxes : Device (List CalculatorTold)) → CameBack job.plan boxes.before boxes.now → (had : KeptFronts job boxes) → AllHad job.plan (KeepsAFront job had.streams) boxes
+kept_in : (job : Job) (boxes : Device (List CalculatorTold)) → CalculatorsCameBack job.plan boxes.before boxes.now → (had : KeptFronts job boxes) → AllHad job.plan (KeepsAFront job had.streams) boxes
 kept_in job boxes back had = record { back = back; used = had.each }
 
 more_none : (ended : Option FeedEnd) → ended ≡ None → IsMore (end_by ended)
 more_none ended is = subst (λ (o : Option FeedEnd). IsMore (end_by o)) (sym is) tt
 
-read_last : {B : Type 0} (reads_on : Reading B) (batches : B) (whole : Plan) (ended : Option FeedEnd) (end : BatchEnd) (first at now : SourceTold) → (at ≡ now) ⊎ (IsMore end × ((ended ≡ None) × reads_on batches whole first at now))
+read_last : {B : Type 0} (reads_on : ReadingOn B) (batches : B) (whole : Plan) (ended : Option FeedEnd) (end : BatchEnd) (first at now : SourceTold) → (at ≡ now) ⊎ (IsMore end × ((ended ≡ None) × reads_on batches whole first at now))
     → (at ≡ now) ⊎ (IsMore (end_by ended) × reads_on batches whole first at now)
 read_last {B} reads_on batches whole ended end first at now (inl same) = inl same
 read_last {B} reads_on batches whole ended end first at now (inr more) = inr (more_none ended more.1.0, more.1.1)
 
-pub live_short : {B T : Type 0} (gives : Giving B) (came : Coming B) (is_due : Due B) (reads_on : Reading B) (has_told : Telling T) (form : Form) (began : B) (live : LiveView B) (core : Plan) (devices : RunDevices) (boxes now : List CalculatorTold) (net : NetView) (at : SourceTold) (end : BatchEnd) (inputs : Inputs)
+pub live_short : {B T : Type 0} (gives : Giving B) (came : Coming B) (is_due : Due B) (reads_on : ReadingOn B) (has_told : TellingSets T) (form : OutputForm) (began : B) (live : LiveView B) (core : Plan) (devices : RunDevices) (boxes now : List CalculatorTold) (net : NetView) (at : SourceTold) (end : BatchEnd) (inputs : Inputs)
     → BoxesFit core boxes → LiveGives gives came is_due began live core devices.input.before at end inputs
     → (at ≡ devices.input.now) ⊎ (IsMore end × ((live.ended ≡ None) × reads_on live.batches live.whole devices.input.before at devices.input.now))
-    → StoodFor (logged core inputs boxes) net → now ≡ given_back net → CameBack core boxes now
+    → StoodFor (logged core inputs boxes) net → now ≡ given_back net → CalculatorsCameBack core boxes now
     → IsToldSome has_told (job_in core inputs) devices.output.before devices.output.now ⊎ FrontIn form devices.output.before devices.output.now (job_in core inputs) → CoreShort came reads_on has_told form began live.whole devices (device boxes now)
 live_short {B} {T} gives came is_due reads_on has_told form began live core devices boxes now net at end inputs fit l last stood back came_back front =
     let job = logged core inputs boxes in

@@ -37,7 +37,7 @@ use Rattle.mg_live.specs.Takes.{told, HasTaken, HaveTaken, MayAllTurn, MayRound,
 use Rattle.mg_live.specs.SoFar.{goes, HaveCome}
 use Rattle.mg_live.proofs.Following.{is_job, round_goes_on, may_all_turn}
 use Rattle.mg_drive.specs.Nets.{HasRested, AreThere, AreRead}
-use Rattle.mg_drive.specs.Batches.{Giving, Coming, Due, InputsGoOn, GoesOn, logged}
+use Rattle.mg_drive.specs.Batches.{Giving, Coming, Due, InputsGoOn, BatchesGoOn, logged}
 use Rattle.mg_drive.specs.Code.Live.{AreRested, LiveView, LiveGives, EndsLive, wanted_by, rounds_left}
 use Rattle.mg_drive.proofs.Jobs.{valid_plan, plan_stood}
 use Rattle.mg_drive.proofs.Looking.{at_most_laid}
@@ -269,7 +269,7 @@ pub live_round : {B : Type 0} (gives : Giving B) (came : Coming B) (is_due : Due
     → (still : IsStill gives came is_due began live core first source last so_far net) → Did true still.given.takens (turns_of still.streams live.frees still.given.takens) → HaveTaken live.frees (turns_of still.streams live.frees still.given.takens) takers
     → handed_of takers ≡ map (λ s. length s.packets) (outputs_so_far live.frees (turns_of still.streams live.frees still.given.takens))
     → pieces ≡ pieces_behind (handed_of live.takers) (outputs_so_far live.frees (turns_of still.streams live.frees still.given.takens))
-    → GoesOn (LiveGives gives came is_due began (record live { rested = false; takers = takers }) core first source More) core so_far (for_last (length net.plan.inputs) pieces)
+    → BatchesGoOn (LiveGives gives came is_due began (record live { rested = false; takers = takers }) core first source More) core so_far (for_last (length net.plan.inputs) pieces)
 live_round {B} gives came is_due began live core first source last so_far pieces net takers boxes stands still did taken handed is =
     let l = still.given in
     let split = split_of live.whole in
@@ -324,10 +324,10 @@ live_round {B} gives came is_due began live core first source last so_far pieces
 -- The free nodes are the same --
 
 pub same_frees_went : {B : Type 0} (gives : Giving B) (came : Coming B) (is_due : Due B) (began : B) (live : LiveView B) (core : Plan) (first source : SourceTold) (so_far more : Inputs) (takers : List Taker) (frees : List FreeNode) → frees ≡ live.frees
-    → GoesOn (LiveGives gives came is_due began (record live { rested = false; takers = takers }) core first source More) core so_far more
-    → GoesOn (LiveGives gives came is_due began (record live { rested = false; frees = frees; takers = takers }) core first source More) core so_far more
+    → BatchesGoOn (LiveGives gives came is_due began (record live { rested = false; takers = takers }) core first source More) core so_far more
+    → BatchesGoOn (LiveGives gives came is_due began (record live { rested = false; frees = frees; takers = takers }) core first source More) core so_far more
 same_frees_went {B} gives came is_due began live core first source so_far more takers frees same g =
-    subst (λ (fs : List FreeNode). GoesOn (LiveGives gives came is_due began (record live { rested = false; frees = fs; takers = takers }) core first source More) core so_far more) (sym same) g
+    subst (λ (fs : List FreeNode). BatchesGoOn (LiveGives gives came is_due began (record live { rested = false; frees = fs; takers = takers }) core first source More) core so_far more) (sym same) g
 
 pub same_frees_rest : {B : Type 0} (gives : Giving B) (came : Coming B) (is_due : Due B) (began : B) (live : LiveView B) (core : Plan) (first source : SourceTold) (end : BatchEnd) (so_far : Inputs) (takers : List Taker) (frees : List FreeNode) → frees ≡ live.frees
     → LiveGives gives came is_due began (record live { rested = true; takers = takers }) core first source end so_far → LiveGives gives came is_due began (record live { rested = true; frees = frees; takers = takers }) core first source end so_far

@@ -24,7 +24,7 @@ use Rattle.mg_live.specs.declared.taker.Taker.{Taker}
 use Rattle.mg_live.specs.Takes.{HaveTaken, told}
 use Rattle.mg_sched.proofs.GivenBack.{drop_here}
 use Rattle.mg_answer.specs.Notes.{arrival_note}
-use Rattle.mg_drive.specs.Live.{first_of, fault_in, sets_by, lines_at, arrivals_text}
+use Rattle.mg_drive.specs.Live.{first_of, renumbered_fault, sets_by, lines_at, arrivals_text}
 
 -- The lines of arrivals --
 
@@ -219,12 +219,12 @@ streams_as_many plan valid =
 
 -- Faults by the plan's numbers --
 
-faults_from : (plan : Plan) (faults : List NodeFault) → AllByRecursion (λ fault. fault.node < length (core_numbers plan)) faults → AllByRecursion (λ fault. fault.node < length plan.nodes) (map (fault_in (core_numbers plan)) faults)
+faults_from : (plan : Plan) (faults : List NodeFault) → AllByRecursion (λ fault. fault.node < length (core_numbers plan)) faults → AllByRecursion (λ fault. fault.node < length plan.nodes) (map (renumbered_fault (core_numbers plan)) faults)
 faults_from plan [] all = tt
 faults_from plan (fault ∷ faults) all = (core_below plan fault.node 0 all.0, faults_from plan faults all.1)
 
-pub faults_below : (plan : Plan) (faults now : List NodeFault) → All (λ fault. fault.node < length (core_of plan).nodes) faults → now ≡ map (fault_in (core_numbers plan)) faults → All (λ fault. fault.node < length plan.nodes) now
+pub faults_below : (plan : Plan) (faults now : List NodeFault) → All (λ fault. fault.node < length (core_of plan).nodes) faults → now ≡ map (renumbered_fault (core_numbers plan)) faults → All (λ fault. fault.node < length plan.nodes) now
 faults_below plan faults now all is =
     subst (λ (fs : List NodeFault). All (λ fault. fault.node < length plan.nodes) fs) (sym is)
-    (All-from_recursion (λ (fault : NodeFault). fault.node < length plan.nodes) (map (fault_in (core_numbers plan)) faults)
+    (All-from_recursion (λ (fault : NodeFault). fault.node < length plan.nodes) (map (renumbered_fault (core_numbers plan)) faults)
     (faults_from plan faults (recursion_from_All (λ (fault : NodeFault). fault.node < length (core_numbers plan)) faults (subst (λ (n : ℕ). All (λ (fault : NodeFault). fault.node < n) faults) (sym (numbers_long plan)) all))))

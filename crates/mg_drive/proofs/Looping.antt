@@ -9,13 +9,13 @@ use Rattle.mg_calc.specs.declared.plan.Plan.{Plan}
 use Rattle.mg_feed.specs.declared.feed_end.FeedEnd.{FeedEnd}
 use Rattle.mg_feed.specs.declared.feed_end.BatchEnd.{BatchEnd}
 use Rattle.mg_feed.specs.declared.feed_end.BatchEnd.TheVariants.{More, End}
-use Rattle.mg_answer.specs.Answer.{Form}
+use Rattle.mg_answer.specs.Answer.{OutputForm}
 use Rattle.mg_node.specs.Job.{LoggedJob, Solves}
 use Rattle.mg_sched.specs.Views.{NetView}
 use Rattle.mg_sched.specs.StandsFor.{StandsFor, IsRunning}
 use Rattle.mg_sched.specs.AtRest.{IsAtRest}
 use Rattle.mg_sched.specs.Sweeps.{Becomes}
-use Rattle.mg_sched.specs.Begins.{Begins}
+use Rattle.mg_sched.specs.Begins.{BeginsNet}
 use Rattle.mg_sched.specs.Trims.{Trims}
 use Rattle.mg_sched.specs.GivesBack.{StoodFor}
 use Rattle.mg_sched.specs.Taking.{taken_out, settled_outputs, HasAllOutputs, LeavesNodes}
@@ -26,7 +26,7 @@ use Rattle.mg_drive.specs.Nets.{Keeps, Wanted, AreRead}
 use Rattle.mg_drive.specs.Batches.{Due, IsMore, IsAsGiven, SomeGiven, GoesOnward}
 use Rattle.mg_drive.specs.declared.batches.Onward.{Onward}
 use Rattle.mg_drive.specs.declared.batches.Onward.TheVariants.{Round, Next, End as Over}
-use Rattle.mg_drive.specs.Code.Running.{Giving, Reading, Telling, Start, job_with, IsTold, IsToldSome, IsSomeTold, IsUnderWay, IsSomeMore, WentOn, HasRested, IsAllTaken, IsOver, IsShort}
+use Rattle.mg_drive.specs.Code.Running.{Giving, ReadingOn, TellingSets, Start, job_with, IsTold, IsToldSome, IsSomeTold, IsUnderWay, IsSomeMore, WentOn, HasRested, IsAllTaken, RunIsOver, IsShort}
 use Rattle.mg_drive.proofs.TakingSets.{told_same, told_some}
 use Rattle.mg_drive.proofs.Jobs.{valid_plan, job_goes_on, told_of_later}
 
@@ -53,10 +53,10 @@ keeps_itself net = record { plan = refl; spare = refl }
 pub keeps_on : (a b c : NetView) → Keeps a b → Keeps b c → Keeps a c
 keeps_on a b c one two = record { plan = two.plan ∙ one.plan; spare = two.spare ∙ one.spare }
 
-pub begins_keep : (before now : NetView) → Begins before now → Keeps before now
+pub begins_keep : (before now : NetView) → BeginsNet before now → Keeps before now
 begins_keep before now b = record { plan = ap (λ (v : NetView). v.plan) b.parts; spare = ap (λ (v : NetView). v.spare) b.parts }
 
-pub begins_taken : (before now : NetView) → Begins before now → taken_out now ≡ taken_out before
+pub begins_taken : (before now : NetView) → BeginsNet before now → taken_out now ≡ taken_out before
 begins_taken before now b = ap taken_out b.parts
 
 pub becomes_keeps : (before now : NetView) → Becomes before now → Keeps before now
@@ -109,12 +109,12 @@ pub stands_still : (job : LoggedJob) (net : NetView) → StandsFor job net → S
 stands_still job net stands = record { before = net; stands = stands; since = inl refl }
 
 -- what a run has told
-pub run_told : {B T : Type 0} (gives : Giving B) (has_told : Telling T) (start : Start B) (end : BatchEnd) (source : SourceTold) (sink : SinkTold) (batches : B) (telling : T) (net : NetView)
+pub run_told : {B T : Type 0} (gives : Giving B) (has_told : TellingSets T) (start : Start B) (end : BatchEnd) (source : SourceTold) (sink : SinkTold) (batches : B) (telling : T) (net : NetView)
     → IsUnderWay gives has_told start end source sink batches telling net → IsSomeTold has_told sink net telling
 run_told {B} {T} gives has_told start end source sink batches telling net u = record { job = job_with start u.inputs; first = start.sink; stands = u.stands; is_told = u.is_told }
 
 -- a run is under way still where its net stands still for each job, and as many sets are taken
-pub still_under_way : {B T : Type 0} (gives : Giving B) (has_told : Telling T) (start : Start B) (end : BatchEnd) (source : SourceTold) (sink : SinkTold) (batches : B) (telling : T) (net now : NetView)
+pub still_under_way : {B T : Type 0} (gives : Giving B) (has_told : TellingSets T) (start : Start B) (end : BatchEnd) (source : SourceTold) (sink : SinkTold) (batches : B) (telling : T) (net now : NetView)
     → ((job : LoggedJob) → StandsFor job net → StandsFor job now) → taken_out now ≡ taken_out net
     → IsUnderWay gives has_told start end source sink batches telling net → IsUnderWay gives has_told start end source sink batches telling now
 still_under_way {B} {T} gives has_told start end source sink batches telling net now keeps same u = record {
@@ -125,7 +125,7 @@ still_under_way {B} {T} gives has_told start end source sink batches telling net
 }
 
 -- a run whose net has come to rest, with all that was given
-abbrev pub as_given : {B T : Type 0} (gives : Giving B) (has_told : Telling T) (start : Start B) (last : BatchEnd) (source : SourceTold) (sink : SinkTold) (batches : B) (telling : T) (net now : NetView)
+abbrev pub as_given : {B T : Type 0} (gives : Giving B) (has_told : TellingSets T) (start : Start B) (last : BatchEnd) (source : SourceTold) (sink : SinkTold) (batches : B) (telling : T) (net now : NetView)
     → ((job : LoggedJob) → StandsFor job net → StandsFor job now) → ((job : LoggedJob) → StandsFor job net → HasRested job now × IsAllTaken job now) → (u : IsUnderWay gives has_told start last source sink batches telling net)
     → IsAsGiven gives start.batches start.plan start.source source last u.inputs now batches
 as_given {B} {T} gives has_told start last source sink batches telling net now keeps rests u = record {
@@ -136,7 +136,7 @@ as_given {B} {T} gives has_told start last source sink batches telling net now k
   has_rested = (rests (job_with start u.inputs) u.stands).0;
 }
 
-pub some_given : {B T : Type 0} (gives : Giving B) (has_told : Telling T) (start : Start B) (last : BatchEnd) (source : SourceTold) (sink : SinkTold) (batches : B) (telling : T) (net now : NetView)
+pub some_given : {B T : Type 0} (gives : Giving B) (has_told : TellingSets T) (start : Start B) (last : BatchEnd) (source : SourceTold) (sink : SinkTold) (batches : B) (telling : T) (net now : NetView)
     → ((job : LoggedJob) → StandsFor job net → StandsFor job now) → ((job : LoggedJob) → StandsFor job net → HasRested job now × IsAllTaken job now) → IsUnderWay gives has_told start last source sink batches telling net
     → SomeGiven gives last now batches
 some_given {B} {T} gives has_told start last source sink batches telling net now keeps rests u = record {
@@ -154,7 +154,7 @@ Onwards {B} gives is_due wants last source batches batches_now now onward =
     (began : B) (plan : Plan) (first source_is : SourceTold) (so_far : Inputs) → IsAsGiven gives began plan first source_is last so_far now batches → GoesOnward gives is_due wants began plan first source_is last so_far now batches_now onward
 
 -- by further input that comes before the next batch
-pub round_may : {B T : Type 0} (gives : Giving B) (is_due : Due B) (wants : B → List Wanted) (has_told : Telling T) (start : Start B) (last : BatchEnd) (source : SourceTold) (sink : SinkTold) (batches batches_now : B) (telling : T) (net now : NetView) (onward : Onward) (pieces : List (StreamPrefix Plain)) → onward ≡ Round pieces
+pub round_may : {B T : Type 0} (gives : Giving B) (is_due : Due B) (wants : B → List Wanted) (has_told : TellingSets T) (start : Start B) (last : BatchEnd) (source : SourceTold) (sink : SinkTold) (batches batches_now : B) (telling : T) (net now : NetView) (onward : Onward) (pieces : List (StreamPrefix Plain)) → onward ≡ Round pieces
     → ((job : LoggedJob) → StandsFor job net → StandsFor job now) → ((job : LoggedJob) → StandsFor job net → HasRested job now × IsAllTaken job now)
     → Onwards gives is_due wants last source batches batches_now now onward → IsUnderWay gives has_told start last source sink batches telling net → MayGoOnWith (for_last (length now.plan.inputs) pieces) now
 round_may {B} {T} gives is_due wants has_told start last source sink batches batches_now telling net now onward pieces is keeps rests on u =
@@ -167,14 +167,14 @@ round_may {B} {T} gives is_due wants has_told start last source sink batches bat
       goes_on = job_goes_on start.plan u.inputs (for_last (length now.plan.inputs) pieces) g.1.all start.boxes given.valid g.1.goes_on;
     }
 
-pub round_is_more : {B T : Type 0} (gives : Giving B) (is_due : Due B) (wants : B → List Wanted) (has_told : Telling T) (start : Start B) (last : BatchEnd) (source : SourceTold) (sink : SinkTold) (batches batches_now : B) (telling : T) (net now : NetView) (onward : Onward) (pieces : List (StreamPrefix Plain)) → onward ≡ Round pieces
+pub round_is_more : {B T : Type 0} (gives : Giving B) (is_due : Due B) (wants : B → List Wanted) (has_told : TellingSets T) (start : Start B) (last : BatchEnd) (source : SourceTold) (sink : SinkTold) (batches batches_now : B) (telling : T) (net now : NetView) (onward : Onward) (pieces : List (StreamPrefix Plain)) → onward ≡ Round pieces
     → ((job : LoggedJob) → StandsFor job net → StandsFor job now) → ((job : LoggedJob) → StandsFor job net → HasRested job now × IsAllTaken job now)
     → Onwards gives is_due wants last source batches batches_now now onward → IsUnderWay gives has_told start last source sink batches telling net → last ≡ More
 round_is_more {B} {T} gives is_due wants has_told start last source sink batches batches_now telling net now onward pieces is keeps rests on u =
     (subst (λ (o : Onward). GoesOnward gives is_due wants start.batches start.plan start.source source last u.inputs now batches_now o) is
     (on start.batches start.plan start.source source u.inputs (as_given gives has_told start last source sink batches telling net now keeps rests u))).0
 
-pub round_goes_on : {B T : Type 0} (gives : Giving B) (is_due : Due B) (wants : B → List Wanted) (has_told : Telling T) (start : Start B) (last : BatchEnd) (source : SourceTold) (sink later : SinkTold) (batches batches_now : B) (telling telling_now : T) (net now after : NetView) (onward : Onward) (pieces : List (StreamPrefix Plain)) → onward ≡ Round pieces
+pub round_goes_on : {B T : Type 0} (gives : Giving B) (is_due : Due B) (wants : B → List Wanted) (has_told : TellingSets T) (start : Start B) (last : BatchEnd) (source : SourceTold) (sink later : SinkTold) (batches batches_now : B) (telling telling_now : T) (net now after : NetView) (onward : Onward) (pieces : List (StreamPrefix Plain)) → onward ≡ Round pieces
     → ((job : LoggedJob) → StandsFor job net → StandsFor job now)
     → ((job : LoggedJob) (first : SinkTold) → StandsFor job net → IsTold has_told job.job first sink (taken_out net) telling → IsTold has_told job.job first later (taken_out now) telling_now)
     → ((job : LoggedJob) → StandsFor job net → HasRested job now × IsAllTaken job now)
@@ -193,12 +193,12 @@ round_goes_on {B} {T} gives is_due wants has_told start last source sink later b
     }
 
 -- the input has ended, and the net has rested
-pub over_at : {B T : Type 0} (gives : Giving B) (is_due : Due B) (wants : B → List Wanted) (has_told : Telling T) (start : Start B) (last : BatchEnd) (end : FeedEnd) (source : SourceTold) (sink later : SinkTold) (batches batches_now : B) (telling telling_now : T) (net now : NetView) (onward : Onward) → onward ≡ Over end
+pub over_at : {B T : Type 0} (gives : Giving B) (is_due : Due B) (wants : B → List Wanted) (has_told : TellingSets T) (start : Start B) (last : BatchEnd) (end : FeedEnd) (source : SourceTold) (sink later : SinkTold) (batches batches_now : B) (telling telling_now : T) (net now : NetView) (onward : Onward) → onward ≡ Over end
     → ((job : LoggedJob) → StandsFor job net → StandsFor job now)
     → ((job : LoggedJob) (first : SinkTold) → StandsFor job net → IsTold has_told job.job first sink (taken_out net) telling → IsTold has_told job.job first later (taken_out now) telling_now)
     → ((job : LoggedJob) → StandsFor job net → HasRested job now × IsAllTaken job now)
     → Onwards gives is_due wants last source batches batches_now now onward
-    → IsUnderWay gives has_told start last source sink batches telling net → IsOver gives has_told start end source later batches_now telling_now now
+    → IsUnderWay gives has_told start last source sink batches telling net → RunIsOver gives has_told start end source later batches_now telling_now now
 over_at {B} {T} gives is_due wants has_told start last end source sink later batches batches_now telling telling_now net now onward is keeps tells rests on u =
     let given = as_given gives has_told start last source sink batches telling net now keeps rests u in
     let g = subst (λ (o : Onward). GoesOnward gives is_due wants start.batches start.plan start.source source last u.inputs now batches_now o) is (on start.batches start.plan start.source source u.inputs given) in
@@ -209,11 +209,11 @@ over_at {B} {T} gives is_due wants has_told start last end source sink later bat
     }
 
 -- or with the next batch, which is due
-abbrev pub IsDueNow : {B T : Type 0} → Giving B → Due B → Telling T → Start B → SourceTold → SinkTold → B → T → NetView → Type 0
+abbrev pub IsDueNow : {B T : Type 0} → Giving B → Due B → TellingSets T → Start B → SourceTold → SinkTold → B → T → NetView → Type 0
 IsDueNow gives is_due has_told start source sink batches telling net =
     (u : IsUnderWay gives has_told start More source sink batches telling net) × is_due batches start.plan u.inputs
 
-pub next_is_due : {B T : Type 0} (gives : Giving B) (is_due : Due B) (wants : B → List Wanted) (has_told : Telling T) (start : Start B) (last : BatchEnd) (source : SourceTold) (sink later written : SinkTold) (batches batches_now : B) (telling telling_now telling_then : T) (net now : NetView) (onward : Onward) → onward ≡ Next
+pub next_is_due : {B T : Type 0} (gives : Giving B) (is_due : Due B) (wants : B → List Wanted) (has_told : TellingSets T) (start : Start B) (last : BatchEnd) (source : SourceTold) (sink later written : SinkTold) (batches batches_now : B) (telling telling_now telling_then : T) (net now : NetView) (onward : Onward) → onward ≡ Next
     → ((job : LoggedJob) → StandsFor job net → StandsFor job now)
     → ((job : LoggedJob) (first : SinkTold) → StandsFor job net → IsTold has_told job.job first sink (taken_out net) telling → IsTold has_told job.job first later (taken_out now) telling_now)
     → ((job : LoggedJob) → StandsFor job net → HasRested job now × IsAllTaken job now)
@@ -232,12 +232,12 @@ next_is_due {B} {T} gives is_due wants has_told start last source sink later wri
       g.read,
     )
 
-pub run_more : {B T : Type 0} (gives : Giving B) (is_due : Due B) (has_told : Telling T) (start : Start B) (source : SourceTold) (sink : SinkTold) (batches : B) (telling : T) (net : NetView)
+pub run_more : {B T : Type 0} (gives : Giving B) (is_due : Due B) (has_told : TellingSets T) (start : Start B) (source : SourceTold) (sink : SinkTold) (batches : B) (telling : T) (net : NetView)
     → IsDueNow gives is_due has_told start source sink batches telling net → IsSomeMore gives is_due source batches net
 run_more {B} {T} gives is_due has_told start source sink batches telling net u = record { start = start; inputs = u.0.inputs; given = u.0.given; due = u.1; stands = u.0.stands }
 
 -- and was read
-pub went_on : {B T : Type 0} (gives : Giving B) (is_due : Due B) (has_told : Telling T) (start : Start B) (end : BatchEnd) (source later : SourceTold) (sink : SinkTold) (batches batches_now : B) (telling : T) (net now : NetView) → taken_out now ≡ taken_out net
+pub went_on : {B T : Type 0} (gives : Giving B) (is_due : Due B) (has_told : TellingSets T) (start : Start B) (end : BatchEnd) (source later : SourceTold) (sink : SinkTold) (batches batches_now : B) (telling : T) (net now : NetView) → taken_out now ≡ taken_out net
     → ((inputs : Inputs) → gives start.batches batches start.plan start.source source More inputs → is_due batches start.plan inputs → StandsFor (job_with start inputs) net → WentOn gives start end later batches_now inputs now)
     → IsDueNow gives is_due has_told start source sink batches telling net → IsUnderWay gives has_told start end later sink batches_now telling now
 went_on {B} {T} gives is_due has_told start end source later sink batches batches_now telling net now same goes d =
@@ -253,7 +253,7 @@ went_on {B} {T} gives is_due has_told start end source later sink batches batche
 -- Memory ran out --
 
 -- where some sets were told since
-pub short_told : {B T : Type 0} (gives : Giving B) (reads_on : Reading B) (has_told : Telling T) (form : Form) (start : Start B) (end : BatchEnd) (source : SourceTold) (sink sink_now : SinkTold) (batches : B) (telling : T) (net now : NetView)
+pub short_told : {B T : Type 0} (gives : Giving B) (reads_on : ReadingOn B) (has_told : TellingSets T) (form : OutputForm) (start : Start B) (end : BatchEnd) (source : SourceTold) (sink sink_now : SinkTold) (batches : B) (telling : T) (net now : NetView)
     → ((job : LoggedJob) → StandsFor job net → StandsFor job now)
     → ((job : LoggedJob) (first : SinkTold) → StandsFor job net → IsTold has_told job.job first sink (taken_out net) telling → IsToldSome has_told job.job first sink_now)
     → IsUnderWay gives has_told start end source sink batches telling net → IsShort gives reads_on has_told form start source sink_now now
@@ -272,13 +272,13 @@ short_told {B} {T} gives reads_on has_told form start end source sink sink_now b
     }
 
 -- where none was
-pub short_here : {B T : Type 0} (gives : Giving B) (reads_on : Reading B) (has_told : Telling T) (form : Form) (start : Start B) (end : BatchEnd) (source : SourceTold) (sink : SinkTold) (batches : B) (telling : T) (net now : NetView)
+pub short_here : {B T : Type 0} (gives : Giving B) (reads_on : ReadingOn B) (has_told : TellingSets T) (form : OutputForm) (start : Start B) (end : BatchEnd) (source : SourceTold) (sink : SinkTold) (batches : B) (telling : T) (net now : NetView)
     → ((job : LoggedJob) → StandsFor job net → StandsFor job now) → IsUnderWay gives has_told start end source sink batches telling net → IsShort gives reads_on has_told form start source sink now
 short_here {B} {T} gives reads_on has_told form start end source sink batches telling net now keeps u =
     short_told gives reads_on has_told form start end source sink sink batches telling net now keeps (λ job first h t. told_some has_told job first sink (taken_out net) telling t) u
 
 -- and more was read
-pub short_more : {B T : Type 0} (gives : Giving B) (reads_on : Reading B) (has_told : Telling T) (form : Form) (start : Start B) (source later : SourceTold) (sink : SinkTold) (batches : B) (telling : T) (net now : NetView)
+pub short_more : {B T : Type 0} (gives : Giving B) (reads_on : ReadingOn B) (has_told : TellingSets T) (form : OutputForm) (start : Start B) (source later : SourceTold) (sink : SinkTold) (batches : B) (telling : T) (net now : NetView)
     → ((job : LoggedJob) → StandsFor job net → StandsFor job now) → reads_on batches start.plan start.source source later → IsUnderWay gives has_told start More source sink batches telling net
     → IsShort gives reads_on has_told form start later sink now
 short_more {B} {T} gives reads_on has_told form start source later sink batches telling net now keeps read u =

@@ -16,12 +16,12 @@ use Rattle.mg_feed.specs.declared.feed_end.BatchEnd.TheVariants.{More}
 use Rattle.mg_feed.proofs.PiecesMade.{size-generated, first-piece, piece-joined}
 use Rattle.mg_answer.proofs.GeneratedFits.{made-fit, generated-grow}
 use Rattle.mg_node.specs.Extending.{joined}
-use Rattle.mg_drive.specs.Batches.{IsMore, IsFirst, InputsGoOn, GoesOn}
-use Rattle.mg_drive.specs.Code.InPieces.{made_inputs, end_of, AreToCome, WereMade, HaveComeInPieces, packets_left}
+use Rattle.mg_drive.specs.Batches.{IsMore, IsFirst, InputsGoOn, BatchesGoOn}
+use Rattle.mg_drive.specs.Code.InPieces.{made_inputs, piece_end, AreToCome, WereMade, HaveComeInPieces, packets_left}
 use Rattle.mg_drive.proofs.LinesGoOn.{not_ended}
 
 -- a piece behind which there is more isn't the last
-pub not_last : (b : Bool) → More ≡ end_of b → b ≡ false
+pub not_last : (b : Bool) → More ≡ piece_end b → b ≡ false
 not_last true is = absurd cc
 not_last false is = refl
 
@@ -30,12 +30,12 @@ pub so_far_made : (plan : Plan) (number : ℕ) (m : Making) (inputs : Inputs) �
 so_far_made plan number m inputs was = was.inputs_are ∙ ap (made_inputs (inputs_of plan) m.made) (not_last (m.made == number) was.end_is)
 
 -- it is made of as many packets
-were_made : (plan : Plan) (number : ℕ) (m : Making) (end : BatchEnd) (ended : Bool) → HasHandedOn (inputs_of plan) number m → number < 2 ^ 32 → end ≡ end_of ended → ended ≡ (m.made == number)
+were_made : (plan : Plan) (number : ℕ) (m : Making) (end : BatchEnd) (ended : Bool) → HasHandedOn (inputs_of plan) number m → number < 2 ^ 32 → end ≡ piece_end ended → ended ≡ (m.made == number)
     → WereMade plan number m end (made_inputs (inputs_of plan) m.made (m.made == number))
 were_made plan number m end ended handed_on few is same = record {
   handed_on = handed_on;
   few = few;
-  end_is = is ∙ ap end_of same;
+  end_is = is ∙ ap piece_end same;
   inputs_are = refl;
 }
 
@@ -50,7 +50,7 @@ first_inputs_made graph before now ended piece is none =
     λ i. record { streams = ss i; sides = is.sides i; ended = is.ended_is i }
 
 pub first_made : (plan : Plan) (number : ℕ) (old new : Making) (end : BatchEnd) (inputs : Inputs) → IsValidWithFree plan → AreToCome plan number old
-    → IsPiece (inputs_of plan) old.made new.made (new.made == number) inputs → HasHandedOn (inputs_of plan) number new → end ≡ end_of inputs.ended → IsFirst (WereMade plan number new) plan end inputs
+    → IsPiece (inputs_of plan) old.made new.made (new.made == number) inputs → HasHandedOn (inputs_of plan) number new → end ≡ piece_end inputs.ended → IsFirst (WereMade plan number new) plan end inputs
 first_made plan number old new end inputs valid fresh piece handed_on is =
     let graph = inputs_of plan in
     let same = first_inputs_made graph old.made new.made (new.made == number) inputs piece fresh.none in
@@ -60,7 +60,7 @@ first_made plan number old new end inputs valid fresh piece handed_on is =
     })
 
 pub first_made_came : (plan : Plan) (number most : ℕ) (old new : Making) (end : BatchEnd) (inputs : Inputs) → IsValidWithFree plan → AreToCome plan number old
-    → IsPiece (inputs_of plan) old.made new.made (new.made == number) inputs → HasHandedOn (inputs_of plan) number new → new.made ≡ min (old.made + most) old.number → end ≡ end_of inputs.ended
+    → IsPiece (inputs_of plan) old.made new.made (new.made == number) inputs → HasHandedOn (inputs_of plan) number new → new.made ≡ min (old.made + most) old.number → end ≡ piece_end inputs.ended
     → IsFirst (λ end inputs. WereMade plan number new end inputs × HaveComeInPieces plan number most most new end (inputs ∷ [])) plan end inputs
 first_made_came plan number most old new end inputs valid fresh piece handed_on further is =
     let first = first_made plan number old new end inputs valid fresh piece handed_on is in
@@ -105,8 +105,8 @@ goes_on plan number old new piece valid few le is handed_on =
     }
 
 pub more_made : (plan : Plan) (number : ℕ) (old new : Making) (end : BatchEnd) (inputs so_far : Inputs) → IsValidWithFree plan → WereMade plan number old More so_far
-    → IsPiece (inputs_of plan) old.made new.made (new.made == number) inputs → HasHandedOn (inputs_of plan) number new → old.made ≤ new.made → end ≡ end_of inputs.ended
-    → GoesOn (WereMade plan number new end) plan so_far inputs
+    → IsPiece (inputs_of plan) old.made new.made (new.made == number) inputs → HasHandedOn (inputs_of plan) number new → old.made ≤ new.made → end ≡ piece_end inputs.ended
+    → BatchesGoOn (WereMade plan number new end) plan so_far inputs
 more_made plan number old new end inputs so_far valid was piece handed_on le is =
     let graph = inputs_of plan in
     record {
@@ -120,8 +120,8 @@ same_first : (a b : Inputs) (xs ys : List Inputs) → a ∷ xs ≡ b ∷ ys → 
 same_first a b xs ys same = ap (λ (l : List Inputs). slice_index_or l 0 a) same
 
 pub more_made_came : (plan : Plan) (number most now : ℕ) (old new : Making) (end : BatchEnd) (inputs so_far : Inputs) (earlier : List Inputs) → IsValidWithFree plan → HaveComeInPieces plan number most now old More (so_far ∷ earlier)
-    → IsPiece (inputs_of plan) old.made new.made (new.made == number) inputs → HasHandedOn (inputs_of plan) number new → old.made ≤ new.made → end ≡ end_of inputs.ended
-    → GoesOn (λ all. WereMade plan number new end all × HaveComeInPieces plan number most now new end (all ∷ so_far ∷ earlier)) plan so_far inputs
+    → IsPiece (inputs_of plan) old.made new.made (new.made == number) inputs → HasHandedOn (inputs_of plan) number new → old.made ≤ new.made → end ≡ piece_end inputs.ended
+    → BatchesGoOn (λ all. WereMade plan number new end all × HaveComeInPieces plan number most now new end (all ∷ so_far ∷ earlier)) plan so_far inputs
 more_made_came plan number most now old new end inputs so_far earlier valid came piece handed_on le is =
     let graph = inputs_of plan in
     let then : List Inputs = map (λ made. made_inputs graph made false) came.earlier in
@@ -145,10 +145,10 @@ more_made_came plan number most now old new end inputs so_far earlier valid came
     }
 
 -- leaves fewer to come
-pub fewer_left : (graph : GraphInputs) (number most : ℕ) (old new : Making) (end : BatchEnd) (ended : Bool) → HasHandedOn graph number old → HasHandedOn graph number new → ended ≡ (new.made == number) → end ≡ end_of ended
+pub fewer_left : (graph : GraphInputs) (number most : ℕ) (old new : Making) (end : BatchEnd) (ended : Bool) → HasHandedOn graph number old → HasHandedOn graph number new → ended ≡ (new.made == number) → end ≡ piece_end ended
     → new.made ≡ min (old.made + most) old.number → 0 < most → IsMore end → packets_left new < packets_left old
 fewer_left graph number most old new end ended was now same is made some more = elim (eqb_tells new.made number) [
-  | inl (test, last) ↦ absurd (subst IsMore (is ∙ ap end_of (same ∙ test)) more)
+  | inl (test, last) ↦ absurd (subst IsMore (is ∙ ap piece_end (same ∙ test)) more)
   | inr (test, apart) ↦
       (let a = was.number_is in
       let b = now.number_is in

@@ -29,9 +29,9 @@ use Rattle.mg_sched.proofs.Solved.{solved}
 use Rattle.mg_drive.specs.Batches.{IsMore, logged}
 use Rattle.mg_drive.specs.Told.{HasSums}
 use Rattle.mg_drive.specs.Leaves.{HadCallsOf}
-use Rattle.mg_drive.specs.OneRun.{CameBack, OneRun, OneShort, OneMade}
+use Rattle.mg_drive.specs.OneRun.{CalculatorsCameBack, OneRun, OneShort, OneMade}
 use Rattle.mg_drive.specs.Code.Running.{IsToldSome, FrontIn}
-use Rattle.mg_drive.specs.Code.InPieces.{made_inputs, end_of, WereMade}
+use Rattle.mg_drive.specs.Code.InPieces.{made_inputs, piece_end, WereMade}
 use Rattle.mg_drive.proofs.LinesGoOn.{not_ended}
 use Rattle.mg_drive.proofs.PiecesGoOn.{so_far_made}
 use Rattle.mg_drive.proofs.PacketsRan.{front_unwritten, front_sums}
@@ -41,7 +41,7 @@ use Rattle.mg_drive.proofs.OneRuns.{one_run, one_short}
 -- All of them --
 
 -- a piece with which the input has ended is the last
-last_piece : (b : Bool) (end : FeedEnd) → End end ≡ end_of b → (b ≡ true) × (end ≡ Ended)
+last_piece : (b : Bool) (end : FeedEnd) → End end ≡ piece_end b → (b ≡ true) × (end ≡ Ended)
 last_piece true end is = (refl, cc)
 last_piece false end is = absurd cc
 
@@ -59,7 +59,7 @@ whole_made plan number m end inputs was all =
 
 -- they were run
 pub pieces_ran : (report : Bool) (plan : Plan) (number : ℕ) (m : Making) (output notes : Device SinkTold) (boxes : Device (List CalculatorTold)) (status : Status) (end : FeedEnd) (inputs : Inputs) → WereMade plan number m (End end) inputs
-    → CameBack plan boxes.before boxes.now → Wrote (by_summary report) (record { plan = plan; inputs = inputs }) end status output notes → HadCallsOf (record { plan = plan; inputs = inputs }) boxes
+    → CalculatorsCameBack plan boxes.before boxes.now → Wrote (by_summary report) (record { plan = plan; inputs = inputs }) end status output notes → HadCallsOf (record { plan = plan; inputs = inputs }) boxes
     → OneMade report plan number status output notes boxes
 pieces_ran report plan number m output notes boxes status end inputs was back wrote had =
     let all = all_made plan number m end inputs was in
@@ -96,7 +96,7 @@ pub pieces_short : (plan : Plan) (number : ℕ) (m : Making) (output : Device Si
     → IsJob (record { plan = plan; inputs = inputs })
     → IsToldSome HasSums (record { plan = plan; inputs = inputs }) output.before output.now ⊎ FrontIn totals output.before output.now (record { plan = plan; inputs = inputs })
     → (IsMore end → IsToldSome HasSums (record { plan = plan; inputs = inputs }) output.before output.now)
-    → StoodFor (logged plan inputs boxes) net → now ≡ given_back net → CameBack plan boxes now → OneShort totals (generated_job plan number) output (device boxes now)
+    → StoodFor (logged plan inputs boxes) net → now ≡ given_back net → CalculatorsCameBack plan boxes now → OneShort totals (generated_job plan number) output (device boxes now)
 pieces_short plan number m output boxes now net More inputs fit was is front unended stood back came =
     let so_far = made_inputs (inputs_of plan) m.made false in
     let grows = goes_on_to plan number m inputs boxes is.plan was in

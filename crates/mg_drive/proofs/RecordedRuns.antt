@@ -11,11 +11,11 @@ use Rattle.mg_feed.specs.Graph.{inputs_of}
 use Rattle.mg_feed.specs.declared.feed_end.FeedEnd.{FeedEnd}
 use Rattle.mg_trace.specs.Job.{job_text}
 use Rattle.mg_trace.specs.Trace.{events_text, trace_text}
-use Rattle.mg_answer.specs.Answer.{Form, in_place, by_lines, by_text, inputs_by, answer_of, failed_notes}
+use Rattle.mg_answer.specs.Answer.{OutputForm, in_place, by_lines, by_text, inputs_by, answer_of, failed_notes}
 use Rattle.mg_answer.specs.Answer as answers
 use Rattle.mg_answer.specs.Devices.{Device, device, run_devices, Untouched, TookFront}
 use Rattle.mg_answer.specs.Put.{TextView, BlockView, HasPutIn}
-use Rattle.mg_answer.specs.Gathered.{Gathered}
+use Rattle.mg_answer.specs.Gathered.{GatheredInputs}
 use Rattle.mg_answer.specs.Wrote.{Meets, MetShort, Wrote}
 use Rattle.mg_answer.specs.Ran.{ReadSome}
 use Rattle.mg_answer.specs.declared.status.Status.{Status}
@@ -28,7 +28,7 @@ use Rattle.mg_node.specs.Job.{LoggedJob}
 use Rattle.mg_sched.specs.Views.{NetView}
 use Rattle.mg_sched.specs.StandsFor.{StandsFor, IsRunning}
 use Rattle.mg_sched.specs.AtRest.{IsAtRest}
-use Rattle.mg_sched.specs.Begins.{Begins}
+use Rattle.mg_sched.specs.Begins.{BeginsNet}
 use Rattle.mg_sched.specs.Runs.{IsRun, IsBegun}
 use Rattle.mg_sched.specs.Made.{IsMade, BoxesFit, job_of}
 use Rattle.mg_sched.specs.WindsUp.{WindsUpNet}
@@ -37,7 +37,7 @@ use Rattle.mg_sched.proofs.HadBack.{left_itself}
 use Rattle.mg_sched.proofs.Solved.{solved}
 use Rattle.mg_drive.specs.Batches.{logged}
 use Rattle.mg_drive.specs.Recorded.{HasPutUnless, HasEvents}
-use Rattle.mg_drive.specs.Leaves.{HadCalls, HadSome, HadFronts, HadCallsOf}
+use Rattle.mg_drive.specs.Leaves.{AllHadCalls, HadSome, HadFronts, HadCallsOf}
 use Rattle.mg_drive.specs.Traced.{IsTrace, TookSomeTrace, TracedAll, TracedShort, TracedOut, Traced}
 use Rattle.mg_drive.specs.Code.Running.{HasRested, SomeRested, FrontIn}
 use Rattle.mg_drive.specs.Code.Ending.{IsWhole, StoodWith}
@@ -114,7 +114,7 @@ recorded_end first sink now blocks blocks_now text lines end before there r put 
 -- The run --
 
 -- the runs of a job begin where its net was made and its nodes are begun
-pub begun_at : (plan : Plan) (inputs : Inputs) (boxes : List CalculatorTold) (made begun : NetView) → IsMade plan inputs boxes made → Begins made begun
+pub begun_at : (plan : Plan) (inputs : Inputs) (boxes : List CalculatorTold) (made begun : NetView) → IsMade plan inputs boxes made → BeginsNet made begun
     → ((job : LoggedJob) → StandsFor job made → StandsFor job begun) → IsRunning begun → IsBegun plan inputs boxes begun
 begun_at plan inputs boxes made begun is begins keeps running = record { made = made; is_made = is; begins = begins; stands = keeps (job_of plan inputs boxes) is.stands; running = running }
 
@@ -145,7 +145,7 @@ trace_put plan inputs boxes first sink blocks begun rested is rests r = record {
 pub net_traced : (report : Bool) (plan : Plan) (inputs : Inputs) (boxes : List CalculatorTold) (end : FeedEnd) (status : Status) (first sink now : SinkTold) (notes : Device SinkTold) (text : TextView) (begun rested wound : NetView)
     → IsBegun plan inputs boxes begun → ((job : LoggedJob) → StandsFor job begun → StandsFor job rested) → IsRunning rested → IsAtRest rested
     → HasRecorded first sink (record { kept = text.kept; failed = text.failed }) (job_text plan inputs) (codes "end\n") begun rested
-    → ((form : Form) (job : LoggedJob) (f : SinkTold) → job.job.plan ≡ plan → StandsFor job rested → HasRested job rested → IsWhole form f sink job.job text
+    → ((form : OutputForm) (job : LoggedJob) (f : SinkTold) → job.job.plan ≡ plan → StandsFor job rested → HasRested job rested → IsWhole form f sink job.job text
     → Wrote (record { form = form; report = report }) job.job end status (device f now) notes)
     → WindsUpNet rested wound → wound.wound ≡ length rested.plan.nodes → NetTraced report plan inputs boxes end status (device first now) notes wound
 net_traced report plan inputs boxes end status first sink now notes text begun rested wound is keeps running rests r wrote winds all =
@@ -180,7 +180,7 @@ short_run plan inputs boxes first sink now begun later is keeps r = record {
 pub short_end : (plan : Plan) (inputs : Inputs) (boxes : List CalculatorTold) (first sink put now : SinkTold) (text : TextView) (begun rested later : NetView) → IsBegun plan inputs boxes begun
     → ((job : LoggedJob) → StandsFor job begun → StandsFor job rested) → IsAtRest rested
     → HasRecorded first put (record { kept = text.kept; failed = text.failed }) (job_text plan inputs) (codes "end\n") begun rested
-    → ((form : Form) (job : Job) (f : SinkTold) → IsWhole form f put job text → FrontIn form f now job) → (later ≡ rested) ⊎ WindsUpNet rested later
+    → ((form : OutputForm) (job : Job) (f : SinkTold) → IsWhole form f put job text → FrontIn form f now job) → (later ≡ rested) ⊎ WindsUpNet rested later
     → NetShort plan inputs boxes sink (device first now) later
 short_end plan inputs boxes first sink put now text begun rested later is keeps rests r front since =
     let job = job_of plan inputs boxes in
@@ -225,7 +225,7 @@ stood_untraced plan inputs boxes handed before output net same h = record { job 
 
 -- Over what the input came to --
 
-traced_all : (report : Bool) (plan : Plan) (inputs : Inputs) (input : Device SourceTold) (end : FeedEnd) (status : Status) (output notes : Device SinkTold) (boxes : Device (List CalculatorTold)) (gathered : Gathered (inputs_of plan) input end inputs)
+traced_all : (report : Bool) (plan : Plan) (inputs : Inputs) (input : Device SourceTold) (end : FeedEnd) (status : Status) (output notes : Device SinkTold) (boxes : Device (List CalculatorTold)) (gathered : GatheredInputs (inputs_of plan) input end inputs)
     → (j : JobTraced report plan (inputs_by (inputs_of plan) gathered.read) gathered.read.end status output notes boxes)
     → Meets (answer_of (by_text j.text report) (answers.job_of plan gathered.read) gathered.read.end j.wrote.streams) status output notes
     → TracedAll report plan boxes.before status (run_devices input output notes)
@@ -243,7 +243,7 @@ traced_all report plan inputs input end status output notes boxes gathered j met
   met = record { text = met.text; noted = met.noted; told = met.told };
 }
 
-traced_short : (report : Bool) (plan : Plan) (inputs : Inputs) (input : Device SourceTold) (end : FeedEnd) (status : Status) (output notes : Device SinkTold) (boxes : Device (List CalculatorTold)) (gathered : Gathered (inputs_of plan) input end inputs)
+traced_short : (report : Bool) (plan : Plan) (inputs : Inputs) (input : Device SourceTold) (end : FeedEnd) (status : Status) (output notes : Device SinkTold) (boxes : Device (List CalculatorTold)) (gathered : GatheredInputs (inputs_of plan) input end inputs)
     → (j : JobTraced report plan (inputs_by (inputs_of plan) gathered.read) gathered.read.end status output notes boxes)
     → MetShort (answer_of (by_text j.text report) (answers.job_of plan gathered.read) gathered.read.end j.wrote.streams)
     (failed_notes (by_text j.text report) (answers.job_of plan gathered.read) gathered.read.end j.wrote.streams) output notes
@@ -262,7 +262,7 @@ traced_short report plan inputs input end status output notes boxes gathered j s
   short = short;
 }
 
-traced_of : (report : Bool) (plan : Plan) (inputs : Inputs) (input : Device SourceTold) (end : FeedEnd) (status : Status) (output notes : Device SinkTold) (boxes : Device (List CalculatorTold)) (gathered : Gathered (inputs_of plan) input end inputs)
+traced_of : (report : Bool) (plan : Plan) (inputs : Inputs) (input : Device SourceTold) (end : FeedEnd) (status : Status) (output notes : Device SinkTold) (boxes : Device (List CalculatorTold)) (gathered : GatheredInputs (inputs_of plan) input end inputs)
     → JobTraced report plan (inputs_by (inputs_of plan) gathered.read) gathered.read.end status output notes boxes → Traced report plan boxes.before status (run_devices input output notes)
 traced_of report plan inputs input end Good output notes boxes gathered j = traced_all report plan inputs input end Good output notes boxes gathered j j.wrote.by
 traced_of report plan inputs input end StoreFault output notes boxes gathered j = traced_all report plan inputs input end StoreFault output notes boxes gathered j j.wrote.by
@@ -277,18 +277,18 @@ traced_of report plan inputs input end OutOfMemory output notes boxes gathered j
     absurd (no-want plan input gathered.read.end (faults (answers.job_of plan gathered.read) j.wrote.streams) (stalled j.wrote.streams) gathered.came.came gathered.read gathered.came.by j.wrote.by.told)
 
 -- the job is that of what was read
-job_read : (report : Bool) (plan : Plan) (inputs : Inputs) (input : Device SourceTold) (end : FeedEnd) (status : Status) (output notes : Device SinkTold) (boxes : Device (List CalculatorTold)) (gathered : Gathered (inputs_of plan) input end inputs)
+job_read : (report : Bool) (plan : Plan) (inputs : Inputs) (input : Device SourceTold) (end : FeedEnd) (status : Status) (output notes : Device SinkTold) (boxes : Device (List CalculatorTold)) (gathered : GatheredInputs (inputs_of plan) input end inputs)
     → JobTraced report plan inputs end status output notes boxes → JobTraced report plan (inputs_by (inputs_of plan) gathered.read) gathered.read.end status output notes boxes
 job_read report plan inputs input end status output notes boxes gathered j =
     subst (λ (e : FeedEnd). JobTraced report plan (inputs_by (inputs_of plan) gathered.read) e status output notes boxes) gathered.ended
     (subst (λ (i : Inputs). JobTraced report plan i end status output notes boxes) gathered.given j)
 
-pub traced_read : (report : Bool) (plan : Plan) (inputs : Inputs) (input : Device SourceTold) (end : FeedEnd) (status : Status) (output notes : Device SinkTold) (boxes : Device (List CalculatorTold)) → Gathered (inputs_of plan) input end inputs
+pub traced_read : (report : Bool) (plan : Plan) (inputs : Inputs) (input : Device SourceTold) (end : FeedEnd) (status : Status) (output notes : Device SinkTold) (boxes : Device (List CalculatorTold)) → GatheredInputs (inputs_of plan) input end inputs
     → JobTraced report plan inputs end status output notes boxes → Traced report plan boxes.before status (run_devices input output notes)
 traced_read report plan inputs input end status output notes boxes gathered j = traced_of report plan inputs input end status output notes boxes gathered (job_read report plan inputs input end status output notes boxes gathered j)
 
-pub had_read : (report : Bool) (plan : Plan) (inputs : Inputs) (input : Device SourceTold) (end : FeedEnd) (status : Status) (output notes : Device SinkTold) (boxes : Device (List CalculatorTold)) → Gathered (inputs_of plan) input end inputs
-    → JobTraced report plan inputs end status output notes boxes → HadCalls plan input boxes
+pub had_read : (report : Bool) (plan : Plan) (inputs : Inputs) (input : Device SourceTold) (end : FeedEnd) (status : Status) (output notes : Device SinkTold) (boxes : Device (List CalculatorTold)) → GatheredInputs (inputs_of plan) input end inputs
+    → JobTraced report plan inputs end status output notes boxes → AllHadCalls plan input boxes
 had_read report plan inputs input end status output notes boxes gathered j = record {
   read = gathered.read;
   came = gathered.came;
@@ -296,11 +296,11 @@ had_read report plan inputs input end status output notes boxes gathered j = rec
 }
 
 -- so much was read
-pub read_through : (plan : Plan) (inputs : Inputs) (input : Device SourceTold) (end : FeedEnd) → Gathered (inputs_of plan) input end inputs → ReadSome (inputs_of plan) input
+pub read_through : (plan : Plan) (inputs : Inputs) (input : Device SourceTold) (end : FeedEnd) → GatheredInputs (inputs_of plan) input end inputs → ReadSome (inputs_of plan) input
 read_through plan inputs input end gathered = read-came (inputs_of plan) input gathered.read gathered.came
 
 -- memory ran out
-pub short_read : (plan : Plan) (inputs : Inputs) (input : Device SourceTold) (end : FeedEnd) (output notes : Device SinkTold) (boxes : Device (List CalculatorTold)) → Gathered (inputs_of plan) input end inputs
+pub short_read : (plan : Plan) (inputs : Inputs) (input : Device SourceTold) (end : FeedEnd) (output notes : Device SinkTold) (boxes : Device (List CalculatorTold)) → GatheredInputs (inputs_of plan) input end inputs
     → JobShort plan inputs output boxes → TracedOut plan boxes.before (run_devices input output notes)
 short_read plan inputs input end output notes boxes gathered j = by j.took
   where
@@ -312,7 +312,7 @@ short_read plan inputs input end output notes boxes gathered j = by j.took
       took = subst (λ (i : Inputs). TookSomeTrace plan i boxes.before output) gathered.given took;
     })
 
-pub some_read : (plan : Plan) (inputs : Inputs) (input : Device SourceTold) (end : FeedEnd) (output : Device SinkTold) (boxes now : List CalculatorTold) → BoxesFit plan boxes → IsJob (plan_job plan inputs) → Gathered (inputs_of plan) input end inputs
+pub some_read : (plan : Plan) (inputs : Inputs) (input : Device SourceTold) (end : FeedEnd) (output : Device SinkTold) (boxes now : List CalculatorTold) → BoxesFit plan boxes → IsJob (plan_job plan inputs) → GatheredInputs (inputs_of plan) input end inputs
     → JobShort plan inputs output (device boxes now) → HadSome plan input (device boxes now)
 some_read plan inputs input end output boxes now fit is gathered j = inr (record {
   read = gathered.read;
@@ -321,7 +321,7 @@ some_read plan inputs input end output boxes now fit is gathered j = inr (record
       (fronts_now boxes now (logged plan inputs boxes) j.net fit refl j.stood is j.back);
 })
 
-pub all_are_some : (plan : Plan) (input : Device SourceTold) (boxes : Device (List CalculatorTold)) → HadCalls plan input boxes → HadSome plan input boxes
+pub all_are_some : (plan : Plan) (input : Device SourceTold) (boxes : Device (List CalculatorTold)) → AllHadCalls plan input boxes → HadSome plan input boxes
 all_are_some plan input boxes h = inr (record { read = h.read; came = h.came; fronts = all_are_fronts (answers.job_of plan h.read) boxes h.had })
 
 -- a text that was put whole, of which nothing is written yet

@@ -14,7 +14,7 @@ use Rattle.mg_feed.specs.declared.feed_end.BatchEnd.{BatchEnd}
 use Rattle.mg_feed.specs.declared.feed_end.BatchEnd.TheVariants.{End}
 use Rattle.mg_answer.specs.Text.{output_names, sets_text}
 use Rattle.mg_answer.specs.Summary.{summary_text}
-use Rattle.mg_answer.specs.Answer.{Form, packet_lines, totals, in_place, output_in}
+use Rattle.mg_answer.specs.Answer.{OutputForm, packet_lines, totals, in_place, output_in}
 use Rattle.mg_answer.specs.Devices.{Device, device}
 use Rattle.mg_answer.specs.Put.{TextView, HasPut}
 use Rattle.mg_answer.specs.declared.status.Status.{Status}
@@ -32,7 +32,7 @@ use Rattle.mg_sched.proofs.OutputsTaken.{outputs_by_default}
 use Rattle.mg_drive.specs.Told.{told_in}
 use Rattle.mg_drive.specs.Nets.{Keeps}
 use Rattle.mg_drive.specs.Batches.{logged}
-use Rattle.mg_drive.specs.Code.Running.{Giving, Reading, Telling, Start, job_with, IsTold, IsUnderWay, HasRested, IsAllTaken, SomeRested, SomeRestedOf, IsOver, IsShort, FrontIn}
+use Rattle.mg_drive.specs.Code.Running.{Giving, ReadingOn, TellingSets, Start, job_with, IsTold, IsUnderWay, HasRested, IsAllTaken, SomeRested, SomeRestedOf, RunIsOver, IsShort, FrontIn}
 use Rattle.mg_drive.specs.Code.Ending.{IsWhole, HadAllOf, Writing, HasEnded}
 use Rattle.mg_drive.proofs.Jobs.{valid_plan, plan_stood}
 use Rattle.mg_drive.proofs.TakingSets.{told_some}
@@ -52,7 +52,7 @@ abbrev pub start_of : {B : Type 0} → Plan → List CalculatorTold → SourceTo
 start_of plan boxes source sink batches = record { plan = plan; boxes = boxes; source = source; sink = sink; batches = batches }
 
 -- a net that was made of the first batch begins a run, of which nothing is told
-pub begins : {B T : Type 0} (gives : Giving B) (has_told : Telling T) (plan : Plan) (boxes handed : List CalculatorTold) (began batches : B) (telling : T) (first now : SourceTold) (sink : SinkTold) (end : BatchEnd) (inputs : Inputs) (net : NetView)
+pub begins : {B T : Type 0} (gives : Giving B) (has_told : TellingSets T) (plan : Plan) (boxes handed : List CalculatorTold) (began batches : B) (telling : T) (first now : SourceTold) (sink : SinkTold) (end : BatchEnd) (inputs : Inputs) (net : NetView)
     → handed ≡ boxes → IsMade plan inputs handed net → gives began batches plan first now end inputs → ((s : SinkTold) → has_told telling plan s s [])
     → IsUnderWay gives has_told (start_of plan boxes first sink began) end now sink batches telling net
 begins {B} {T} gives has_told plan boxes handed began batches telling first now sink end inputs net same was given nothing =
@@ -73,13 +73,13 @@ pub all_taken : (job : LoggedJob) (net : NetView) (streams : List (StreamPrefix 
 all_taken job net streams stands all solves = all streams solves ∙ ap (λ (p : Plan). length (settled_outputs p streams)) (plan_stood job net stands)
 
 -- in a form, all sets of a job's solution are the text that its streams make
-pub told_whole : (form : Form) (job : LoggedJob) (streams : List (StreamPrefix Plain)) → Solves job streams → told_in form job.job.plan (settled_outputs job.job.plan streams) ≡ output_in form job.job.plan streams
+pub told_whole : (form : OutputForm) (job : LoggedJob) (streams : List (StreamPrefix Plain)) → Solves job streams → told_in form job.job.plan (settled_outputs job.job.plan streams) ≡ output_in form job.job.plan streams
 told_whole packet_lines job streams solves = ap (sets_text (output_names job.job.plan)) (outputs_by_default job streams solves)
 told_whole totals job streams solves = ap (summary_text (output_names job.job.plan)) (outputs_by_default job streams solves)
 told_whole (in_place text) job streams solves = refl
 
 -- all sets were told, so the text of what was told is whole
-pub whole_told : {T : Type 0} (has_told : Telling T) (form : Form) (job : LoggedJob) (first sink : SinkTold) (net : NetView) (telling : T) (text : TextView) → StandsFor job net → IsAllTaken job net
+pub whole_told : {T : Type 0} (has_told : TellingSets T) (form : OutputForm) (job : LoggedJob) (first sink : SinkTold) (net : NetView) (telling : T) (text : TextView) → StandsFor job net → IsAllTaken job net
     → IsTold has_told job.job first sink (taken_out net) telling
     → ((plan : Plan) (f now : SinkTold) (sets : List (TimedSet Plain)) → has_told telling plan f now sets → HasPut f now text (told_in form plan sets)) → IsWhole form first sink job.job text
 whole_told {T} has_told form job first sink net telling text stands all_came told puts = λ streams solution.
@@ -89,7 +89,7 @@ whole_told {T} has_told form job first sink net telling text stands all_came tol
     subst (λ (t : List ℕ). HasPut first sink text t) (ap (told_in form job.job.plan) all ∙ told_whole form job streams solves) (puts job.job.plan first sink (take (taken_out net) sets) (told.told streams solution))
 
 -- a front of what was put was taken
-pub front_whole : (form : Form) (first sink : SinkTold) (job : Job) (text : TextView) → IsWhole form first sink job text → FrontIn form first sink job
+pub front_whole : (form : OutputForm) (first sink : SinkTold) (job : Job) (text : TextView) → IsWhole form first sink job text → FrontIn form first sink job
 front_whole form first sink job text whole = λ streams solution. put-front text.failed first sink text.kept (output_in form job.plan streams) (whole streams solution)
 
 -- Calculators --
@@ -110,8 +110,8 @@ had_of job net wound stands h winds all =
 -- The end --
 
 -- a run that is over has rested with all that was given
-pub some_rested : {B T : Type 0} (gives : Giving B) (has_told : Telling T) (plan : Plan) (start : Start B) (end : FeedEnd) (source : SourceTold) (sink : SinkTold) (batches : B) (telling : T) (net : NetView) → start.plan ≡ plan
-    → IsOver gives has_told start end source sink batches telling net → SomeRestedOf gives plan end net batches
+pub some_rested : {B T : Type 0} (gives : Giving B) (has_told : TellingSets T) (plan : Plan) (start : Start B) (end : FeedEnd) (source : SourceTold) (sink : SinkTold) (batches : B) (telling : T) (net : NetView) → start.plan ≡ plan
+    → RunIsOver gives has_told start end source sink batches telling net → SomeRestedOf gives plan end net batches
 some_rested {B} {T} gives has_told plan start end source sink batches telling net is over =
     let u = over.under_way in
     record {
@@ -142,13 +142,13 @@ rested_of {B} gives plan end net batches r = record {
 }
 
 -- its answer was written
-pub ended_over : {B T : Type 0} (gives : Giving B) (writes : Writing B) (has_told : Telling T) (form : Form) (report : Bool) (plan : Plan) (start : Start B) (end : FeedEnd) (source : SourceTold) (sink now : SinkTold) (batches : B) (telling : T) (net wound : NetView) (text : TextView) (status : Status)
+pub ended_over : {B T : Type 0} (gives : Giving B) (writes : Writing B) (has_told : TellingSets T) (form : OutputForm) (report : Bool) (plan : Plan) (start : Start B) (end : FeedEnd) (source : SourceTold) (sink now : SinkTold) (batches : B) (telling : T) (net wound : NetView) (text : TextView) (status : Status)
     (notes : Device SinkTold) → start.plan ≡ plan
     → ((p : Plan) (f n : SinkTold) (sets : List (TimedSet Plain)) → has_told telling p f n sets → HasPut f n text (told_in form p sets))
-    → ((fm : Form) (job : LoggedJob) (first : SinkTold) → job.job.plan ≡ plan → StandsFor job net → HasRested job net → IsWhole fm first sink job.job text
+    → ((fm : OutputForm) (job : LoggedJob) (first : SinkTold) → job.job.plan ≡ plan → StandsFor job net → HasRested job net → IsWhole fm first sink job.job text
     → writes batches fm report job.job end status (device first now) notes)
     → WindsUpNet net wound → wound.wound ≡ length net.plan.nodes
-    → IsOver gives has_told start end source sink batches telling net → HasEnded gives writes form report start status source now notes wound
+    → RunIsOver gives has_told start end source sink batches telling net → HasEnded gives writes form report start status source now notes wound
 ended_over {B} {T} gives writes has_told form report plan start end source sink now batches telling net wound text status notes is puts wrote winds all over =
     let u = over.under_way in
     let job = job_with start u.inputs in
@@ -163,8 +163,8 @@ ended_over {B} {T} gives writes has_told form report plan start end source sink 
     }
 
 -- or memory ran out before its text was made
-pub short_over : {B T : Type 0} (gives : Giving B) (reads_on : Reading B) (has_told : Telling T) (form : Form) (start : Start B) (end : FeedEnd) (source : SourceTold) (sink : SinkTold) (batches : B) (telling : T) (net : NetView)
-    → IsOver gives has_told start end source sink batches telling net → IsShort gives reads_on has_told form start source sink net
+pub short_over : {B T : Type 0} (gives : Giving B) (reads_on : ReadingOn B) (has_told : TellingSets T) (form : OutputForm) (start : Start B) (end : FeedEnd) (source : SourceTold) (sink : SinkTold) (batches : B) (telling : T) (net : NetView)
+    → RunIsOver gives has_told start end source sink batches telling net → IsShort gives reads_on has_told form start source sink net
 short_over {B} {T} gives reads_on has_told form start end source sink batches telling net over =
     let u = over.under_way in
     let job = job_with start u.inputs in
@@ -181,10 +181,10 @@ short_over {B} {T} gives reads_on has_told form start end source sink batches te
     }
 
 -- or after that
-pub short_end : {B T : Type 0} (gives : Giving B) (reads_on : Reading B) (has_told : Telling T) (form : Form) (start : Start B) (end : FeedEnd) (source : SourceTold) (sink now : SinkTold) (batches : B) (telling : T) (net later : NetView) (text : TextView)
+pub short_end : {B T : Type 0} (gives : Giving B) (reads_on : ReadingOn B) (has_told : TellingSets T) (form : OutputForm) (start : Start B) (end : FeedEnd) (source : SourceTold) (sink now : SinkTold) (batches : B) (telling : T) (net later : NetView) (text : TextView)
     → ((p : Plan) (f n : SinkTold) (sets : List (TimedSet Plain)) → has_told telling p f n sets → HasPut f n text (told_in form p sets))
-    → ((fm : Form) (job : Job) (first : SinkTold) → IsWhole fm first sink job text → FrontIn fm first now job) → (later ≡ net) ⊎ WindsUpNet net later
-    → IsOver gives has_told start end source sink batches telling net → IsShort gives reads_on has_told form start source now later
+    → ((fm : OutputForm) (job : Job) (first : SinkTold) → IsWhole fm first sink job text → FrontIn fm first now job) → (later ≡ net) ⊎ WindsUpNet net later
+    → RunIsOver gives has_told start end source sink batches telling net → IsShort gives reads_on has_told form start source now later
 short_end {B} {T} gives reads_on has_told form start end source sink now batches telling net later text puts front since over =
     let u = over.under_way in
     let job = job_with start u.inputs in

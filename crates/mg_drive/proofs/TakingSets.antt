@@ -23,7 +23,7 @@ use Rattle.mg_sched.proofs.Solved.{solved}
 use Rattle.mg_sched.proofs.PlanEdges.{all_at}
 use Rattle.mg_sched.proofs.OutputsTaken.{one_more_taken, few_taken, outputs_by_default}
 use Rattle.mg_drive.specs.Told.{IsFewTold}
-use Rattle.mg_drive.specs.Code.Running.{Telling, IsTold, IsToldSome, IsSomeTold}
+use Rattle.mg_drive.specs.Code.Running.{TellingSets, IsTold, IsToldSome, IsSomeTold}
 use Rattle.mg_drive.proofs.Jobs.{valid_plan, plan_stood}
 
 -- Counts --
@@ -101,7 +101,7 @@ set_places job before set stands shows =
 -- What is told --
 
 -- a set more was told
-pub told_more : {T : Type 0} (has_told : Telling T) (job : LoggedJob) (first was sink : SinkTold) (before now : NetView) (old new : T) (set_old set : List (Option (Stamped Plain))) → StandsFor job before
+pub told_more : {T : Type 0} (has_told : TellingSets T) (job : LoggedJob) (first was sink : SinkTold) (before now : NetView) (old new : T) (set_old set : List (Option (Stamped Plain))) → StandsFor job before
     → IsTold has_told job.job first was (taken_out before) old → TakesOut true set_old set before now
     → ((streams : List (StreamPrefix Plain)) → Solves job streams → HasSet job streams (length before.plan.nodes) (taken_out before) set)
     → ((plan : Plan) (f : SinkTold) (sets : List (TimedSet Plain)) (timed : TimedSet Plain) → timed.set ≡ set → has_told old plan f was sets → has_told new plan f sink (sets ++ timed ∷ []))
@@ -117,7 +117,7 @@ told_more {T} has_told job first was sink before now old new set_old set stands 
 }
 
 -- there is room for it
-pub told_few : {T : Type 0} (has_told : Telling T) (job : LoggedJob) (first was : SinkTold) (before now : NetView) (telling : T) (set_old set : List (Option (Stamped Plain))) → StandsFor job before → StandsFor job now
+pub told_few : {T : Type 0} (has_told : TellingSets T) (job : LoggedJob) (first was : SinkTold) (before now : NetView) (telling : T) (set_old set : List (Option (Stamped Plain))) → StandsFor job before → StandsFor job now
     → IsTold has_told job.job first was (taken_out before) telling → TakesOut true set_old set before now → IsFewTold has_told was telling
 told_few {T} has_told job first was before now telling set_old set stands stands_now told takes =
     let found = solved job (valid_plan job before stands) in
@@ -134,18 +134,18 @@ told_few {T} has_told job first was before now telling set_old set stands stands
     }
 
 -- as many sets are taken
-pub told_same : {T : Type 0} (has_told : Telling T) (job : LoggedJob) (first sink : SinkTold) (n m : ℕ) (telling : T) → m ≡ n → IsTold has_told job.job first sink n telling → IsTold has_told job.job first sink m telling
+pub told_same : {T : Type 0} (has_told : TellingSets T) (job : LoggedJob) (first sink : SinkTold) (n m : ℕ) (telling : T) → m ≡ n → IsTold has_told job.job first sink n telling → IsTold has_told job.job first sink m telling
 told_same {T} has_told job first sink n m telling same told = subst (λ (k : ℕ). IsTold has_told job.job first sink k telling) (sym same) told
 
 -- a number of them was told
-pub told_some : {T : Type 0} (has_told : Telling T) (job : LoggedJob) (first sink : SinkTold) (taken : ℕ) (telling : T) → IsTold has_told job.job first sink taken telling → IsToldSome has_told job.job first sink
+pub told_some : {T : Type 0} (has_told : TellingSets T) (job : LoggedJob) (first sink : SinkTold) (taken : ℕ) (telling : T) → IsTold has_told job.job first sink taken telling → IsToldSome has_told job.job first sink
 told_some {T} has_told job first sink taken telling told = record { telling = telling; taken = taken; is_told = told }
 
 -- where nothing was written since
-pub told_some_then : {T : Type 0} (has_told : Telling T) (job : LoggedJob) (first sink now : SinkTold) (taken : ℕ) (telling : T) → now ≡ sink → IsTold has_told job.job first sink taken telling → IsToldSome has_told job.job first now
+pub told_some_then : {T : Type 0} (has_told : TellingSets T) (job : LoggedJob) (first sink now : SinkTold) (taken : ℕ) (telling : T) → now ≡ sink → IsTold has_told job.job first sink taken telling → IsToldSome has_told job.job first now
 told_some_then {T} has_told job first sink now taken telling same told =
     subst (λ (s : SinkTold). IsToldSome has_told job.job first s) (sym same) (told_some has_told job first sink taken telling told)
 
 -- a net of which something is told stands for a job
-pub told_stands : {T : Type 0} (has_told : Telling T) (sink : SinkTold) (net : NetView) (telling : T) → IsSomeTold has_told sink net telling → StandsForSome net
+pub told_stands : {T : Type 0} (has_told : TellingSets T) (sink : SinkTold) (net : NetView) (telling : T) → IsSomeTold has_told sink net telling → StandsForSome net
 told_stands {T} has_told sink net telling some = record { job = some.job; stands = some.stands }

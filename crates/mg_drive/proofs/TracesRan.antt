@@ -7,7 +7,7 @@ use Rattle.mg_calc.specs.Meaning.{faults, stalled}
 use Rattle.mg_calc.specs.Told.{CalculatorTold}
 use Rattle.mg_feed.specs.Graph.{inputs_of}
 use Rattle.mg_feed.specs.Ran.{EndCame}
-use Rattle.mg_answer.specs.Answer.{Read, Answer, job_of}
+use Rattle.mg_answer.specs.Answer.{Read, RunAnswer, job_of}
 use Rattle.mg_answer.specs.Devices.{RunDevices, HasRisen, NoneFailed}
 use Rattle.mg_answer.specs.Told.{status_of}
 use Rattle.mg_answer.specs.Wrote.{Meets}
@@ -41,7 +41,7 @@ traced_told report plan boxes status all ran =
     let streams = ran.is.is_answer.streams in (
       faults (job_of plan ran.read) streams,
       stalled streams,
-      ran.met.told ∙ ap (λ (a : Answer). a.status) ran.is.is ∙ ap (λ (a : Answer). a.status) ran.is.is_answer.is,
+      ran.met.told ∙ ap (λ (a : RunAnswer). a.status) ran.is.is ∙ ap (λ (a : RunAnswer). a.status) ran.is.is_answer.is,
     )
 
 pub traced_ended : (report : Bool) (plan : Plan) (boxes : List CalculatorTold) (status : Status) (all : RunDevices) → Traced report plan boxes status all → IsOneOf status ended_statuses
@@ -77,10 +77,10 @@ traced_write_risen report plan boxes status all ran risen = by (traced_by report
     by (inr (inr whole)) (inr risen) = absurd (steady-risen _ _ whole.met.noted.steady risen)
 
 whole_answered : (report : Bool) (plan : Plan) (boxes : List CalculatorTold) (status : Status) (all : RunDevices) → TracedAll report plan boxes status all → NoneFailed all
-    → IfSome all.input.before.left (λ bytes. (answer : Answer) × TracesEnded report plan boxes bytes answer × Meets answer status all.output all.notes)
+    → IfSome all.input.before.left (λ bytes. (answer : RunAnswer) × TracesEnded report plan boxes bytes answer × Meets answer status all.output all.notes)
 whole_answered report plan boxes status all ran none = by all.input.before.left refl
   where
-    by : (o : Option (List ℕ)) → all.input.before.left ≡ o → IfSome o (λ bytes. (answer : Answer) × TracesEnded report plan boxes bytes answer × Meets answer status all.output all.notes)
+    by : (o : Option (List ℕ)) → all.input.before.left ≡ o → IfSome o (λ bytes. (answer : RunAnswer) × TracesEnded report plan boxes bytes answer × Meets answer status all.output all.notes)
     by None is = tt
     by (Some bytes) is = (
       ran.answer,
@@ -96,10 +96,10 @@ short_failed report plan boxes all ran none = by ran.short.rose
     by (inr rose) = rose-unrisen _ _ rose none.notes
 
 pub traced_answered : (report : Bool) (plan : Plan) (boxes : List CalculatorTold) (status : Status) (all : RunDevices) → Traced report plan boxes status all → NoneFailed all → status ≢ OutOfMemory
-    → IfSome all.input.before.left (λ bytes. (answer : Answer) × TracesEnded report plan boxes bytes answer × Meets answer status all.output all.notes)
+    → IfSome all.input.before.left (λ bytes. (answer : RunAnswer) × TracesEnded report plan boxes bytes answer × Meets answer status all.output all.notes)
 traced_answered report plan boxes status all ran none some = by (traced_by report plan boxes status all ran)
   where
-    by : TracedBy report plan boxes status all → IfSome all.input.before.left (λ bytes. (answer : Answer) × TracesEnded report plan boxes bytes answer × Meets answer status all.output all.notes)
+    by : TracedBy report plan boxes status all → IfSome all.input.before.left (λ bytes. (answer : RunAnswer) × TracesEnded report plan boxes bytes answer × Meets answer status all.output all.notes)
     by (inl short) = absurd (short_failed report plan boxes all short.1 none)
     by (inr (inl out)) = absurd (some out)
     by (inr (inr whole)) = whole_answered report plan boxes status all whole none

@@ -17,7 +17,7 @@ use Rattle.mg_node.specs.Extending.{joined}
 use Rattle.mg_sched.specs.Views.{NetView}
 use Rattle.mg_sched.specs.StandsFor.{StandsFor}
 use Rattle.mg_sched.specs.Extends.{for_last}
-use Rattle.mg_answer.specs.Answer.{Form, output_in}
+use Rattle.mg_answer.specs.Answer.{OutputForm, output_in}
 use Rattle.mg_answer.specs.Outcomes.{TellsOf}
 use Rattle.mg_answer.specs.Put.{TextView, HasPut}
 use Rattle.mg_answer.specs.declared.outcomes.Outcomes.{Outcomes}
@@ -49,7 +49,7 @@ pub record InputsGoOn (plan : Plan) (so_far more all : Inputs) : Type 0 where
       ≡ joined (slice_index_or so_far.streams input empty_prefix) (slice_index_or more.streams input empty_prefix)
 
 -- Further inputs were given: with those so far they come to all that was given, which goes on from these.
-pub record GoesOn (gives : Inputs → Type 0) (plan : Plan) (so_far more : Inputs) : Type 0 where
+pub record BatchesGoOn (gives : Inputs → Type 0) (plan : Plan) (so_far more : Inputs) : Type 0 where
   pub all : Inputs
   pub given : gives all
   pub goes_on : InputsGoOn plan so_far more all
@@ -101,7 +101,7 @@ pub record NextIsDue {B : Type 0} (gives : Giving B) (is_due : Due B) (wants : B
 -- it was given.
 abbrev pub GoesOnward : {B : Type 0} → Giving B → Due B → (B → List Wanted) → B → Plan → SourceTold → SourceTold → BatchEnd → Inputs → NetView → B → Onward → Type 0
 GoesOnward gives is_due wants began plan first source last so_far net now (Round pieces) =
-    (last ≡ More) × GoesOn (gives began now plan first source More) plan so_far (for_last (length net.plan.inputs) pieces)
+    (last ≡ More) × BatchesGoOn (gives began now plan first source More) plan so_far (for_last (length net.plan.inputs) pieces)
 GoesOnward gives is_due wants began plan first source last so_far net now Next = NextIsDue gives is_due wants began plan first source last so_far net now
 GoesOnward gives is_due wants began plan first source last so_far net now (Over end) = gives began now plan first source (End end) so_far
 
@@ -119,7 +119,7 @@ PlainOnward (End end) onward = onward ≡ Over end
 -- How a run ends --
 
 -- outcomes have an entry for each node and stream of a plan
-pub record Tells (plan : Plan) (outcomes : Outcomes) : Type 0 where
+pub record OutcomesFit (plan : Plan) (outcomes : Outcomes) : Type 0 where
   pub few : length outcomes.ends.items < 2 ^ 32
   pub many : length outcomes.ends.items ≡ length plan.streams
   pub sets : length outcomes.sets ≡ length plan.nodes
@@ -136,7 +136,7 @@ pub record AreOfGiven {B : Type 0} (gives : Giving B) (plan : Plan) (end : FeedE
   pub tells : TellsOf (record { plan = plan; inputs = inputs }) streams outcomes
 
 -- a job of the plan has a solution of which the outcomes are, and a text that tells it in a form was put
-pub record Ends (form : Form) (job : Job) (first sink : SinkTold) (plan : Plan) (text : TextView) (outcomes : Outcomes) : Type 0 where
+pub record TellsSolution (form : OutputForm) (job : Job) (first sink : SinkTold) (plan : Plan) (text : TextView) (outcomes : Outcomes) : Type 0 where
   pub plan_is : job.plan ≡ plan
   pub streams : List (StreamPrefix Plain)
   pub solution : IsSolution job streams

@@ -33,7 +33,7 @@ pub record HadItsCalls (job : Job) (streams : List (StreamPrefix Plain)) (node :
   pub shape : now.shape ≡ before.shape
 
 -- The calculator that stood at a place before and the one that stands there now are related by `P`.
-pub record IsAt (place : ℕ) (P : CalculatorTold → CalculatorTold → Type 0) (boxes : Device (List CalculatorTold)) : Type 0 where
+pub record IsRelatedAt (place : ℕ) (P : CalculatorTold → CalculatorTold → Type 0) (boxes : Device (List CalculatorTold)) : Type 0 where
   pub before : CalculatorTold
   pub now : CalculatorTold
   pub was : slice_get boxes.before place ≡ Some before
@@ -45,10 +45,10 @@ pub record HadCallsOf (job : Job) (boxes : Device (List CalculatorTold)) : Type 
   pub streams : List (StreamPrefix Plain)
   pub solution : IsSolution job streams
   pub each : (number place : ℕ) (node : PlanNode) → slice_get job.plan.nodes number ≡ Some node → node.box_number ≡ Some place
-      → IsAt place (HadItsCalls job streams node) boxes
+      → IsRelatedAt place (HadItsCalls job streams node) boxes
 
 -- Each calculator that a node uses had all the calls that its node has in the solution over what the input came to.
-pub record HadCalls (plan : Plan) (input : Device SourceTold) (boxes : Device (List CalculatorTold)) : Type 0 where
+pub record AllHadCalls (plan : Plan) (input : Device SourceTold) (boxes : Device (List CalculatorTold)) : Type 0 where
   pub read : Read
   pub came : CameTo (inputs_of plan) input read
   pub had : HadCallsOf (job_of plan read) boxes
@@ -79,7 +79,7 @@ pub record HadFronts (job : Job) (boxes : Device (List CalculatorTold)) : Type 0
   pub streams : List (StreamPrefix Plain)
   pub solution : IsSolution job streams
   pub each : (number place : ℕ) (node : PlanNode) → slice_get job.plan.nodes number ≡ Some node → node.box_number ≡ Some place
-      → IsAt place (HadAFront job streams node) boxes
+      → IsRelatedAt place (HadAFront job streams node) boxes
 
 -- The input was read, and each calculator that a node uses had a front of its node's calls in the solution over what the input came to.
 pub record HadFrontsOfRead (plan : Plan) (input : Device SourceTold) (boxes : Device (List CalculatorTold)) : Type 0 where
@@ -96,5 +96,5 @@ HadSome plan input boxes = Untouched boxes ⊎ HadFrontsOfRead plan input boxes
 pub record RunLeaves (plan : Plan) (status : Status) (input : Device SourceTold) (boxes : Device (List CalculatorTold)) : Type 0 where
   pub count : length boxes.now ≡ length boxes.before
   pub unused : (place : ℕ) → All (λ node. ¬ (node.box_number ≡ Some place)) plan.nodes → slice_get boxes.now place ≡ slice_get boxes.before place
-  pub used : status ≢ OutOfMemory → HadCalls plan input boxes
+  pub used : status ≢ OutOfMemory → AllHadCalls plan input boxes
   pub short : status ≡ OutOfMemory → HadSome plan input boxes

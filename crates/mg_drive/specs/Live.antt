@@ -17,8 +17,8 @@ use Rattle.mg_answer.specs.Report.{end_of}
 use Rattle.mg_answer.specs.declared.outcomes.Outcomes.{Outcomes}
 
 -- a fault of a core's node, by the plan's number of the node
-abbrev pub fault_in : List ℕ → NodeFault → NodeFault
-fault_in nodes fault = record fault { node = slice_index_or nodes fault.node 0 }
+abbrev pub renumbered_fault : List ℕ → NodeFault → NodeFault
+renumbered_fault nodes fault = record fault { node = slice_index_or nodes fault.node 0 }
 
 -- the first of some numbers, and 0 where there is none
 abbrev pub first_of : List ℕ → ℕ
@@ -41,7 +41,7 @@ arrivals_text frees takens = flat_map lines_at (zip frees takens)
 
 -- The outcomes of a plan with free nodes, by a solution of its core and by what the free nodes have taken, with the lines of the arrivals.
 pub record LiveTells (whole : Plan) (job : Job) (streams : List (StreamPrefix Plain)) (frees : List FreeNode) (takens : List Taken) (outcomes : Outcomes) : Type 0 where
-  pub faults : outcomes.faults ≡ map (fault_in (split_of whole).numbers) (faults job streams)
+  pub faults : outcomes.faults ≡ map (renumbered_fault (split_of whole).numbers) (faults job streams)
   pub sets : outcomes.sets ≡ sets_by whole.nodes (counts job streams) (map (λ t. length t.log) takens)
   pub ends : outcomes.ends.items ≡ map (λ s. end_of (stream_of streams (stream_number whole s))) (numbers (length whole.streams))
   pub arrivals : outcomes.arrivals.items ≡ arrivals_text frees takens

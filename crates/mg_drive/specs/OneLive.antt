@@ -18,8 +18,8 @@ use Rattle.mg_feed.specs.Graph.{inputs_of}
 use Rattle.mg_feed.specs.Ran.{EndCame}
 use Rattle.mg_feed.specs.declared.feed_end.FeedEnd.{FeedEnd}
 use Rattle.mg_feed.specs.declared.feed_end.FeedEnd.TheVariants.{Ended}
-use Rattle.mg_answer.specs.Answer.{Form, packet_lines, totals, output_in, Read, Answer, ended_input, generated_job}
-use Rattle.mg_answer.specs.Devices.{Device, RunDevices, TookFront, Noted}
+use Rattle.mg_answer.specs.Answer.{OutputForm, packet_lines, totals, output_in, Read, RunAnswer, ended_input, generated_job}
+use Rattle.mg_answer.specs.Devices.{Device, RunDevices, TookFront, TookNotes}
 use Rattle.mg_answer.specs.Outcomes.{told_answer, told_failed}
 use Rattle.mg_answer.specs.Notes.{memory_note}
 use Rattle.mg_answer.specs.Ran.{CameTo, ReadSome}
@@ -47,13 +47,13 @@ pub record ComesTo (whole : Plan) (first : Inputs) (later : List Inputs) : Type 
   pub tells : LiveTells whole (core_job (split_of whole) (last_batch first later) takens) streams (split_of whole).free takens live
 
 -- the answer of a run over batches, by how its input ended
-pub record IsLiveAnswer (form : Form) (report : Bool) (whole : Plan) (first : Inputs) (later : List Inputs) (end : FeedEnd) (answer : Answer) : Type 0 where
+pub record IsLiveAnswer (form : OutputForm) (report : Bool) (whole : Plan) (first : Inputs) (later : List Inputs) (end : FeedEnd) (answer : RunAnswer) : Type 0 where
   pub comes : ComesTo whole first later
   pub is : answer ≡ told_answer report whole end comes.live (output_in form (split_of whole).core comes.streams)
 
 -- A run over batches, by how its input ended. The output, the status and the notes are those of the core's solution, by the plan's numbers,
 -- with a line for each arrival; and each calculator that is handed in had exactly the calls that its node has in that solution.
-pub record OneLive (form : Form) (report : Bool) (whole : Plan) (first : Inputs) (later : List Inputs) (end : FeedEnd) (status : Status) (output notes : Device SinkTold) (boxes : Device (List CalculatorTold)) : Type 0 where
+pub record OneLive (form : OutputForm) (report : Bool) (whole : Plan) (first : Inputs) (later : List Inputs) (end : FeedEnd) (status : Status) (output notes : Device SinkTold) (boxes : Device (List CalculatorTold)) : Type 0 where
   pub comes : ComesTo whole first later
   pub wrote : WroteBy status (told_answer report whole end comes.live (output_in form (split_of whole).core comes.streams)) (told_failed report whole end comes.live) output notes
   pub had : AllHad (split_of whole).core (HadItsCalls (core_job (split_of whole) (last_batch first later) comes.takens) comes.streams) boxes
@@ -61,7 +61,7 @@ pub record OneLive (form : Form) (report : Bool) (whole : Plan) (first : Inputs)
 -- A run over batches in which memory ran out. By then a first number of the batches had come: the last of these is `base`, and those before
 -- it are `earlier`, the newest first. Rounds over these had come to logs. In the solution of the core for what the free nodes had taken,
 -- the output took a front of the text, and each calculator had a front of its calls and keeps what its node has come to after them.
-pub record LiveShort (form : Form) (whole : Plan) (batches : List Inputs) (output : Device SinkTold) (boxes : Device (List CalculatorTold)) : Type 0 where
+pub record LiveShort (form : OutputForm) (whole : Plan) (batches : List Inputs) (output : Device SinkTold) (boxes : Device (List CalculatorTold)) : Type 0 where
   pub base : Inputs
   pub earlier : List Inputs
   pub later : List Inputs
@@ -118,7 +118,7 @@ LiveShortIn whole input output boxes = ShortAtOnce whole input output boxes ⊎ 
 -- A run over packet lines ended since memory ran out, and the notes say that alone.
 pub record LiveShortReading (whole : Plan) (status : Status) (devices : RunDevices) (boxes : Device (List CalculatorTold)) : Type 0 where
   pub is : status ≡ OutOfMemory
-  pub noted : Noted devices.notes memory_note
+  pub noted : TookNotes devices.notes memory_note
   pub by : LiveShortIn whole devices.input devices.output boxes
 
 -- a run over packet lines ended with this status: over the whole input, or since memory ran out
@@ -126,7 +126,7 @@ abbrev pub RanLive : Bool → Plan → Status → RunDevices → Device (List Ca
 RanLive report whole status devices boxes = OneLiveReading report whole status devices boxes ⊎ LiveShortReading whole status devices boxes
 
 -- the answer of a graph with free nodes over an input that ended after these bytes
-pub record AnswersLive (report : Bool) (whole : Plan) (bytes : List ℕ) (answer : Answer) : Type 0 where
+pub record AnswersLive (report : Bool) (whole : Plan) (bytes : List ℕ) (answer : RunAnswer) : Type 0 where
   pub first : Inputs
   pub later : List Inputs
   pub batches : AreBatchesOf whole (ended_input (inputs_of whole) bytes) (first ∷ later)
@@ -145,7 +145,7 @@ LiveShortInMade whole number output boxes = WasNothing output boxes ⊎ LiveShor
 -- A run over packets that are made ended since memory ran out, and the notes say that alone.
 pub record LiveShortMade (whole : Plan) (number : ℕ) (status : Status) (output notes : Device SinkTold) (boxes : Device (List CalculatorTold)) : Type 0 where
   pub is : status ≡ OutOfMemory
-  pub noted : Noted notes memory_note
+  pub noted : TookNotes notes memory_note
   pub by : LiveShortInMade whole number output boxes
 
 -- a run over packets that are made ended with this status: over all packets, or since memory ran out
@@ -154,5 +154,5 @@ RanLiveMade report whole number status output notes boxes =
     OneLiveMade report whole number status output notes boxes ⊎ LiveShortMade whole number status output notes boxes
 
 -- the answer of a graph with free nodes over a number of packets that are made
-abbrev pub AnswersLiveMade : Bool → Plan → ℕ → Answer → Type 0
+abbrev pub AnswersLiveMade : Bool → Plan → ℕ → RunAnswer → Type 0
 AnswersLiveMade report whole number answer = IsLiveAnswer totals report whole (generated_job whole number).inputs [] Ended answer

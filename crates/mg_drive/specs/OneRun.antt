@@ -12,24 +12,24 @@ use Rattle.mg_feed.specs.Graph.{inputs_of}
 use Rattle.mg_feed.specs.Ran.{EndCame}
 use Rattle.mg_feed.specs.declared.feed_end.FeedEnd.{FeedEnd}
 use Rattle.mg_feed.specs.declared.feed_end.FeedEnd.TheVariants.{Ended}
-use Rattle.mg_answer.specs.Answer.{Form, packet_lines, totals, Telling, by_lines, by_summary, Read, output_in, answer_of, failed_notes, ended_input, job_of, generated_job}
+use Rattle.mg_answer.specs.Answer.{OutputForm, packet_lines, totals, Telling, by_lines, by_summary, Read, output_in, answer_of, failed_notes, ended_input, job_of, generated_job}
 use Rattle.mg_answer.specs.Notes.{memory_note}
-use Rattle.mg_answer.specs.Devices.{Device, RunDevices, Untouched, TookFront, Noted}
+use Rattle.mg_answer.specs.Devices.{Device, RunDevices, Untouched, TookFront, TookNotes}
 use Rattle.mg_answer.specs.Wrote.{WroteBy}
 use Rattle.mg_answer.specs.Ran.{CameTo, ReadSome}
 use Rattle.mg_answer.specs.declared.status.Status.{Status}
 use Rattle.mg_answer.specs.declared.status.Status.TheVariants.{OutOfMemory}
-use Rattle.mg_drive.specs.Leaves.{IsAt, HadItsCalls, KeepsAFront}
+use Rattle.mg_drive.specs.Leaves.{IsRelatedAt, HadItsCalls, KeepsAFront}
 
 -- All calculators come back in their order, and each that no node uses had no call.
-pub record CameBack (plan : Plan) (before now : List CalculatorTold) : Type 0 where
+pub record CalculatorsCameBack (plan : Plan) (before now : List CalculatorTold) : Type 0 where
   pub count : length now ≡ length before
   pub unused : (place : ℕ) → All (λ node. ¬ (node.box_number ≡ Some place)) plan.nodes → slice_get now place ≡ slice_get before place
 
 -- All calculators come back, and each that a node uses is related by `had` to what it was before the run.
 pub record AllHad (plan : Plan) (had : PlanNode → CalculatorTold → CalculatorTold → Type 0) (boxes : Device (List CalculatorTold)) : Type 0 where
-  pub back : CameBack plan boxes.before boxes.now
-  pub used : (number place : ℕ) (node : PlanNode) → slice_get plan.nodes number ≡ Some node → node.box_number ≡ Some place → IsAt place (had node) boxes
+  pub back : CalculatorsCameBack plan boxes.before boxes.now
+  pub used : (number place : ℕ) (node : PlanNode) → slice_get plan.nodes number ≡ Some node → node.box_number ≡ Some place → IsRelatedAt place (had node) boxes
 
 -- A run of a job, by how its input ended. There is one solution: the output, the notes and the status are those that it has, and each
 -- calculator that is handed in had exactly the calls that its node has in it: Open, each of the node's settled sets, and Close.
@@ -41,7 +41,7 @@ pub record OneRun (telling : Telling) (job : Job) (end : FeedEnd) (status : Stat
 
 -- A run of a job in which memory ran out. By the one solution the output took a front of the text, and each calculator had a front of its
 -- calls and keeps what its node has come to after them.
-pub record OneShort (form : Form) (job : Job) (output : Device SinkTold) (boxes : Device (List CalculatorTold)) : Type 0 where
+pub record OneShort (form : OutputForm) (job : Job) (output : Device SinkTold) (boxes : Device (List CalculatorTold)) : Type 0 where
   pub streams : List (StreamPrefix Plain)
   pub solution : IsSolution job streams
   pub front : TookFront output (output_in form job.plan streams)
@@ -90,7 +90,7 @@ ShortIn plan input output boxes = ShortAtOnce plan input output boxes ⊎ (Short
 -- A run over packet lines ended since memory ran out, and the notes say that alone.
 pub record ShortReading (plan : Plan) (status : Status) (devices : RunDevices) (boxes : Device (List CalculatorTold)) : Type 0 where
   pub is : status ≡ OutOfMemory
-  pub noted : Noted devices.notes memory_note
+  pub noted : TookNotes devices.notes memory_note
   pub by : ShortIn plan devices.input devices.output boxes
 
 -- a run over packet lines ended with this status: over the whole input, or since memory ran out
@@ -110,7 +110,7 @@ ShortInMade plan number output boxes = WasNothing output boxes ⊎ OneShort tota
 -- A run over packets that are made ended since memory ran out, and the notes say that alone.
 pub record ShortMade (plan : Plan) (number : ℕ) (status : Status) (output notes : Device SinkTold) (boxes : Device (List CalculatorTold)) : Type 0 where
   pub is : status ≡ OutOfMemory
-  pub noted : Noted notes memory_note
+  pub noted : TookNotes notes memory_note
   pub by : ShortInMade plan number output boxes
 
 -- a run over packets that are made ended with this status: over all packets, or since memory ran out

@@ -6,11 +6,11 @@ use Rattle.mg_value.specs.Settled.{TimedSet}
 use Rattle.mg_calc.specs.declared.plan.Plan.{Plan}
 use Rattle.mg_answer.specs.Text.{output_names, sets_text}
 use Rattle.mg_answer.specs.Summary.{SummaryView, summary_text, HasSummed}
-use Rattle.mg_answer.specs.Answer.{Form, packet_lines, totals, in_place}
+use Rattle.mg_answer.specs.Answer.{OutputForm, packet_lines, totals, in_place}
 use Rattle.mg_answer.specs.Put.{TextView, HasPut}
 
 -- the text by which sets of a plan's outputs are told in a form
-abbrev pub told_in : Form → Plan → List (TimedSet Plain) → List ℕ
+abbrev pub told_in : OutputForm → Plan → List (TimedSet Plain) → List ℕ
 told_in packet_lines plan sets = sets_text (output_names plan) sets
 told_in totals plan sets = summary_text (output_names plan) sets
 told_in (in_place text) plan sets = text

@@ -10,8 +10,8 @@ use Rattle.mg_feed.specs.Graph.{inputs_of}
 use Rattle.mg_trace.specs.Job.{job_text}
 use Rattle.mg_trace.specs.Trace.{events_text, trace_text}
 use Rattle.mg_answer.specs.Notes.{memory_note}
-use Rattle.mg_answer.specs.Answer.{Read, Answer, by_lines, inputs_by, ended_input, job_of, failed_notes, IsAnswer}
-use Rattle.mg_answer.specs.Devices.{Device, RunDevices, Untouched, TookFront, Noted}
+use Rattle.mg_answer.specs.Answer.{Read, RunAnswer, by_lines, inputs_by, ended_input, job_of, failed_notes, IsAnswer}
+use Rattle.mg_answer.specs.Devices.{Device, RunDevices, Untouched, TookFront, TookNotes}
 use Rattle.mg_answer.specs.Wrote.{Meets, MetShort}
 use Rattle.mg_answer.specs.Ran.{CameTo, ReadSome}
 use Rattle.mg_answer.specs.declared.status.Status.{Status}
@@ -40,15 +40,15 @@ TookSomeTrace plan inputs boxes output = ((text : List ℕ) × IsTrace plan inpu
     ⊎ ((events : List Event) × IsRunSoFar plan inputs boxes events × TookFront output (job_text plan inputs ++ events_text events))
 
 -- The answer of a recorded run over what its input came to: the answer of a run, but that the output is a trace.
-pub record IsTraced (report : Bool) (plan : Plan) (boxes : List CalculatorTold) (read : Read) (answer : Answer) : Type 0 where
+pub record IsTraced (report : Bool) (plan : Plan) (boxes : List CalculatorTold) (read : Read) (answer : RunAnswer) : Type 0 where
   pub text : List ℕ
   pub trace : IsTrace plan (inputs_by (inputs_of plan) read) boxes text
-  pub of_run : Answer
+  pub of_run : RunAnswer
   pub is_answer : IsAnswer report plan read of_run
   pub is : answer ≡ record of_run { output = text }
 
 -- the answer of a recorded run over an input that ended after these bytes
-abbrev pub TracesEnded : Bool → Plan → List CalculatorTold → List ℕ → Answer → Type 0
+abbrev pub TracesEnded : Bool → Plan → List CalculatorTold → List ℕ → RunAnswer → Type 0
 TracesEnded report plan boxes bytes answer = IsTraced report plan boxes (ended_input (inputs_of plan) bytes) answer
 
 -- The run --
@@ -57,7 +57,7 @@ TracesEnded report plan boxes bytes answer = IsTraced report plan boxes (ended_i
 pub record TracedAll (report : Bool) (plan : Plan) (boxes : List CalculatorTold) (status : Status) (devices : RunDevices) : Type 0 where
   pub read : Read
   pub input : CameTo (inputs_of plan) devices.input read
-  pub answer : Answer
+  pub answer : RunAnswer
   pub is : IsTraced report plan boxes read answer
   pub met : Meets answer status devices.output devices.notes
 
@@ -65,7 +65,7 @@ pub record TracedAll (report : Bool) (plan : Plan) (boxes : List CalculatorTold)
 pub record TracedShort (report : Bool) (plan : Plan) (boxes : List CalculatorTold) (devices : RunDevices) : Type 0 where
   pub read : Read
   pub input : CameTo (inputs_of plan) devices.input read
-  pub answer : Answer
+  pub answer : RunAnswer
   pub is : IsTraced report plan boxes read answer
   pub short : MetShort answer (failed_notes (by_lines report) (job_of plan read) read.end is.is_answer.streams) devices.output devices.notes
 
@@ -82,5 +82,5 @@ TracedOut plan boxes devices = Untouched devices.output ⊎ TracedSome plan boxe
 -- A recorded run ended with this status. Where memory ran out the notes say that alone, and what was read of the input was read once.
 abbrev pub Traced : Bool → Plan → List CalculatorTold → Status → RunDevices → Type 0
 Traced report plan boxes WriteFault devices = TracedShort report plan boxes devices
-Traced report plan boxes OutOfMemory devices = TracedOut plan boxes devices × Noted devices.notes memory_note × ReadSome (inputs_of plan) devices.input
+Traced report plan boxes OutOfMemory devices = TracedOut plan boxes devices × TookNotes devices.notes memory_note × ReadSome (inputs_of plan) devices.input
 Traced report plan boxes status devices = TracedAll report plan boxes status devices

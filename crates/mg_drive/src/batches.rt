@@ -6,12 +6,12 @@ ghost use Rattle.mg_calc.specs.Plan.{IsValidWithFree};
 ghost use Rattle.mg_calc.specs.Equations.{Job};
 ghost use Rattle.mg_feed.specs.declared.feed_end.BatchEnd.{BatchEnd as Ending};
 ghost use Rattle.mg_feed.specs.declared.feed_end.FeedEnd.{FeedEnd as FeedEnding};
-ghost use Rattle.mg_answer.specs.Answer.{Form};
+ghost use Rattle.mg_answer.specs.Answer.{OutputForm};
 ghost use Rattle.mg_answer.specs.Put.{HasPut};
 ghost use Rattle.mg_answer.specs.Devices.{Device, device, TookFront};
 ghost use Rattle.mg_answer.specs.declared.status.Status.{Status as Stands};
 ghost use Rattle.mg_drive.specs.Nets.{Wanted, AreThere};
-ghost use Rattle.mg_drive.specs.Batches.{IsMore, MayRead, IsFirst, GoesOn, GoesOnward, RoundLeaves, SomeGiven, IsAsGiven, Tells, AreOfGiven, Ends};
+ghost use Rattle.mg_drive.specs.Batches.{IsMore, MayRead, IsFirst, BatchesGoOn, GoesOnward, RoundLeaves, SomeGiven, IsAsGiven, OutcomesFit, AreOfGiven, TellsSolution};
 
 use crate::Driven;
 use mg_answer::{Outcomes, OutputText, Run, Status};
@@ -76,7 +76,7 @@ pub trait Batches: Drop {
 
     /// What is written at the end of a run over these batches: the form and whether there is a report, the job over what was given, how its
     /// input ended, the status, and what the output and the notes took.
-    ghost wrote: { Self → Form → Bool → Job → FeedEnding → Stands → Device SinkTold → Device SinkTold → Type 0 };
+    ghost wrote: { Self → OutputForm → Bool → Job → FeedEnding → Stands → Device SinkTold → Device SinkTold → Type 0 };
 
     /// Reads the next batch. Behind a batch with which the input ended there is none.
     fn next<S: Source>(&mut self, input: &mut S) -> Result<Batch, AllocError>
@@ -84,12 +84,12 @@ pub trait Batches: Drop {
             → IfOk result (λ b. IsFirst (gives self.old self.new plan (S.told input.old) (S.told input.new)) plan b.end b.inputs) }
         ensures goes_on { (began : Self) (plan : Plan) (first : SourceTold) (so_far : Given) → IsValidWithFree plan
             → gives began self.old plan first (S.told input.old) BatchEnd.More so_far → is_due self.old plan so_far
-            → IfOk result (λ b. GoesOn (gives began self.new plan first (S.told input.new) b.end) plan so_far b.inputs) }
+            → IfOk result (λ b. BatchesGoOn (gives began self.new plan first (S.told input.new) b.end) plan so_far b.inputs) }
         ensures first_came { (plan : Plan) → IsValidWithFree plan → is_fresh self.old plan
             → IfOk result (λ b. IsFirst (λ end inputs. gives self.old self.new plan (S.told input.old) (S.told input.new) end inputs × came self.old self.new plan (S.told input.old) (S.told input.new) end (inputs ∷ [])) plan b.end b.inputs) }
         ensures comes_on { (began : Self) (plan : Plan) (first : SourceTold) (so_far : Given) (earlier : List Given) → IsValidWithFree plan
             → came began self.old plan first (S.told input.old) BatchEnd.More (so_far ∷ earlier) → is_due self.old plan so_far
-            → IfOk result (λ b. GoesOn (λ all. gives began self.new plan first (S.told input.new) b.end all × came began self.new plan first (S.told input.new) b.end (all ∷ so_far ∷ earlier)) plan so_far b.inputs) }
+            → IfOk result (λ b. BatchesGoOn (λ all. gives began self.new plan first (S.told input.new) b.end all × came began self.new plan first (S.told input.new) b.end (all ∷ so_far ∷ earlier)) plan so_far b.inputs) }
         ensures fewer { (began : Self) (plan : Plan) (first : SourceTold) (so_far : Given)
             → gives began self.old plan first (S.told input.old) BatchEnd.More so_far → is_due self.old plan so_far
             → IfOk result (λ b. IsMore b.end → left self.new < left self.old) }
@@ -116,9 +116,9 @@ pub trait Batches: Drop {
         output: &mut K,
         notes: &mut E,
     ) -> Result<Status, AllocError>
-        requires tells { Tells run.now.plan.now outcomes }
+        requires tells { OutcomesFit run.now.plan.now outcomes }
         requires of { AreOfGiven gives run.now.plan.now closing.end self.now outcomes }
-        ensures wrote { IfOk result (λ status. (form : Form) (job : Job) (first : SinkTold) → Ends form job first (K.told output.old) run.now.plan.now closing.text outcomes
+        ensures wrote { IfOk result (λ status. (form : OutputForm) (job : Job) (first : SinkTold) → TellsSolution form job first (K.told output.old) run.now.plan.now closing.text outcomes
             → wrote self.now form run.now.report job closing.end status (device first (K.told output.new)) (device (E.told notes.old) (E.told notes.new))) }
         ensures front { OnErr result ((first : SinkTold) (whole : List ℕ) → HasPut first (K.told output.old) closing.text whole → TookFront (device first (K.told output.new)) whole) }
         ensures unnoted { OnErr result (E.told notes.new ≡ E.told notes.old) };

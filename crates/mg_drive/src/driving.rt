@@ -10,9 +10,9 @@ ghost use Rattle.mg_sched.specs.StandsFor.{StandsFor, IsRunning};
 ghost use Rattle.mg_sched.specs.Taking.{taken_out, settled_outputs, HasAllOutputs, LeavesNodes};
 ghost use Rattle.mg_drive.specs.Nets.{Keeps, GaveNothingUp, AreThere, AreRead};
 ghost use Rattle.mg_drive.specs.Batches.{IsMore};
-ghost use Rattle.mg_drive.specs.Code.Running.{Start, job_with, IsTold, IsToldSome, IsSomeTold, IsUnderWay, IsSomeRun, IsSomeMore, WentOn, HasRested, IsAllTaken, IsOver, IsShort};
+ghost use Rattle.mg_drive.specs.Code.Running.{Start, job_with, IsTold, IsToldSome, IsSomeTold, IsUnderWay, IsSomeRun, IsSomeMore, WentOn, HasRested, IsAllTaken, RunIsOver, IsShort};
 
-use crate::{Batches, Driven, Ends, ManyThreads, Onward, Telling};
+use crate::{Batches, Driven, ManyThreads, NetEnds, Onward, Telling};
 use mg_calc::Calculator;
 use mg_edge::{Gate, Sink, Source};
 use mg_feed::{BatchEnd, FeedEnd};
@@ -112,7 +112,7 @@ pub fn drive<
     K: Sink,
 >(
     net: &mut ManyThreads<'_, C, R, G>,
-    ends: &mut Ends<B, T>,
+    ends: &mut NetEnds<B, T>,
     first: BatchEnd,
     input: &mut S,
     output: &mut K,
@@ -121,7 +121,7 @@ pub fn drive<
     requires there { AreThere (B.wants ends.old.batches) net.old.one.net }
     requires places { length ends.old.set ≡ length net.old.one.net.plan.outputs }
     ensures over { IfOk result (λ end. (start : Start B) → IsUnderWay B.gives T.has_told start first (S.told input.old) (K.told output.old) ends.old.batches ends.old.telling net.old.one.net
-        → IsOver B.gives T.has_told start end (S.told input.new) (K.told output.new) ends.new.batches ends.new.telling net.new.one.net) }
+        → RunIsOver B.gives T.has_told start end (S.told input.new) (K.told output.new) ends.new.batches ends.new.telling net.new.one.net) }
     ensures short { OnErr result ((start : Start B) → IsUnderWay B.gives T.has_told start first (S.told input.old) (K.told output.old) ends.old.batches ends.old.telling net.old.one.net
         → IsShort B.gives B.reads_on T.has_told T.form start (S.told input.new) (K.told output.new) net.new.one.net) }
     ensures keeps { Keeps net.old.one.net net.new.one.net }

@@ -3,14 +3,14 @@ ghost use Rattle.std.specs.Prelude.{◌≡◌, ◌<◌, ◌^◌, ◌⊎◌, leng
 ghost use Rattle.mg_edge.specs.Edge.{SinkTold};
 ghost use Rattle.mg_calc.specs.Equations.{Job};
 ghost use Rattle.mg_node.specs.Job.{LoggedJob};
-ghost use Rattle.mg_answer.specs.Answer.{Form};
+ghost use Rattle.mg_answer.specs.Answer.{OutputForm};
 ghost use Rattle.mg_answer.specs.Frozen.{WroteFrozen};
 ghost use Rattle.mg_answer.specs.Put.{TextView};
 ghost use Rattle.mg_answer.specs.Wrote.{Wrote};
 ghost use Rattle.mg_answer.specs.Devices.{device};
 ghost use Rattle.mg_sched.specs.StandsFor.{StandsFor};
 ghost use Rattle.mg_sched.specs.WindsUp.{WindsUpNet};
-ghost use Rattle.mg_drive.specs.Batches.{Tells, Ends};
+ghost use Rattle.mg_drive.specs.Batches.{OutcomesFit, TellsSolution};
 ghost use Rattle.mg_drive.specs.Code.Running.{HasRested, SomeRested, SomeRestedOf, FrontIn};
 ghost use Rattle.mg_drive.specs.Code.Ending.{IsWhole, told_end, TellsNet};
 
@@ -31,10 +31,10 @@ pub fn finish<N: Driven, K: Sink, E: Sink>(
     notes: &mut E,
 ) -> Result<Status, AllocError>
     requires rested { SomeRested run.now.plan.now (N.net net.old) }
-    ensures wrote { IfOk result (λ status. (form : Form) (job : LoggedJob) (first : SinkTold) → job.job.plan ≡ run.now.plan.now → StandsFor job (N.net net.old) → HasRested job (N.net net.old)
+    ensures wrote { IfOk result (λ status. (form : OutputForm) (job : LoggedJob) (first : SinkTold) → job.job.plan ≡ run.now.plan.now → StandsFor job (N.net net.old) → HasRested job (N.net net.old)
         → IsWhole form first (K.told output.old) job.job text
         → Wrote (record { form = form; report = run.now.report }) job.job end status (device first (K.told output.new)) (device (E.told notes.old) (E.told notes.new))) }
-    ensures front { OnErr result ((form : Form) (job : Job) (first : SinkTold) → IsWhole form first (K.told output.old) job text → FrontIn form first (K.told output.new) job) }
+    ensures front { OnErr result ((form : OutputForm) (job : Job) (first : SinkTold) → IsWhole form first (K.told output.old) job text → FrontIn form first (K.told output.new) job) }
     ensures unnoted { OnErr result (E.told notes.new ≡ E.told notes.old) }
     ensures since { (N.net net.new ≡ N.net net.old) ⊎ WindsUpNet (N.net net.old) (N.net net.new) }
     ensures wound { OnOk result (WindsUpNet (N.net net.old) (N.net net.new) × ((N.net net.new).wound ≡ length (N.net net.old).plan.nodes)) }
@@ -54,10 +54,10 @@ pub(crate) fn finish_batches<N: Driven, B: Batches, K: Sink, E: Sink>(
     notes: &mut E,
 ) -> Result<Status, AllocError>
     requires rested { SomeRestedOf B.gives run.now.plan.now closing.end (N.net net.old) batches.now }
-    ensures wrote { IfOk result (λ status. (form : Form) (job : LoggedJob) (first : SinkTold) → job.job.plan ≡ run.now.plan.now → StandsFor job (N.net net.old) → HasRested job (N.net net.old)
+    ensures wrote { IfOk result (λ status. (form : OutputForm) (job : LoggedJob) (first : SinkTold) → job.job.plan ≡ run.now.plan.now → StandsFor job (N.net net.old) → HasRested job (N.net net.old)
         → IsWhole form first (K.told output.old) job.job closing.text
         → B.wrote batches.now form run.now.report job.job closing.end status (device first (K.told output.new)) (device (E.told notes.old) (E.told notes.new))) }
-    ensures front { OnErr result ((form : Form) (job : Job) (first : SinkTold) → IsWhole form first (K.told output.old) job closing.text → FrontIn form first (K.told output.new) job) }
+    ensures front { OnErr result ((form : OutputForm) (job : Job) (first : SinkTold) → IsWhole form first (K.told output.old) job closing.text → FrontIn form first (K.told output.new) job) }
     ensures unnoted { OnErr result (E.told notes.new ≡ E.told notes.old) }
     ensures since { (N.net net.new ≡ N.net net.old) ⊎ WindsUpNet (N.net net.old) (N.net net.new) }
     ensures wound { OnOk result (WindsUpNet (N.net net.old) (N.net net.new) × ((N.net net.new).wound ≡ length (N.net net.old).plan.nodes)) }
@@ -76,10 +76,10 @@ pub fn finish_frozen<N: Driven, K: Sink, E: Sink>(
     notes: &mut E,
 ) -> Result<Status, AllocError>
     requires rested { SomeRested run.now.plan.now (N.net net.old) }
-    ensures wrote { IfOk result (λ status. (form : Form) (job : LoggedJob) (first : SinkTold) → job.job.plan ≡ run.now.plan.now → StandsFor job (N.net net.old) → HasRested job (N.net net.old)
+    ensures wrote { IfOk result (λ status. (form : OutputForm) (job : LoggedJob) (first : SinkTold) → job.job.plan ≡ run.now.plan.now → StandsFor job (N.net net.old) → HasRested job (N.net net.old)
         → IsWhole form first (K.told output.old) job.job text
         → WroteFrozen (record { form = form; report = run.now.report }) job.job status (device first (K.told output.new)) (device (E.told notes.old) (E.told notes.new))) }
-    ensures front { OnErr result ((form : Form) (job : Job) (first : SinkTold) → IsWhole form first (K.told output.old) job text → FrontIn form first (K.told output.new) job) }
+    ensures front { OnErr result ((form : OutputForm) (job : Job) (first : SinkTold) → IsWhole form first (K.told output.old) job text → FrontIn form first (K.told output.new) job) }
     ensures unnoted { OnErr result (E.told notes.new ≡ E.told notes.old) }
     ensures since { (N.net net.new ≡ N.net net.old) ⊎ WindsUpNet (N.net net.old) (N.net net.new) }
     ensures wound { OnOk result (WindsUpNet (N.net net.old) (N.net net.new) × ((N.net net.new).wound ≡ length (N.net net.old).plan.nodes)) }
@@ -93,9 +93,9 @@ pub fn finish_frozen<N: Driven, K: Sink, E: Sink>(
 fn wound_up<N: Driven>(run: &Run<'_>, net: &mut N) -> Result<Outcomes, AllocError>
     requires rested { SomeRested run.now.plan.now (N.net net.old) }
     ensures told { IfOk result (λ outcomes. TellsNet (N.net net.old) outcomes) }
-    ensures tells { IfOk result (λ outcomes. Tells run.now.plan.now outcomes) }
-    ensures ends { IfOk result (λ outcomes. (form : Form) (job : LoggedJob) (first sink : SinkTold) (text : TextView) → job.job.plan ≡ run.now.plan.now → StandsFor job (N.net net.old) → HasRested job (N.net net.old)
-        → IsWhole form first sink job.job text → Ends form job.job first sink run.now.plan.now text outcomes) }
+    ensures tells { IfOk result (λ outcomes. OutcomesFit run.now.plan.now outcomes) }
+    ensures ends { IfOk result (λ outcomes. (form : OutputForm) (job : LoggedJob) (first sink : SinkTold) (text : TextView) → job.job.plan ≡ run.now.plan.now → StandsFor job (N.net net.old) → HasRested job (N.net net.old)
+        → IsWhole form first sink job.job text → TellsSolution form job.job first sink run.now.plan.now text outcomes) }
     ensures since { (N.net net.new ≡ N.net net.old) ⊎ WindsUpNet (N.net net.old) (N.net net.new) }
     ensures wound { OnOk result (WindsUpNet (N.net net.old) (N.net net.new) × ((N.net net.new).wound ≡ length (N.net net.old).plan.nodes)) }
 {

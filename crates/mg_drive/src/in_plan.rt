@@ -10,8 +10,8 @@ ghost use Rattle.mg_free.specs.Rounds.{Taken};
 ghost use Rattle.mg_live.specs.Takes.{HaveTaken};
 ghost use Rattle.mg_answer.specs.Outcomes.{TellsOf};
 ghost use Rattle.mg_answer.specs.Report.{end_of};
-ghost use Rattle.mg_drive.specs.Batches.{Tells};
-ghost use Rattle.mg_drive.specs.Live.{LiveTells, fault_in, sets_by, lines_at, arrivals_text};
+ghost use Rattle.mg_drive.specs.Batches.{OutcomesFit};
+ghost use Rattle.mg_drive.specs.Live.{LiveTells, renumbered_fault, sets_by, lines_at, arrivals_text};
 ghost use Rattle.mg_drive.specs.Code.Live.{AreNumbersOf};
 
 use mg_answer::{Outcomes, StreamEnd, put_arrival};
@@ -37,7 +37,7 @@ fn faults_in(
     faults: &[NodeFault],
 ) -> Result<NodeFaultList, AllocError>
     requires { All (λ fault. fault.node < length numbers.now) faults.now }
-    ensures { IfOk result (λ now. now ≡ map (fault_in numbers.now) faults.now) }
+    ensures { IfOk result (λ now. now ≡ map (renumbered_fault numbers.now) faults.now) }
 {
     let mut now = Vec::with_capacity(alloc, faults.len())?;
     for fault in faults {
@@ -101,7 +101,7 @@ impl<'p> InPlan<'p> {
         requires numbers { AreNumbersOf self.now.plan.now self.now.nodes.now self.now.streams.now }
         requires free { live.now.free ≡ (split_of self.now.plan.now).free }
         requires long { length live.now.free ≡ length live.now.takers.items }
-        requires tells { Tells (split_of self.now.plan.now).core core.now }
+        requires tells { OutcomesFit (split_of self.now.plan.now).core core.now }
         ensures { (job : Job) (streams : List (StreamPrefix Plain)) (takens : List Taken) → job.plan ≡ (split_of self.now.plan.now).core → TellsOf job streams core.now
             → HaveTaken live.now.free takens live.now.takers.items → IfOk result (LiveTells self.now.plan.now job streams live.now.free takens) }
     {

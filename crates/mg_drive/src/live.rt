@@ -1,7 +1,7 @@
 //! Batches of the core of a graph with free nodes: between two batches of the input the free nodes have their rounds.
 ghost use Rattle.std.specs.Prelude.{◌≡◌, ◌+◌, ◌++◌, true, None, replicate, IfOk};
 ghost use Rattle.mg_value.specs.Prefix.{empty_prefix};
-ghost use Rattle.mg_drive.specs.Code.LiveRunning.{ReadsWhere, IsOpened};
+ghost use Rattle.mg_drive.specs.Code.LiveRunning.{ReadsWhere, IsWidened};
 ghost use Rattle.mg_drive.specs.Code.Live.{IsFreshLive, LiveGives, LiveCame, LiveWrote, wanted_by, rounds_left, ended_of, batches_left};
 
 use crate::in_plan::InPlan;
@@ -59,7 +59,7 @@ fn opened(alloc: Global, streams: Vec<Prefix>, count: usize) -> Result<Vec<Prefi
 
 // Returns what comes to a core with a batch: the batch at the plan's own inputs, and nothing at the outputs of its `count` free nodes.
 fn with_open(alloc: Global, inputs: Inputs, count: usize) -> Result<Inputs, AllocError>
-    ensures { IfOk result (λ more. IsOpened inputs more count) }
+    ensures { IfOk result (λ more. IsWidened inputs more count) }
 {
     let Inputs {
         streams,

@@ -2,7 +2,7 @@
 ghost use Rattle.std.specs.Prelude.{◌≡◌, ◌<◌, ◌≤◌, [], false, IfOk};
 ghost use Rattle.mg_feed.specs.GeneratorSeen.{making};
 ghost use Rattle.mg_answer.specs.Wrote.{Wrote};
-ghost use Rattle.mg_drive.specs.Code.InPieces.{end_of, AreToCome, WereMade, HaveComeInPieces, packets_left};
+ghost use Rattle.mg_drive.specs.Code.InPieces.{piece_end, AreToCome, WereMade, HaveComeInPieces, packets_left};
 
 use crate::onward::plain_onward;
 use crate::{Batch, Batches, Closing, Driven, Onward};
@@ -62,7 +62,7 @@ fn piece_for(plan: &Plan) -> u32
 
 // Returns how a piece ends: `ended` says whether it is the last.
 fn end_by(ended: bool) -> BatchEnd
-    ensures { result ≡ end_of ended }
+    ensures { result ≡ piece_end ended }
 {
     if ended {
         BatchEnd::End(FeedEnd::Ended)

@@ -8,11 +8,11 @@ ghost use Rattle.mg_answer.specs.Held.{told_by, SameDevices};
 ghost use Rattle.mg_sched.specs.Made.{BoxesFit};
 ghost use Rattle.mg_drive.specs.Nets.{Keeps, AreThere};
 ghost use Rattle.mg_drive.specs.Code.Running.{Start, IsUnderWay, IsSomeRun, IsShort};
-ghost use Rattle.mg_drive.specs.Code.Ending.{CameBack, since, HasEnded, HasRun, RanShort};
+ghost use Rattle.mg_drive.specs.Code.Ending.{CalculatorsCameBack, since, HasEnded, HasRunBatches, RanOutOfMemory};
 
 use crate::crew::{has_sources, least_for, packets_in, workers_for};
 use crate::finishing::finish_batches;
-use crate::{Batch, Batches, Closing, Crew, Ends, ManyThreads, OneThread, Telling, drive};
+use crate::{Batch, Batches, Closing, Crew, ManyThreads, NetEnds, OneThread, Telling, drive};
 use mg_answer::{Devices, Run, Status};
 use mg_calc::Calculator;
 use mg_edge::{Gate, Sink, Source};
@@ -37,7 +37,7 @@ pub fn run_net<
 >(
     run: &Run<'_>,
     net: &mut ManyThreads<'_, C, R, G>,
-    ends: Ends<B, T>,
+    ends: NetEnds<B, T>,
     first: BatchEnd,
     devices: &mut Devices<'_, '_, '_, S, K, E>,
 ) -> Result<Status, AllocError>
@@ -84,7 +84,7 @@ fn run_made_net<
     run: &Run<'_>,
     crew: &Crew<'_, R, G>,
     boxes: &mut Vec<C>,
-    ends: Ends<B, T>,
+    ends: NetEnds<B, T>,
     first: Batch,
     devices: &mut Devices<'_, '_, '_, S, K, E>,
 ) -> Result<Status, AllocError>
@@ -94,11 +94,11 @@ fn run_made_net<
     requires set { length ends.set ≡ length run.now.plan.now.outputs }
     requires nothing { (sink : SinkTold) → T.has_told ends.telling run.now.plan.now sink sink [] }
     ensures ran { IfOk result (λ status. (began : B) (source : SourceTold) → B.gives began ends.batches run.now.plan.now source (S.told devices.old.input.now) first.end first.inputs
-        → HasRun B.gives B.wrote T.form run.now.report began run.now.plan.now status (since source (told_by S.told K.told E.told devices.old devices.new)) (device (map C.told boxes.old.items) (map C.told boxes.new.items))) }
+        → HasRunBatches B.gives B.wrote T.form run.now.report began run.now.plan.now status (since source (told_by S.told K.told E.told devices.old devices.new)) (device (map C.told boxes.old.items) (map C.told boxes.new.items))) }
     ensures short { OnErr result ((began : B) (source : SourceTold) → B.gives began ends.batches run.now.plan.now source (S.told devices.old.input.now) first.end first.inputs
-        → RanShort B.gives B.reads_on T.has_told T.form began run.now.plan.now (since source (told_by S.told K.told E.told devices.old devices.new)) (device (map C.told boxes.old.items) (map C.told boxes.new.items))) }
+        → RanOutOfMemory B.gives B.reads_on T.has_told T.form began run.now.plan.now (since source (told_by S.told K.told E.told devices.old devices.new)) (device (map C.told boxes.old.items) (map C.told boxes.new.items))) }
     ensures unnoted { OnErr result (E.told devices.new.notes.now ≡ E.told devices.old.notes.now) }
-    ensures back { CameBack run.now.plan.now (map C.told boxes.old.items) (map C.told boxes.new.items) }
+    ensures back { CalculatorsCameBack run.now.plan.now (map C.told boxes.old.items) (map C.told boxes.new.items) }
     ensures unread { B.reads ≡ false → S.told devices.new.input.now ≡ S.told devices.old.input.now }
     ensures same { SameDevices devices.old devices.new }
 {
@@ -161,15 +161,15 @@ pub fn run_batches<
     requires boxes { BoxesFit run.now.plan.now (map C.told boxes.old.items) }
     requires fresh { B.is_fresh batches run.now.plan.now }
     requires nothing { (sink : SinkTold) → T.has_told telling run.now.plan.now sink sink [] }
-    ensures ran { IfOk result (λ status. HasRun B.gives B.wrote T.form run.now.report batches run.now.plan.now status (told_by S.told K.told E.told devices.old devices.new) (device (map C.told boxes.old.items) (map C.told boxes.new.items))) }
-    ensures short { OnErr result (RanShort B.gives B.reads_on T.has_told T.form batches run.now.plan.now (told_by S.told K.told E.told devices.old devices.new) (device (map C.told boxes.old.items) (map C.told boxes.new.items))) }
+    ensures ran { IfOk result (λ status. HasRunBatches B.gives B.wrote T.form run.now.report batches run.now.plan.now status (told_by S.told K.told E.told devices.old devices.new) (device (map C.told boxes.old.items) (map C.told boxes.new.items))) }
+    ensures short { OnErr result (RanOutOfMemory B.gives B.reads_on T.has_told T.form batches run.now.plan.now (told_by S.told K.told E.told devices.old devices.new) (device (map C.told boxes.old.items) (map C.told boxes.new.items))) }
     ensures unnoted { OnErr result (E.told devices.new.notes.now ≡ E.told devices.old.notes.now) }
-    ensures back { CameBack run.now.plan.now (map C.told boxes.old.items) (map C.told boxes.new.items) }
+    ensures back { CalculatorsCameBack run.now.plan.now (map C.told boxes.old.items) (map C.told boxes.new.items) }
     ensures unread { B.reads ≡ false → S.told devices.new.input.now ≡ S.told devices.old.input.now }
     ensures same { SameDevices devices.old devices.new }
 {
     let set = InputSet::new(run.alloc, run.plan.outputs.len())?;
-    let mut ends = Ends {
+    let mut ends = NetEnds {
         batches,
         telling,
         set,

@@ -3,7 +3,7 @@ ghost use Rattle.mg_edge.specs.Edge.{SinkTold};
 ghost use Rattle.mg_value.specs.Payload.{Plain};
 ghost use Rattle.mg_value.specs.Settled.{TimedSet};
 ghost use Rattle.mg_calc.specs.declared.plan.Plan.{Plan};
-ghost use Rattle.mg_answer.specs.Answer.{Form};
+ghost use Rattle.mg_answer.specs.Answer.{OutputForm};
 ghost use Rattle.mg_answer.specs.Put.{HasPut};
 ghost use Rattle.mg_drive.specs.Told.{told_in, IsFewTold};
 
@@ -15,7 +15,7 @@ use std::alloc::{AllocError, Global};
 /// What tells the sets of a graph's outputs: by their lines, or by a summary at the end.
 pub trait Telling: Drop {
     /// The form in which it tells sets.
-    ghost form: { Form };
+    ghost form: { OutputForm };
 
     /// These sets of a plan's outputs were told by it. The output told the first `SinkTold` before that, and tells the second now.
     ghost has_told: { Self → Plan → SinkTold → SinkTold → List (TimedSet Plain) → Type 0 };

@@ -13,9 +13,9 @@ ghost use Rattle.mg_answer.specs.Devices.{device, Untouched};
 ghost use Rattle.mg_answer.specs.Held.{told_by, SameDevices};
 ghost use Rattle.mg_sched.specs.Made.{BoxesFit, IsMade};
 ghost use Rattle.mg_drive.specs.Nets.{Keeps};
-ghost use Rattle.mg_drive.specs.Leaves.{HadCalls, HadSome, RunLeaves};
+ghost use Rattle.mg_drive.specs.Leaves.{AllHadCalls, HadSome, RunLeaves};
 ghost use Rattle.mg_drive.specs.Traced.{Traced, TracedOut};
-ghost use Rattle.mg_drive.specs.Code.Ending.{CameBack};
+ghost use Rattle.mg_drive.specs.Code.Ending.{CalculatorsCameBack};
 ghost use Rattle.mg_drive.specs.Code.Tracing.{plan_job, IsSomeMade, NetTraced, NetShort, JobTraced, JobShort};
 
 use crate::{OneThread, finish, record_run};
@@ -70,9 +70,9 @@ fn trace_whole<G: Gate, C: Calculator, S: Source, K: Sink, E: Sink>(
     ensures short { OnErr result (TracedOut run.now.plan.now (map C.told boxes.old.items) (told_by S.told K.told E.told devices.old devices.new)) }
     ensures read { OnErr result (ReadSome (inputs_of run.now.plan.now) (told_by S.told K.told E.told devices.old devices.new).input) }
     ensures unnoted { OnErr result (E.told devices.new.notes.now ≡ E.told devices.old.notes.now) }
-    ensures used { OnOk result (HadCalls run.now.plan.now (told_by S.told K.told E.told devices.old devices.new).input (device (map C.told boxes.old.items) (map C.told boxes.new.items))) }
+    ensures used { OnOk result (AllHadCalls run.now.plan.now (told_by S.told K.told E.told devices.old devices.new).input (device (map C.told boxes.old.items) (map C.told boxes.new.items))) }
     ensures fronts { OnErr result (HadSome run.now.plan.now (told_by S.told K.told E.told devices.old devices.new).input (device (map C.told boxes.old.items) (map C.told boxes.new.items))) }
-    ensures back { CameBack run.now.plan.now (map C.told boxes.old.items) (map C.told boxes.new.items) }
+    ensures back { CalculatorsCameBack run.now.plan.now (map C.told boxes.old.items) (map C.told boxes.new.items) }
     ensures same { SameDevices devices.old devices.new }
 {
     let whole = read_whole(run.alloc, run.plan, devices.input)?;
@@ -109,7 +109,7 @@ fn trace_job<G: Gate, C: Calculator, K: Sink, E: Sink>(
     ensures short { OnErr result ((Untouched (device (K.told output.old) (K.told output.new)) × Untouched (device (map C.told boxes.old.items) (map C.told boxes.new.items)))
         ⊎ JobShort run.now.plan.now opening.whole.inputs (device (K.told output.old) (K.told output.new)) (device (map C.told boxes.old.items) (map C.told boxes.new.items))) }
     ensures unnoted { OnErr result (E.told notes.new ≡ E.told notes.old) }
-    ensures back { CameBack run.now.plan.now (map C.told boxes.old.items) (map C.told boxes.new.items) }
+    ensures back { CalculatorsCameBack run.now.plan.now (map C.told boxes.old.items) (map C.told boxes.new.items) }
 {
     let Opening { whole, blocks } = opening;
     let handed = mem::replace(boxes, Vec::new(run.alloc));

@@ -24,7 +24,7 @@ use Rattle.mg_equations.specs.declared.outcome.Outcome.{Outcome as CodeOutcome}
 use Rattle.mg_equations.specs.declared.progress.Progress.{Progress}
 use Rattle.mg_equations.specs.Begun.{begun_by}
 use Rattle.mg_equations.specs.Seen.{seen}
-use Rattle.mg_equations.specs.Progress.{AreWithin, HasRead, HasAnswered, HasCome, HaveCome, CanGoOn, ShowsMore, AnswersMore, GoesOn, GoesOnIf, AllGoOn, reads_change}
+use Rattle.mg_equations.specs.Progress.{AreWithin, HasRead, LoopbackHasAnswered, HasCome, HaveCome, CanGoOn, ShowsMore, AnswersMore, NodeGoesOn, GoesOnIf, AllGoOn, reads_change}
 use Rattle.mg_equations.proofs.NodeSteps.{few_sets, node_counts, opened_counts}
 use Rattle.mg_equations.proofs.OutcomeSteps.{outer_outcome, inputs_are}
 use Rattle.mg_equations.proofs.PortSteps.{inputs_long}
@@ -115,7 +115,7 @@ come_loop job before streams node first then loop may come made =
     }
 
 come_by : (law : Law) (job : Job) (before streams : List (StreamPrefix Plain)) (node : PlanNode) (first then : Progress) → law ≡ node.law → MayGoOn job before streams node → HasCome job before node first
-    → GoesOn law node (inputs_at streams node.inputs) first then → HasCome job streams node then
+    → NodeGoesOn law node (inputs_at streams node.inputs) first then → HasCome job streams node then
 come_by (Count count start step) job before streams node first then is may come goes = come_source job before streams node first then (Count count start step) (λ o. o) (λ e. absurd cc) refl is may come goes
 come_by (SideOnce at) job before streams node first then is may come goes = come_source job before streams node first then (SideOnce at) (λ o. o) (λ e. absurd cc) refl is may come goes
 come_by Constants job before streams node first then is may come goes = come_source job before streams node first then Constants (λ o. o) (λ e. absurd cc) refl is may come goes
@@ -123,7 +123,7 @@ come_by Loopback job before streams node first then is may come goes = come_loop
 come_by law job before streams node first then is may come goes = come_outer job before streams node first then (λ e. (let bad = is ∙ e in absurd cc)) (subst IsOuter is tt) may come goes
 
 pub goes_further : (job : Job) (before streams : List (StreamPrefix Plain)) (node : PlanNode) (first then : Progress) → MayGoOn job before streams node → HasCome job before node first
-    → GoesOn node.law node (inputs_at streams node.inputs) first then → HasCome job streams node then
+    → NodeGoesOn node.law node (inputs_at streams node.inputs) first then → HasCome job streams node then
 goes_further job before streams node first then may come goes = come_by node.law job before streams node first then refl may come goes
 
 -- A node that has begun.
@@ -192,7 +192,7 @@ first_loop job streams node first then loop known h numbers shape begun made =
     let ht = all_inputs streams node.inputs h in
     let not_outer : IsOuter node.law → ⊥ = λ outer. (let bad : IsOuter Loopback = subst IsOuter loop outer in bad) in
     let none : (i : ℕ) → get_or first.read.items i 0 ≡ 0 = λ i. ap (λ (ns : List ℕ). get_or ns i 0) begun.read ∙ zero_read (length node.inputs) i in
-    let answered : HasAnswered empty_prefix empty_prefix first = record { turns = none 1; past = subst (IsPast None empty_prefix) (sym (none 0)) (record { within = omega arith; past = refl }) } in
+    let answered : LoopbackHasAnswered empty_prefix empty_prefix first = record { turns = none 1; past = subst (IsPast None empty_prefix) (sym (none 0)) (record { within = omega arith; past = refl }) } in
     let is : seen first.outcome ≡ loopback_outcome empty_prefix empty_prefix = begun.outcome ∙ ap (λ (law : Law). begun_by law job node) loop in
     let now = answered_more empty_prefix (port_of tt 1) empty_prefix (port_of tt 0) first then (port-prefix tt ht 1) (from_empty (port_of tt 1) (port-prefix tt ht 1)) (from_empty (port_of tt 0) (port-prefix tt ht 0)) answered is made in
     record {
@@ -203,7 +203,7 @@ first_loop job streams node first then loop known h numbers shape begun made =
     }
 
 first_by : (law : Law) (job : Job) (streams : List (StreamPrefix Plain)) (node : PlanNode) (first then : Progress) → law ≡ node.law → All (λ i. i < length streams) node.inputs → All IsPrefix streams → HasNumbers node → IsShapeOf node.law node.shape
-    → HasBegun job node first → GoesOn law node (inputs_at streams node.inputs) first then → HasCome job streams node then
+    → HasBegun job node first → NodeGoesOn law node (inputs_at streams node.inputs) first then → HasCome job streams node then
 first_by (Count count start step) job streams node first then is known h numbers shape begun goes = first_source job streams node first then (Count count start step) (λ o. o) (λ e. absurd cc) refl is begun goes
 first_by (SideOnce at) job streams node first then is known h numbers shape begun goes = first_source job streams node first then (SideOnce at) (λ o. o) (λ e. absurd cc) refl is begun goes
 first_by Constants job streams node first then is known h numbers shape begun goes = first_source job streams node first then Constants (λ o. o) (λ e. absurd cc) refl is begun goes
@@ -211,7 +211,7 @@ first_by Loopback job streams node first then is known h numbers shape begun goe
 first_by law job streams node first then is known h numbers shape begun goes = first_outer job streams node first then (λ e. (let bad = is ∙ e in absurd cc)) (subst IsOuter is tt) known h begun goes
 
 pub goes_first : (job : Job) (streams : List (StreamPrefix Plain)) (node : PlanNode) (first then : Progress) → All (λ i. i < length streams) node.inputs → All IsPrefix streams → HasNumbers node → IsShapeOf node.law node.shape
-    → HasBegun job node first → GoesOn node.law node (inputs_at streams node.inputs) first then → HasCome job streams node then
+    → HasBegun job node first → NodeGoesOn node.law node (inputs_at streams node.inputs) first then → HasCome job streams node then
 goes_first job streams node first then known h numbers shape begun goes = first_by node.law job streams node first then refl known h numbers shape begun goes
 
 -- Each can go on.
@@ -255,7 +255,7 @@ come_same job before streams node progress same outcome come = record {
   outcome = come.outcome ∙ outcome;
   within = subst (AreWithin progress.read.items) same come.within;
   sets = λ outer. subst (λ (ss : List (StreamPrefix Plain)). HasRead node ss progress) same (come.sets outer);
-  turns = λ loop. subst (λ (ss : List (StreamPrefix Plain)). HasAnswered (port_of ss 1) (port_of ss 0) progress) same (come.turns loop);
+  turns = λ loop. subst (λ (ss : List (StreamPrefix Plain)). LoopbackHasAnswered (port_of ss 1) (port_of ss 0) progress) same (come.turns loop);
 }
 
 pub goes_if : (job : Job) (before streams : List (StreamPrefix Plain)) (node : PlanNode) (first then : Progress) → MayGoOn job before streams node → HasCome job before node first

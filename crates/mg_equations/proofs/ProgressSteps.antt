@@ -16,7 +16,7 @@ use Rattle.mg_calc.specs.declared.plan_node.PlanNode.{PlanNode}
 use Rattle.mg_calc.specs.Outcome.{Outcome, shown, ended, opened, node_outcome, loopback_outcome}
 use Rattle.mg_equations.specs.declared.progress.Progress.{Progress}
 use Rattle.mg_equations.specs.Seen.{seen, with_answers}
-use Rattle.mg_equations.specs.Progress.{AreWithin, HasRead, HasAnswered, IsShownMore, ShowsMore, AnswersMore}
+use Rattle.mg_equations.specs.Progress.{AreWithin, HasRead, LoopbackHasAnswered, IsShownMore, ShowsMore, AnswersMore}
 use Rattle.mg_equations.proofs.NodeSteps.{node_resumed, node_over, reach_same}
 
 -- Sets.
@@ -82,8 +82,8 @@ shown_first node outputs sides tt before now ht none at_start is more =
     )
 
 -- The loopback.
-pub answered_more : (main wider loop more : StreamPrefix Plain) (before now : Progress) → IsPrefix wider → IsExtendedBy main wider → IsExtendedBy loop more → HasAnswered main loop before → seen before.outcome ≡ loopback_outcome main loop → AnswersMore wider more before now
-    → (seen now.outcome ≡ loopback_outcome wider more) × HasAnswered wider more now
+pub answered_more : (main wider loop more : StreamPrefix Plain) (before now : Progress) → IsPrefix wider → IsExtendedBy main wider → IsExtendedBy loop more → LoopbackHasAnswered main loop before → seen before.outcome ≡ loopback_outcome main loop → AnswersMore wider more before now
+    → (seen now.outcome ≡ loopback_outcome wider more) × LoopbackHasAnswered wider more now
 answered_more main wider loop more before now h e f answered is made =
     let n = length (replies main loop) in
     let gone = get_or before.read.items 0 0 in

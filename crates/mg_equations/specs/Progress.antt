@@ -30,7 +30,7 @@ pub record HasRead (node : PlanNode) (ss : List (StreamPrefix Plain)) (progress 
   pub reached : progress.reached ≡ reach node.policy ss
 
 -- a loopback has read the packets of MAIN that are answered, and of LOOP only packets that no further answer needs
-pub record HasAnswered (main loop : StreamPrefix Plain) (progress : Progress) : Type 0 where
+pub record LoopbackHasAnswered (main loop : StreamPrefix Plain) (progress : Progress) : Type 0 where
   pub turns : slice_index_or progress.read.items 1 0 ≡ length (replies main loop)
   pub past : IsPast (last_of None (length (replies main loop)) main.packets) loop (slice_index_or progress.read.items 0 0)
 
@@ -39,7 +39,7 @@ pub record HasCome (job : Job) (streams : List (StreamPrefix Plain)) (node : Pla
   pub outcome : seen progress.outcome ≡ outcome_of job streams node
   pub within : AreWithin progress.read.items (inputs_of streams node.inputs)
   pub sets : IsOuter node.law → HasRead node (inputs_of streams node.inputs) progress
-  pub turns : node.law ≡ Loopback → HasAnswered (port_of (inputs_of streams node.inputs) 1) (port_of (inputs_of streams node.inputs) 0) progress
+  pub turns : node.law ≡ Loopback → LoopbackHasAnswered (port_of (inputs_of streams node.inputs) 1) (port_of (inputs_of streams node.inputs) 0) progress
 
 -- all nodes of a job have gone on as far as the given streams let them
 pub record HaveCome (job : Job) (streams : List (StreamPrefix Plain)) (nodes : List Progress) : Type 0 where
@@ -84,12 +84,12 @@ pub record AnswersMore (main loop : StreamPrefix Plain) (before now : Progress) 
   pub read : now.read.items ≡ (length loop.packets - length rest.packets) ∷ (length main.packets - length left.packets) ∷ []
 
 -- a node has gone on, by its law
-abbrev pub GoesOn : Law → PlanNode → List (StreamPrefix Plain) → Progress → Progress → Type 0
-GoesOn (Count count start step) node ss before now = now ≡ before
-GoesOn (SideOnce at) node ss before now = now ≡ before
-GoesOn Constants node ss before now = now ≡ before
-GoesOn Loopback node ss before now = AnswersMore (port_of ss 1) (port_of ss 0) before now
-GoesOn law node ss before now = ShowsMore (before.reached == done) node ss before now
+abbrev pub NodeGoesOn : Law → PlanNode → List (StreamPrefix Plain) → Progress → Progress → Type 0
+NodeGoesOn (Count count start step) node ss before now = now ≡ before
+NodeGoesOn (SideOnce at) node ss before now = now ≡ before
+NodeGoesOn Constants node ss before now = now ≡ before
+NodeGoesOn Loopback node ss before now = AnswersMore (port_of ss 1) (port_of ss 0) before now
+NodeGoesOn law node ss before now = ShowsMore (before.reached == done) node ss before now
 
 -- whether a node reads a stream that has changed
 abbrev pub reads_change : List Bool → PlanNode → Bool
@@ -97,7 +97,7 @@ reads_change changed node = list_any (λ i. slice_index_or changed i false) node
 
 -- a node has gone on if it reads a changed stream, and otherwise stays as it was
 abbrev pub GoesOnIf : Bool → PlanNode → List (StreamPrefix Plain) → Progress → Progress → Type 0
-GoesOnIf true node streams before now = GoesOn node.law node (inputs_of streams node.inputs) before now
+GoesOnIf true node streams before now = NodeGoesOn node.law node (inputs_of streams node.inputs) before now
 GoesOnIf false node streams before now = now ≡ before
 
 -- the nodes that read a changed stream have gone on, and the others stay as they were

@@ -9,7 +9,7 @@ ghost use Rattle.mg_calc.specs.Shape.{IsServed, IsOuter, IsShapeOf};
 ghost use Rattle.mg_calc.specs.Plan.{HasNumbers};
 ghost use Rattle.mg_calc.specs.Outcome.{shown};
 ghost use Rattle.mg_equations.specs.Seen.{seen};
-ghost use Rattle.mg_equations.specs.Progress.{AreWithin, CanGoOn, ShowsMore, AnswersMore, GoesOn};
+ghost use Rattle.mg_equations.specs.Progress.{AreWithin, CanGoOn, ShowsMore, AnswersMore, NodeGoesOn};
 
 use crate::outcome::Outcome;
 use crate::output::Output;
@@ -57,7 +57,7 @@ impl Progress {
         requires shape { IsShapeOf node.now.law node.now.shape }
         requires served { IsServed node.now.law }
         requires can { CanGoOn node.now (inputs_at streams.now node.now.inputs) self.old }
-        ensures { OnOk result (GoesOn node.now.law node.now (inputs_at streams.now node.now.inputs) self.old self.new) }
+        ensures { OnOk result (NodeGoesOn node.now.law node.now (inputs_at streams.now node.now.inputs) self.old self.new) }
     {
         match &node.law {
             Law::Count { .. } | Law::SideOnce { .. } | Law::Constants => Ok(()),

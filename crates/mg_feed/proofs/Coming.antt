@@ -7,11 +7,11 @@ use Rattle.mg_feed.specs.Lines.{all_lines, whole_lines, with_feed, completed, No
 use Rattle.mg_feed.specs.Accepted.{longest_line, accepted, accepted_after}
 use Rattle.mg_feed.specs.View.{before_seen}
 use Rattle.mg_feed.specs.Graph.{GraphInputs}
-use Rattle.mg_feed.specs.Stands.{Stands, AllGood}
+use Rattle.mg_feed.specs.Stands.{HasAccepted, AllGood}
 use Rattle.mg_feed.specs.Fed.{Fed, Reading}
 use Rattle.mg_feed.specs.Once.{longest_block, StopsInTime}
-use Rattle.mg_feed.specs.Came.{Came, Judged, arrived}
-use Rattle.mg_feed.specs.Code.Moves.{Grows, Ends, TookLine, NextLine}
+use Rattle.mg_feed.specs.Came.{Came, Judged, arrived_bytes}
+use Rattle.mg_feed.specs.Code.Moves.{Grows, EndsReading, TookLine, NextLine}
 use Rattle.mg_feed.specs.declared.line_fault.LineFault.{LineFault}
 use Rattle.mg_feed.specs.declared.line_fault.LineFault.TheVariants.{TooLong}
 use Rattle.mg_feed.specs.declared.feed_end.FeedEnd.TheVariants.{Ended, Failed, Refused}
@@ -46,9 +46,9 @@ stops-block graph first lines past kept came good cut none short few = record {
 -- a line was taken
 pub grows-line : (named : Bool) (old new : Fed) (t : TookLine named old new) → Grows old new [] (t.line ∷ [])
 grows-line named old new t first past lines gone c = record {
-  stands = subst (λ (l : List (List ℕ)). Stands l gone new.view) (append_assoc first lines (t.line ∷ []))
+  stands = subst (λ (l : List (List ℕ)). HasAccepted l gone new.view) (append_assoc first lines (t.line ∷ []))
       (stands-next (first ++ lines) gone old.view new.view t.line c.stands t.good t.view).1;
-  cut = rw (append-nil past, t.ended) (cut-line (arrived old.read.ended past) lines old.read.kept t.line new.read.kept c.cut t.cut t.none);
+  cut = rw (append-nil past, t.ended) (cut-line (arrived_bytes old.read.ended past) lines old.read.kept t.line new.read.kept c.cut t.cut t.none);
   stops = stops-same old.view.graph new.view.graph first past (ap (λ v. v.graph) t.view) c.stops;
 }
 
@@ -56,7 +56,7 @@ grows-line named old new t first past lines gone c = record {
 pub grows-bytes : (old new : Fed) (came : List ℕ) → new.view ≡ old.view → old.read.ended ≡ false → new.read.ended ≡ false → new.read.kept ≡ old.read.kept ++ came
     → NoFeed old.read.kept → length old.read.kept ≤ longest_line → length came ≤ longest_block → Grows old new came []
 grows-bytes old new came view before ended kept none short few first past lines gone c =
-    let cut : IsCut past lines old.read.kept = subst (λ (b : Bool). IsCut (arrived b past) lines old.read.kept) before c.cut in
+    let cut : IsCut past lines old.read.kept = subst (λ (b : Bool). IsCut (arrived_bytes b past) lines old.read.kept) before c.cut in
     record {
       stands = rw (append-nil lines, view) c.stands;
       cut = rw (ended, kept, append-nil lines) (cut-more past lines old.read.kept came cut);
@@ -70,7 +70,7 @@ pub grows-end : (old new : Fed) → new.view ≡ old.view → old.read.ended ≡
 grows-end old new view before ended none kept first past lines gone c = record {
   stands = rw (append-nil lines, view) c.stands;
   cut = rw (ended, kept, append-nil lines, append-nil past) (cut-end past lines old.read.kept
-      (subst (λ (b : Bool). IsCut (arrived b past) lines old.read.kept) before c.cut) none);
+      (subst (λ (b : Bool). IsCut (arrived_bytes b past) lines old.read.kept) before c.cut) none);
   stops = stops-same old.view.graph new.view.graph first past (ap (λ v. v.graph) view) c.stops;
 }
 
@@ -83,7 +83,7 @@ grows-then a b c came came' taken taken' one two first past lines gone it =
 
 -- The end --
 
-pub lines-by : (ended : Bool) (past : List ℕ) (lines : List (List ℕ)) (kept more : List ℕ) → IsCut (arrived ended past) lines kept → (ended ≡ true → more ≡ [])
+pub lines-by : (ended : Bool) (past : List ℕ) (lines : List (List ℕ)) (kept more : List ℕ) → IsCut (arrived_bytes ended past) lines kept → (ended ≡ true → more ≡ [])
     → all_lines (past ++ more) ≡ lines ++ all_lines (kept ++ more)
 lines-by false past lines kept more cut fits = cut-all past lines kept more cut
 lines-by true past lines kept more cut fits =
@@ -92,23 +92,23 @@ lines-by true past lines kept more cut fits =
 
 -- the source has ended, and nothing is left
 ended-by : (ended : Bool) (first : List (List ℕ)) (past : List ℕ) (lines : List (List ℕ)) (gone : List (List (Stamped Plain))) (f : Fed) → ended ≡ true
-    → IsCut (arrived ended past) lines f.read.kept → NoFeed f.read.kept → lines ≡ all_lines past
+    → IsCut (arrived_bytes ended past) lines f.read.kept → NoFeed f.read.kept → lines ≡ all_lines past
 ended-by true first past lines gone f is cut none = cut-ended past lines f.read.kept cut none
 ended-by false first past lines gone f is cut none = absurd (false≢true is)
 
-pub ends-ended : (f : Fed) → f.read.ended ≡ true → NoFeed f.read.kept → Ends Ended f
+pub ends-ended : (f : Fed) → f.read.ended ≡ true → NoFeed f.read.kept → EndsReading Ended f
 ends-ended f ended none first past lines gone c =
     let all : lines ≡ all_lines past = ended-by f.read.ended first past lines gone f ended c.cut none in
     (ended, all, subst (λ (l : List (List ℕ)). Judged f.view.graph first l lines None) all (judged-good f.view.graph first lines c.stands.good))
 
 -- a read failed, and no line feed was left
-pub ends-failed : (f : Fed) → f.read.ended ≡ false → NoFeed f.read.kept → Ends (Failed f.view.lines) f
+pub ends-failed : (f : Fed) → f.read.ended ≡ false → NoFeed f.read.kept → EndsReading (Failed f.view.lines) f
 ends-failed f open_ none first past lines gone c =
-    let all : lines ≡ whole_lines past = cut-whole past lines f.read.kept (subst (λ (b : Bool). IsCut (arrived b past) lines f.read.kept) open_ c.cut) none in
+    let all : lines ≡ whole_lines past = cut-whole past lines f.read.kept (subst (λ (b : Bool). IsCut (arrived_bytes b past) lines f.read.kept) open_ c.cut) none in
     (c.stands.number, all, subst (λ (l : List (List ℕ)). Judged f.view.graph first l lines None) all (judged-good f.view.graph first lines c.stands.good))
 
 -- the next line isn't good
-pub ends-line : (f : Fed) (fault : LineFault) → NextLine fault f → Ends (Refused (f.view.lines + 1) fault) f
+pub ends-line : (f : Fed) (fault : LineFault) → NextLine fault f → EndsReading (Refused (f.view.lines + 1) fault) f
 ends-line f fault next first past lines gone c more fits =
     judged-stop f.view.graph first lines next.line (all_lines (next.rest ++ more)) (all_lines (past ++ more)) fault (f.view.lines + 1) c.stands.good
     (refusal-seen (first ++ lines) gone f.view next.line c.stands ∙ next.bad)
@@ -117,7 +117,7 @@ ends-line f fault next first past lines gone c more fits =
     (ap (λ n. n + 1) c.stands.number)
 
 -- the next line is too long already
-pub ends-long : (f : Fed) → NoFeed f.read.kept → longest_line < length f.read.kept → Ends (Refused (f.view.lines + 1) TooLong) f
+pub ends-long : (f : Fed) → NoFeed f.read.kept → longest_line < length f.read.kept → EndsReading (Refused (f.view.lines + 1) TooLong) f
 ends-long f none long first past lines gone c more fits =
     let b = all_lines-begin f.read.kept more none (omega (arith, long)) in
     judged-stop f.view.graph first lines (f.read.kept ++ b.0) b.1 (all_lines (past ++ more)) TooLong (f.view.lines + 1) c.stands.good
@@ -129,19 +129,19 @@ ends-long f none long first past lines gone c more fits =
 -- What callers carry from one call to the next --
 
 -- nothing came to a feed that is new
-pub came-nothing : (lines : List (List ℕ)) (gone : List (List (Stamped Plain))) (f : Fed) → f.read ≡ record { kept = []; ended = false } → Stands lines gone f.view → Came lines [] [] gone f
+pub came-nothing : (lines : List (List ℕ)) (gone : List (List (Stamped Plain))) (f : Fed) → f.read ≡ record { kept = []; ended = false } → HasAccepted lines gone f.view → Came lines [] [] gone f
 came-nothing lines gone f unread stands = record {
   stands = rw append-nil stands;
-  cut = subst (λ (r : Reading). IsCut (arrived r.ended []) [] r.kept) (sym unread) (record { whole = tt; is = refl });
+  cut = subst (λ (r : Reading). IsCut (arrived_bytes r.ended []) [] r.kept) (sym unread) (record { whole = tt; is = refl });
   stops = stops-nothing f.view.graph lines;
 }
 
 -- packets were taken
 pub came-taken : (first : List (List ℕ)) (came : List ℕ) (lines : List (List ℕ)) (gone gone' : List (List (Stamped Plain))) (f g : Fed) → Came first came lines gone f → g.read ≡ f.read
-    → g.view.graph ≡ f.view.graph → Stands (first ++ lines) gone' g.view → Came first came lines gone' g
+    → g.view.graph ≡ f.view.graph → HasAccepted (first ++ lines) gone' g.view → Came first came lines gone' g
 came-taken first came lines gone gone' f g it same graph stands = record {
   stands = stands;
-  cut = subst (λ (r : Reading). IsCut (arrived r.ended came) lines r.kept) (sym same) it.cut;
+  cut = subst (λ (r : Reading). IsCut (arrived_bytes r.ended came) lines r.kept) (sym same) it.cut;
   stops = subst (λ (g : GraphInputs). StopsInTime g first came) (sym graph) it.stops;
 }
 

@@ -2,7 +2,7 @@
 use Rattle.std.proofs.Common.{◌≡◌, ℕ, zero, suc, ◌<◌, ◌≤◌, List, [], ◌∷◌, ◌++◌, length, Bool, true, false, ◌==◌, if◌then◌else◌, get_or, take, drop, refl, sym, ap, ◌∙◌, arith, append_assoc, append-nil, length-append, add-one, Option, None, Some, MatchOption, ◌||◌}
 use Rattle.std.proofs.lemmas.Bool.{eqb-true, true≢false}
 use Rattle.memchr.specs.Find.{is_byte, IsFirstByte}
-use Rattle.mg_feed.specs.Lines.{with_first, parts, but_last, but_empty_last, whole_lines, all_lines, last_part, rest_of, with_feed, completed, NoFeed, NoFeeds, fed_lines, IsCut}
+use Rattle.mg_feed.specs.Lines.{with_first, parts, but_last, but_empty_last, whole_lines, all_lines, last_part, unended_line, with_feed, completed, NoFeed, NoFeeds, fed_lines, IsCut}
 use Rattle.mg_feed.specs.Code.LineEnd.{EndsLine, has_feed}
 
 first_of : (b : ℕ) (x : Bool) (ps : List (List ℕ)) → (p : List ℕ) × (qs : List (List ℕ)) × ((if x then [] ∷ ps else with_first b ps) ≡ p ∷ qs)
@@ -35,7 +35,7 @@ all_lines-line p more none = let g = parts-first more in rw (parts-feed p more n
 pub whole_lines-line : (p more : List ℕ) → NoFeed p → whole_lines (p ++ 10 ∷ more) ≡ p ∷ whole_lines more
 whole_lines-line p more none = let g = parts-first more in rw (parts-feed p more none, g.2) refl
 
-rest_of-line : (p more : List ℕ) → NoFeed p → rest_of (p ++ 10 ∷ more) ≡ rest_of more
+rest_of-line : (p more : List ℕ) → NoFeed p → unended_line (p ++ 10 ∷ more) ≡ unended_line more
 rest_of-line p more none = let g = parts-first more in rw (parts-feed p more none, g.2) refl
 
 -- all lines before other bytes
@@ -51,10 +51,10 @@ whole_lines-fed (line ∷ lines) more none =
     ap whole_lines (append_assoc line (10 ∷ fed_lines lines) more) ∙ whole_lines-line line (fed_lines lines ++ more) none.0
     ∙ ap (λ l. line ∷ l) (whole_lines-fed lines more none.1)
 
-rest_of-fed : (lines : List (List ℕ)) (more : List ℕ) → NoFeeds lines → rest_of (fed_lines lines ++ more) ≡ rest_of more
+rest_of-fed : (lines : List (List ℕ)) (more : List ℕ) → NoFeeds lines → unended_line (fed_lines lines ++ more) ≡ unended_line more
 rest_of-fed [] more none = refl
 rest_of-fed (line ∷ lines) more none =
-    ap rest_of (append_assoc line (10 ∷ fed_lines lines) more) ∙ rest_of-line line (fed_lines lines ++ more) none.0 ∙ rest_of-fed lines more none.1
+    ap unended_line (append_assoc line (10 ∷ fed_lines lines) more) ∙ rest_of-line line (fed_lines lines ++ more) none.0 ∙ rest_of-fed lines more none.1
 
 fed_lines-append : (xs ys : List (List ℕ)) → fed_lines (xs ++ ys) ≡ fed_lines xs ++ fed_lines ys
 fed_lines-append [] ys = refl
@@ -87,7 +87,7 @@ cut-all bytes lines rest more cut =
 pub no_feed-whole : (p : List ℕ) → NoFeed p → whole_lines p ≡ []
 no_feed-whole p none = rw (parts-no_feed p none) refl
 
-no_feed-rest : (p : List ℕ) → NoFeed p → rest_of p ≡ p
+no_feed-rest : (p : List ℕ) → NoFeed p → unended_line p ≡ p
 no_feed-rest p none = rw (parts-no_feed p none) refl
 
 pub cut-whole : (bytes : List ℕ) (lines : List (List ℕ)) (rest : List ℕ) → IsCut bytes lines rest → NoFeed rest → lines ≡ whole_lines bytes
@@ -95,8 +95,8 @@ cut-whole bytes lines rest cut none =
     sym (ap whole_lines cut.is ∙ whole_lines-fed lines rest cut.whole ∙ ap (λ l. lines ++ l) (no_feed-whole rest none) ∙ append-nil lines)
 
 -- what they leave open
-pub cut-rest : (bytes : List ℕ) (lines : List (List ℕ)) (rest : List ℕ) → IsCut bytes lines rest → NoFeed rest → rest_of bytes ≡ rest
-cut-rest bytes lines rest cut none = ap rest_of cut.is ∙ rest_of-fed lines rest cut.whole ∙ no_feed-rest rest none
+pub cut-rest : (bytes : List ℕ) (lines : List (List ℕ)) (rest : List ℕ) → IsCut bytes lines rest → NoFeed rest → unended_line bytes ≡ rest
+cut-rest bytes lines rest cut none = ap unended_line cut.is ∙ rest_of-fed lines rest cut.whole ∙ no_feed-rest rest none
 
 -- The end --
 
@@ -146,7 +146,7 @@ but_empty-some ([] ∷ q ∷ ps) b rest is = ap (λ l. [] ∷ l) (but_empty-some
 but_empty-some ((c ∷ p) ∷ q ∷ ps) b rest is = ap (λ l. (c ∷ p) ∷ l) (but_empty-some (q ∷ ps) b rest is)
 
 -- with its last line feed an input that has ended has the same lines, and all are whole
-completed-by : (rest bytes : List ℕ) → rest_of bytes ≡ rest → (whole_lines (with_feed rest bytes) ≡ all_lines bytes) × (rest_of (with_feed rest bytes) ≡ [])
+completed-by : (rest bytes : List ℕ) → unended_line bytes ≡ rest → (whole_lines (with_feed rest bytes) ≡ all_lines bytes) × (unended_line (with_feed rest bytes) ≡ [])
 completed-by [] bytes is = (sym (but_empty-none (parts bytes) is), is)
 completed-by (b ∷ rest) bytes is = (
   ap but_last (parts-last bytes) ∙ but_last-last (parts bytes) ∙ sym (but_empty-some (parts bytes) b rest is),
@@ -154,10 +154,10 @@ completed-by (b ∷ rest) bytes is = (
 )
 
 pub whole_lines-completed : (bytes : List ℕ) → whole_lines (completed bytes) ≡ all_lines bytes
-whole_lines-completed bytes = (completed-by (rest_of bytes) bytes refl).0
+whole_lines-completed bytes = (completed-by (unended_line bytes) bytes refl).0
 
-rest_of-completed : (bytes : List ℕ) → rest_of (completed bytes) ≡ []
-rest_of-completed bytes = (completed-by (rest_of bytes) bytes refl).1
+rest_of-completed : (bytes : List ℕ) → unended_line (completed bytes) ≡ []
+rest_of-completed bytes = (completed-by (unended_line bytes) bytes refl).1
 
 pub all_lines-completed : (bytes : List ℕ) → all_lines (completed bytes) ≡ all_lines bytes
 all_lines-completed bytes = but_empty-none (parts (completed bytes)) (rest_of-completed bytes) ∙ whole_lines-completed bytes

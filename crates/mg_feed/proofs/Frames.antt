@@ -7,7 +7,7 @@ use Rattle.json.specs.Json.{value, members}
 use Rattle.serde_json.specs.Data.{Data, Members, no_members, member, object, string as text_data, put}
 use Rattle.serde_json.specs.Read.{of_json, converted, max_depth}
 use Rattle.mg_feed.specs.Form.{packets, form_of, json_value}
-use Rattle.mg_feed.specs.Code.Frames.{numbered, value_at, frame_tokens, IsFrame}
+use Rattle.mg_feed.specs.Code.Frames.{number_written, value_at, frame_tokens, IsFrame}
 use Rattle.mg_feed.proofs.JsonParts.{members_behind, member_read, members_over}
 use Rattle.mg_feed.proofs.Trees.{scalar_read, object_read, text_read}
 
@@ -19,7 +19,7 @@ framed name time v = member (codes "stream") (text_data name) (member (codes "ts
 abbrev members_read : Members → ℕ → List Token → Option (Members × List Token)
 members_read old n ts = converted (members_behind old) (members (value 126) n ts)
 
-read_frame : (name s : List ℕ) (rest : List Token) (time v : Data) → numbered s ≡ Some time → value_at rest ≡ Some (v, end_object ∷ [])
+read_frame : (name s : List ℕ) (rest : List Token) (time v : Data) → number_written s ≡ Some time → value_at rest ≡ Some (v, end_object ∷ [])
     → converted of_json (value max_depth (frame_tokens name s rest)) ≡ Some (object (framed name time v), [])
 read_frame name s rest time v timed valued =
     let timed_rest = key (codes "value") ∷ rest in

@@ -8,8 +8,8 @@ use Rattle.mg_feed.specs.Graph.{GraphInputs, place_of}
 use Rattle.mg_feed.specs.Form.{Named, Form, packets, bound, close, side, is_blank, form_of, json_value}
 use Rattle.mg_feed.specs.Value.{plain_of}
 use Rattle.mg_feed.specs.Accepted.{State, Before, before, fresh, stepped, stepped_at, with_packets, with_form, with_said, with_line, time_or_none, given_by, standing, has_some, line_refusal, refusal}
-use Rattle.mg_feed.specs.View.{View, standings, before_seen, with_next, without_packets, all_taken, after_taking}
-use Rattle.mg_feed.specs.Stands.{AllGood, behind, behind_all, Stands, nothing_taken, taken_with}
+use Rattle.mg_feed.specs.View.{View, standings, before_seen, with_counted_line, without_packets, all_taken, after_taking}
+use Rattle.mg_feed.specs.Stands.{AllGood, with_gone, behind_all, HasAccepted, nothing_taken, taken_with}
 
 -- packets before others
 has_some-append : {X : Type 0} (xs ys : List X) → has_some (xs ++ ys) ≡ (has_some xs || has_some ys)
@@ -21,19 +21,19 @@ standings-behind [] ss = refl
 standings-behind (t ∷ ts) [] = refl
 standings-behind (t ∷ ts) (s ∷ ss) = rw (has_some-append t s.packets, standings-behind ts ss) refl
 
-pub behind-stepped : (step : StreamPrefix Plain → StreamPrefix Plain) → ((t : List (Stamped Plain)) (s : StreamPrefix Plain) → behind t (step s) ≡ step (behind t s))
+pub behind-stepped : (step : StreamPrefix Plain → StreamPrefix Plain) → ((t : List (Stamped Plain)) (s : StreamPrefix Plain) → with_gone t (step s) ≡ step (with_gone t s))
     → (place : ℕ) (ts : List (List (Stamped Plain))) (ss : List (StreamPrefix Plain)) → behind_all ts (stepped place step ss) ≡ stepped place step (behind_all ts ss)
 behind-stepped step same place [] ss = refl
 behind-stepped step same place (t ∷ ts) [] = refl
 behind-stepped step same zero (t ∷ ts) (s ∷ ss) = ap (λ x. x ∷ behind_all ts ss) (same t s)
-behind-stepped step same (suc place) (t ∷ ts) (s ∷ ss) = ap (λ l. behind t s ∷ l) (behind-stepped step same place ts ss)
+behind-stepped step same (suc place) (t ∷ ts) (s ∷ ss) = ap (λ l. with_gone t s ∷ l) (behind-stepped step same place ts ss)
 
-behind-stepped_at : (step : StreamPrefix Plain → StreamPrefix Plain) → ((t : List (Stamped Plain)) (s : StreamPrefix Plain) → behind t (step s) ≡ step (behind t s))
+behind-stepped_at : (step : StreamPrefix Plain → StreamPrefix Plain) → ((t : List (Stamped Plain)) (s : StreamPrefix Plain) → with_gone t (step s) ≡ step (with_gone t s))
     → (place : Option ℕ) (ts : List (List (Stamped Plain))) (ss : List (StreamPrefix Plain)) → behind_all ts (stepped_at place step ss) ≡ stepped_at place step (behind_all ts ss)
 behind-stepped_at step same None ts ss = refl
 behind-stepped_at step same (Some place) ts ss = behind-stepped step same place ts ss
 
-pub behind-appended : (p : Stamped Plain) (t : List (Stamped Plain)) (s : StreamPrefix Plain) → behind t (appended s p) ≡ appended (behind t s) p
+pub behind-appended : (p : Stamped Plain) (t : List (Stamped Plain)) (s : StreamPrefix Plain) → with_gone t (appended s p) ≡ appended (with_gone t s) p
 behind-appended p t s = rw append_assoc refl
 
 behind-packets : (graph : GraphInputs) (time : ℕ) (vs : List Named) (ts : List (List (Stamped Plain))) (ss : List (StreamPrefix Plain))
@@ -79,7 +79,7 @@ AllGood-push graph before [] line good none = (rw append-nil at none, tt)
 AllGood-push graph before (l ∷ ls) line good none = (good.0, AllGood-push graph (before ++ l ∷ []) ls line good.1 (rw append_assoc none))
 
 -- a line is judged by what the feed has
-pub refusal-seen : (lines : List (List ℕ)) (ts : List (List (Stamped Plain))) (v : View) (line : List ℕ) → Stands lines ts v
+pub refusal-seen : (lines : List (List ℕ)) (ts : List (List (Stamped Plain))) (v : View) (line : List ℕ) → HasAccepted lines ts v
     → refusal v.graph lines line ≡ line_refusal (before_seen v) line
 refusal-seen lines ts v line stands =
     ap (λ (b : Before). line_refusal b line)
@@ -120,19 +120,19 @@ length-line : (graph : GraphInputs) (given : State) (line : List ℕ) → length
 length-line graph given line =
     length-by (list_all is_blank line) given (with_said graph given (option_and_then form_of (json_value line))) (length-said graph given (option_and_then form_of (json_value line)))
 
-pub stands-next : (lines : List (List ℕ)) (ts : List (List (Stamped Plain))) (v w : View) (line : List ℕ) → Stands lines ts v
-    → line_refusal (before_seen v) line ≡ None → w ≡ with_next v (with_line v.graph v.given line)
-    → (refusal v.graph lines line ≡ None) × Stands (lines ++ line ∷ []) ts w
+pub stands-next : (lines : List (List ℕ)) (ts : List (List (Stamped Plain))) (v w : View) (line : List ℕ) → HasAccepted lines ts v
+    → line_refusal (before_seen v) line ≡ None → w ≡ with_counted_line v (with_line v.graph v.given line)
+    → (refusal v.graph lines line ≡ None) × HasAccepted (lines ++ line ∷ []) ts w
 stands-next lines ts v w line stands good is =
     let none = refusal-seen lines ts v line stands ∙ good in
-    let s : Stands (lines ++ line ∷ []) ts (with_next v (with_line v.graph v.given line)) = record {
+    let s : HasAccepted (lines ++ line ∷ []) ts (with_counted_line v (with_line v.graph v.given line)) = record {
       number = ap (λ n. n + 1) stands.number ∙ sym (length-append lines (line ∷ []));
       good = AllGood-push v.graph [] lines line stands.good none;
       given = given_by-append v.graph lines (line ∷ []) ∙ ap (λ g. with_line v.graph g line) stands.given ∙ whole-line v.graph ts v.given line;
       many = stands.many ∙ sym (length-line v.graph v.given line);
       taken = stands.taken;
     } in
-    (none, subst (λ (x : View). Stands (lines ++ line ∷ []) ts x) (sym is) s)
+    (none, subst (λ (x : View). HasAccepted (lines ++ line ∷ []) ts x) (sym is) s)
 
 -- at the start
 length-behind : (n : ℕ) → length (replicate {A = List (Stamped Plain)} n []) ≡ length (replicate n (empty_prefix {X = Plain}))
@@ -148,8 +148,8 @@ nothing-some zero = refl
 nothing-some (suc n) = ap (λ l. false ∷ l) (nothing-some n)
 
 pub stands-fresh : (graph : GraphInputs) (v : View)
-    → v ≡ record { graph = graph; given = fresh graph; taken = replicate (length graph.kinds) false; lines = 0 } → Stands [] (nothing_taken graph) v
-stands-fresh graph v is = subst (λ (x : View). Stands [] (nothing_taken graph) x) (sym is) (record {
+    → v ≡ record { graph = graph; given = fresh graph; taken = replicate (length graph.kinds) false; lines = 0 } → HasAccepted [] (nothing_taken graph) v
+stands-fresh graph v is = subst (λ (x : View). HasAccepted [] (nothing_taken graph) x) (sym is) (record {
   number = refl;
   good = tt;
   given = rw (behind-nothing (length graph.kinds)) refl;
@@ -174,16 +174,16 @@ taken-taken [] ss = refl
 taken-taken (t ∷ ts) [] = refl
 taken-taken (t ∷ ts) (s ∷ ss) = rw (has_some-append t s.packets, taken-taken ts ss) refl
 
-pub stands-taken : (lines : List (List ℕ)) (ts : List (List (Stamped Plain))) (v w : View) → Stands lines ts v → w ≡ after_taking v → Stands lines (taken_with ts v.given.streams) w
+pub stands-taken : (lines : List (List ℕ)) (ts : List (List (Stamped Plain))) (v w : View) → HasAccepted lines ts v → w ≡ after_taking v → HasAccepted lines (taken_with ts v.given.streams) w
 stands-taken lines ts v w stands is =
-    let s : Stands lines (taken_with ts v.given.streams) (after_taking v) = record {
+    let s : HasAccepted lines (taken_with ts v.given.streams) (after_taking v) = record {
       number = stands.number;
       good = stands.good;
       given = stands.given ∙ rw (behind-taken ts v.given.streams) refl;
       many = length-taken ts v.given.streams stands.many;
       taken = ap (λ t. all_taken t v.given.streams) stands.taken ∙ taken-taken ts v.given.streams;
     } in
-    subst (λ (x : View). Stands lines (taken_with ts v.given.streams) x) (sym is) s
+    subst (λ (x : View). HasAccepted lines (taken_with ts v.given.streams) x) (sym is) s
 
 -- where nothing was taken, the feed has all that its lines gave
 pub behind-none : (n : ℕ) (ss : List (StreamPrefix Plain)) → n ≡ length ss → behind_all (replicate n []) ss ≡ ss
@@ -196,7 +196,7 @@ length-none : (n : ℕ) → length (replicate {A = List (Stamped Plain)} n []) �
 length-none zero = refl
 length-none (suc n) = ap suc (length-none n)
 
-pub given-untaken : (lines : List (List ℕ)) (v : View) → Stands lines (nothing_taken v.graph) v → v.given ≡ given_by v.graph lines
+pub given-untaken : (lines : List (List ℕ)) (v : View) → HasAccepted lines (nothing_taken v.graph) v → v.given ≡ given_by v.graph lines
 given-untaken lines v stands =
     let n = length v.graph.kinds in
     let many : n ≡ length v.given.streams = sym (length-none n) ∙ stands.many in

@@ -7,13 +7,13 @@ use Rattle.mg_edge.proofs.Runs.{Gave-start}
 use Rattle.mg_feed.specs.Lines.{NoFeed, IsCut, all_lines, with_feed}
 use Rattle.mg_feed.specs.Accepted.{longest_line}
 use Rattle.mg_feed.specs.Fed.{Reading}
-use Rattle.mg_feed.specs.Came.{arrived}
+use Rattle.mg_feed.specs.Came.{arrived_bytes}
 use Rattle.mg_feed.specs.Ran.{MetEnd, Unfailed}
 use Rattle.mg_feed.specs.Handed.{HasHanded, MovesOn, EndsReads, ComesAs, NextComes}
 use Rattle.mg_feed.specs.Code.LineEnd.{EndsLine, has_feed}
 use Rattle.mg_feed.specs.Code.Filled.{GotEnd, GotFault}
 use Rattle.mg_feed.specs.Ran.{late}
-use Rattle.mg_feed.specs.Code.Handing.{LacksLine, SearchStops, StopsLater, Takes, weight_of}
+use Rattle.mg_feed.specs.Code.Handing.{LacksLine, SearchStops, StopsLater, HandsOutLine, weight_of}
 use Rattle.mg_feed.specs.Once.{longest_block}
 use Rattle.mg_feed.specs.declared.lines.NextLine.{NextLine}
 use Rattle.mg_feed.specs.declared.lines.NextLine.TheVariants.{Line, TooLong, Ended, Failed}
@@ -56,9 +56,9 @@ moves-end old new before now was none got =
         unfailed = got.unfailed;
         grows = λ past lines has.
             subst (λ (l : List ℕ). HasHanded l lines new) (sym (append-nil past))
-            (subst (λ (b : Bool). IsCut (arrived b past) lines new.kept) (sym got.ended)
-            (subst (λ (k : List ℕ). IsCut (arrived true past) lines k) (sym got.kept)
-            (cut-end past lines old.kept (subst (λ (b : Bool). IsCut (arrived b past) lines old.kept) was has) none)));
+            (subst (λ (b : Bool). IsCut (arrived_bytes b past) lines new.kept) (sym got.ended)
+            (subst (λ (k : List ℕ). IsCut (arrived_bytes true past) lines k) (sym got.kept)
+            (cut-end past lines old.kept (subst (λ (b : Bool). IsCut (arrived_bytes b past) lines old.kept) was has) none)));
       },
       omega (arith, long, more, late_old, late_new),
     )
@@ -110,7 +110,7 @@ long-comes r past lines none long has line more fits =
       (let more_long = length-append r.kept b.0 in omega (arith, long, more_long)),
     )
 
-ended-by : (ended : Bool) (past : List ℕ) (lines : List (List ℕ)) (kept : List ℕ) → ended ≡ true → IsCut (arrived ended past) lines kept → NoFeed kept → lines ≡ all_lines past
+ended-by : (ended : Bool) (past : List ℕ) (lines : List (List ℕ)) (kept : List ℕ) → ended ≡ true → IsCut (arrived_bytes ended past) lines kept → NoFeed kept → lines ≡ all_lines past
 ended-by true past lines kept is cut none = cut-ended past lines kept cut none
 ended-by false past lines kept is cut none = absurd cc
 
@@ -118,7 +118,7 @@ lacks-comes : (next : NextLine) (r : Reading) (line past : List ℕ) (lines : Li
 lacks-comes Line r line past lines lacks has = absurd lacks
 lacks-comes TooLong r line past lines lacks has = long-comes r past lines lacks.0 lacks.1 has line
 lacks-comes Ended r line past lines lacks has = (lacks.0, ended-by r.ended past lines r.kept lacks.0 has lacks.1)
-lacks-comes Failed r line past lines lacks has = cut-whole past lines r.kept (subst (λ (b : Bool). IsCut (arrived b past) lines r.kept) lacks.0 has) lacks.1
+lacks-comes Failed r line past lines lacks has = cut-whole past lines r.kept (subst (λ (b : Bool). IsCut (arrived_bytes b past) lines r.kept) lacks.0 has) lacks.1
 
 pub next-stops : (next : NextLine) (line : List ℕ) (before now : SourceTold) (old new : Reading) → StopsLater next before now old new → NextComes next line before now old new
 next-stops next line before now old new s =
@@ -133,9 +133,9 @@ next-stops next line before now old new s =
       comes = λ past lines has. subst (ComesAs next line (past ++ m.came) lines) (sym same) (lacks-comes next s.read line (past ++ m.came) lines t.lacks (m.grows past lines has));
     }
 
-takes-comes : (next : NextLine) (line past : List ℕ) (lines : List (List ℕ)) (r s : Reading) → Takes next line r s → HasHanded past lines r → ComesAs next line past lines s
+takes-comes : (next : NextLine) (line past : List ℕ) (lines : List (List ℕ)) (r s : Reading) → HandsOutLine next line r s → HasHanded past lines r → ComesAs next line past lines s
 takes-comes Line line past lines r s (cut, none, ended, short) has =
-    (subst (λ (b : Bool). IsCut (arrived b past) (lines ++ line ∷ []) s.kept) (sym ended) (cut-line (arrived r.ended past) lines r.kept line s.kept has cut none), short)
+    (subst (λ (b : Bool). IsCut (arrived_bytes b past) (lines ++ line ∷ []) s.kept) (sym ended) (cut-line (arrived_bytes r.ended past) lines r.kept line s.kept has cut none), short)
 takes-comes TooLong line past lines r s (same, (long, rest, cut, none, far)) has = λ more fits. (
   long,
   all_lines (rest ++ more),
@@ -146,19 +146,19 @@ takes-comes TooLong line past lines r s (same, (long, rest, cut, none, far)) has
 takes-comes Ended line past lines r s takes has = absurd takes
 takes-comes Failed line past lines r s takes has = absurd takes
 
-takes-reads : (next : NextLine) (line : List ℕ) (r s : Reading) (before now : SourceTold) → Takes next line r s → Unfailed before now → EndsReads next before now
+takes-reads : (next : NextLine) (line : List ℕ) (r s : Reading) (before now : SourceTold) → HandsOutLine next line r s → Unfailed before now → EndsReads next before now
 takes-reads Line line r s before now takes un = un
 takes-reads TooLong line r s before now takes un = un
 takes-reads Ended line r s before now takes un = absurd takes
 takes-reads Failed line r s before now takes un = absurd takes
 
-takes-ended : (next : NextLine) (line : List ℕ) (r s : Reading) → Takes next line r s → s.ended ≡ r.ended
+takes-ended : (next : NextLine) (line : List ℕ) (r s : Reading) → HandsOutLine next line r s → s.ended ≡ r.ended
 takes-ended Line line r s (cut, none, ended, short) = ended
 takes-ended TooLong line r s (same, long) = ap (λ (t : Reading). t.ended) same
 takes-ended Ended line r s takes = absurd takes
 takes-ended Failed line r s takes = absurd takes
 
-pub next-takes : (next : NextLine) (line : List ℕ) (before now : SourceTold) (old read new : Reading) → MovesOn before now old read → Takes next line read new → NextComes next line before now old new
+pub next-takes : (next : NextLine) (line : List ℕ) (before now : SourceTold) (old read new : Reading) → MovesOn before now old read → HandsOutLine next line read new → NextComes next line before now old new
 next-takes next line before now old read new m takes = record {
   came = m.came;
   gave = m.gave;
@@ -171,7 +171,7 @@ next-takes next line before now old read new m takes = record {
 
 -- one that was held, and whose line feed was passed
 pub took-line : (cut left line held after : List ℕ) (old new : Reading) (i : ℕ) → old.kept ≡ cut ++ left → has_feed cut ≡ false → EndsLine left i → line ≡ cut ++ take i left → held ≡ drop i left → after ≡ drop 1 held
-    → new.kept ≡ after → new.ended ≡ old.ended → length line ≤ longest_line → Takes Line line old new
+    → new.kept ≡ after → new.ended ≡ old.ended → length line ≤ longest_line → HandsOutLine Line line old new
 took-line cut left line held after old new i is none ends line_is passed behind now ended short = (
   is ∙ line-cut cut line left new.kept i ends line_is (now ∙ behind ∙ ap (drop 1) passed ∙ sym (drop-twice i 1 (i + 1) left refl)),
   line-none cut line left i none ends line_is,
@@ -180,8 +180,8 @@ took-line cut left line held after old new i is none ends line_is passed behind 
 )
 
 -- one that can't be held
-pub took-long : (cut left : List ℕ) (old new : Reading) (next : NextLine) (i : ℕ) (line : List ℕ) → next ≡ TooLong → new ≡ old → old.kept ≡ cut ++ left → has_feed cut ≡ false → EndsLine left i → longest_line < length cut + i → Takes next line old new
-took-long cut left old new next i line next_is same is none ends long = subst (λ (n : NextLine). Takes n line old new) (sym next_is) (
+pub took-long : (cut left : List ℕ) (old new : Reading) (next : NextLine) (i : ℕ) (line : List ℕ) → next ≡ TooLong → new ≡ old → old.kept ≡ cut ++ left → has_feed cut ≡ false → EndsLine left i → longest_line < length cut + i → HandsOutLine next line old new
+took-long cut left old new next i line next_is same is none ends long = subst (λ (n : NextLine). HandsOutLine n line old new) (sym next_is) (
   same,
   (
     cut ++ take i left,

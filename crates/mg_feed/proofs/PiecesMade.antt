@@ -12,7 +12,7 @@ use Rattle.mg_feed.specs.Graph.{GraphInputs}
 use Rattle.mg_feed.specs.Accepted.{fresh, stepped}
 use Rattle.mg_feed.specs.Given.{ended_stream, ended_streams}
 use Rattle.mg_feed.specs.View.{View, without_packets, after_taking}
-use Rattle.mg_feed.specs.Stands.{behind, behind_all, packets_of}
+use Rattle.mg_feed.specs.Stands.{with_gone, behind_all, packets_of}
 use Rattle.mg_feed.specs.Generated.{generated, generated_streams, generated_packet, generated_sides}
 use Rattle.mg_feed.specs.Pieces.{Making, HasHandedOn, IsPiece}
 use Rattle.mg_feed.specs.Code.MadeSoFar.{AreMade}
@@ -31,7 +31,7 @@ size-generated kinds (suc n) =
 behind-left : (ss : List (StreamPrefix Plain)) → behind_all (packets_of ss) (map without_packets ss) ≡ ss
 behind-left [] = refl
 behind-left (s ∷ ss) =
-    ap (λ x. x ∷ behind_all (packets_of ss) (map without_packets ss)) (same_prefix (behind s.packets (without_packets s)) s (append-nil s.packets) refl)
+    ap (λ x. x ∷ behind_all (packets_of ss) (map without_packets ss)) (same_prefix (with_gone s.packets (without_packets s)) s (append-nil s.packets) refl)
     ∙ ap (λ l. s ∷ l) (behind-left ss)
 
 left-behind : (ts : List (List (Stamped Plain))) (ss : List (StreamPrefix Plain)) → length ts ≡ length ss → map without_packets (behind_all ts ss) ≡ map without_packets ss
@@ -44,7 +44,7 @@ all-ended-behind : (ended : Bool) (ts : List (List (Stamped Plain))) (ss : List 
 all-ended-behind ended [] ss = refl
 all-ended-behind ended (t ∷ ts) [] = refl
 all-ended-behind ended (t ∷ ts) (s ∷ ss) =
-    ap (λ x. x ∷ ended_streams ended (behind_all ts ss)) (ended-behind ended t s) ∙ ap (λ l. behind t (ended_stream ended s) ∷ l) (all-ended-behind ended ts ss)
+    ap (λ x. x ∷ ended_streams ended (behind_all ts ss)) (ended-behind ended t s) ∙ ap (λ l. with_gone t (ended_stream ended s) ∷ l) (all-ended-behind ended ts ss)
 
 none-packets : (n : ℕ) → packets_of (replicate n (empty_prefix {X = Plain})) ≡ replicate n []
 none-packets zero = refl

@@ -10,7 +10,7 @@ use Rattle.mg_feed.specs.Form.{Named, packets, time_of}
 use Rattle.mg_feed.specs.Accepted.{stepped_at, with_packets, with_form, is_stream, first_refusal, several_refusals, form_refusals}
 use Rattle.mg_feed.specs.View.{View, before_seen, with_streams, with_given}
 use Rattle.mg_feed.specs.Value.{plain_of}
-use Rattle.mg_feed.specs.Code.Due.{packets_room, RoomIn, HasRoom, AllRoom, laid, AreDue}
+use Rattle.mg_feed.specs.Code.Due.{packets_room, RoomIn, HasRoom, AllRoom, with_due, AreDue}
 use Rattle.mg_feed.specs.declared.feed_stream.FeedStream.{FeedStream}
 use Rattle.mg_feed.specs.declared.due.Due.{Due}
 
@@ -81,7 +81,7 @@ all_room-push n ss (e ∷ ds) d room one = (room.0, all_room-push n ss ds d room
 
 -- the packets of named values, laid
 laid-due-by : (graph : GraphInputs) (time : Option ℕ) (vs : List Named) (ds : List Due) (ss : List (StreamPrefix Plain)) → AreDue graph time vs ds
-    → laid ds ss ≡ with_packets graph (unwrap_or time 0) vs ss
+    → with_due ds ss ≡ with_packets graph (unwrap_or time 0) vs ss
 laid-due-by graph time [] [] ss due = refl
 laid-due-by graph time [] (d ∷ ds) ss due = absurd due
 laid-due-by graph time (v ∷ vs) [] ss due = absurd due
@@ -91,7 +91,7 @@ laid-due-by graph time (v ∷ vs) (d ∷ ds) ss due =
     ∙ ap (λ (q : Stamped Plain). with_packets graph (unwrap_or time 0) vs (stepped_at (place_of graph.streams v.name) (λ s. appended s q) ss)) due.1
 
 pub laid-due : (graph : GraphInputs) (time : Option ℕ) (vs : List Named) (ds : List Due) (ss : List (StreamPrefix Plain)) → AreDue graph time vs ds
-    → laid ds ss ≡ with_packets graph (unwrap_or time 0) vs ss
+    → with_due ds ss ≡ with_packets graph (unwrap_or time 0) vs ss
 laid-due = laid-due-by
 
 pub due-push : (graph : GraphInputs) (time : Option ℕ) (vs : List Named) (ds : List Due) (v : Named) (d : Due) → AreDue graph time vs ds
@@ -118,7 +118,7 @@ room-first ss items rest d cut room =
 -- all packets of a line are laid
 pub packets-heard : (old new : View) (t : Data) (vs : List Named) (due : List Due)
     → list_all (λ v. is_stream (before_seen old) v.name) vs ≡ true → first_refusal (several_refusals (before_seen old) (time_of t) vs) ≡ None
-    → AreDue old.graph (time_of t) vs due → new ≡ with_streams old (laid due old.given.streams)
+    → AreDue old.graph (time_of t) vs due → new ≡ with_streams old (with_due due old.given.streams)
     → (first_refusal (form_refusals (before_seen old) (packets t vs)) ≡ None) × (new ≡ with_given old (with_form old.graph old.given (packets t vs)))
 packets-heard old new t vs due known none are is =
     (rw known none, is ∙ ap (with_streams old) (laid-due old.graph (time_of t) vs due old.given.streams are))

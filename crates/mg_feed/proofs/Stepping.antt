@@ -5,13 +5,13 @@ use Rattle.mg_edge.specs.Edge.{SourceTold}
 use Rattle.mg_edge.proofs.Runs.{Gave-start}
 use Rattle.mg_feed.specs.Lines.{NoFeed}
 use Rattle.mg_feed.specs.Accepted.{longest_line, line_refusal, names_stream, with_line}
-use Rattle.mg_feed.specs.View.{before_seen, with_next}
+use Rattle.mg_feed.specs.View.{before_seen, with_counted_line}
 use Rattle.mg_feed.specs.Fed.{Fed}
 use Rattle.mg_feed.specs.Ran.{EndCame, MetEnd, late, FailedBy}
 use Rattle.mg_feed.specs.Batch.{HasCause}
 use Rattle.mg_feed.specs.Code.LineEnd.{EndsLine, has_feed}
 use Rattle.mg_feed.specs.Code.Filled.{GotBytes, GotEnd, GotFault}
-use Rattle.mg_feed.specs.Code.Moves.{Moved, Ends, Stopped, StopsBy, TookLine, NextLine}
+use Rattle.mg_feed.specs.Code.Moves.{Moved, EndsReading, Stopped, StopsBy, TookLine, NextLine}
 use Rattle.mg_feed.specs.declared.line_fault.LineFault.{LineFault}
 use Rattle.mg_feed.specs.declared.line_fault.LineFault.TheVariants.{OutOfMemory as no_memory, TooLong}
 use Rattle.mg_feed.specs.declared.feed_end.FeedEnd.{FeedEnd}
@@ -72,13 +72,13 @@ stopped-failed old new before now same was none got =
           spends-read (late old.read.ended) 1 before.left now.left before.reads now.reads [] got.gave got.counted (omega (arith, zero_late));
       failed = got.failed;
       cause = tt;
-      ends = subst (Ends (Failed old.view.lines)) (sym same) (ends-failed old was none);
+      ends = subst (EndsReading (Failed old.view.lines)) (sym same) (ends-failed old was none);
     }
 
 -- Lines --
 
 -- the reading stops where nothing was read
-stopped-here : (end : FeedEnd) (old new : Fed) (told : SourceTold) → new ≡ old → (FailedBy end told told) → HasCause end → Ends end old → Stopped end told told old new
+stopped-here : (end : FeedEnd) (old new : Fed) (told : SourceTold) → new ≡ old → (FailedBy end told told) → HasCause end → EndsReading end old → Stopped end told told old new
 stopped-here end old new told same failed cause ends = record {
   gave = Gave-start told.left;
   same = same;
@@ -86,7 +86,7 @@ stopped-here end old new told same failed cause ends = record {
   spent = spends-late old.read.ended told.left told.reads;
   failed = failed;
   cause = cause;
-  ends = subst (Ends end) (sym same) ends;
+  ends = subst (EndsReading end) (sym same) ends;
 }
 
 -- the source has ended, and nothing is left
@@ -95,7 +95,7 @@ stopped-ended f told ended none = stopped-here Ended f f told refl (unfailed-sam
 
 -- the next line isn't good, or there is no memory for it
 pub stopped-by : (end : FeedEnd) (old new : Fed) (told : SourceTold) (fault : LineFault) (lines : ℕ) → lines ≡ old.view.lines → StopsBy fault lines end → new ≡ old
-    → (fault ≢ no_memory → Ends (Refused (old.view.lines + 1) fault) old) → Stopped end told told old new
+    → (fault ≢ no_memory → EndsReading (Refused (old.view.lines + 1) fault) old) → Stopped end told told old new
 stopped-by end old new told fault lines count (inl out) same ends =
     subst (λ (e : FeedEnd). Stopped e told told old new) (sym out.1) (stopped-here OutOfMemory old new told same (unfailed-same told) tt (λ first past ls gone c. tt))
 stopped-by end old new told fault lines count (inr refused) same ends =
@@ -145,7 +145,7 @@ next-bad f fault cut line left i kept none ends is bad = record {
 -- a good line
 pub took-cut : (named : Bool) (old new : Fed) (cut line left held after : List ℕ) (i : ℕ) → old.read.kept ≡ cut ++ left → has_feed cut ≡ false → EndsLine left i
     → line ≡ cut ++ take i left → held ≡ drop i left → after ≡ drop 1 held → new.read.kept ≡ after → new.read.ended ≡ old.read.ended
-    → named ≡ names_stream line → line_refusal (before_seen old.view) line ≡ None → new.view ≡ with_next old.view (with_line old.view.graph old.view.given line)
+    → named ≡ names_stream line → line_refusal (before_seen old.view) line ≡ None → new.view ≡ with_counted_line old.view (with_line old.view.graph old.view.given line)
     → TookLine named old new
 took-cut named old new cut line left held after i kept none ends is passed behind now ended names good view = record {
   line = line;

@@ -5,14 +5,14 @@ use Rattle.mg_edge.specs.Runs.{Gave}
 use Rattle.mg_feed.specs.Lines.{IsCut, all_lines, whole_lines}
 use Rattle.mg_feed.specs.Accepted.{longest_line}
 use Rattle.mg_feed.specs.Fed.{Reading}
-use Rattle.mg_feed.specs.Came.{arrived}
+use Rattle.mg_feed.specs.Came.{arrived_bytes}
 use Rattle.mg_feed.specs.Ran.{MetEnd, Unfailed, ReadFailed}
 use Rattle.mg_feed.specs.declared.lines.NextLine.{NextLine}
 use Rattle.mg_feed.specs.declared.lines.NextLine.TheVariants.{Line, TooLong, Ended, Failed}
 
 -- Of the bytes that came these lines were handed out, and what stands behind them is kept.
 abbrev pub HasHanded : List ℕ → List (List ℕ) → Reading → Type 0
-HasHanded came lines read = IsCut (arrived read.ended came) lines read.kept
+HasHanded came lines read = IsCut (arrived_bytes read.ended came) lines read.kept
 
 -- Bytes came, and no line was handed out meanwhile.
 pub record MovesOn (before now : SourceTold) (old new : Reading) : Type 0 where

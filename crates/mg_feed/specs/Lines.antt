@@ -40,8 +40,8 @@ last_part (part ∷ []) = part
 last_part (part ∷ next ∷ parts) = last_part (next ∷ parts)
 
 -- the bytes after the last line feed
-abbrev pub rest_of : List ℕ → List ℕ
-rest_of bytes = last_part (parts bytes)
+abbrev pub unended_line : List ℕ → List ℕ
+unended_line bytes = last_part (parts bytes)
 
 -- the bytes, and a line feed behind them where the part after their last line feed isn't empty
 abbrev pub with_feed : List ℕ → List ℕ → List ℕ
@@ -50,7 +50,7 @@ with_feed (b ∷ rest) bytes = bytes ++ 10 ∷ []
 
 -- the bytes of an input that has ended, with the line feed that its last line may lack
 abbrev pub completed : List ℕ → List ℕ
-completed bytes = with_feed (rest_of bytes) bytes
+completed bytes = with_feed (unended_line bytes) bytes
 
 -- no byte is a line feed
 abbrev pub NoFeed : List ℕ → Type 0

@@ -2,7 +2,7 @@
 use Rattle.std.specs.Prelude.{◌≡◌, ◌≤◌, ℕ, List, [], ◌++◌, length}
 use Rattle.mg_edge.specs.Edge.{SourceTold}
 use Rattle.mg_feed.specs.Graph.{GraphInputs}
-use Rattle.mg_feed.specs.Lines.{whole_lines, rest_of}
+use Rattle.mg_feed.specs.Lines.{whole_lines, unended_line}
 use Rattle.mg_feed.specs.Accepted.{longest_line}
 use Rattle.mg_feed.specs.Stands.{AllGood}
 use Rattle.mg_feed.specs.Ran.{Spends}
@@ -21,7 +21,7 @@ pub record StopsInTime (graph : GraphInputs) (first : List (List ℕ)) (came : L
   pub split : came ≡ before ++ block
   pub few : length block ≤ longest_block
   pub good : AllGood graph first (whole_lines before)
-  pub open_line : length (rest_of before) ≤ longest_line
+  pub open_line : length (unended_line before) ≤ longest_line
 
 -- An input, of which these bytes came, was read no further than `StopsInTime` says. Where the source tells its bytes and its reads, there
 -- was at most one read more than bytes came: the one that answered `End`, or that failed.

@@ -12,17 +12,17 @@ AllGood graph before [] = Unit {0}
 AllGood graph before (line ∷ lines) = (refusal graph before line ≡ None) × AllGood graph (before ++ line ∷ []) lines
 
 -- a prefix, with the packets that were taken of it in front
-abbrev pub behind : List (Stamped Plain) → StreamPrefix Plain → StreamPrefix Plain
-behind t s = record { packets = t ++ s.packets; bound = s.bound }
+abbrev pub with_gone : List (Stamped Plain) → StreamPrefix Plain → StreamPrefix Plain
+with_gone t s = record { packets = t ++ s.packets; bound = s.bound }
 
 -- the prefixes, each with the packets that were taken of it in front
 abbrev pub behind_all : List (List (Stamped Plain)) → List (StreamPrefix Plain) → List (StreamPrefix Plain)
 behind_all [] ss = []
 behind_all (t ∷ ts) [] = []
-behind_all (t ∷ ts) (s ∷ ss) = behind t s ∷ behind_all ts ss
+behind_all (t ∷ ts) (s ∷ ss) = with_gone t s ∷ behind_all ts ss
 
 -- The feed accepted these lines. Of what they gave it has all but the packets that were taken, perhaps some of each stream.
-pub record Stands (lines : List (List ℕ)) (gone : List (List (Stamped Plain))) (v : View) : Type 0 where
+pub record HasAccepted (lines : List (List ℕ)) (gone : List (List (Stamped Plain))) (v : View) : Type 0 where
   pub number : v.lines ≡ length lines
   pub good : AllGood v.graph [] lines
   pub given : given_by v.graph lines ≡ record { streams = behind_all gone v.given.streams; sides = v.given.sides; named = v.given.named }

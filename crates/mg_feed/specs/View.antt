@@ -61,5 +61,5 @@ abbrev pub with_given : View → State → View
 with_given v given = record { graph = v.graph; given = given; taken = v.taken; lines = v.lines }
 
 -- the view with what is given, after one more line
-abbrev pub with_next : View → State → View
-with_next v given = record { graph = v.graph; given = given; taken = v.taken; lines = v.lines + 1 }
+abbrev pub with_counted_line : View → State → View
+with_counted_line v given = record { graph = v.graph; given = given; taken = v.taken; lines = v.lines + 1 }

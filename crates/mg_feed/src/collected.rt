@@ -53,7 +53,7 @@ impl Collected {
     ghost use Rattle.mg_feed.specs.Code.Forms.{form_view};
     ghost use Rattle.mg_feed.specs.View.{before_seen, with_streams, with_side};
     ghost use Rattle.mg_feed.specs.Seen.{collected};
-    ghost use Rattle.mg_feed.specs.Code.Due.{AreDue, AllRoom, laid};
+    ghost use Rattle.mg_feed.specs.Code.Due.{AreDue, AllRoom, with_due};
     ghost use Rattle.mg_feed.specs.Code.Heard.{Heard, Took};
 
     /// Takes the next line and returns whether it names a stream, or tells why it isn't good.
@@ -211,7 +211,7 @@ impl Collected {
     // Puts packets at the ends of their streams, which have room.
     fn lay(&mut self, due: Vec<Due>)
         requires { AllRoom (vec_len due) self.old.streams.items due.items }
-        ensures { collected self.new ≡ with_streams (collected self.old) (laid due.items (collected self.old).given.streams) }
+        ensures { collected self.new ≡ with_streams (collected self.old) (with_due due.items (collected self.old).given.streams) }
     {
         lay(&mut self.streams, due);
         self.named = true;

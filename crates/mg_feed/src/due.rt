@@ -2,7 +2,7 @@ ghost use Rattle.std.specs.Prelude.{◌≡◌, ◌≤◌, ◌+◌, ℕ, Option, 
 ghost use Rattle.mg_value.specs.Prefix.{appended};
 ghost use Rattle.mg_feed.specs.Accepted.{stepped_at};
 ghost use Rattle.mg_feed.specs.Code.Streams.{waiting, was_taken};
-ghost use Rattle.mg_feed.specs.Code.Due.{packets_room, HasRoom, AllRoom, laid};
+ghost use Rattle.mg_feed.specs.Code.Due.{packets_room, HasRoom, AllRoom, with_due};
 
 use crate::feed_stream::FeedStream;
 use crate::streams::MOST_PACKETS;
@@ -66,7 +66,7 @@ fn reserve(stream: &mut FeedStream, packets: usize) -> Result<(), AllocError>
 /// Puts packets at the ends of their streams, which have room.
 pub fn lay(streams: &mut [FeedStream], due: Vec<Due>)
     requires { AllRoom (vec_len due) streams.old due.items }
-    ensures laid { map waiting streams.new ≡ laid due.items (map waiting streams.old) }
+    ensures laid { map waiting streams.new ≡ with_due due.items (map waiting streams.old) }
     ensures taken { map was_taken streams.new ≡ map was_taken streams.old }
 {
     for d in due {

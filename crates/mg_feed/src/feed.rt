@@ -24,7 +24,7 @@ impl Feed {
     ghost use Rattle.mg_feed.specs.Graph.{inputs_of};
     ghost use Rattle.mg_feed.specs.Accepted.{refusal};
     ghost use Rattle.mg_feed.specs.Given.{ended_streams};
-    ghost use Rattle.mg_feed.specs.Stands.{Stands, nothing_taken, taken_with};
+    ghost use Rattle.mg_feed.specs.Stands.{HasAccepted, nothing_taken, taken_with};
     ghost use Rattle.mg_feed.specs.FeedSeen.{seen, fed};
     ghost use Rattle.mg_feed.specs.Ran.{MetEnd, late, Spends, FailedBy};
     ghost use Rattle.mg_feed.specs.Batch.{HasRead, HasReadBatch, most_kept, HasCause, BatchHasCause, BatchFailedBy, idle_by};
@@ -37,7 +37,7 @@ impl Feed {
     /// Makes a feed for the inputs of a plan's graph. It has accepted no line yet.
     pub fn new(alloc: Global, plan: &Plan) -> Result<Feed, AllocError>
         ensures graph { IfOk result (λ feed. (seen feed).graph ≡ inputs_of plan.now) }
-        ensures stands { IfOk result (λ feed. Stands [] (nothing_taken (inputs_of plan.now)) (seen feed)) }
+        ensures stands { IfOk result (λ feed. HasAccepted [] (nothing_taken (inputs_of plan.now)) (seen feed)) }
         ensures unread { IfOk result (λ feed. (fed feed).read ≡ record { kept = []; ended = false }) }
     {
         let collected = Collected::new(alloc, plan)?;
@@ -53,10 +53,10 @@ impl Feed {
     /// Takes the next line, without its line feed, or tells why it isn't good. A line that isn't taken leaves the feed as
     /// it was.
     pub fn line(&mut self, text: &[u8]) -> Result<(), LineFault>
-        ensures good { OnOk result ((lines : List (List ℕ)) (gone : List (List (Stamped Plain))) → Stands lines gone (seen self.old)
-            → (refusal (seen self.old).graph lines text.now ≡ None) × Stands (lines ++ text.now ∷ []) gone (seen self.new)) }
+        ensures good { OnOk result ((lines : List (List ℕ)) (gone : List (List (Stamped Plain))) → HasAccepted lines gone (seen self.old)
+            → (refusal (seen self.old).graph lines text.now ≡ None) × HasAccepted (lines ++ text.now ∷ []) gone (seen self.new)) }
         ensures refused { IfErr result (λ fault. fault ≢ LineFault.OutOfMemory → (lines : List (List ℕ)) (gone : List (List (Stamped Plain)))
-            → Stands lines gone (seen self.old) → refusal (seen self.old).graph lines text.now ≡ Some fault) }
+            → HasAccepted lines gone (seen self.old) → refusal (seen self.old).graph lines text.now ≡ Some fault) }
         ensures unchanged { OnErr result (seen self.new ≡ seen self.old) }
         ensures graph { (seen self.new).graph ≡ (seen self.old).graph }
         ensures read { (fed self.new).read ≡ (fed self.old).read }
@@ -71,8 +71,8 @@ impl Feed {
         ensures streams { IfOk result (λ inputs. inputs.streams ≡ ended_streams ended (seen self.old).given.streams) }
         ensures sides { IfOk result (λ inputs. inputs.sides ≡ (seen self.old).given.sides) }
         ensures ended { IfOk result (λ inputs. inputs.ended ≡ ended) }
-        ensures stands { OnOk result ((lines : List (List ℕ)) (gone : List (List (Stamped Plain))) → Stands lines gone (seen self.old)
-            → Stands lines (taken_with gone (seen self.old).given.streams) (seen self.new)) }
+        ensures stands { OnOk result ((lines : List (List ℕ)) (gone : List (List (Stamped Plain))) → HasAccepted lines gone (seen self.old)
+            → HasAccepted lines (taken_with gone (seen self.old).given.streams) (seen self.new)) }
         ensures unchanged { OnErr result (seen self.new ≡ seen self.old) }
         ensures graph { (seen self.new).graph ≡ (seen self.old).graph }
         ensures read { (fed self.new).read ≡ (fed self.old).read }

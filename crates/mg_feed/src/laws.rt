@@ -12,7 +12,7 @@ ghost use Rattle.mg_feed.specs.Lines.{all_lines};
 ghost use Rattle.mg_feed.specs.Accepted.{given_by, accepted};
 ghost use Rattle.mg_feed.specs.Given.{ended_streams};
 ghost use Rattle.mg_feed.specs.View.{View};
-ghost use Rattle.mg_feed.specs.Stands.{AllGood, Stands, nothing_taken, behind_all, taken_with, packets_of};
+ghost use Rattle.mg_feed.specs.Stands.{AllGood, HasAccepted, nothing_taken, behind_all, taken_with, packets_of};
 ghost use Rattle.mg_feed.specs.Fed.{Fed};
 ghost use Rattle.mg_feed.specs.Came.{Came};
 ghost use Rattle.mg_feed.specs.Ran.{MetEnd, Spends, Unfailed, FailedBy};
@@ -22,12 +22,12 @@ ghost use Rattle.mg_feed.specs.OldText.{old_given_by, AllGoodBefore};
 
 /// A feed of which nothing was taken has all that its lines gave.
 pub fn all_that_lines_gave()
-    ensures { (lines : List (List ℕ)) (v : View) → Stands lines (nothing_taken v.graph) v → v.given ≡ given_by v.graph lines }
+    ensures { (lines : List (List ℕ)) (v : View) → HasAccepted lines (nothing_taken v.graph) v → v.given ≡ given_by v.graph lines }
 {}
 
 /// The packets that were taken and those that weren't are all that the lines gave, stream by stream.
 pub fn takings_together()
-    ensures { (lines : List (List ℕ)) (gone : List (List (Stamped Plain))) (v : View) → Stands lines gone v
+    ensures { (lines : List (List ℕ)) (gone : List (List (Stamped Plain))) (v : View) → HasAccepted lines gone v
         → (length gone ≡ length v.given.streams) × ((given_by v.graph lines).streams ≡ behind_all gone v.given.streams) }
 {}
 
@@ -57,18 +57,18 @@ pub fn a_full_batch_names_a_stream()
 /// and then the later ones are all of them, and the greater of both bounds is the stream's.
 pub fn takings_join()
     ensures piece { (lines more : List (List ℕ)) (v : View) (ended : Bool) (input : ℕ)
-        → Stands (lines ++ more) (packets_of (given_by v.graph lines).streams) v → input < length v.given.streams
+        → HasAccepted (lines ++ more) (packets_of (given_by v.graph lines).streams) v → input < length v.given.streams
         → slice_index_or (ended_streams ended (given_by v.graph (lines ++ more)).streams) input empty_prefix ≡ record {
           packets = (slice_index_or (given_by v.graph lines).streams input empty_prefix).packets
               ++ (slice_index_or (ended_streams ended v.given.streams) input empty_prefix).packets;
           bound = max (slice_index_or (given_by v.graph lines).streams input empty_prefix).bound
               (slice_index_or (ended_streams ended v.given.streams) input empty_prefix).bound;
         } }
-    ensures count { (lines more : List (List ℕ)) (v : View) → Stands (lines ++ more) (packets_of (given_by v.graph lines).streams) v
+    ensures count { (lines more : List (List ℕ)) (v : View) → HasAccepted (lines ++ more) (packets_of (given_by v.graph lines).streams) v
         → length v.given.streams ≡ length (given_by v.graph lines).streams }
-    ensures sides { (lines : List (List ℕ)) (gone : List (List (Stamped Plain))) (v : View) → Stands lines gone v
+    ensures sides { (lines : List (List ℕ)) (gone : List (List (Stamped Plain))) (v : View) → HasAccepted lines gone v
         → v.given.sides ≡ (given_by v.graph lines).sides }
-    ensures taken { (lines : List (List ℕ)) (gone : List (List (Stamped Plain))) (v : View) → Stands lines gone v
+    ensures taken { (lines : List (List ℕ)) (gone : List (List (Stamped Plain))) (v : View) → HasAccepted lines gone v
         → taken_with gone v.given.streams ≡ packets_of (given_by v.graph lines).streams }
 {}
 

@@ -53,7 +53,7 @@ impl Lines {
     ghost use Rattle.mg_feed.specs.LinesSeen.{line_of, number_of, reading};
     ghost use Rattle.mg_feed.specs.Code.LineEnd.{EndsLine};
     ghost use Rattle.mg_feed.specs.Code.Readers.{left_of, reading_of};
-    ghost use Rattle.mg_feed.specs.Code.Handing.{Finds, StepsOn, Takes, counted_by};
+    ghost use Rattle.mg_feed.specs.Code.Handing.{Finds, StepsOn, HandsOutLine, counted_by};
 
     /// Makes a `Lines` that has read nothing yet.
     pub fn new(alloc: Global) -> Result<Lines, AllocError>
@@ -156,7 +156,7 @@ impl Lines {
     // Hands out the line whose line feed is at `end` in what is left of the block, as line `number`, or returns `TooLong`.
     fn take(&mut self, end: usize, number: u64) -> Result<NextLine, AllocError>
         requires { EndsLine (left_of self.old.reader) end }
-        ensures takes { IfOk result (λ next. Takes next self.new.line.items (reading_of self.old.reader) (reading_of self.new.reader)) }
+        ensures takes { IfOk result (λ next. HandsOutLine next self.new.line.items (reading_of self.old.reader) (reading_of self.new.reader)) }
         ensures kept { OnErr result (reading_of self.new.reader ≡ reading_of self.old.reader) }
         ensures number { IfOk result (λ next. self.new.number ≡ counted_by next self.old.number number) }
     {

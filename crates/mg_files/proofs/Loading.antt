@@ -7,7 +7,7 @@ use Rattle.mg_subgraph.proofs.Steps.{map-push}
 use Rattle.mg_edge.specs.Edge.{LoadGives, most_loaded}
 use Rattle.mg_edge.specs.declared.store.Loaded.TheVariants.{Bytes}
 use Rattle.mg_files.specs.Reads.{contents_of}
-use Rattle.mg_files.specs.Loads.{Told, IsLoaded, AreLoaded, there, loads_of}
+use Rattle.mg_files.specs.Loads.{FilesTold, IsLoaded, AreLoaded, there, loads_of}
 
 pub gives-loaded : (told : Option (Option (List ℕ))) (content : Vec ℕ) → LoadGives told (Bytes content) → IsLoaded told content.items
 gives-loaded None content gives = tt
@@ -15,21 +15,21 @@ gives-loaded (Some None) content gives = elim gives [ ]
 gives-loaded (Some (Some bytes)) content gives = gives
 
 -- one load more
-pub loaded-more : (told : Told) (names contents : List (List ℕ)) (name content : List ℕ)
+pub loaded-more : (told : FilesTold) (names contents : List (List ℕ)) (name content : List ℕ)
     → AreLoaded told names contents → IsLoaded (told name) content → AreLoaded told (names ++ name ∷ []) (contents ++ content ∷ [])
 loaded-more told [] [] name content given one = (one, tt)
 loaded-more told [] (c ∷ contents) name content given one = elim given [ ]
 loaded-more told (n' ∷ names) [] name content given one = elim given [ ]
 loaded-more told (n' ∷ names) (c ∷ contents) name content given one = (given.0, loaded-more told names contents name content given.1 one)
 
-pub loaded-step : (told : Told) (names : List (List ℕ)) (i : ℕ) (name : List ℕ) (contents grown : List (Vec ℕ)) (content : Vec ℕ) → i < length names → name ≡ get_or names i name
+pub loaded-step : (told : FilesTold) (names : List (List ℕ)) (i : ℕ) (name : List ℕ) (contents grown : List (Vec ℕ)) (content : Vec ℕ) → i < length names → name ≡ get_or names i name
     → grown ≡ contents ++ content ∷ [] → AreLoaded told (take i names) (contents_of contents) → IsLoaded (told name) content.items → AreLoaded told (take (i + 1) names) (contents_of grown)
 loaded-step told names i name contents grown content inside here same given one =
     subst (λ (ns : List (List ℕ)). AreLoaded told ns (contents_of grown)) (sym (take_more names i name inside ∙ ap (λ n. take i names ++ n ∷ []) (sym here)))
     (subst (AreLoaded told (take i names ++ name ∷ [])) (sym (ap contents_of same ∙ map-push (λ v. v.items) contents content))
     (loaded-more told (take i names) (contents_of contents) name content.items given one))
 
-pub loaded-count : (told : Told) (names contents : List (List ℕ)) → AreLoaded told names contents → length contents ≡ length names
+pub loaded-count : (told : FilesTold) (names contents : List (List ℕ)) → AreLoaded told names contents → length contents ≡ length names
 loaded-count told [] [] given = refl
 loaded-count told [] (c ∷ contents) given = elim given [ ]
 loaded-count told (n' ∷ names) [] given = elim given [ ]
@@ -49,7 +49,7 @@ one-known (Some None) rest content contents is same = elim is [ ]
 one-known (Some (Some bytes)) None content contents is same = tt
 one-known (Some (Some bytes)) (Some known) content contents is same = cc
 
-loaded-known : (told : Told) (names contents : List (List ℕ)) → AreLoaded told names contents → IfSome (loads_of told names) (λ known. known ≡ contents)
+loaded-known : (told : FilesTold) (names contents : List (List ℕ)) → AreLoaded told names contents → IfSome (loads_of told names) (λ known. known ≡ contents)
 loaded-known told [] [] given = refl
 loaded-known told [] (c ∷ contents) given = elim given [ ]
 loaded-known told (n' ∷ names) [] given = elim given [ ]
@@ -60,5 +60,5 @@ as-known None contents P same holds = tt
 as-known (Some known) contents P same holds = subst P (sym same) holds
 
 -- So what holds of what was given holds of that.
-pub of-loads : (told : Told) (names contents : List (List ℕ)) (P : List (List ℕ) → Type 0) → AreLoaded told names contents → P contents → IfSome (loads_of told names) P
+pub of-loads : (told : FilesTold) (names contents : List (List ℕ)) (P : List (List ℕ) → Type 0) → AreLoaded told names contents → P contents → IfSome (loads_of told names) P
 of-loads told names contents P given holds = as-known (loads_of told names) contents P (loaded-known told names contents given) holds

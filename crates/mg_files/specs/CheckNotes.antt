@@ -6,7 +6,7 @@ use Rattle.mg_check.specs.declared.fault.Many.{Many}
 use Rattle.mg_check.specs.declared.fault.Many.TheVariants.{Edges, Outputs}
 use Rattle.mg_check.specs.declared.fault.CheckFault.{CheckFault}
 use Rattle.mg_check.specs.declared.fault.CheckFault.TheVariants.{UnknownCalculator, NoMoreBoxes, BadPorts, BadOptions, Unsupported, TwoProducers, NoProducer, SideMissing, KindClash, BackEdgeMisplaced, Cycle, TooMany, OutOfMemory}
-use Rattle.mg_answer.specs.Shown.{shown}
+use Rattle.mg_answer.specs.Shown.{escaped}
 
 abbrev pub many_name : Many → List ℕ
 many_name Edges = codes "Edges"
@@ -15,14 +15,14 @@ many_name Outputs = codes "Outputs"
 -- the words for why the check refuses a graph: what is wrong, and the fault's fields, each after a space
 abbrev pub check_refusal : CheckFault → List ℕ
 check_refusal (UnknownCalculator node) = codes "UnknownCalculator " ++ decimal node
-check_refusal (NoMoreBoxes name has needs) = codes "NoMoreBoxes " ++ shown name ++ codes " " ++ decimal has ++ codes " " ++ decimal needs
+check_refusal (NoMoreBoxes name has needs) = codes "NoMoreBoxes " ++ escaped name ++ codes " " ++ decimal has ++ codes " " ++ decimal needs
 check_refusal (BadPorts node) = codes "BadPorts " ++ decimal node
 check_refusal (BadOptions node) = codes "BadOptions " ++ decimal node
-check_refusal (Unsupported node field) = codes "Unsupported " ++ decimal node ++ codes " " ++ shown field
-check_refusal (TwoProducers name) = codes "TwoProducers " ++ shown name
-check_refusal (NoProducer name) = codes "NoProducer " ++ shown name
-check_refusal (SideMissing name) = codes "SideMissing " ++ shown name
-check_refusal (KindClash name) = codes "KindClash " ++ shown name
+check_refusal (Unsupported node field) = codes "Unsupported " ++ decimal node ++ codes " " ++ escaped field
+check_refusal (TwoProducers name) = codes "TwoProducers " ++ escaped name
+check_refusal (NoProducer name) = codes "NoProducer " ++ escaped name
+check_refusal (SideMissing name) = codes "SideMissing " ++ escaped name
+check_refusal (KindClash name) = codes "KindClash " ++ escaped name
 check_refusal (BackEdgeMisplaced node) = codes "BackEdgeMisplaced " ++ decimal node
 check_refusal (Cycle nodes) = codes "Cycle" ++ flat_map (λ node. codes " " ++ decimal node) nodes
 check_refusal (TooMany what) = codes "TooMany " ++ many_name what

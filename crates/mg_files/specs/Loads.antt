@@ -5,8 +5,8 @@ use Rattle.mg_edge.specs.Edge.{StoreTold, most_loaded, one_more}
 use Rattle.mg_answer.specs.Devices.{Device}
 
 -- what a store tells of each name: the bytes of it, that there is no such file, or nothing
-abbrev pub Told : Type 0
-Told = List ℕ → Option (Option (List ℕ))
+abbrev pub FilesTold : Type 0
+FilesTold = List ℕ → Option (Option (List ℕ))
 
 -- A load of a name gives this content, by what the store tells of the name: its first bytes, as many as a load gives at most; nothing where
 -- there is no such file; and anything where the store doesn't tell.
@@ -16,26 +16,26 @@ IsLoaded (Some None) content = ⊥
 IsLoaded (Some (Some bytes)) content = content ≡ take most_loaded bytes
 
 -- Loads of these names give these contents.
-abbrev pub AreLoaded : Told → List (List ℕ) → List (List ℕ) → Type 0
+abbrev pub AreLoaded : FilesTold → List (List ℕ) → List (List ℕ) → Type 0
 AreLoaded told [] [] = Unit {0}
 AreLoaded told [] (content ∷ contents) = ⊥
 AreLoaded told (name ∷ names) [] = ⊥
 AreLoaded told (name ∷ names) (content ∷ contents) = IsLoaded (told name) content × AreLoaded told names contents
 
 -- A store has the same contents as before.
-abbrev pub IsKept : Device StoreTold → Type 0
-IsKept store = (name : List ℕ) → store.now.content name ≡ store.before.content name
+abbrev pub StoreIsKept : Device StoreTold → Type 0
+StoreIsKept store = (name : List ℕ) → store.now.content name ≡ store.before.content name
 
 -- All of these files were loaded, and no load failed.
 pub record LoadedAll (names contents : List (List ℕ)) (store : Device StoreTold) : Type 0 where
-  pub kept : IsKept store
+  pub kept : StoreIsKept store
   pub given : AreLoaded store.before.content names contents
   pub steady : store.now.faults ≡ store.before.faults
   pub last : store.now.failed_name ≡ store.before.failed_name
 
 -- This one of the files couldn't be loaded. Those before it were, and no other load failed.
 pub record FailedAt (names : List (List ℕ)) (file : List ℕ) (store : Device StoreTold) : Type 0 where
-  pub kept : IsKept store
+  pub kept : StoreIsKept store
   pub before : List (List ℕ)
   pub after : List (List ℕ)
   pub order : names ≡ before ++ file ∷ after
@@ -50,7 +50,7 @@ there None = None
 there (Some bytes) = bytes
 
 -- the contents that loads of these names give, where the store tells the bytes of each
-abbrev pub loads_of : Told → List (List ℕ) → Option (List (List ℕ))
+abbrev pub loads_of : FilesTold → List (List ℕ) → Option (List (List ℕ))
 loads_of told [] = Some []
 loads_of told (name ∷ names) =
     option_and_then (λ bytes. option_map (λ contents. take most_loaded bytes ∷ contents) (loads_of told names)) (there (told name))

@@ -10,13 +10,13 @@ use Rattle.mg_names.specs.Ports.{text_of}
 use Rattle.mg_subgraph.specs.declared.fault.ExpandFault.{ExpandFault}
 use Rattle.mg_subgraph.specs.declared.fault.ExpandFault.TheVariants.{TypeTwice, Recursive, TooManyNodes, ReservedName, PortShared, BadField, NoSuchPort}
 use Rattle.mg_subgraph.specs.declared.fault.ExpandFault.TheVariants as expansions
-use Rattle.mg_answer.specs.Shown.{shown}
+use Rattle.mg_answer.specs.Shown.{escaped}
 
 -- A file --
 
 -- the note that a file couldn't be loaded
 abbrev pub store_note : List ℕ → List ℕ
-store_note file = codes "store: " ++ shown file ++ codes "\n"
+store_note file = codes "store: " ++ escaped file ++ codes "\n"
 
 -- A file or an expansion is refused --
 
@@ -38,26 +38,26 @@ cause_name names.OutOfMemory = []
 
 -- the words for why a file's fields are no configuration, and which field it is
 abbrev pub config_refusal : ConfigFault → List ℕ
-config_refusal (configs.UnknownField path) = codes "UnknownField " ++ shown path
-config_refusal (configs.WrongShape path) = codes "WrongShape " ++ shown path
-config_refusal (configs.Repeated path) = codes "Repeated " ++ shown path
-config_refusal (configs.BadPort path cause) = codes "BadPort " ++ shown path ++ codes " " ++ cause_name cause
+config_refusal (configs.UnknownField path) = codes "UnknownField " ++ escaped path
+config_refusal (configs.WrongShape path) = codes "WrongShape " ++ escaped path
+config_refusal (configs.Repeated path) = codes "Repeated " ++ escaped path
+config_refusal (configs.BadPort path cause) = codes "BadPort " ++ escaped path ++ codes " " ++ cause_name cause
 config_refusal configs.OutOfMemory = []
 
 -- the note that a file is refused; `stage` is what refuses it: `text` or `config`
 abbrev pub file_note : List ℕ → List ℕ → List ℕ → List ℕ
-file_note file stage refusal = codes "refused: " ++ shown file ++ codes " " ++ stage ++ codes " " ++ refusal ++ codes "\n"
+file_note file stage refusal = codes "refused: " ++ escaped file ++ codes " " ++ stage ++ codes " " ++ refusal ++ codes "\n"
 
 -- The words for why an expansion is refused: what is wrong, and the fault's fields, each after a space. A port is written as in a graph
 -- file.
 abbrev pub expand_refusal : ExpandFault → List ℕ
-expand_refusal (TypeTwice name) = codes "TypeTwice " ++ shown name
-expand_refusal (Recursive name) = codes "Recursive " ++ shown name
+expand_refusal (TypeTwice name) = codes "TypeTwice " ++ escaped name
+expand_refusal (Recursive name) = codes "Recursive " ++ escaped name
 expand_refusal TooManyNodes = codes "TooManyNodes"
-expand_refusal (ReservedName name) = codes "ReservedName " ++ shown name
-expand_refusal (PortShared owner name) = codes "PortShared " ++ shown owner ++ codes " " ++ shown name
-expand_refusal (BadField owner node field) = codes "BadField " ++ shown owner ++ codes " " ++ decimal node ++ codes " " ++ shown field
-expand_refusal (NoSuchPort owner node port) = codes "NoSuchPort " ++ shown owner ++ codes " " ++ decimal node ++ codes " " ++ shown (text_of port)
+expand_refusal (ReservedName name) = codes "ReservedName " ++ escaped name
+expand_refusal (PortShared owner name) = codes "PortShared " ++ escaped owner ++ codes " " ++ escaped name
+expand_refusal (BadField owner node field) = codes "BadField " ++ escaped owner ++ codes " " ++ decimal node ++ codes " " ++ escaped field
+expand_refusal (NoSuchPort owner node port) = codes "NoSuchPort " ++ escaped owner ++ codes " " ++ decimal node ++ codes " " ++ escaped (text_of port)
 expand_refusal expansions.OutOfMemory = []
 
 -- the note that the expansion of a graph is refused

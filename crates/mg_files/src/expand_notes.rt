@@ -1,6 +1,6 @@
 //! The note of a graph whose expansion is refused.
 ghost use Rattle.std.specs.Prelude.{◌≡◌, ◌≢◌, ◌++◌, OnOk, IfOk, codes, decimal};
-ghost use Rattle.mg_answer.specs.Shown.{shown};
+ghost use Rattle.mg_answer.specs.Shown.{escaped};
 ghost use Rattle.mg_files.specs.Notes as notes;
 
 use crate::refusal::{of_text, put_next_number, put_next_text, stage_note};
@@ -56,7 +56,7 @@ fn node_refusal(
     node: u32,
     part: &MgText,
 ) -> Result<Vec<u8>, AllocError>
-    ensures { IfOk result (λ v. v.items ≡ refusal.now ++ shown owner.now ++ codes " " ++ decimal node ++ codes " " ++ shown part.now) }
+    ensures { IfOk result (λ v. v.items ≡ refusal.now ++ escaped owner.now ++ codes " " ++ decimal node ++ codes " " ++ escaped part.now) }
 {
     let mut text = of_text(alloc, refusal, owner)?;
     put_next_number(&mut text, node)?;

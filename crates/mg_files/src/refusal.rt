@@ -1,6 +1,6 @@
 //! The pieces that the notes of refusals are made of.
 ghost use Rattle.std.specs.Prelude.{◌≡◌, ◌++◌, OnOk, IfOk, codes, decimal};
-ghost use Rattle.mg_answer.specs.Shown.{shown};
+ghost use Rattle.mg_answer.specs.Shown.{escaped};
 
 use mg_answer::{put_number, put_shown};
 use mg_value::MgText;
@@ -29,7 +29,7 @@ pub fn at_place(alloc: Global, refusal: &[u8], place: u32) -> Result<Vec<u8>, Al
 
 /// Returns the words of a refusal: `refusal`, and behind it the text that it is about.
 pub fn of_text(alloc: Global, refusal: &[u8], part: &MgText) -> Result<Vec<u8>, AllocError>
-    ensures { IfOk result (λ v. v.items ≡ refusal.now ++ shown part.now) }
+    ensures { IfOk result (λ v. v.items ≡ refusal.now ++ escaped part.now) }
 {
     let mut text = Vec::from_slice(alloc, refusal)?;
     put_shown(&mut text, part.as_bytes())?;
@@ -46,7 +46,7 @@ pub fn put_next_number(text: &mut Vec<u8>, number: u32) -> Result<(), AllocError
 
 /// Puts a space and a text at a text's end.
 pub fn put_next_text(text: &mut Vec<u8>, part: &MgText) -> Result<(), AllocError>
-    ensures { OnOk result (text.new.items ≡ text.old.items ++ codes " " ++ shown part.now) }
+    ensures { OnOk result (text.new.items ≡ text.old.items ++ codes " " ++ escaped part.now) }
 {
     text.extend_from_slice(b" ")?;
     put_shown(text, part.as_bytes())

@@ -18,11 +18,11 @@ use Rattle.mg_calc.specs.declared.port_kind.PortKind.{PortKind}
 use Rattle.mg_calc.specs.Shape.{ParametersFit, IsShapeOf, HasInputs, HasOutputs, HasSides, AreAnyInputs, control_tag, ports, untagged}
 use Rattle.mg_kinds.specs.Ports.{has_just, ports_in, fitting}
 use Rattle.mg_kinds.specs.PortOrder.{in_order}
-use Rattle.mg_kinds.specs.Options.{options_in, set_to, number}
+use Rattle.mg_kinds.specs.Options.{calculator_options, set_to, number}
 use Rattle.mg_kinds.specs.Maps.{map_with}
 use Rattle.mg_kinds.specs.declared.maps.MapKind.{MapKind}
 use Rattle.mg_kinds.specs.Values.{required, payload_in, payloads_in, call_count, keep_in}
-use Rattle.mg_kinds.specs.Kinds.{lanes_of, disallows, moment_of, inputs_of, outputs_of, sides_of, side_outputs_of, side_ports, rowed_ports, passed_ports, kind_ports, is_empty, SettingsView, law_with, constants_with, settings_with, are_options, kind_settings, shape_with, time_of, gate_law, thinner_law, thins, map_law, filter_law, shift_law, counting_law, limiter_law, merge_law, flight_or_one, truth_or_false, positive_or_one, timestamp_or_zero}
+use Rattle.mg_kinds.specs.Kinds.{lanes_of, disallows, moment_of, inputs_of, outputs_of, sides_of, side_outputs_of, side_ports, rowed_ports, passed_ports, kind_ports, is_empty, SettingsView, law_with, constants_with, settings_with, are_options, kind_settings, shape_with, time_of, gate_law, thinner_law, thins, map_law_of, filter_law_of, shift_law, counting_law, limiter_law, merge_law, flight_or_one, truth_or_false, positive_or_one, timestamp_or_zero}
 use Rattle.mg_kinds.specs.Tags.{tag_text}
 use Rattle.mg_kinds.specs.declared.ports.Ports.{Ports}
 use Rattle.mg_kinds.specs.declared.tag.Tag.{Tag}
@@ -139,12 +139,12 @@ suits_thinner node options name ps rule h e = by (thins options) e
         subst (Suits name ps) made.2 (positive-least (codes "period") options made.0 made.1, shaped name ps (law.Thin made.0) h.inputs h.outputs h.sides)
     by false e = absurd (none-some rule e)
 
-suits_map : (m : MapKind) (node : NodeView) (options : List Entry) (name : List ℕ) (ps : Ports) (rule : Law) → IsRowed (Map m) node ps → map_law m options ≡ Some rule → Suits name ps rule
+suits_map : (m : MapKind) (node : NodeView) (options : List Entry) (name : List ℕ) (ps : Ports) (rule : Law) → IsRowed (Map m) node ps → map_law_of m options ≡ Some rule → Suits name ps rule
 suits_map m node options name ps rule h e =
     let made = mapped (λ pair. law.Map pair.0 pair.1) (map_with m options) rule e in
     subst (Suits name ps) made.2 (tt, shaped name ps (law.Map made.0.0 made.0.1) h.inputs h.outputs h.sides)
 
-suits_filter : (node : NodeView) (options : List Entry) (name : List ℕ) (ps : Ports) (rule : Law) → IsRowed Filter node ps → filter_law options ≡ Some rule → Suits name ps rule
+suits_filter : (node : NodeView) (options : List Entry) (name : List ℕ) (ps : Ports) (rule : Law) → IsRowed Filter node ps → filter_law_of options ≡ Some rule → Suits name ps rule
 suits_filter node options name ps rule h e =
     let keep = made_by (λ keep. option_map (law.Filter keep) (truth_or_false (codes "raise_bound") options)) (required keep_in (set_to (codes "keep") options)) rule e in
     let made = mapped (law.Filter keep.0) (truth_or_false (codes "raise_bound") options) rule keep.2 in
@@ -248,7 +248,7 @@ record IsSet (kind : CalculatorKind) (node : NodeView) (settings : SettingsView)
 
 is_set : (kind : CalculatorKind) (node : NodeView) (settings : SettingsView) → kind_settings kind node ≡ Some settings → IsSet kind node settings
 is_set kind node settings e =
-    let read = made_by (settings_with kind node) (options_in node.calculator (entries node.options)) settings e in
+    let read = made_by (settings_with kind node) (calculator_options node.calculator (entries node.options)) settings e in
     by read.0 (are_options kind read.0) read.2
   where
     by : (options : List Entry) (t : Bool) → (if t then option_and_then (λ rule. option_map (λ constants. record { law = rule; constants = constants }) (constants_with kind node options)) (law_with kind node options) else None) ≡ Some settings

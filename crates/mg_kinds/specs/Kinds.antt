@@ -28,7 +28,7 @@ use Rattle.mg_kinds.specs.declared.tag.Tag.{Tag}
 use Rattle.mg_kinds.specs.declared.tag.Tag.TheVariants.{Untagged, Allow, Disallow, Input, Select, Output, Tick, Loop, Main, Finished, PrevLoop, Packet, AtPreStream, AtZero, AtPostStream}
 use Rattle.mg_kinds.specs.declared.row.Row.{Row}
 use Rattle.mg_kinds.specs.declared.ports.Ports.{Ports}
-use Rattle.mg_kinds.specs.Options.{options_in, are_known, are_once, set_to, number}
+use Rattle.mg_kinds.specs.Options.{calculator_options, are_known, are_once, set_to, number}
 use Rattle.mg_kinds.specs.Values.{or_absent, required, positive, timestamp_number, call_count, flight_limit, keep_in, is_absent_or, is_asynchronous, payloads_in}
 use Rattle.mg_kinds.specs.declared.maps.MapKind.{MapKind}
 
@@ -242,11 +242,11 @@ abbrev pub thinner_law : List Entry → Option Law
 thinner_law options =
     if thins options then option_map law.Thin (positive_or_one (codes "period") options) else None
 
-abbrev pub map_law : MapKind → List Entry → Option Law
-map_law kind options = option_map (λ pair. law.Map pair.0 pair.1) (map_with kind options)
+abbrev pub map_law_of : MapKind → List Entry → Option Law
+map_law_of kind options = option_map (λ pair. law.Map pair.0 pair.1) (map_with kind options)
 
-abbrev pub filter_law : List Entry → Option Law
-filter_law options =
+abbrev pub filter_law_of : List Entry → Option Law
+filter_law_of options =
     option_and_then (λ keep. option_map (law.Filter keep) (truth_or_false (codes "raise_bound") options))
     (required keep_in (set_to (codes "keep") options))
 
@@ -281,8 +281,8 @@ law_with Cloner node options = Some (law.Cloner (lanes_of Cloner node))
 law_with Merge node options = Some (merge_law node)
 law_with Thinner node options = thinner_law options
 law_with Sum node options = Some (law.Sum (lanes_of Sum node))
-law_with (Map m) node options = map_law m options
-law_with Filter node options = filter_law options
+law_with (Map m) node options = map_law_of m options
+law_with Filter node options = filter_law_of options
 law_with Running node options = Some law.Running
 law_with Shift node options = shift_law options
 law_with Counting node options = counting_law options
@@ -311,7 +311,7 @@ settings_with kind node options =
 
 -- what the options of a node of a kind set, if they are options of that kind
 abbrev pub kind_settings : CalculatorKind → NodeView → Option SettingsView
-kind_settings kind node = option_and_then (settings_with kind node) (options_in node.calculator (entries node.options))
+kind_settings kind node = option_and_then (settings_with kind node) (calculator_options node.calculator (entries node.options))
 
 -- the shape that a calculator of a law has at a node with these ports
 abbrev pub shape_with : List ℕ → Ports → Law → Shape
@@ -331,4 +331,4 @@ are_none (Some options) = length options == 0
 
 -- whether a node has no options, but perhaps empty options messages of its calculator
 abbrev pub has_no_options : NodeView → Bool
-has_no_options node = are_none (options_in node.calculator (entries node.options))
+has_no_options node = are_none (calculator_options node.calculator (entries node.options))

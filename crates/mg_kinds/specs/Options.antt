@@ -28,10 +28,10 @@ abbrev pub own_fields : List ℕ → Entry → Option (List Entry)
 own_fields calculator field = if is_own calculator field.name then fields_inside field.value else None
 
 -- the options that stand in these fields, if each field is an options message of the calculator
-abbrev pub options_in : List ℕ → List Entry → Option (List Entry)
-options_in calculator [] = Some []
-options_in calculator (field ∷ fields) =
-    option_and_then (λ own. option_map (λ more. own ++ more) (options_in calculator fields)) (own_fields calculator field)
+abbrev pub calculator_options : List ℕ → List Entry → Option (List Entry)
+calculator_options calculator [] = Some []
+calculator_options calculator (field ∷ fields) =
+    option_and_then (λ own. option_map (λ more. own ++ more) (calculator_options calculator fields)) (own_fields calculator field)
 
 -- whether each option has one of these names
 abbrev pub are_known : List (List ℕ) → List Entry → Bool

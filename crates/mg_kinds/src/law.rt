@@ -85,14 +85,14 @@ fn thinner_law(options: &[&Field]) -> Option<Law>
 }
 
 fn map_law(kind: MapKind, options: &[&Field]) -> Option<Law>
-    ensures { result ≡ laws.map_law kind (fields_of options.now) }
+    ensures { result ≡ laws.map_law_of kind (fields_of options.now) }
 {
     let (op, operand) = map_with(kind, options)?;
     Some(Law::Map { op, operand })
 }
 
 fn filter_law(options: &[&Field]) -> Option<Law>
-    ensures { result ≡ laws.filter_law (fields_of options.now) }
+    ensures { result ≡ laws.filter_law_of (fields_of options.now) }
 {
     let keep = keep_in(set_to("keep", options)?)?;
     let raise = truth_or_false("raise_bound", options)?;

@@ -64,7 +64,7 @@ pub fn options_in<'a>(
     calculator: &str,
     fields: &'a [Field],
 ) -> Result<Option<Vec<&'a Field>>, AllocError>
-    ensures { IfOk result (λ found. option_map (λ list. fields_of list.items) found ≡ rules.options_in calculator.now (map field_view fields.now)) }
+    ensures { IfOk result (λ found. option_map (λ list. fields_of list.items) found ≡ rules.calculator_options calculator.now (map field_view fields.now)) }
 {
     match fields {
         [] => Ok(Some(Vec::new(alloc))),
@@ -79,7 +79,7 @@ fn own_options<'a>(
     calculator: &str,
     fields: &'a [Field],
 ) -> Result<Option<Vec<&'a Field>>, AllocError>
-    ensures { IfOk result (λ found. option_map (λ list. fields_of list.items) found ≡ rules.options_in calculator.now (map field_view fields.now)) }
+    ensures { IfOk result (λ found. option_map (λ list. fields_of list.items) found ≡ rules.calculator_options calculator.now (map field_view fields.now)) }
 {
     let names = own_names(alloc, calculator)?;
     let mut out = Vec::new(alloc);

@@ -75,7 +75,7 @@ fn node_options<'a>(
     alloc: Global,
     node: &'a NodeConfig,
 ) -> Result<Option<Vec<&'a Field>>, AllocError>
-    ensures { IfOk result (λ found. option_map (λ list. fields_of list.items) found ≡ rules.options_in (node_view node.now).calculator (entries (node_view node.now).options)) }
+    ensures { IfOk result (λ found. option_map (λ list. fields_of list.items) found ≡ rules.calculator_options (node_view node.now).calculator (entries (node_view node.now).options)) }
 {
     options_in(alloc, node.calculator.as_str(), node.options.as_slice())
 }

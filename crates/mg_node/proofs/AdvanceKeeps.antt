@@ -25,8 +25,8 @@ use Rattle.mg_calc.proofs.Jobs.{any_state, job_known}
 use Rattle.mg_calc.proofs.Solutions.{solution_keeps, one_solution}
 use Rattle.mg_node.specs.declared.role.Role.{Role}
 use Rattle.mg_node.specs.declared.role.Role.TheVariants.{Input, Source, Loop as LoopRole, Sets as SetsRole}
-use Rattle.mg_node.specs.declared.waits.Waits.{Waits}
-use Rattle.mg_node.specs.declared.waits.Waits.TheVariants.{Sets, Loop}
+use Rattle.mg_node.specs.declared.pending.Pending.{Pending}
+use Rattle.mg_node.specs.declared.pending.Pending.TheVariants.{Sets, Loop}
 use Rattle.mg_node.specs.Views.{IntakeView, EntryView, EngineView}
 use Rattle.mg_node.specs.Ports.{horizon_of}
 use Rattle.mg_node.specs.Windows.{has_ended}
@@ -61,7 +61,7 @@ called_role Loopback calls e = absurd cc
 called_role law calls e = absurd cc
 
 -- A node that is shown sets.
-sets_rise : (job : LoggedJob) (number : ℕ) (engine : EngineView) (h : IsEngineOf job number engine) (w : Waits) (offset : ℤ) → engine.role ≡ SetsRole → engine.offset ≡ Some offset → engine.closed ≡ false → (stage job.job h.streams h.node engine.laid).fault ≡ None
+sets_rise : (job : LoggedJob) (number : ℕ) (engine : EngineView) (h : IsEngineOf job number engine) (w : Pending) (offset : ℤ) → engine.role ≡ SetsRole → engine.offset ≡ Some offset → engine.closed ≡ false → (stage job.job h.streams h.node engine.laid).fault ≡ None
     → HoldsWaits job h.streams number engine.claimed w → MayRise (shift (until_claimed engine.window (horizon_of w)) offset) h.whole (streams_at h.streams h.node.outputs)
 sets_rise job number engine h w offset role offset_is going good holds =
     let role_is : role_of h.node.law ≡ SetsRole = sym h.set_up.role ∙ role in
@@ -105,7 +105,7 @@ under_one b u base [] same le r = absurd r
 under_one b u base (w ∷ []) same le r = ((r.0.packets ∙ same, le), tt)
 under_one b u base (w ∷ x ∷ ws) same le r = absurd r.1
 
-loop_rises_by : (job : LoggedJob) (number : ℕ) (engine : EngineView) (h : IsEngineOf job number engine) (w : Waits) → engine.role ≡ LoopRole → engine.closed ≡ false → HoldsWaits job h.streams number engine.claimed w
+loop_rises_by : (job : LoggedJob) (number : ℕ) (engine : EngineView) (h : IsEngineOf job number engine) (w : Pending) → engine.role ≡ LoopRole → engine.closed ≡ false → HoldsWaits job h.streams number engine.claimed w
     → MayRise (until_claimed engine.window (horizon_of w)) h.whole (streams_at h.streams h.node.outputs)
 loop_rises_by job number engine h (Sets inbox) role going holds = absurd (holds.0 (ap (λ (o : Option PlanNode). option_map (λ n. n.law) o) h.there ∙ ap Some (loop_law h.node.law (sym h.set_up.role ∙ role))))
 loop_rises_by job number engine h (Loop held) role going holds =

@@ -7,7 +7,7 @@ use Rattle.mg_stream.specs.Queue.{Waiting, raised_to}
 use Rattle.mg_stream.specs.Pool.{Backlog, backlog_of}
 use Rattle.mg_node.specs.declared.role.Role.{Role}
 use Rattle.mg_node.specs.declared.role.Role.TheVariants.{Input, Source, Loop, Sets}
-use Rattle.mg_node.specs.declared.waits.Waits.{Waits}
+use Rattle.mg_node.specs.declared.pending.Pending.{Pending}
 use Rattle.mg_node.specs.Views.{EntryView, EngineView}
 use Rattle.mg_node.specs.Advances.{any_moved, until_phase, until_claimed, raised_by, never_raised, advance_bound, raised_output, advanced}
 use Rattle.mg_node.specs.Ports.{horizon_of}
@@ -52,7 +52,7 @@ raised_some : (qs : List (Waiting Plain)) (b : ℕ) → map backlog_of (map (λ 
 raised_some [] b = refl
 raised_some (q ∷ qs) b = ap (λ (l : List (Backlog Plain)). backlog_of (raised_to q b) ∷ l) (raised_some qs b)
 
-pub none_advanced : (e : EngineView) (w : Waits) → advance_bound e w ≡ None → e ≡ advanced e w
+pub none_advanced : (e : EngineView) (w : Pending) → advance_bound e w ≡ None → e ≡ advanced e w
 none_advanced e w none =
     sym (ap (λ (o : Option ℕ). with_outputs e (map (raised_output o) e.outputs)) none ∙ ap (with_outputs e) (raised_none e.outputs))
 
@@ -66,7 +66,7 @@ never_by (Source calls) (Some offset) t never = absurd cc
 never_by Sets None t never = refl
 never_by Sets (Some offset) t never = absurd cc
 
-pub never_advanced : (e : EngineView) (w : Waits) → has_ended e ≡ false → never_raised e.role e.offset ≡ true → None ≡ advance_bound e w
+pub never_advanced : (e : EngineView) (w : Pending) → has_ended e ≡ false → never_raised e.role e.offset ≡ true → None ≡ advance_bound e w
 never_advanced e w goes never =
     sym (ap (λ (b : Bool). if b then None else raised_by e.role e.offset (until_claimed e.window (horizon_of w))) goes ∙ never_by e.role e.offset (until_claimed e.window (horizon_of w)) never)
 
@@ -74,7 +74,7 @@ never_advanced e w goes never =
 pub whole : {X : Type 0} (n : ℕ) (old new : List X) → n ≡ length old → length new ≡ length old → take n (new ++ drop (length new) old) ≡ new
 whole {X} n old new long kept = ap (λ (k : ℕ). take k (new ++ drop (length new) old)) (long ∙ sym kept) ∙ take-append_seam new (drop (length new) old)
 
-pub some_advanced : (e : EngineView) (w : Waits) (b : ℕ) (qs new : List (Waiting Plain)) → map backlog_of qs ≡ e.outputs → advance_bound e w ≡ Some b → new ≡ map (λ q. raised_to q b) qs → with_outputs e (map backlog_of new) ≡ advanced e w
+pub some_advanced : (e : EngineView) (w : Pending) (b : ℕ) (qs new : List (Waiting Plain)) → map backlog_of qs ≡ e.outputs → advance_bound e w ≡ Some b → new ≡ map (λ q. raised_to q b) qs → with_outputs e (map backlog_of new) ≡ advanced e w
 some_advanced e w b qs new before some is =
     ap (λ (l : List (Waiting Plain)). with_outputs e (map backlog_of l)) is ∙ ap (with_outputs e) (raised_some qs b)
     ∙ ap (λ (l : List (Backlog Plain)). with_outputs e (map (raised_output (Some b)) l)) before

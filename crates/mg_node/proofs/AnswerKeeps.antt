@@ -19,8 +19,8 @@ use Rattle.mg_calc.specs.declared.call.Call.{Call}
 use Rattle.mg_calc.specs.declared.plan_node.PlanNode.{PlanNode}
 use Rattle.mg_calc.specs.Equations.{Job, outcome_by}
 use Rattle.mg_calc.specs.Meaning.{count_of}
-use Rattle.mg_node.specs.declared.waits.Waits.{Waits}
-use Rattle.mg_node.specs.declared.waits.Waits.TheVariants.{Loop}
+use Rattle.mg_node.specs.declared.pending.Pending.{Pending}
+use Rattle.mg_node.specs.declared.pending.Pending.TheVariants.{Loop}
 use Rattle.mg_node.specs.Views.{IntakeView, BenchView, EntryView, EngineView}
 use Rattle.mg_node.specs.Job.{LoggedJob, main_of, loop_of, answered, stage_by, calls_before_by, log_after}
 use Rattle.mg_node.specs.Lawful.{HoldsWaits, IsIntakeOf, LawfulIntake, is_close, IsRaised, StandForAll, IsIdle, come_to, calls_by, IsEngineOf, LawfulEngine, of_node, AgreeBy}
@@ -170,7 +170,7 @@ answered_engine job number engine held r cell next =
 -- an intake that has answered
 answered_intake : (job : LoggedJob) (number : ℕ) (intake : IntakeView) (held : Held Plain) (r : Reply Plain) → IsIntakeOf job number intake → intake.waits ≡ Loop held → next_reply held ≡ Some r → IsIntakeOf job number (record { claimed = intake.claimed + 1; waits = Loop (replied held) })
 answered_intake job number intake held r i waits next =
-    let holds : HoldsWaits job i.streams number intake.claimed (Loop held) = subst (λ (w : Waits). HoldsWaits job i.streams number intake.claimed w) waits i.holds in
+    let holds : HoldsWaits job i.streams number intake.claimed (Loop held) = subst (λ (w : Pending). HoldsWaits job i.streams number intake.claimed w) waits i.holds in
     let h = holds.1 in
     record {
       streams = i.streams;

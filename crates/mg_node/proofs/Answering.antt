@@ -22,8 +22,8 @@ use Rattle.mg_calc.proofs.Rounds.{stream_is_prefix}
 use Rattle.mg_calc.proofs.Solutions.{solution_keeps, one_solution}
 use Rattle.mg_node.specs.declared.role.Role.{Role}
 use Rattle.mg_node.specs.declared.role.Role.TheVariants.{Loop as LoopRole}
-use Rattle.mg_node.specs.declared.waits.Waits.{Waits}
-use Rattle.mg_node.specs.declared.waits.Waits.TheVariants.{Loop}
+use Rattle.mg_node.specs.declared.pending.Pending.{Pending}
+use Rattle.mg_node.specs.declared.pending.Pending.TheVariants.{Loop}
 use Rattle.mg_node.specs.Views.{IntakeView, EntryView, EngineView}
 use Rattle.mg_node.specs.Job.{LoggedJob, ports_of, streams_at, role_of, loop_of, main_of, answered, stage_by}
 use Rattle.mg_node.specs.Lawful.{is_close, HoldsLoop, HoldsWaits, LawfulIntake, IsRaised, StandForAll, come_to, IsEngineOf, LawfulEngine, of_node, AgreeBy, AreCell}
@@ -105,7 +105,7 @@ loop_cell_by job number engine intake held h i agree role waits may =
     let order : engine.laid + 0 ≡ engine.claimed + 0 = subst (λ (w : List EntryView). engine.laid + length w ≡ engine.claimed + number_of (λ e. is_close e.phase) w) empty h.order in
     let same : i.streams ≡ h.streams = one_solution job.job i.streams h.streams i.solves.solution h.solves.solution in
     let counts : engine.claimed ≡ intake.claimed = subst (λ (r : Role). AgreeBy r engine.claimed intake.claimed) role agree in
-    let holds : HoldsWaits job i.streams number intake.claimed (Loop held) = subst (λ (w : Waits). HoldsWaits job i.streams number intake.claimed w) waits i.holds in
+    let holds : HoldsWaits job i.streams number intake.claimed (Loop held) = subst (λ (w : Pending). HoldsWaits job i.streams number intake.claimed w) waits i.holds in
     let number_is : intake.claimed ≡ engine.laid = omega (arith, order, counts) in
     record {
       engine_is = h;

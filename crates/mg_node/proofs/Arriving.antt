@@ -15,8 +15,8 @@ use Rattle.mg_policy.specs.Inbox.{Gathered}
 use Rattle.mg_policy.proofs.Standing.{arrivals_keep}
 use Rattle.mg_loopback.specs.Loopback.{Held}
 use Rattle.mg_loopback.proofs.Standing.{arrivals_keep as answers_keep}
-use Rattle.mg_node.specs.declared.waits.Waits.{Waits}
-use Rattle.mg_node.specs.declared.waits.Waits.TheVariants.{Sets, Loop}
+use Rattle.mg_node.specs.declared.pending.Pending.{Pending}
+use Rattle.mg_node.specs.declared.pending.Pending.TheVariants.{Sets, Loop}
 use Rattle.mg_node.specs.Ports.{ports_in, port_queue, with_port, with_room}
 use Rattle.mg_node.specs.Delivery.{missing, with_packets, delivered, AreOfOne}
 use Rattle.mg_calc.specs.declared.law.Law.TheVariants.{Loopback}
@@ -135,7 +135,7 @@ gone_same a b (x ∷ bs) zero q same = ap₂ (λ (n : ℕ) (ns : List ℕ). n �
 gone_same a b (x ∷ bs) (suc i) q same = ap (λ (ns : List ℕ). x.gone ∷ ns) (gone_same a b bs i q same)
 
 -- the stream at a port, and what came there
-pub record AtPort (job : LoggedJob) (streams : List (StreamPrefix Plain)) (consumer claimed port : ℕ) (w : Waits) : Type 0 where
+pub record AtPort (job : LoggedJob) (streams : List (StreamPrefix Plain)) (consumer claimed port : ℕ) (w : Pending) : Type 0 where
   pub came : StreamPrefix Plain
   pub stands : StandsFor (port_queue w port) came
   pub extended : IsExtendedBy came (get_or (streams_at streams (ports_of job.job.plan consumer)) port empty_prefix)
@@ -217,12 +217,12 @@ at_loop job streams consumer claimed (suc zero) held law h there =
     }
 at_loop job streams consumer claimed (suc (suc port)) held law h there = absurd (omega (arith, there))
 
-pub at_port : (job : LoggedJob) (streams : List (StreamPrefix Plain)) (consumer claimed port : ℕ) (w : Waits) → HoldsWaits job streams consumer claimed w → port < ports_in w → AtPort job streams consumer claimed port w
+pub at_port : (job : LoggedJob) (streams : List (StreamPrefix Plain)) (consumer claimed port : ℕ) (w : Pending) → HoldsWaits job streams consumer claimed w → port < ports_in w → AtPort job streams consumer claimed port w
 at_port job streams consumer claimed port (Sets inbox) h there = at_sets job streams consumer claimed port inbox h.0 h.1 there
 at_port job streams consumer claimed port (Loop held) h there = at_loop job streams consumer claimed port held h.0 h.1 there
 
 -- there are as many ports as streams
-pub ports_long : (job : LoggedJob) (streams : List (StreamPrefix Plain)) (consumer claimed : ℕ) (w : Waits) → HoldsWaits job streams consumer claimed w → ports_in w ≡ length (ports_of job.job.plan consumer)
+pub ports_long : (job : LoggedJob) (streams : List (StreamPrefix Plain)) (consumer claimed : ℕ) (w : Pending) → HoldsWaits job streams consumer claimed w → ports_in w ≡ length (ports_of job.job.plan consumer)
 ports_long job streams consumer claimed (Sets inbox) h =
     sym (length-map inbox.pool.ports (queue_of inbox.pool.spare)) ∙ zip_long StandsFor (queues_of inbox.pool) h.1.came h.1.stands.each
     ∙ zip_long IsExtendedBy h.1.came (streams_at streams (ports_of job.job.plan consumer)) h.1.extended ∙ length-map (ports_of job.job.plan consumer) (λ number. get_or streams number empty_prefix)

@@ -27,8 +27,8 @@ use Rattle.mg_calc.specs.Equations.{stream_of}
 use Rattle.mg_calc.proofs.Jobs.{any_state, job_known}
 use Rattle.mg_calc.proofs.Rounds.{streams_are_prefixes}
 use Rattle.mg_calc.proofs.Solutions.{solution_keeps, empties_extend}
-use Rattle.mg_node.specs.declared.waits.Waits.{Waits}
-use Rattle.mg_node.specs.declared.waits.Waits.TheVariants.{Sets, Loop}
+use Rattle.mg_node.specs.declared.pending.Pending.{Pending}
+use Rattle.mg_node.specs.declared.pending.Pending.TheVariants.{Sets, Loop}
 use Rattle.mg_node.specs.Intakes.{HoldsNone}
 use Rattle.mg_node.specs.Job.{LoggedJob, Solves, ports_of, policy_of, law_of, streams_at}
 use Rattle.mg_node.specs.Lawful.{HoldsSets, HoldsLoop, HoldsWaits, LawfulIntake}
@@ -95,11 +95,11 @@ fresh_held job streams consumer held solves law fresh =
       stands = fresh_loop held fresh;
     }
 
-fresh_waits : (job : LoggedJob) (streams : List (StreamPrefix Plain)) (consumer : ℕ) (w : Waits) → Solves job streams → HoldsNone job.job.plan consumer w → HoldsWaits job streams consumer 0 w
+fresh_waits : (job : LoggedJob) (streams : List (StreamPrefix Plain)) (consumer : ℕ) (w : Pending) → Solves job streams → HoldsNone job.job.plan consumer w → HoldsWaits job streams consumer 0 w
 fresh_waits job streams consumer (Sets inbox) solves h = (h.0, fresh_sets job streams consumer inbox solves h.1)
 fresh_waits job streams consumer (Loop held) solves h = (h.0, fresh_held job streams consumer held solves h.0 h.1)
 
-pub fresh_lawful : (job : LoggedJob) (streams : List (StreamPrefix Plain)) (plan : Plan) (consumer : ℕ) (w : Waits) → HoldsNone plan consumer w → consumer ≤ length plan.nodes → job.job.plan ≡ plan → Solves job streams
+pub fresh_lawful : (job : LoggedJob) (streams : List (StreamPrefix Plain)) (plan : Plan) (consumer : ℕ) (w : Pending) → HoldsNone plan consumer w → consumer ≤ length plan.nodes → job.job.plan ≡ plan → Solves job streams
     → LawfulIntake job consumer (record { claimed = 0; waits = w })
 unfolding LawfulIntake
 fresh_lawful job streams plan consumer w fresh le same solves = record {

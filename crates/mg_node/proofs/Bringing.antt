@@ -6,7 +6,7 @@ use Rattle.std.proofs.lemmas.List.{take_more, take_all}
 use Rattle.mg_value.specs.Payload.{Plain}
 use Rattle.mg_value.specs.Prefix.{Stamped}
 use Rattle.mg_stream.specs.Queue.{Waiting, with_packet, raised_to, count_of}
-use Rattle.mg_node.specs.declared.waits.Waits.{Waits}
+use Rattle.mg_node.specs.declared.pending.Pending.{Pending}
 use Rattle.mg_node.specs.declared.delivered.Delivered.TheVariants.{Moved}
 use Rattle.mg_node.specs.Ports.{ports_in, port_queue, with_port, with_room}
 use Rattle.mg_node.specs.Delivery.{missing, with_packets, delivered, Delivers, AreOfOne}
@@ -14,7 +14,7 @@ use Rattle.mg_node.specs.Code.Bringing.{Brought}
 use Rattle.mg_node.proofs.PortSteps.{queue-there, ports-same, port-twice, port-same}
 use Rattle.mg_node.proofs.Delivering.{none_first, of_one_next, of_one_room, missing-next, with_packets-push}
 
-pub brought_none : (o : Waiting Plain) (w : Waits) (port : ℕ) → port < ports_in w → AreOfOne o (port_queue w port) → Brought o port 0 w w
+pub brought_none : (o : Waiting Plain) (w : Pending) (port : ℕ) → port < ports_in w → AreOfOne o (port_queue w port) → Brought o port 0 w w
 brought_none o w port there of_one = record { there = there; of_one = of_one; within = omega arith; came = sym (port-same w port); left = refl }
 
 -- the first of what is left, by its place
@@ -31,7 +31,7 @@ first_at [] (suc n) = refl
 first_at (x ∷ xs) zero = refl
 first_at (x ∷ xs) (suc n) = first_at xs n
 
-pub next_missing : (o : Waiting Plain) (port n m first : ℕ) (before now : Waits) (next : Option (Stamped Plain)) → Brought o port n before now → first ≡ count_of (port_queue before port) - o.gone → m ≡ n
+pub next_missing : (o : Waiting Plain) (port n m first : ℕ) (before now : Pending) (next : Option (Stamped Plain)) → Brought o port n before now → first ≡ count_of (port_queue before port) - o.gone → m ≡ n
     → next ≡ slice_get o.packets (first + m) → slice_get (missing o (port_queue now port)) 0 ≡ next
 next_missing o port n m first before now next b is same found =
     ap (λ (ps : List (Stamped Plain)). slice_get ps 0) b.left
@@ -42,16 +42,16 @@ next_missing o port n m first before now next b is same found =
     ∙ sym found
 
 -- one more has come
-pub brought_more : (o : Waiting Plain) (port n : ℕ) (before now next : Waits) (p : Stamped Plain) (spare : ℕ) → Brought o port n before now
+pub brought_more : (o : Waiting Plain) (port n : ℕ) (before now next : Pending) (p : Stamped Plain) (spare : ℕ) → Brought o port n before now
     → slice_get (missing o (port_queue now port)) 0 ≡ Some p → next ≡ with_port now port (with_room (with_packet (port_queue now port) p) spare) → Brought o port (n + 1) before next
 brought_more o port n before now next p spare b first is =
     let all = missing o (port_queue before port) in
     let q = with_room (with_packet (port_queue now port) p) spare in
-    let here : port_queue next port ≡ q = ap (λ (w : Waits). port_queue w port) is ∙ queue-there now port q b.there in
+    let here : port_queue next port ≡ q = ap (λ (w : Pending). port_queue w port) is ∙ queue-there now port q b.there in
     let place = at_place all n p (ap (λ (ps : List (Stamped Plain)). slice_get ps 0) (sym b.left) ∙ first) in
     let before_there : port < ports_in before = (let same = ap ports_in b.came in let there = b.there in omega (arith, there, same, ports-same before port (with_room (with_packets (port_queue before port) (take n all)) (port_queue now port).spare))) in
     let old : port_queue now port ≡ with_room (with_packets (port_queue before port) (take n all)) (port_queue now port).spare =
-    ap (λ (w : Waits). port_queue w port) b.came ∙ queue-there before port _ before_there in
+    ap (λ (w : Pending). port_queue w port) b.came ∙ queue-there before port _ before_there in
     let longer : with_packet (with_packets (port_queue before port) (take n all)) p ≡ with_packets (port_queue before port) (take (n + 1) all) =
     with_packets-push (port_queue before port) (take n all) p ∙ ap (with_packets (port_queue before port)) (ap (λ (x : Stamped Plain). take n all ++ x ∷ []) (sym place.1) ∙ sym (take_more all n p place.0)) in
     let same : q ≡ with_room (with_packets (port_queue before port) (take (n + 1) all)) spare =
@@ -61,46 +61,46 @@ brought_more o port n before now next p spare b first is =
       there = (let there = b.there in omega (arith, there, ap ports_in is, ports-same now port q));
       of_one = subst (λ (r : Waiting Plain). AreOfOne o r) (sym here) (of_one_room o _ spare (of_one_next o (port_queue now port) p b.of_one first));
       within = (let le = place.0 in omega (arith, le));
-      came = is ∙ ap (λ (w : Waits). with_port w port q) b.came ∙ port-twice before port _ q ∙ ap (λ (r : Waiting Plain). with_port before port r) (same ∙ ap (with_room (with_packets (port_queue before port) (take (n + 1) all))) (sym room));
+      came = is ∙ ap (λ (w : Pending). with_port w port q) b.came ∙ port-twice before port _ q ∙ ap (λ (r : Waiting Plain). with_port before port r) (same ∙ ap (with_room (with_packets (port_queue before port) (take (n + 1) all))) (sym room));
       left = ap (missing o) here ∙ missing-next o (port_queue now port) p b.of_one.held ∙ ap (λ (ps : List (Stamped Plain)). drop 1 ps) b.left ∙ drop-drop 1 n all;
     }
 
 -- nothing has come, but the room is another one
-pub brought_same : (o : Waiting Plain) (port n : ℕ) (before now next : Waits) (spare : ℕ) → Brought o port n before now
+pub brought_same : (o : Waiting Plain) (port n : ℕ) (before now next : Pending) (spare : ℕ) → Brought o port n before now
     → next ≡ with_port now port (with_room (port_queue now port) spare) → Brought o port n before next
 brought_same o port n before now next spare b is =
     let all = missing o (port_queue before port) in
     let q = with_room (port_queue now port) spare in
-    let here : port_queue next port ≡ q = ap (λ (w : Waits). port_queue w port) is ∙ queue-there now port q b.there in
+    let here : port_queue next port ≡ q = ap (λ (w : Pending). port_queue w port) is ∙ queue-there now port q b.there in
     let before_there : port < ports_in before = (let same = ap ports_in b.came in let there = b.there in omega (arith, there, same, ports-same before port (with_room (with_packets (port_queue before port) (take n all)) (port_queue now port).spare))) in
     let old : port_queue now port ≡ with_room (with_packets (port_queue before port) (take n all)) (port_queue now port).spare =
-    ap (λ (w : Waits). port_queue w port) b.came ∙ queue-there before port _ before_there in
+    ap (λ (w : Pending). port_queue w port) b.came ∙ queue-there before port _ before_there in
     let room : (port_queue next port).spare ≡ spare = ap (λ (r : Waiting Plain). r.spare) here in
     record {
       there = (let there = b.there in omega (arith, there, ap ports_in is, ports-same now port q));
       of_one = subst (λ (r : Waiting Plain). AreOfOne o r) (sym here) (of_one_room o _ spare b.of_one);
       within = b.within;
-      came = is ∙ ap (λ (w : Waits). with_port w port q) b.came ∙ port-twice before port _ q
+      came = is ∙ ap (λ (w : Pending). with_port w port q) b.came ∙ port-twice before port _ q
           ∙ ap (λ (r : Waiting Plain). with_port before port r) (ap (λ (r : Waiting Plain). with_room r spare) old ∙ ap (with_room (with_packets (port_queue before port) (take n all))) (sym room));
       left = ap (missing o) here ∙ b.left;
     }
 
 -- none is left where there is no next one, and one is left where there is
-pub none_left : (o : Waiting Plain) (port n most : ℕ) (before now : Waits) → Brought o port n before now → n ≤ most → slice_get (missing o (port_queue now port)) 0 ≡ None
+pub none_left : (o : Waiting Plain) (port n most : ℕ) (before now : Pending) → Brought o port n before now → n ≤ most → slice_get (missing o (port_queue now port)) 0 ≡ None
     → n ≡ min most (length (missing o (port_queue before port)))
 none_left o port n most before now b le none =
     let all = missing o (port_queue before port) in
     let within = b.within in
     omega (arith, le, within, ap length (sym b.left ∙ none_first (missing o (port_queue now port)) none), length-drop n all)
 
-pub some_left : (o : Waiting Plain) (port n most : ℕ) (before now : Waits) (p : Stamped Plain) → Brought o port n before now → n < most → slice_get (missing o (port_queue now port)) 0 ≡ Some p
+pub some_left : (o : Waiting Plain) (port n most : ℕ) (before now : Pending) (p : Stamped Plain) → Brought o port n before now → n < most → slice_get (missing o (port_queue now port)) 0 ≡ Some p
     → n < min most (length (missing o (port_queue before port)))
 some_left o port n most before now p b le first =
     let all = missing o (port_queue before port) in
     let place = at_place all n p (ap (λ (ps : List (Stamped Plain)). slice_get ps 0) (sym b.left) ∙ first) in
     omega (arith, le, place.0)
 
-pub enough : (o : Waiting Plain) (port n most : ℕ) (before now : Waits) → Brought o port n before now → n ≤ most → most ≤ n → n ≡ min most (length (missing o (port_queue before port)))
+pub enough : (o : Waiting Plain) (port n most : ℕ) (before now : Pending) → Brought o port n before now → n ≤ most → most ≤ n → n ≡ min most (length (missing o (port_queue before port)))
 enough o port n most before now b le ge = (let within = b.within in omega (arith, le, ge, within))
 
 -- what a call of a queue's place finds
@@ -120,19 +120,19 @@ moved_by o q r n spare is left within = elim (eqb_tells n (length (missing o q))
       rw (test, some) is)
 ]
 
-pub delivers : (o : Waiting Plain) (port n most : ℕ) (before now next : Waits) (raised : Bool) → port < ports_in before → Brought o port n before now → n ≡ min most (length (missing o (port_queue before port)))
+pub delivers : (o : Waiting Plain) (port n most : ℕ) (before now next : Pending) (raised : Bool) → port < ports_in before → Brought o port n before now → n ≡ min most (length (missing o (port_queue before port)))
     → next ≡ with_port now port (delivered o (port_queue now port) 0) → raised ≡ nat_lt (port_queue now port).bound (port_queue next port).bound
     → Delivers (Moved n raised) o port most before next
 delivers o port n most before now next raised there b count is rose =
     let all = missing o (port_queue before port) in
     let came : port_queue now port ≡ with_room (with_packets (port_queue before port) (take n all)) (port_queue now port).spare =
-    ap (λ (w : Waits). port_queue w port) b.came ∙ queue-there before port _ there in
+    ap (λ (w : Pending). port_queue w port) b.came ∙ queue-there before port _ there in
     let ends : delivered o (port_queue now port) 0 ≡ with_room (delivered o (port_queue before port) n) (port_queue now port).spare =
     moved_by o (port_queue before port) (port_queue now port) n (port_queue now port).spare came b.left b.within in
     let last : next ≡ with_port before port (with_room (delivered o (port_queue before port) n) (port_queue now port).spare) =
-    is ∙ ap (λ (w : Waits). with_port w port (delivered o (port_queue now port) 0)) b.came ∙ port-twice before port _ _ ∙ ap (with_port before port) ends in
+    is ∙ ap (λ (w : Pending). with_port w port (delivered o (port_queue now port) 0)) b.came ∙ port-twice before port _ _ ∙ ap (with_port before port) ends in
     let room : (port_queue next port).spare ≡ (port_queue now port).spare =
-    ap (λ (w : Waits). (port_queue w port).spare) last ∙ ap (λ (q : Waiting Plain). q.spare) (queue-there before port (with_room (delivered o (port_queue before port) n) (port_queue now port).spare) there) in (
+    ap (λ (w : Pending). (port_queue w port).spare) last ∙ ap (λ (q : Waiting Plain). q.spare) (queue-there before port (with_room (delivered o (port_queue before port) n) (port_queue now port).spare) there) in (
       count,
       last ∙ ap (λ (k : ℕ). with_port before port (with_room (delivered o (port_queue before port) n) k)) (sym room),
       rose ∙ ap (λ (q : Waiting Plain). nat_lt q.bound (port_queue next port).bound) came,

@@ -27,7 +27,7 @@ use Rattle.mg_calc.specs.Plan.{FlightFits}
 use Rattle.mg_calc.specs.Told.{CalculatorTold, with_call}
 use Rattle.mg_route.specs.HolderView.{HolderView, told_by}
 use Rattle.mg_node.specs.Views.{IntakeView, BenchView, EntryView, EngineView}
-use Rattle.mg_node.specs.Job.{LoggedJob, Solves, sets_of, stage, IsLast, first_log, log_after, calls_before}
+use Rattle.mg_node.specs.Job.{LoggedJob, Solves, sets_of, stage, IsLastWork, first_log, log_after, calls_before}
 use Rattle.mg_node.specs.Lawful.{of_node, come_to, calls_by, IsIdle, IsEngineOf, LawfulEngine, LawfulIntake, Agree}
 use Rattle.mg_node.specs.Claims.{has_ended}
 use Rattle.mg_node.specs.WindingUp.{closes_despite, lacks_close, FinishesLast, WindsUp}
@@ -86,7 +86,7 @@ close_fails : (o : Outcome) (r : Result (List (StreamPrefix Plain)) Cause) → o
 close_fails o (Ok outputs) good = subst IsOfClose (sym good) tt
 close_fails o (Err cause) good = refl
 
-last_of_close : (job : Job) (streams : List (StreamPrefix Plain)) (node : PlanNode) (n : ℕ) → IsOuter node.law → IsLast job streams node n → IsOfClose (outcome_of job streams node).fault
+last_of_close : (job : Job) (streams : List (StreamPrefix Plain)) (node : PlanNode) (n : ℕ) → IsOuter node.law → IsLastWork job streams node n → IsOfClose (outcome_of job streams node).fault
 last_of_close job streams node n is last =
     let offset = node.shape.offset in
     let before = stage job streams node n in

@@ -14,8 +14,8 @@ use Rattle.mg_calc.specs.declared.law.Law.TheVariants.{Count, SideOnce, Constant
 use Rattle.mg_calc.specs.declared.plan_node.PlanNode.{PlanNode}
 use Rattle.mg_node.specs.declared.role.Role.{Role}
 use Rattle.mg_node.specs.declared.role.Role.TheVariants.{Input, Sets as SetsRole}
-use Rattle.mg_node.specs.declared.waits.Waits.{Waits}
-use Rattle.mg_node.specs.declared.waits.Waits.TheVariants.{Sets, Loop}
+use Rattle.mg_node.specs.declared.pending.Pending.{Pending}
+use Rattle.mg_node.specs.declared.pending.Pending.TheVariants.{Sets, Loop}
 use Rattle.mg_node.specs.Views.{IntakeView, BenchView, EngineView}
 use Rattle.mg_node.specs.Ports.{ports_in, IsNext}
 use Rattle.mg_node.specs.Intakes.{HasSets, SomeJobHasIntake}
@@ -48,7 +48,7 @@ some_law : (o : Option PlanNode) (node : PlanNode) → o ≡ Some node → optio
 some_law None node is law = absurd cc
 some_law (Some m) node is law = (let same : m ≡ node = cc in let here : m.law ≡ Loopback = cc in ap (λ (n : PlanNode). n.law) (sym same) ∙ here)
 
-sets_by : (job : LoggedJob) (number claimed : ℕ) (engine : EngineView) (h : IsEngineOf job number engine) (i : IntakeView) (w : Waits) (is : IsIntakeOf job number i) → engine.role ≡ SetsRole → HoldsWaits job is.streams number claimed w → HasSets w
+sets_by : (job : LoggedJob) (number claimed : ℕ) (engine : EngineView) (h : IsEngineOf job number engine) (i : IntakeView) (w : Pending) (is : IsIntakeOf job number i) → engine.role ≡ SetsRole → HoldsWaits job is.streams number claimed w → HasSets w
 sets_by job number claimed engine h i (Sets inbox) is role holds = tt
 sets_by job number claimed engine h i (Loop held) is role holds = loop_is_loop h.node.law (sym h.set_up.role ∙ role) (some_law (slice_get job.job.plan.nodes number) h.node h.there holds.0)
 
@@ -81,7 +81,7 @@ nonempty : {X : Type 0} (xs : List X) (x : X) → slice_get xs 0 ≡ Some x → 
 nonempty [] x h = absurd cc
 nonempty (y ∷ xs) x h = omega arith
 
-fits_by : (job : LoggedJob) (number claimed at : ℕ) (w : Waits) (i : IntakeView) (is : IsIntakeOf job number i) → HoldsWaits job is.streams number claimed w → HasSets w → IsNext w (Ready at) → claimed + 1 ≤ done
+fits_by : (job : LoggedJob) (number claimed at : ℕ) (w : Pending) (i : IntakeView) (is : IsIntakeOf job number i) → HoldsWaits job is.streams number claimed w → HasSets w → IsNext w (Ready at) → claimed + 1 ≤ done
 fits_by job number claimed at (Sets inbox) i is holds has next =
     let h = holds.1 in
     let some = some_next (next_set inbox.policy (queues_of inbox.pool)) at next in

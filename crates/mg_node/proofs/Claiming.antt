@@ -16,9 +16,9 @@ use Rattle.mg_value.proofs.Lemmas.{Rises, sets-stay, times-rise, below-reach, re
 use Rattle.mg_stream.specs.Pool.{queues_of}
 use Rattle.mg_policy.specs.Inbox.{Gathered, StandAfter, ShowsNext}
 use Rattle.mg_policy.proofs.Standing.{all_prefixes}
-use Rattle.mg_node.specs.declared.waits.Waits.{Waits}
+use Rattle.mg_node.specs.declared.pending.Pending.{Pending}
 use Rattle.mg_node.specs.Views.{IntakeView}
-use Rattle.mg_node.specs.Intakes.{SomeJobHasIntake, HasSet, Claims}
+use Rattle.mg_node.specs.Intakes.{SomeJobHasIntake, HasSet, ClaimsSet}
 use Rattle.mg_node.specs.Job.{LoggedJob, Solves, ports_of, streams_at}
 use Rattle.mg_node.specs.Lawful.{HoldsSets, HoldsWaits, IsIntakeOf, LawfulIntake}
 use Rattle.mg_calc.proofs.Solutions.{one_solution}
@@ -80,24 +80,24 @@ on_true true f a = f a
 on_true false f a = a
 
 -- of an intake, for its job
-claims_by : (job : LoggedJob) (consumer : ℕ) (view : IntakeView) (now : Waits) (set : List (Option (Stamped Plain))) (h : IsIntakeOf job consumer view) → Claims job h.streams consumer view.claimed now set → IsIntakeOf job consumer (record { claimed = view.claimed + 1; waits = now })
+claims_by : (job : LoggedJob) (consumer : ℕ) (view : IntakeView) (now : Pending) (set : List (Option (Stamped Plain))) (h : IsIntakeOf job consumer view) → ClaimsSet job h.streams consumer view.claimed now set → IsIntakeOf job consumer (record { claimed = view.claimed + 1; waits = now })
 claims_by job consumer view now set h c = record { streams = h.streams; solves = h.solves; is_there = h.is_there; holds = c.holds }
 
-abbrev ClaimsAll : Waits → Waits → List (Option (Stamped Plain)) → Type 0
-ClaimsAll old now set = (job : LoggedJob) (streams : List (StreamPrefix Plain)) (consumer k : ℕ) → HoldsWaits job streams consumer k old → Claims job streams consumer k now set
+abbrev ClaimsAll : Pending → Pending → List (Option (Stamped Plain)) → Type 0
+ClaimsAll old now set = (job : LoggedJob) (streams : List (StreamPrefix Plain)) (consumer k : ℕ) → HoldsWaits job streams consumer k old → ClaimsSet job streams consumer k now set
 
-pub claim_lawful : (job : LoggedJob) (consumer : ℕ) (view : IntakeView) (now : Waits) (set : List (Option (Stamped Plain))) → ClaimsAll view.waits now set → LawfulIntake job consumer view → LawfulIntake job consumer (record { claimed = view.claimed + 1; waits = now })
+pub claim_lawful : (job : LoggedJob) (consumer : ℕ) (view : IntakeView) (now : Pending) (set : List (Option (Stamped Plain))) → ClaimsAll view.waits now set → LawfulIntake job consumer view → LawfulIntake job consumer (record { claimed = view.claimed + 1; waits = now })
 unfolding LawfulIntake
 claim_lawful job consumer view now set all h = claims_by job consumer view now set h (all job h.streams consumer view.claimed h.holds)
 
-claim_fits_by : (job : LoggedJob) (consumer : ℕ) (view : IntakeView) (now : Waits) (set : List (Option (Stamped Plain))) → ClaimsAll view.waits now set → LawfulIntake job consumer view → view.claimed + 1 ≤ done
+claim_fits_by : (job : LoggedJob) (consumer : ℕ) (view : IntakeView) (now : Pending) (set : List (Option (Stamped Plain))) → ClaimsAll view.waits now set → LawfulIntake job consumer view → view.claimed + 1 ≤ done
 unfolding LawfulIntake
 claim_fits_by job consumer view now set all i = (all job i.streams consumer view.claimed i.holds).few
 
-pub claim_fits : (view : IntakeView) (now : Waits) (set : List (Option (Stamped Plain))) → ClaimsAll view.waits now set → SomeJobHasIntake view → view.claimed + 1 ≤ done
+pub claim_fits : (view : IntakeView) (now : Pending) (set : List (Option (Stamped Plain))) → ClaimsAll view.waits now set → SomeJobHasIntake view → view.claimed + 1 ≤ done
 claim_fits view now set all h = claim_fits_by h.job h.consumer view now set all h.lawful
 
-pub claim_shows : (job : LoggedJob) (consumer : ℕ) (streams : List (StreamPrefix Plain)) (view : IntakeView) (now : Waits) (set : List (Option (Stamped Plain))) → ClaimsAll view.waits now set → Solves job streams → LawfulIntake job consumer view
+pub claim_shows : (job : LoggedJob) (consumer : ℕ) (streams : List (StreamPrefix Plain)) (view : IntakeView) (now : Pending) (set : List (Option (Stamped Plain))) → ClaimsAll view.waits now set → Solves job streams → LawfulIntake job consumer view
     → HasSet job streams consumer view.claimed set
 unfolding LawfulIntake
 claim_shows job consumer streams view now set all solves h =

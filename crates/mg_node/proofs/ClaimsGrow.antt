@@ -10,12 +10,12 @@ use Rattle.mg_stream.specs.Pool.{Backlog, queue_of, backlog_of, empty_backlog}
 use Rattle.mg_calc.specs.declared.node_fault.Phase.{Phase}
 use Rattle.mg_node.specs.declared.claimed.Claimed.{Claimed}
 use Rattle.mg_node.specs.declared.claimed.Claimed.TheVariants.{Work, Answered, NotReady, InFlightFull, Draining, Ended, OutOfMemory}
-use Rattle.mg_node.specs.declared.waits.Waits.{Waits}
-use Rattle.mg_node.specs.declared.waits.Waits.TheVariants.{Loop}
+use Rattle.mg_node.specs.declared.pending.Pending.{Pending}
+use Rattle.mg_node.specs.declared.pending.Pending.TheVariants.{Loop}
 use Rattle.mg_node.specs.Views.{IntakeView, BenchView, EngineView}
 use Rattle.mg_node.specs.Lawful.{AreCell}
 use Rattle.mg_node.specs.Ports.{port_queue}
-use Rattle.mg_node.specs.Claims.{behind, with_answer, AreSame, MayClaim, Hands, TakesAnswer, Claims}
+use Rattle.mg_node.specs.Claims.{with_reply, with_answer, AreSame, MayClaim, Hands, TakesAnswer, Claims}
 use Rattle.mg_node.specs.IntakeStanding.{HasGrown, IntakeGrows}
 use Rattle.mg_node.specs.Standing.{EngineGrows}
 use Rattle.mg_node.proofs.Looping.{cell_lays}
@@ -35,7 +35,7 @@ hands_grow engine engine_now phase more bench h =
     subst (λ (v : EngineView). EngineGrows engine v) (sym h.now) (record { laid = omega arith; claimed = omega arith; ended = (λ e. e); outputs = (λ output. grown_by_itself _) })
 
 -- an answer that is laid; the packet may come there
-behind_grown : (answer : Option (Stamped Plain)) (b : Backlog Plain) → ((p : Stamped Plain) → answer ≡ Some p → MayCome (queue_of 0 b) p.at) → HasGrown (queue_of 0 b) (queue_of 0 (behind answer b))
+behind_grown : (answer : Option (Stamped Plain)) (b : Backlog Plain) → ((p : Stamped Plain) → answer ≡ Some p → MayCome (queue_of 0 b) p.at) → HasGrown (queue_of 0 b) (queue_of 0 (with_reply answer b))
 behind_grown None b may = grown_by_itself (queue_of 0 b)
 behind_grown (Some p) b may =
     let comes = may p refl in
@@ -63,7 +63,7 @@ answered_grows engine engine_now intake intake_now cell may t =
           (record { laid = omega arith; claimed = omega arith; ended = (λ e. e); outputs = answer_grown (packet_of t.reply) engine.outputs comes });
       intake_grows = record {
         claimed = (let more = ap (λ (v : IntakeView). v.claimed) t.intake_is in omega (arith, more));
-        ports = (λ port. subst (λ (w : Waits). HasGrown (port_queue w port) (port_queue intake_now.waits port)) (sym t.waits)
+        ports = (λ port. subst (λ (w : Pending). HasGrown (port_queue w port) (port_queue intake_now.waits port)) (sym t.waits)
             (subst (λ (v : IntakeView). HasGrown (port_queue (Loop t.held) port) (port_queue v.waits port)) (sym t.intake_is) (reply_grows t.held t.reply t.next port)));
       };
     }

@@ -24,8 +24,8 @@ use Rattle.mg_calc.specs.Shape.{IsOuter, IsSource, calls_of}
 use Rattle.mg_calc.specs.Equations.{stream_of, inputs_of}
 use Rattle.mg_calc.proofs.Solutions.{one_solution}
 use Rattle.mg_node.specs.declared.role.Role.TheVariants.{Source, Sets as SetsRole}
-use Rattle.mg_node.specs.declared.waits.Waits.{Waits}
-use Rattle.mg_node.specs.declared.waits.Waits.TheVariants.{Sets, Loop}
+use Rattle.mg_node.specs.declared.pending.Pending.{Pending}
+use Rattle.mg_node.specs.declared.pending.Pending.TheVariants.{Sets, Loop}
 use Rattle.mg_node.specs.Views.{IntakeView, BenchView, WorkView, OutcomeView, EntryView, EngineView}
 use Rattle.mg_node.specs.Ports.{IsNext}
 use Rattle.mg_node.specs.Intakes.{next_set_of}
@@ -126,7 +126,7 @@ count_sets Loopback streams node e = absurd cc
 count_sets law streams node e = refl
 
 -- the next set is that of its number in the solution
-next_there : (job : LoggedJob) (streams : List (StreamPrefix Plain)) (number claimed : ℕ) (w : Waits) (e : TimedSet Plain) → HoldsWaits job streams number claimed w → next_set_of w ≡ Some e
+next_there : (job : LoggedJob) (streams : List (StreamPrefix Plain)) (number claimed : ℕ) (w : Pending) (e : TimedSet Plain) → HoldsWaits job streams number claimed w → next_set_of w ≡ Some e
     → slice_get (settled_sets (policy_of job.job.plan number) (streams_at streams (ports_of job.job.plan number))) claimed ≡ Some e
 next_there job streams number claimed (Sets inbox) e holds next =
     let h = holds.1 in
@@ -150,7 +150,7 @@ next_is : (o : Option (TimedSet Plain)) (at : ℕ) (set : List (Option (Stamped 
 next_is None at set a b = absurd a
 next_is (Some e) at set a b = ap Some (λ i. record { at = a i; set = sym b i })
 
-next_at : (w : Waits) (at : ℕ) (set : List (Option (Stamped Plain))) → IsNext w (Ready at) → IsSomeAnd (next_set_of w) (λ e. set ≡ e.set) → next_set_of w ≡ Some (record { at = at; set = set })
+next_at : (w : Pending) (at : ℕ) (set : List (Option (Stamped Plain))) → IsNext w (Ready at) → IsSomeAnd (next_set_of w) (λ e. set ≡ e.set) → next_set_of w ≡ Some (record { at = at; set = set })
 next_at (Sets inbox) at set next shown = next_is (next_set inbox.policy (queues_of inbox.pool)) at set next shown
 next_at (Loop held) at set next shown = absurd shown
 

@@ -12,8 +12,8 @@ use Rattle.mg_stream.specs.Pool.{Backlog, empty_backlog, queue_of, queues_of, qu
 use Rattle.mg_policy.specs.Inbox.{Gathered, rests}
 use Rattle.mg_value.specs.Left.{after_sets}
 use Rattle.mg_loopback.specs.Loopback.{Held, next_reply, without, replied}
-use Rattle.mg_node.specs.declared.waits.Waits.{Waits}
-use Rattle.mg_node.specs.declared.waits.Waits.TheVariants.{Loop}
+use Rattle.mg_node.specs.declared.pending.Pending.{Pending}
+use Rattle.mg_node.specs.declared.pending.Pending.TheVariants.{Loop}
 use Rattle.mg_node.specs.Views.{IntakeView, EngineView}
 use Rattle.mg_node.specs.Ports.{port_queue}
 use Rattle.mg_node.specs.IntakeStanding.{Stays}
@@ -66,7 +66,7 @@ reply_stays held r next port = by_port (port == 0)
 
 pub answer_stays : (engine engine_now : EngineView) (intake intake_now : IntakeView) → TakesAnswer engine engine_now intake intake_now → (port : ℕ) → Stays (port_queue intake.waits port) (port_queue intake_now.waits port)
 answer_stays engine engine_now intake intake_now t port =
-    let here : port_queue (Loop t.held) port ≡ port_queue intake.waits port = ap (λ (w : Waits). port_queue w port) (sym t.waits) in
+    let here : port_queue (Loop t.held) port ≡ port_queue intake.waits port = ap (λ (w : Pending). port_queue w port) (sym t.waits) in
     let there : port_queue (Loop (replied t.held)) port ≡ port_queue intake_now.waits port = ap (λ (i : IntakeView). port_queue i.waits port) (sym t.intake_is) in
     subst (λ (q : Waiting Plain). Stays (port_queue intake.waits port) q) there
     (subst (λ (q : Waiting Plain). Stays q (port_queue (Loop (replied t.held)) port)) here (reply_stays t.held t.reply t.next port))

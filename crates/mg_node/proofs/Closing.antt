@@ -38,11 +38,11 @@ use Rattle.mg_calc.proofs.Rounds.{stream_extends, streams_are_prefixes, stream_i
 use Rattle.mg_calc.proofs.Solutions.{solution_keeps, one_solution}
 use Rattle.mg_node.specs.declared.role.Role.{Role}
 use Rattle.mg_node.specs.declared.role.Role.TheVariants.{Input, Source, Loop as LoopRole, Sets as SetsRole}
-use Rattle.mg_node.specs.declared.waits.Waits.{Waits}
-use Rattle.mg_node.specs.declared.waits.Waits.TheVariants.{Sets, Loop}
+use Rattle.mg_node.specs.declared.pending.Pending.{Pending}
+use Rattle.mg_node.specs.declared.pending.Pending.TheVariants.{Sets, Loop}
 use Rattle.mg_node.specs.Views.{IntakeView, EngineView, EntryView, WorkView}
 use Rattle.mg_node.specs.Ports.{IsNext}
-use Rattle.mg_node.specs.Job.{LoggedJob, Solves, ports_of, streams_at, role_of, main_of, loop_of, sets_of, count_by, count_of_all, IsOverBy, stage, IsLast}
+use Rattle.mg_node.specs.Job.{LoggedJob, Solves, ports_of, streams_at, role_of, main_of, loop_of, sets_of, count_by, count_of_all, IsOverBy, stage, IsLastWork}
 use Rattle.mg_node.specs.Lawful.{HoldsSets, HoldsWaits, IsIntakeOf, LawfulIntake, is_close, come_to, IsEngineOf, LawfulEngine, of_node, AgreeBy, LawfulWork}
 use Rattle.mg_node.specs.Claims.{MayClaim, IsOver, TakesClose}
 use Rattle.mg_node.proofs.Answering.{loop_law}
@@ -152,7 +152,7 @@ pub law_is_loop : (o : Option PlanNode) (node : PlanNode) → o ≡ Some node �
 law_is_loop None node is law = absurd cc
 law_is_loop (Some m) node is law = (let same : m ≡ node = cc in let here : m.law ≡ Loopback = cc in ap (λ (n : PlanNode). n.law) (sym same) ∙ here)
 
-sets_close : (job : LoggedJob) (number : ℕ) (streams : List (StreamPrefix Plain)) (node : PlanNode) (k : ℕ) (w : Waits) → Solves job streams → slice_get job.job.plan.nodes number ≡ Some node → role_of node.law ≡ SetsRole → HoldsWaits job streams number k w → IsNext w AtEnd
+sets_close : (job : LoggedJob) (number : ℕ) (streams : List (StreamPrefix Plain)) (node : PlanNode) (k : ℕ) (w : Pending) → Solves job streams → slice_get job.job.plan.nodes number ≡ Some node → role_of node.law ≡ SetsRole → HoldsWaits job streams number k w → IsNext w AtEnd
     → (k ≡ count_of_all streams node) × IsOverBy node.law streams node
 sets_close job number streams node k (Sets inbox) solves there role holds next =
     let h = holds.1 in
@@ -165,7 +165,7 @@ sets_close job number streams node k (Sets inbox) solves there role holds next =
 sets_close job number streams node k (Loop held) solves there role holds next =
     absurd (let role_is = subst (λ (l : Law). role_of l ≡ SetsRole) (law_is_loop (slice_get job.job.plan.nodes number) node there holds.0) role in cc)
 
-loop_close : (job : LoggedJob) (number : ℕ) (streams : List (StreamPrefix Plain)) (node : PlanNode) (k : ℕ) (w : Waits) → Solves job streams → slice_get job.job.plan.nodes number ≡ Some node → role_of node.law ≡ LoopRole → HoldsWaits job streams number k w → IsNext w AtEnd
+loop_close : (job : LoggedJob) (number : ℕ) (streams : List (StreamPrefix Plain)) (node : PlanNode) (k : ℕ) (w : Pending) → Solves job streams → slice_get job.job.plan.nodes number ≡ Some node → role_of node.law ≡ LoopRole → HoldsWaits job streams number k w → IsNext w AtEnd
     → (k ≡ count_of_all streams node) × IsOverBy node.law streams node
 loop_close job number streams node k (Sets inbox) solves there role holds next = absurd (holds.0 (ap (λ (o : Option PlanNode). option_map (λ n. n.law) o) there ∙ ap Some (loop_law node.law role)))
 loop_close job number streams node k (Loop held) solves there role holds next =
@@ -216,7 +216,7 @@ close_lawful job number engine engine_now intake work h i agree may t =
     let stage_good : (stage job.job h.streams h.node engine.laid).fault ≡ None =
     no_fault engine.fault (stage job.job h.streams h.node engine.laid).fault number ended.1 (h.fault ∙ ap (λ (b : Bool). option_map (λ f. record { node = number; phase = f.phase; cause = f.cause }) (come_to job h.streams h.node engine.laid b).fault) ended.0) in
     let all = close_by job number engine intake h i engine.role refl agree laid t.over in
-    let last : IsLast job.job h.streams h.node engine.claimed = record {
+    let last : IsLastWork job.job h.streams h.node engine.claimed = record {
       all = all.0;
       good = ap (λ (k : ℕ). (stage job.job h.streams h.node k).fault) (sym laid) ∙ stage_good;
       over = all.1;

@@ -17,7 +17,7 @@ use Rattle.mg_node.specs.Job.{LoggedJob}
 use Rattle.mg_node.specs.Windows.{has_ended}
 use Rattle.mg_node.specs.Shelves.{IsOut}
 use Rattle.mg_node.specs.Lawful.{StandForAll, is_close, come_to, IsEngineOf, LawfulEngine, of_node}
-use Rattle.mg_node.specs.Commits.{counted, Front, front_laid, front_of, fault_at, HasFront, committed_entry, window_with, Commits, SomeJobHasEngine}
+use Rattle.mg_node.specs.Commits.{calls_in_phase, Front, front_laid, front_of, fault_at, HasFront, committed_entry, window_with, Commits, SomeJobHasEngine}
 use Rattle.mg_node.specs.Code.QueueLaying.{Stand, StandForSome}
 use Rattle.mg_node.specs.Code.FrontLaying.{counted_in, start_of, HasCome, IsFrontLaid, LaysFront, HasWhole}
 use Rattle.mg_node.proofs.FrontSteps.{front_stays}
@@ -114,7 +114,7 @@ lays_some e before now window idle end is goes h = record {
 
 -- What a commit needs of a lawful engine.
 
-counted_most : (p : Phase) → counted p + cond {A = ℕ} (is_close p) 1 0 ≤ 1
+counted_most : (p : Phase) → calls_in_phase p + cond {A = ℕ} (is_close p) 1 0 ≤ 1
 counted_most Open = omega arith
 counted_most (Call n) = omega arith
 counted_most (Process at) = omega arith
@@ -135,8 +135,8 @@ set_back {X} (z ∷ xs) (suc i) x y is = ap (λ (l : List X). z ∷ l) (set_back
 
 counted_set : (window : List EntryView) (i : ℕ) (old new : EntryView) → slice_get window i ≡ Some old → new.phase ≡ old.phase → counted_in (set window i new) ≡ counted_in window
 counted_set [] i old new is phase = refl
-counted_set (e ∷ window) zero old new is phase = (let same : e ≡ old = cc in ap (λ (p : Phase). counted p + counted_in window) (phase ∙ ap (λ (x : EntryView). x.phase) (sym same)))
-counted_set (e ∷ window) (suc i) old new is phase = ap (λ (n : ℕ). counted e.phase + n) (counted_set window i old new is phase)
+counted_set (e ∷ window) zero old new is phase = (let same : e ≡ old = cc in ap (λ (p : Phase). calls_in_phase p + counted_in window) (phase ∙ ap (λ (x : EntryView). x.phase) (sym same)))
+counted_set (e ∷ window) (suc i) old new is phase = ap (λ (n : ℕ). calls_in_phase e.phase + n) (counted_set window i old new is phase)
 
 few_by : (job : LoggedJob) (number : ℕ) (e : EngineView) → IsEngineOf job number e → e.laid + counted_in e.window ≤ e.claimed
 few_by job number e h = (let order = h.order in let all = counted_all e.window in omega (arith, order, all))

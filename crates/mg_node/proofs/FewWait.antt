@@ -8,8 +8,8 @@ use Rattle.mg_value.specs.Prefix.{Stamped, StreamPrefix, IsPrefix, first_time}
 use Rattle.mg_value.proofs.Climbs.{Climbs, Ascends-climbs}
 use Rattle.mg_stream.specs.Queue.{Waiting, StandsFor}
 use Rattle.mg_stream.specs.Pool.{Backlog, queue_of, empty_backlog}
-use Rattle.mg_node.specs.declared.waits.Waits.{Waits}
-use Rattle.mg_node.specs.declared.waits.Waits.TheVariants.{Sets, Loop}
+use Rattle.mg_node.specs.declared.pending.Pending.{Pending}
+use Rattle.mg_node.specs.declared.pending.Pending.TheVariants.{Sets, Loop}
 use Rattle.mg_node.specs.Views.{IntakeView}
 use Rattle.mg_node.specs.Ports.{port_queue}
 use Rattle.mg_node.specs.Job.{LoggedJob}
@@ -46,7 +46,7 @@ held_few : (here : Bool) (loop main : Waiting Plain) → length loop.packets + 1
 held_few true loop main a b = a
 held_few false loop main a b = b
 
-waits_few : (job : LoggedJob) (streams : List (StreamPrefix Plain)) (consumer claimed : ℕ) (waits : Waits) (port : ℕ) → HoldsWaits job streams consumer claimed waits → length (port_queue waits port).packets + 1 < 2 ^ 64
+waits_few : (job : LoggedJob) (streams : List (StreamPrefix Plain)) (consumer claimed : ℕ) (waits : Pending) (port : ℕ) → HoldsWaits job streams consumer claimed waits → length (port_queue waits port).packets + 1 < 2 ^ 64
 waits_few job streams consumer claimed (Sets inbox) port h = pool_few inbox.pool.spare inbox.pool.ports h.1.came port h.1.stands.each
 waits_few job streams consumer claimed (Loop held) port h = (let stands = h.1.stands in held_few (port == 0) held.loop held.main (stands_few held.loop h.1.loop stands.at_loop) (stands_few held.main h.1.main stands.at_main))
 

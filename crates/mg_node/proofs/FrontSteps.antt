@@ -17,7 +17,7 @@ use Rattle.mg_node.specs.Views.{BenchView, PerformedView, EntryView}
 use Rattle.mg_node.specs.Commits.{raised_before, laid_by, failure_by, Front, answer_laid, has_stopped, with_ready, front_laid, fault_at}
 use Rattle.mg_node.specs.Windows.{ready_of, starts_ready}
 use Rattle.mg_node.specs.Code.QueueLaying.{Stand, packets_by, room_at}
-use Rattle.mg_node.specs.Code.FrontLaying.{needed, counted_in, end_of, IsFirstLaid, start_of, HasCome, IsFrontLaid}
+use Rattle.mg_node.specs.Code.FrontLaying.{needed, counted_in, front_end_of, IsFirstLaid, start_of, HasCome, IsFrontLaid}
 use Rattle.mg_node.proofs.Replying.{same_backlog}
 use Rattle.mg_node.proofs.Zips.{map-set}
 
@@ -144,9 +144,9 @@ front_stays offset [] front stopped = refl
 front_stays offset (entry ∷ entries) front stopped =
     ap (λ (b : Bool). if b then front else with_ready (ready_of entry) front (λ q. front_laid offset entries (laid_once offset entry.phase q entries front))) stopped
 
-pub fault_is : (node : ℕ) (phase : Phase) (given : Result (List (StreamPrefix Plain)) Cause) (cause : Option Cause) → cause ≡ reason_of given → (end_of node phase cause).fault ≡ option_map (fault_at node) (failure_by phase given)
-fault_is node phase (Ok outputs) cause is = ap (λ (o : Option Cause). (end_of node phase o).fault) is
-fault_is node phase (Err c) cause is = ap (λ (o : Option Cause). (end_of node phase o).fault) is
+pub fault_is : (node : ℕ) (phase : Phase) (given : Result (List (StreamPrefix Plain)) Cause) (cause : Option Cause) → cause ≡ reason_of given → (front_end_of node phase cause).fault ≡ option_map (fault_at node) (failure_by phase given)
+fault_is node phase (Ok outputs) cause is = ap (λ (o : Option Cause). (front_end_of node phase o).fault) is
+fault_is node phase (Err c) cause is = ap (λ (o : Option Cause). (front_end_of node phase o).fault) is
 
 neither : (a b : Bool) → (a || b) ≡ false → (a ≡ false) × (b ≡ false)
 neither true b e = absurd cc

@@ -4,7 +4,7 @@ use Rattle.std.specs.List.{AllZip}
 use Rattle.mg_value.specs.Payload.{Plain}
 use Rattle.mg_stream.specs.Queue.{Waiting}
 use Rattle.mg_stream.specs.Pool.{Backlog, queue_of, empty_backlog}
-use Rattle.mg_node.specs.declared.waits.Waits.{Waits}
+use Rattle.mg_node.specs.declared.pending.Pending.{Pending}
 use Rattle.mg_node.specs.Views.{BenchView, PerformedView, EntryView, EngineView}
 use Rattle.mg_node.specs.Outputs.{without_first}
 use Rattle.mg_node.specs.Advances.{raised_output, advance_bound, advanced}
@@ -62,7 +62,7 @@ all_raised bound [] output = grown_by_itself (queue_of 0 empty_backlog)
 all_raised bound (b ∷ outputs) zero = one_raised bound b
 all_raised bound (b ∷ outputs) (suc output) = all_raised bound outputs output
 
-pub advance_grows : (e now : EngineView) (waits : Waits) → now ≡ advanced e waits → EngineGrows e now
+pub advance_grows : (e now : EngineView) (waits : Pending) → now ≡ advanced e waits → EngineGrows e now
 advance_grows e now waits is = subst (λ (v : EngineView). EngineGrows e v) (sym is) (outputs_grow e (map (raised_output (advance_bound e waits)) e.outputs) (all_raised (advance_bound e waits) e.outputs))
 
 -- packets that are given up are still counted

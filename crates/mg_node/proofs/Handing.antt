@@ -9,7 +9,7 @@ use Rattle.mg_calc.specs.declared.node_fault.Phase.{Phase}
 use Rattle.mg_calc.specs.declared.node_fault.Phase.TheVariants.{Open, Call as SourceCall, Process, Close}
 use Rattle.mg_calc.specs.declared.plan_node.PlanNode.{PlanNode}
 use Rattle.mg_node.specs.Views.{BenchView, EntryView, EngineView}
-use Rattle.mg_node.specs.Job.{LoggedJob, IsTask, IsLast, count_of_all, stage, log_after, calls_before}
+use Rattle.mg_node.specs.Job.{LoggedJob, IsTask, IsLastWork, count_of_all, stage, log_after, calls_before}
 use Rattle.mg_node.specs.Windows.{has_ended}
 use Rattle.mg_node.specs.Lawful.{is_close, IsIdle, IsEntry, come_to, calls_by, IsEngineOf, LawfulWork}
 use Rattle.mg_node.proofs.Delivering.{last_have}
@@ -53,7 +53,7 @@ none_number {X} p (x ∷ xs) h =
     not_here true never = absurd (never refl)
     not_here false never = refl
 
-close_task : (job : LoggedJob) (streams : List (StreamPrefix Plain)) (node : PlanNode) (number : ℕ) (phase : Phase) (set : List (Option (Stamped Plain))) → phase ≡ Close → IsTask job.job streams node number phase set → IsLast job.job streams node number
+close_task : (job : LoggedJob) (streams : List (StreamPrefix Plain)) (node : PlanNode) (number : ℕ) (phase : Phase) (set : List (Option (Stamped Plain))) → phase ≡ Close → IsTask job.job streams node number phase set → IsLastWork job.job streams node number
 close_task job streams node number phase set is task = subst (λ (p : Phase). IsTask job.job streams node number p set) is task
 
 pub none_closes : (job : LoggedJob) (number : ℕ) (engine : EngineView) (h : IsEngineOf job number engine) → engine.claimed < count_of_all h.streams h.node → number_of (λ e. is_close e.phase) engine.window ≡ 0

@@ -4,7 +4,7 @@ use Rattle.mg_value.specs.Payload.{Plain}
 use Rattle.mg_value.specs.Settled.{TimedSet, reach}
 use Rattle.mg_stream.specs.Pool.{queues_of}
 use Rattle.mg_policy.specs.Inbox.{Gathered, rests, next_set}
-use Rattle.mg_node.specs.declared.waits.Waits.TheVariants.{Sets}
+use Rattle.mg_node.specs.declared.pending.Pending.TheVariants.{Sets}
 use Rattle.mg_node.specs.Ports.{next_time, horizon_of}
 
 -- the time of the next set, or another one where there is none

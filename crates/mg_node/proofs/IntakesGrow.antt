@@ -14,8 +14,8 @@ use Rattle.mg_policy.specs.Inbox.{Gathered, StandAfter}
 use Rattle.mg_loopback.specs.Loopback.{Held, is_settled, next_reply, value_at, without, replied}
 use Rattle.mg_node.specs.declared.delivered.Delivered.{Delivered}
 use Rattle.mg_node.specs.declared.delivered.Delivered.TheVariants.{Moved, OutOfMemory}
-use Rattle.mg_node.specs.declared.waits.Waits.{Waits}
-use Rattle.mg_node.specs.declared.waits.Waits.TheVariants.{Sets, Loop}
+use Rattle.mg_node.specs.declared.pending.Pending.{Pending}
+use Rattle.mg_node.specs.declared.pending.Pending.TheVariants.{Sets, Loop}
 use Rattle.mg_node.specs.Views.{IntakeView}
 use Rattle.mg_node.specs.Intakes.{SomeJobHasIntake}
 use Rattle.mg_node.specs.Job.{LoggedJob}
@@ -57,7 +57,7 @@ held_grown held true false q h = grown_by_itself held.main
 held_grown held false true q h = grown_by_itself held.loop
 held_grown held false false q h = h
 
-port_grown : (w : Waits) (port : ℕ) (q : Waiting Plain) → HasGrown (port_queue w port) q → (other : ℕ) → HasGrown (port_queue w other) (port_queue (with_port w port q) other)
+port_grown : (w : Pending) (port : ℕ) (q : Waiting Plain) → HasGrown (port_queue w port) q → (other : ℕ) → HasGrown (port_queue w other) (port_queue (with_port w port q) other)
 port_grown (Sets inbox) port q h other = set_grown inbox.pool.spare q.spare inbox.pool.ports port q h other
 port_grown (Loop held) port q h other = held_grown held (port == 0) (other == 0) q h
 
@@ -69,7 +69,7 @@ came_grown stream came old q stands c =
 waits_grow : (before now : IntakeView) (port : ℕ) (q : Waiting Plain) → HasGrown (port_queue before.waits port) q → now.waits ≡ with_port before.waits port q → now.claimed ≡ before.claimed → IntakeGrows before now
 waits_grow before now port q h is claimed = record {
   claimed = omega (arith, claimed);
-  ports = (λ other. subst (λ (w : Waits). HasGrown (port_queue before.waits other) (port_queue w other)) (sym is) (port_grown before.waits port q h other));
+  ports = (λ other. subst (λ (w : Pending). HasGrown (port_queue before.waits other) (port_queue w other)) (sym is) (port_grown before.waits port q h other));
 }
 
 pub deliver_grows : (result : Delivered) (o : Waiting Plain) (port most : ℕ) (before now : IntakeView) → AreOfOne o (port_queue before.waits port) → Delivers result o port most before.waits now.waits → now.claimed ≡ before.claimed → IntakeGrows before now
@@ -105,14 +105,14 @@ set_leaves A B true policy k old new ss h next same port = same_stream old.pool.
 set_leaves A B false policy k old new ss h next same port = subst (λ (g : Gathered). HasGrown (queue_at old.pool port) (queue_at g.pool port)) (sym same.0) (grown_by_itself (queue_at old.pool port))
 
 -- a set is claimed of an intake
-abbrev PortsGrow : Waits → Waits → Type 0
+abbrev PortsGrow : Pending → Pending → Type 0
 PortsGrow old now = (job : LoggedJob) (streams : List (StreamPrefix Plain)) (consumer k port : ℕ) → HoldsWaits job streams consumer k old → HasGrown (port_queue old port) (port_queue now port)
 
-taking_grows_for : (job : LoggedJob) (consumer : ℕ) (view : IntakeView) (now : Waits) → LawfulIntake job consumer view → PortsGrow view.waits now → IntakeGrows view (record { claimed = view.claimed + 1; waits = now })
+taking_grows_for : (job : LoggedJob) (consumer : ℕ) (view : IntakeView) (now : Pending) → LawfulIntake job consumer view → PortsGrow view.waits now → IntakeGrows view (record { claimed = view.claimed + 1; waits = now })
 unfolding LawfulIntake
 taking_grows_for job consumer view now h grow = record { claimed = omega arith; ports = (λ port. grow job h.streams consumer view.claimed port h.holds) }
 
-pub taking_grows : (view : IntakeView) (now : Waits) → SomeJobHasIntake view → PortsGrow view.waits now → IntakeGrows view (record { claimed = view.claimed + 1; waits = now })
+pub taking_grows : (view : IntakeView) (now : Pending) → SomeJobHasIntake view → PortsGrow view.waits now → IntakeGrows view (record { claimed = view.claimed + 1; waits = now })
 taking_grows view now some grow = taking_grows_for some.job some.consumer view now some.lawful grow
 
 -- Answers.

@@ -8,7 +8,7 @@ use Rattle.mg_value.specs.Loopback.{packet_of}
 use Rattle.mg_stream.specs.Pool.{Backlog}
 use Rattle.mg_calc.specs.declared.node_fault.Phase.{Phase}
 use Rattle.mg_calc.specs.declared.node_fault.Phase.TheVariants.{Call, Process, Close}
-use Rattle.mg_node.specs.declared.waits.Waits.{Waits}
+use Rattle.mg_node.specs.declared.pending.Pending.{Pending}
 use Rattle.mg_node.specs.declared.claimed.Claimed.{Claimed}
 use Rattle.mg_node.specs.declared.claimed.Claimed.TheVariants.{Work, Answered, NotReady, InFlightFull, Draining, Ended, OutOfMemory}
 use Rattle.mg_node.specs.Views.{IntakeView, BenchView, WorkView, PerformedView, OutcomeView, EntryView, EngineView}
@@ -97,7 +97,7 @@ raised_gone bound [] = refl
 raised_gone None (b ∷ bs) = ap (λ (ns : List ℕ). b.gone ∷ ns) (raised_gone None bs)
 raised_gone (Some t) (b ∷ bs) = ap (λ (ns : List ℕ). b.gone ∷ ns) (raised_gone (Some t) bs)
 
-pub advance_set_up : (e f : EngineView) (waits : Waits) → f ≡ advanced e waits → KeepsSetUp e f
+pub advance_set_up : (e f : EngineView) (waits : Pending) → f ≡ advanced e waits → KeepsSetUp e f
 advance_set_up e f waits is = set_up_by e _ f is (others_kept e _ e.laid e.claimed e.window e.idle (raised_gone (advance_bound e waits) e.outputs))
 
 -- Which works are out.
@@ -125,7 +125,7 @@ window_out e f node laid window = record {
 out_same : (e f : EngineView) → f ≡ e → KeepsOut e f
 out_same e f is = window_out e f (ap (λ (v : EngineView). v.node) is) (ap (λ (v : EngineView). v.laid) is) (ap (λ (v : EngineView). v.window) is)
 
-pub advance_out : (e f : EngineView) (waits : Waits) → f ≡ advanced e waits → KeepsOut e f
+pub advance_out : (e f : EngineView) (waits : Pending) → f ≡ advanced e waits → KeepsOut e f
 advance_out e f waits is = window_out e f (ap (λ (v : EngineView). v.node) is) (ap (λ (v : EngineView). v.laid) is) (ap (λ (v : EngineView). v.window) is)
 
 -- where there is nothing in the window, before or after

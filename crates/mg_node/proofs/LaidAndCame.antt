@@ -9,8 +9,8 @@ use Rattle.mg_stream.specs.Pool.{Backlog, empty_backlog, queue_of, queues_of}
 use Rattle.mg_loopback.specs.Loopback.{Held}
 use Rattle.mg_calc.specs.declared.plan_node.PlanNode.{PlanNode}
 use Rattle.mg_calc.proofs.Solutions.{one_solution}
-use Rattle.mg_node.specs.declared.waits.Waits.{Waits}
-use Rattle.mg_node.specs.declared.waits.Waits.TheVariants.{Sets, Loop}
+use Rattle.mg_node.specs.declared.pending.Pending.{Pending}
+use Rattle.mg_node.specs.declared.pending.Pending.TheVariants.{Sets, Loop}
 use Rattle.mg_node.specs.Views.{IntakeView, EngineView}
 use Rattle.mg_node.specs.Ports.{port_queue}
 use Rattle.mg_node.specs.Job.{LoggedJob, Solves, ports_of, streams_at}
@@ -45,7 +45,7 @@ loop_at held loop main at_loop at_main zero le = at_loop
 loop_at held loop main at_loop at_main (suc zero) le = at_main
 loop_at held loop main at_loop at_main (suc (suc port)) le = absurd (omega (arith, le))
 
-reached_by : (job : LoggedJob) (streams : List (StreamPrefix Plain)) (consumer claimed : ℕ) (w : Waits) → HoldsWaits job streams consumer claimed w → HasReached (record { claimed = claimed; waits = w }) (streams_at streams (ports_of job.job.plan consumer))
+reached_by : (job : LoggedJob) (streams : List (StreamPrefix Plain)) (consumer claimed : ℕ) (w : Pending) → HoldsWaits job streams consumer claimed w → HasReached (record { claimed = claimed; waits = w }) (streams_at streams (ports_of job.job.plan consumer))
 reached_by job streams consumer claimed (Sets inbox) h = record {
   came = h.1.came;
   stands = record {

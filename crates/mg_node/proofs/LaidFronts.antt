@@ -13,9 +13,9 @@ use Rattle.mg_calc.specs.declared.node_fault.Phase.{Phase}
 use Rattle.mg_calc.specs.declared.plan_node.PlanNode.{PlanNode}
 use Rattle.mg_calc.specs.Meaning.{count_of}
 use Rattle.mg_node.specs.Views.{BenchView, EntryView}
-use Rattle.mg_node.specs.Job.{LoggedJob, streams_at, stage, IsLast, first_log, log_after}
+use Rattle.mg_node.specs.Job.{LoggedJob, streams_at, stage, IsLastWork, first_log, log_after}
 use Rattle.mg_node.specs.Lawful.{IsRaised, IsIdle, IsEntry, is_close, come_to, calls_by}
-use Rattle.mg_node.specs.Commits.{Front, counted, answer_laid, has_stopped}
+use Rattle.mg_node.specs.Commits.{Front, calls_in_phase, answer_laid, has_stopped}
 use Rattle.mg_node.proofs.LayingAll.{outputs_at, comes_to}
 use Rattle.mg_node.proofs.Stateless.{KeepsNothing}
 use Rattle.mg_node.proofs.Turns.{IsDone, Turns}
@@ -23,7 +23,7 @@ use Rattle.mg_node.proofs.Turns.{IsDone, Turns}
 pub record IsFrontOf (job : LoggedJob) (streams : List (StreamPrefix Plain)) (node : PlanNode) (number claimed : ℕ) (front : Front) : Type 0 where
   pub few : front.laid ≤ claimed
   pub taken : front.laid ≤ count_of job.job streams node
-  pub last : front.closed ≡ true → IsLast job.job streams node front.laid
+  pub last : front.closed ≡ true → IsLastWork job.job streams node front.laid
   pub are_raised : AllZip IsRaised (come_to job streams node front.laid front.closed).outputs front.outputs
   pub extended : AreExtendedBy front.outputs (streams_at streams node.outputs)
   pub same_fault : front.fault ≡ (come_to job streams node front.laid front.closed).fault
@@ -44,16 +44,16 @@ next_entry job streams node owner n m k entry later e = record {
 }
 
 entry_by : (job : LoggedJob) (streams : List (StreamPrefix Plain)) (node : PlanNode) (owner n i : ℕ) (phase : Phase) (bench : BenchView) (answer : Result (List Laid) Cause) (entry : EntryView) (closes : Bool) → is_close phase ≡ closes → Turns job streams node n phase bench answer
-    → IsEntry job streams node n (n + suc i) owner entry → IsEntry job streams node (n + counted phase) (n + counted phase + i) owner entry
+    → IsEntry job streams node n (n + suc i) owner entry → IsEntry job streams node (n + calls_in_phase phase) (n + calls_in_phase phase + i) owner entry
 entry_by job streams node owner n i phase bench answer entry true is t e = absurd (t.none is (n + suc i) entry.phase e.set (omega arith) e.task)
 entry_by job streams node owner n i phase bench answer entry false is t e =
-    let one : counted phase + 0 ≡ 1 = subst (λ (b : Bool). counted phase + (if b then 1 else 0) ≡ 1) is t.one in
-    subst (λ (k : ℕ). IsEntry job streams node (n + counted phase) k owner entry) (let same : n + suc i ≡ n + counted phase + i = omega (arith, one) in same)
-    (next_entry job streams node owner n (n + counted phase) (n + suc i) entry (omega arith) e)
+    let one : calls_in_phase phase + 0 ≡ 1 = subst (λ (b : Bool). calls_in_phase phase + (if b then 1 else 0) ≡ 1) is t.one in
+    subst (λ (k : ℕ). IsEntry job streams node (n + calls_in_phase phase) k owner entry) (let same : n + suc i ≡ n + calls_in_phase phase + i = omega (arith, one) in same)
+    (next_entry job streams node owner n (n + calls_in_phase phase) (n + suc i) entry (omega arith) e)
 
 -- the benches that are free: the one that comes back, and the others, whose calculators keep nothing and have no log
 bench_free : (job : LoggedJob) (streams : List (StreamPrefix Plain)) (node : PlanNode) (n : ℕ) (phase : Phase) (bench : BenchView) (answer : Result (List Laid) Cause) → IsDone job streams node n phase bench answer → Turns job streams node n phase bench answer
-    → IsIdle job streams node (n + counted phase) (is_close phase) bench
+    → IsIdle job streams node (n + calls_in_phase phase) (is_close phase) bench
 bench_free job streams node n phase bench answer d t = record {
   fits = d.fits;
   places = d.places;
@@ -62,20 +62,20 @@ bench_free job streams node n phase bench answer d t = record {
 }
 
 other_free : (job : LoggedJob) (streams : List (StreamPrefix Plain)) (node : PlanNode) (n : ℕ) (phase : Phase) (done other : BenchView) (answer : Result (List Laid) Cause) → Turns job streams node n phase done answer
-    → node.shape.stateless ≡ true → first_log job node ≡ None → IsIdle job streams node n false other → IsIdle job streams node (n + counted phase) (is_close phase) other
+    → node.shape.stateless ≡ true → first_log job node ≡ None → IsIdle job streams node n false other → IsIdle job streams node (n + calls_in_phase phase) (is_close phase) other
 other_free job streams node n phase done other answer t stateless none free = record {
   fits = free.fits;
   places = free.places;
   state = free.state ∙ sym (t.nothing stateless);
-  log = free.log ∙ ap (option_map (λ c. c ++ calls_by streams node n false)) none ∙ sym (ap (option_map (λ c. c ++ calls_by streams node (n + counted phase) (is_close phase))) none);
+  log = free.log ∙ ap (option_map (λ c. c ++ calls_by streams node n false)) none ∙ sym (ap (option_map (λ c. c ++ calls_by streams node (n + calls_in_phase phase) (is_close phase))) none);
 }
 
 others_free : (job : LoggedJob) (streams : List (StreamPrefix Plain)) (node : PlanNode) (n : ℕ) (phase : Phase) (done : BenchView) (answer : Result (List Laid) Cause) (idle : List BenchView) (works : ℕ) → Turns job streams node n phase done answer → (1 < node.in_flight → KeepsNothing job node)
-    → length idle + suc works ≡ node.in_flight → All (IsIdle job streams node n false) idle → All (IsIdle job streams node (n + counted phase) (is_close phase)) idle
-others_free job streams node n phase done answer [] works t alone many free = All-nil (IsIdle job streams node (n + counted phase) (is_close phase))
+    → length idle + suc works ≡ node.in_flight → All (IsIdle job streams node n false) idle → All (IsIdle job streams node (n + calls_in_phase phase) (is_close phase)) idle
+others_free job streams node n phase done answer [] works t alone many free = All-nil (IsIdle job streams node (n + calls_in_phase phase) (is_close phase))
 others_free job streams node n phase done answer (b ∷ idle) works t alone many free =
     let nothing = alone (omega (arith, many)) in
-    All-weaker (IsIdle job streams node n false) (IsIdle job streams node (n + counted phase) (is_close phase))
+    All-weaker (IsIdle job streams node n false) (IsIdle job streams node (n + calls_in_phase phase) (is_close phase))
     (λ other. other_free job streams node n phase done other answer t nothing.stateless nothing.unlogged) (b ∷ idle) free
 
 -- the next front
@@ -93,7 +93,7 @@ next_front job streams node number claimed front entry entries bench answer h wi
     let comes = comes_to offset phase before.outputs front.outputs ts answer up h.extended t.before (subst (λ (xs : List (StreamPrefix Plain)). AreExtendedBy xs ts) t.outputs t.extended) (λ f e. t.frozen f (t.fault ∙ e) ∙ t.outputs) in
     let order : n + suc (length entries) ≡ claimed + closes (entry ∷ entries) = subst (λ (w : List EntryView). n + length w ≡ claimed + closes w) window h.order in
     let first : closes (entry ∷ entries) ≡ (if is_close phase then 1 else 0) + closes entries = sum_by-cons (λ (e : EntryView). cond (is_close e.phase) 1 0) entry entries in
-    let now : n + counted phase + length entries ≡ claimed + closes entries = (let one = t.one in omega (arith, order, first, one)) in
+    let now : n + calls_in_phase phase + length entries ≡ claimed + closes entries = (let one = t.one in omega (arith, order, first, one)) in
     let most = count_by-le-length (λ (e : EntryView). is_close e.phase) entries in
     let benches : length front.idle + suc (length entries) ≡ node.in_flight = subst (λ (w : List EntryView). length front.idle + length w ≡ node.in_flight) window h.benches in
     let free : All (IsIdle job streams node n false) front.idle = subst (λ (b : Bool). All (IsIdle job streams node n b) front.idle) going h.free in
@@ -106,7 +106,7 @@ next_front job streams node number claimed front entry entries bench answer h wi
       same_fault = comes.same_fault ∙ sym t.fault;
       order = now;
       entries = (λ i e at. entry_by job streams node number n i phase bench answer e (is_close phase) refl t (h.entries (suc i) e (ap (λ (w : List EntryView). slice_get w (suc i)) window ∙ at)));
-      free = All-push (IsIdle job streams node (n + counted phase) (is_close phase)) front.idle bench (others_free job streams node n phase bench answer front.idle (length entries) t alone benches free) (bench_free job streams node n phase bench answer d t);
+      free = All-push (IsIdle job streams node (n + calls_in_phase phase) (is_close phase)) front.idle bench (others_free job streams node n phase bench answer front.idle (length entries) t alone benches free) (bench_free job streams node n phase bench answer d t);
       benches = omega (arith, benches, length-append front.idle (bench ∷ []));
       ended = (λ stops. omega (arith, length-append front.idle (bench ∷ [])));
     }

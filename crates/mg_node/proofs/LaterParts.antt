@@ -25,10 +25,10 @@ use Rattle.mg_calc.proofs.FirstRound.{a_solution}
 use Rattle.mg_calc.proofs.Jobs.{any_state, job_known, solution_grows}
 use Rattle.mg_calc.proofs.Rounds.{streams_extend, streams_are_prefixes}
 use Rattle.mg_calc.proofs.Solutions.{solution_keeps}
-use Rattle.mg_node.specs.declared.waits.Waits.{Waits}
-use Rattle.mg_node.specs.declared.waits.Waits.TheVariants.{Sets, Loop}
+use Rattle.mg_node.specs.declared.pending.Pending.{Pending}
+use Rattle.mg_node.specs.declared.pending.Pending.TheVariants.{Sets, Loop}
 use Rattle.mg_node.specs.Views.{IntakeView, BenchView, WorkView, PerformedView, OutcomeView, EntryView, EngineView}
-use Rattle.mg_node.specs.Job.{LoggedJob, Solves, ports_of, streams_at, stage, IsLast, log_after, calls_before, calls_in}
+use Rattle.mg_node.specs.Job.{LoggedJob, Solves, ports_of, streams_at, stage, IsLastWork, log_after, calls_before, calls_in}
 use Rattle.mg_node.specs.Lawful.{HoldsWaits, IsIntakeOf, LawfulIntake, HasAnswered, answer_in, IsAtWork, IsWorkOf, LawfulWork, LawfulPerformed, LawfulOutcome, IsRaised, come_to, calls_by, IsIdle, StandsAt, IsEntry, IsEngineOf, of_node, LawfulEngine}
 use Rattle.mg_node.specs.Begun.{IsUnbegun, IsUnbegunOf, LawfulUnbegun}
 use Rattle.mg_node.specs.Batches.{Grows}
@@ -85,7 +85,7 @@ node_goes_on job more m streams number node solves l there =
 
 -- Intakes.
 
-waits_later : (job : LoggedJob) (more : Inputs) (streams : List (StreamPrefix Plain)) (consumer claimed : ℕ) (w : Waits) (l : IsLater job more streams) → HoldsWaits job streams consumer claimed w → HoldsWaits (with_inputs job more) l.later consumer claimed w
+waits_later : (job : LoggedJob) (more : Inputs) (streams : List (StreamPrefix Plain)) (consumer claimed : ℕ) (w : Pending) (l : IsLater job more streams) → HoldsWaits job streams consumer claimed w → HoldsWaits (with_inputs job more) l.later consumer claimed w
 waits_later job more streams consumer claimed (Sets inbox) l h =
     let ports = ports_of job.job.plan consumer in (
       h.0,
@@ -148,7 +148,7 @@ work_later job more m view h =
 -- Engines.
 
 module _ {job : LoggedJob} {more : Inputs} (m : IsMore job more) {streams later : List (StreamPrefix Plain)} {node : PlanNode} (on : GoesOn job.job (with_inputs job more).job streams later node) where
-  comes_to_later : (n : ℕ) (closed : Bool) → Stood on n → (closed ≡ true → IsLast job.job streams node n) → come_to job streams node n closed ≡ come_to (with_inputs job more) later node n closed
+  comes_to_later : (n : ℕ) (closed : Bool) → Stood on n → (closed ≡ true → IsLastWork job.job streams node n) → come_to job streams node n closed ≡ come_to (with_inputs job more) later node n closed
   comes_to_later n true stood last = last_same on n (last refl)
   comes_to_later n false stood last = stage_stays on n stood
 

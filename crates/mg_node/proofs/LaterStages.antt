@@ -23,7 +23,7 @@ use Rattle.mg_calc.specs.Equations.{Job, stream_of, inputs_of, sides_of, outcome
 use Rattle.mg_calc.specs.Meaning.{count_of}
 use Rattle.mg_calc.proofs.Counting.{shown_as_counted}
 use Rattle.mg_calc.proofs.Rounds.{stream_extends, stream_is_prefix}
-use Rattle.mg_node.specs.Job.{sets_of, main_of, loop_of, count_by, count_of_all, IsOverBy, stage_by, stage, IsLast, IsTask, calls_before_by, calls_before}
+use Rattle.mg_node.specs.Job.{sets_of, main_of, loop_of, count_by, count_of_all, IsOverBy, stage_by, stage, IsLastWork, IsTask, calls_before_by, calls_before}
 use Rattle.mg_node.proofs.Claiming.{stays_at}
 use Rattle.mg_node.proofs.StageCounts.{one_more_counted}
 use Rattle.mg_node.proofs.Stages.{IsCalled, kind_of, outer_stage, outer_outcome, outer_count, outer_over, calls_made, called_stage, called_outcome, called_count, failed_is_all}
@@ -200,7 +200,7 @@ module _ {job later : Job} {streams more : List (StreamPrefix Plain)} {node : Pl
     | inr (inr is) ↦ subst Ends (sym is) loop_ends over
   ]
 
-  pub last_stays : (n : ℕ) → IsLast job streams node n → IsLast later more node n
+  pub last_stays : (n : ℕ) → IsLastWork job streams node n → IsLastWork later more node n
   last_stays n last =
       let all = last.all in
       let e = ends last.over in
@@ -210,7 +210,7 @@ module _ {job later : Job} {streams more : List (StreamPrefix Plain)} {node : Pl
         over = e.1;
       }
 
-  pub last_same : (n : ℕ) → IsLast job streams node n → outcome_of job streams node ≡ outcome_of later more node
+  pub last_same : (n : ℕ) → IsLastWork job streams node n → outcome_of job streams node ≡ outcome_of later more node
   last_same n last = (ends last.over).2
 
   -- a work stands where it stood

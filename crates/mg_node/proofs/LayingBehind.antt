@@ -18,7 +18,7 @@ use Rattle.mg_calc.proofs.LaidBehind.{unless_good, after_good, may_be_laid, shif
 use Rattle.mg_route.specs.Reasons.{reason_of, laid_each, laid_on, all_laid_on}
 use Rattle.mg_route.proofs.LayingLemmas.{at_end, IsPart, emission_refused as refused_there, emission_passed as passed_there, emission_laid}
 use Rattle.mg_node.specs.Commits.{raised_before, closed_after, outputs_by}
-use Rattle.mg_node.specs.Code.QueueLaying.{Stand, StandForSome, appended, all_appended, MayAllCome, raised_by, with_part, MayBeLaid, HasTime, raised_queues, queues_before, closed_queue, queues_after, IsTimed, packets_in, room_at, HasRoomFor, IsLaid}
+use Rattle.mg_node.specs.Code.QueueLaying.{Stand, StandForSome, appended, all_appended, MayAllCome, perhaps_raised, with_part, MayBeLaid, HasTime, raised_queues, queues_before, closed_queue, queues_after, IsTimed, packets_in, room_at, HasRoomFor, IsLaid}
 use Rattle.mg_node.proofs.Zips.{zip_at, zip_put, zip_both, zip_long}
 
 -- What the queues stand for.
@@ -27,7 +27,7 @@ all_stand : (q : Waiting Plain) (ps : List (Stamped Plain)) (s : StreamPrefix Pl
 all_stand q [] s may h = h
 all_stand q (p ∷ ps) s may h = all_stand (appended q p) ps (prefix.appended s p) may.2 (stands_appended_fields q (appended q p) p s refl refl refl may.0 h)
 
-raise_stands : (bound : Option ℕ) (q : Waiting Plain) (s : StreamPrefix Plain) → IfSome bound (λ b. b ≤ done) → StandsFor q s → StandsFor (raised_by bound q) (laying.raised_to bound s)
+raise_stands : (bound : Option ℕ) (q : Waiting Plain) (s : StreamPrefix Plain) → IfSome bound (λ b. b ≤ done) → StandsFor q s → StandsFor (perhaps_raised bound q) (laying.raised_to bound s)
 raise_stands None q s le h = h
 raise_stands (Some b) q s le h = stands_raised q b s le h
 
@@ -164,7 +164,7 @@ gone_all : (q : Waiting Plain) (ps : List (Stamped Plain)) → (all_appended q p
 gone_all q [] = refl
 gone_all q (p ∷ ps) = gone_all (appended q p) ps
 
-gone_raised : (bound : Option ℕ) (q : Waiting Plain) → (raised_by bound q).gone ≡ q.gone
+gone_raised : (bound : Option ℕ) (q : Waiting Plain) → (perhaps_raised bound q).gone ≡ q.gone
 gone_raised None q = refl
 gone_raised (Some b) q = refl
 
@@ -177,7 +177,7 @@ room_all : (q : Waiting Plain) (ps : List (Stamped Plain)) → q.spare ≤ (all_
 room_all q [] = omega arith
 room_all q (p ∷ ps) = (let later : q.spare - 1 ≤ (all_appended (appended q p) ps).spare + length ps = room_all (appended q p) ps in omega (arith, later))
 
-room_raised : (bound : Option ℕ) (q : Waiting Plain) → (raised_by bound q).spare ≡ q.spare
+room_raised : (bound : Option ℕ) (q : Waiting Plain) → (perhaps_raised bound q).spare ≡ q.spare
 room_raised None q = refl
 room_raised (Some b) q = refl
 

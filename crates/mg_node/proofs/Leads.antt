@@ -16,7 +16,7 @@ use Rattle.mg_calc.proofs.Rounds.{stream_is_prefix}
 use Rattle.mg_calc.proofs.Solutions.{solution_keeps, one_solution}
 use Rattle.mg_node.specs.declared.delivered.Delivered.{Delivered}
 use Rattle.mg_node.specs.declared.delivered.Delivered.TheVariants.{Moved, OutOfMemory}
-use Rattle.mg_node.specs.declared.waits.Waits.{Waits}
+use Rattle.mg_node.specs.declared.pending.Pending.{Pending}
 use Rattle.mg_node.specs.Views.{IntakeView, EngineView}
 use Rattle.mg_node.specs.Ports.{ports_in, port_queue, with_port, with_room}
 use Rattle.mg_node.specs.Delivery.{missing, with_packets, delivered, Delivers, AreOfOne}
@@ -199,7 +199,7 @@ of_one_output o q h = record {
   held = h.held;
 }
 
-pub delivers_output : (result : Delivered) (o : Waiting Plain) (port most : ℕ) (before now : Waits) → Delivers result o port most before now → Delivers result (queue_of 0 (backlog_of o)) port most before now
+pub delivers_output : (result : Delivered) (o : Waiting Plain) (port most : ℕ) (before now : Pending) → Delivers result o port most before now → Delivers result (queue_of 0 (backlog_of o)) port most before now
 delivers_output (Moved packets raised) o port most before now d = d
 delivers_output (OutOfMemory packets) o port most before now d = d
 

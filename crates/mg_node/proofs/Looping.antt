@@ -17,14 +17,14 @@ use Rattle.mg_loopback.specs.Loopback.{Held, next_reply}
 use Rattle.mg_calc.specs.declared.plan_node.PlanNode.{PlanNode}
 use Rattle.mg_node.specs.declared.role.Role.{Role}
 use Rattle.mg_node.specs.declared.role.Role.TheVariants.{Loop as LoopRole}
-use Rattle.mg_node.specs.declared.waits.Waits.{Waits}
-use Rattle.mg_node.specs.declared.waits.Waits.TheVariants.{Sets, Loop}
+use Rattle.mg_node.specs.declared.pending.Pending.{Pending}
+use Rattle.mg_node.specs.declared.pending.Pending.TheVariants.{Sets, Loop}
 use Rattle.mg_node.specs.Views.{IntakeView, EngineView}
 use Rattle.mg_node.specs.Ports.{IsNext}
 use Rattle.mg_node.specs.Intakes.{HasLoop}
 use Rattle.mg_node.specs.Job.{LoggedJob}
 use Rattle.mg_node.specs.Lawful.{HoldsLoop, HoldsWaits, LawfulIntake, IsRaised, come_to, IsEngineOf, LawfulEngine, of_node, AgreeBy, AreCell}
-use Rattle.mg_node.specs.Claims.{MayClaim, IsEarly, IsOver, AreSame, TakesAnswer, behind, with_answer}
+use Rattle.mg_node.specs.Claims.{MayClaim, IsEarly, IsOver, AreSame, TakesAnswer, with_reply, with_answer}
 use Rattle.mg_node.specs.Code.Replying.{MayLay, LaysReply, TellsNone}
 use Rattle.mg_node.proofs.Answering.{loop_law, loop_cell, may_answer, cell_base}
 use Rattle.mg_node.proofs.Claiming.{few_rise}
@@ -32,7 +32,7 @@ use Rattle.mg_node.proofs.Giving.{with_outputs}
 use Rattle.mg_node.proofs.Zips.{zip_long}
 
 -- an intake of a loopback's node is a loopback's
-has_loop_by : (job : LoggedJob) (number : ℕ) (engine : EngineView) (h : IsEngineOf job number engine) (streams : List (StreamPrefix Plain)) (claimed : ℕ) (w : Waits) → engine.role ≡ LoopRole → HoldsWaits job streams number claimed w → HasLoop w
+has_loop_by : (job : LoggedJob) (number : ℕ) (engine : EngineView) (h : IsEngineOf job number engine) (streams : List (StreamPrefix Plain)) (claimed : ℕ) (w : Pending) → engine.role ≡ LoopRole → HoldsWaits job streams number claimed w → HasLoop w
 has_loop_by job number engine h streams claimed (Sets inbox) role holds = absurd (holds.0 (ap (λ (o : Option PlanNode). option_map (λ n. n.law) o) h.there ∙ ap Some (loop_law h.node.law (sym h.set_up.role ∙ role))))
 has_loop_by job number engine h streams claimed (Loop held) role holds = tt
 
@@ -43,7 +43,7 @@ cell_loop_by job number engine intake h i role = has_loop_by job number engine h
 pub cell_loop : (engine : EngineView) (intake : IntakeView) → AreCell engine intake → engine.role ≡ LoopRole → HasLoop intake.waits
 cell_loop engine intake cell role = cell_loop_by cell.job cell.number engine intake cell.lawful_engine cell.lawful_intake role
 
-held_of : (w : Waits) → HasLoop w → (held : Held Plain) × (w ≡ Loop held)
+held_of : (w : Pending) → HasLoop w → (held : Held Plain) × (w ≡ Loop held)
 held_of (Sets inbox) h = absurd h
 held_of (Loop held) h = (held, refl)
 
@@ -66,7 +66,7 @@ few_by job streams number claimed held h =
     let few = few_packets h.main h.stands.at_main.prefix in
     omega (arith, answered, most, few)
 
-few_waits : (job : LoggedJob) (streams : List (StreamPrefix Plain)) (number claimed : ℕ) (w : Waits) → HasLoop w → HoldsWaits job streams number claimed w → claimed + 1 ≤ done
+few_waits : (job : LoggedJob) (streams : List (StreamPrefix Plain)) (number claimed : ℕ) (w : Pending) → HasLoop w → HoldsWaits job streams number claimed w → claimed + 1 ≤ done
 few_waits job streams number claimed (Sets inbox) has holds = absurd has
 few_waits job streams number claimed (Loop held) has holds = few_by job streams number claimed held holds.1
 
@@ -107,20 +107,20 @@ cell_lays engine intake items q cell role may is first = λ held r p waits next 
         record { allowed = as_is.allowed; above = as_is.above; alone = as_is.alone }
 
 -- the outputs after it
-pub one_laid : (items : List (Waiting Plain)) (q r : Waiting Plain) (answer : Option (Stamped Plain)) → length items ≡ 1 → q ≡ get_or items 0 q → backlog_of r ≡ behind answer (backlog_of q) → map backlog_of (set items 0 r) ≡ with_answer answer (map backlog_of items)
+pub one_laid : (items : List (Waiting Plain)) (q r : Waiting Plain) (answer : Option (Stamped Plain)) → length items ≡ 1 → q ≡ get_or items 0 q → backlog_of r ≡ with_reply answer (backlog_of q) → map backlog_of (set items 0 r) ≡ with_answer answer (map backlog_of items)
 one_laid [] q r answer one here laid = absurd (omega (arith, one))
-one_laid (x ∷ xs) q r answer one here laid = ap (λ (b : Backlog Plain). b ∷ map backlog_of xs) (laid ∙ ap (λ (y : Waiting Plain). behind answer (backlog_of y)) here)
+one_laid (x ∷ xs) q r answer one here laid = ap (λ (b : Backlog Plain). b ∷ map backlog_of xs) (laid ∙ ap (λ (y : Waiting Plain). with_reply answer (backlog_of y)) here)
 
 pub one_same : (items : List (Waiting Plain)) (q r : Waiting Plain) → length items ≡ 1 → q ≡ get_or items 0 q → backlog_of r ≡ backlog_of q → map backlog_of (set items 0 r) ≡ map backlog_of items
 one_same [] q r one here same = absurd (omega (arith, one))
 one_same (x ∷ xs) q r one here same = ap (λ (b : Backlog Plain). b ∷ map backlog_of xs) (same ∙ ap backlog_of here)
 
 -- what isn't told yet
-pub early : (role : Role) (w : Waits) (held : Held Plain) → role ≡ LoopRole → w ≡ Loop held → next_reply held ≡ None → ¬ IsNext w AtEnd → IsEarly role w
+pub early : (role : Role) (w : Pending) (held : Held Plain) → role ≡ LoopRole → w ≡ Loop held → next_reply held ≡ None → ¬ IsNext w AtEnd → IsEarly role w
 early role w held is waits none not_over =
-    subst (λ (r : Role). IsEarly r w) (sym is) (subst (λ (v : Waits). (¬ IsNext v AtEnd) → IsNext v NotYet) (sym waits) (λ no. (none, no)) not_over)
+    subst (λ (r : Role). IsEarly r w) (sym is) (subst (λ (v : Pending). (¬ IsNext v AtEnd) → IsNext v NotYet) (sym waits) (λ no. (none, no)) not_over)
 
-pub over : (role : Role) (claimed : ℕ) (w : Waits) → role ≡ LoopRole → IsNext w AtEnd → IsOver role claimed w
+pub over : (role : Role) (claimed : ℕ) (w : Pending) → role ≡ LoopRole → IsNext w AtEnd → IsOver role claimed w
 over role claimed w is next = subst (λ (r : Role). IsOver r claimed w) (sym is) next
 
 -- The engine, after each of its answers.

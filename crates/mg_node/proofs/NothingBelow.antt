@@ -28,8 +28,8 @@ use Rattle.mg_calc.specs.declared.plan_node.PlanNode.{PlanNode}
 use Rattle.mg_calc.specs.Equations.{Job, inputs_of}
 use Rattle.mg_calc.specs.Shape.{IsOuter, IsSource}
 use Rattle.mg_node.specs.declared.role.Role.TheVariants.{Sets as SetsRole}
-use Rattle.mg_node.specs.declared.waits.Waits.{Waits}
-use Rattle.mg_node.specs.declared.waits.Waits.TheVariants.{Sets, Loop}
+use Rattle.mg_node.specs.declared.pending.Pending.{Pending}
+use Rattle.mg_node.specs.declared.pending.Pending.TheVariants.{Sets, Loop}
 use Rattle.mg_node.specs.Views.{EntryView}
 use Rattle.mg_node.specs.Ports.{next_time, horizon_of}
 use Rattle.mg_node.specs.Advances.{until_phase, until_claimed}
@@ -78,7 +78,7 @@ none_waits_below policy k qs came ss prefixes extended stands =
     (omega (arith, within, rises), next_ahead k r sets (settled_sets policy ss) (sets-stay policy came ss extended) stands.gone.claimed further)
 
 -- of a node
-pub none_comes_below : (job : LoggedJob) (number : ℕ) (streams : List (StreamPrefix Plain)) (node : PlanNode) (k : ℕ) (w : Waits) → All IsPrefix (inputs_of streams node) → slice_get job.job.plan.nodes number ≡ Some node → role_of node.law ≡ SetsRole → HoldsWaits job streams number k w
+pub none_comes_below : (job : LoggedJob) (number : ℕ) (streams : List (StreamPrefix Plain)) (node : PlanNode) (k : ℕ) (w : Pending) → All IsPrefix (inputs_of streams node) → slice_get job.job.plan.nodes number ≡ Some node → role_of node.law ≡ SetsRole → HoldsWaits job streams number k w
     → NoneBelow (horizon_of w) k node.policy (inputs_of streams node)
 none_comes_below job number streams node k (Sets inbox) prefixes there role holds =
     let h = holds.1 in

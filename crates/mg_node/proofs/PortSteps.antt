@@ -5,8 +5,8 @@ use Rattle.mg_value.specs.Payload.{Plain}
 use Rattle.mg_stream.specs.Queue.{Waiting}
 use Rattle.mg_stream.specs.Pool.{Backlog, empty_backlog, queue_of, backlog_of}
 use Rattle.mg_loopback.specs.Loopback.{Held}
-use Rattle.mg_node.specs.declared.waits.Waits.{Waits}
-use Rattle.mg_node.specs.declared.waits.Waits.TheVariants.{Sets, Loop}
+use Rattle.mg_node.specs.declared.pending.Pending.{Pending}
+use Rattle.mg_node.specs.declared.pending.Pending.TheVariants.{Sets, Loop}
 use Rattle.mg_node.specs.Ports.{ports_in, port_queue, with_port}
 
 -- it is the queue there
@@ -14,12 +14,12 @@ held_there : (held : Held Plain) (test : Bool) (q : Waiting Plain) → (if test 
 held_there held true q = refl
 held_there held false q = refl
 
-pub queue-there : (w : Waits) (port : ℕ) (q : Waiting Plain) → port < ports_in w → port_queue (with_port w port q) port ≡ q
+pub queue-there : (w : Pending) (port : ℕ) (q : Waiting Plain) → port < ports_in w → port_queue (with_port w port q) port ≡ q
 queue-there (Sets inbox) port q there = ap (queue_of q.spare) (get_or-set_same inbox.pool.ports port (backlog_of q) empty_backlog there)
 queue-there (Loop held) port q there = held_there held (port == 0) q
 
 -- there are as many ports
-pub ports-same : (w : Waits) (port : ℕ) (q : Waiting Plain) → ports_in (with_port w port q) ≡ ports_in w
+pub ports-same : (w : Pending) (port : ℕ) (q : Waiting Plain) → ports_in (with_port w port q) ≡ ports_in w
 ports-same (Sets inbox) port q = length-set inbox.pool.ports port (backlog_of q)
 ports-same (Loop held) port q = refl
 
@@ -30,7 +30,7 @@ held_twice : (held : Held Plain) (test : Bool) (q r : Waiting Plain)
 held_twice held true q r = refl
 held_twice held false q r = refl
 
-pub port-twice : (w : Waits) (port : ℕ) (q r : Waiting Plain) → with_port (with_port w port q) port r ≡ with_port w port r
+pub port-twice : (w : Pending) (port : ℕ) (q r : Waiting Plain) → with_port (with_port w port q) port r ≡ with_port w port r
 port-twice (Sets inbox) port q r = ap (λ (ports : List (Backlog Plain)). Sets (record { policy = inbox.policy; pool = record { ports = ports; spare = r.spare } })) (set-set inbox.pool.ports port (backlog_of q) (backlog_of r))
 port-twice (Loop held) port q r = ap Loop (held_twice held (port == 0) q r)
 
@@ -39,6 +39,6 @@ held_same : (held : Held Plain) (test : Bool) → (if test then record held { lo
 held_same held true = refl
 held_same held false = refl
 
-pub port-same : (w : Waits) (port : ℕ) → with_port w port (port_queue w port) ≡ w
+pub port-same : (w : Pending) (port : ℕ) → with_port w port (port_queue w port) ≡ w
 port-same (Sets inbox) port = ap (λ (ports : List (Backlog Plain)). Sets (record { policy = inbox.policy; pool = record { ports = ports; spare = inbox.pool.spare } })) (set-get_or inbox.pool.ports port empty_backlog)
 port-same (Loop held) port = ap Loop (held_same held (port == 0))

@@ -8,11 +8,11 @@ use Rattle.mg_stream.specs.Pool.{backlog_of}
 use Rattle.mg_loopback.specs.Loopback.{Held, next_reply, replied, told, told_at}
 use Rattle.mg_loopback.specs.declared.answered.Answered.{Answered}
 use Rattle.mg_loopback.specs.declared.answered.Answered.TheVariants.{Packet, Silent, NotYet}
-use Rattle.mg_node.specs.declared.waits.Waits.{Waits}
-use Rattle.mg_node.specs.declared.waits.Waits.TheVariants.{Sets, Loop}
+use Rattle.mg_node.specs.declared.pending.Pending.{Pending}
+use Rattle.mg_node.specs.declared.pending.Pending.TheVariants.{Sets, Loop}
 use Rattle.mg_node.specs.Views.{IntakeView}
 use Rattle.mg_node.specs.Intakes.{AnswersBy}
-use Rattle.mg_node.specs.Claims.{behind}
+use Rattle.mg_node.specs.Claims.{with_reply}
 use Rattle.mg_node.specs.Code.Replying.{MayLay, LaysReply, TellsNone}
 
 -- what is told of an answer
@@ -41,13 +41,13 @@ none_told (Some r) e = by_value r r.value refl e
     by_value s (Some v) is e = absurd (let f = rw is at e in cc)
 
 -- what an answer did
-pub record AnswersOf (waits : Waits) (result : Answered) (before now : IntakeView) : Type 0 where
+pub record AnswersOf (waits : Pending) (result : Answered) (before now : IntakeView) : Type 0 where
   pub held : Held Plain
   pub waits_is : waits ≡ Loop held
   pub told_is : result ≡ told (next_reply held)
   pub now_is : now ≡ (if is_some (next_reply held) then record { claimed = before.claimed + 1; waits = Loop (replied held) } else before)
 
-pub answers_of : (waits : Waits) (result : Answered) (before now : IntakeView) → AnswersBy waits result before now → AnswersOf waits result before now
+pub answers_of : (waits : Pending) (result : Answered) (before now : IntakeView) → AnswersBy waits result before now → AnswersOf waits result before now
 answers_of (Sets inbox) result before now h = absurd h
 answers_of (Loop held) result before now h = record { held = held; waits_is = refl; told_is = h.0; now_is = h.1 }
 
@@ -57,7 +57,7 @@ same_backlog q r like = λ i. record { gone = like.gone i; packets = like.packet
 
 -- a packet is laid
 pub laid_packet : (output roomy now : Waiting Plain) (p : Stamped Plain) (before after : IntakeView) → AnswersBy before.waits (Packet p) before after → IsLike roomy output
-    → backlog_of now ≡ behind (Some p) (backlog_of roomy) → LaysReply output now before after
+    → backlog_of now ≡ with_reply (Some p) (backlog_of roomy) → LaysReply output now before after
 laid_packet output roomy now p before after h like laid =
     let a = answers_of before.waits (Packet p) before after h in
     let t = packet_told (next_reply a.held) p a.told_is in
@@ -66,7 +66,7 @@ laid_packet output roomy now p before after h like laid =
       waits = a.waits_is;
       reply = t.0;
       next = t.1;
-      laid = laid ∙ ap (behind (Some p)) (same_backlog roomy output like) ∙ ap (λ (o : Option (Stamped Plain)). behind o (backlog_of output)) (sym t.2);
+      laid = laid ∙ ap (with_reply (Some p)) (same_backlog roomy output like) ∙ ap (λ (o : Option (Stamped Plain)). with_reply o (backlog_of output)) (sym t.2);
       intake_is = a.now_is ∙ ap (λ (o : Option (Reply Plain)). if is_some o then record { claimed = before.claimed + 1; waits = Loop (replied a.held) } else before) t.1;
     }
 
@@ -79,7 +79,7 @@ laid_nothing output now t before after h like =
       waits = a.waits_is;
       reply = r.0;
       next = r.1;
-      laid = same_backlog now output like ∙ ap (λ (o : Option (Stamped Plain)). behind o (backlog_of output)) (sym r.2);
+      laid = same_backlog now output like ∙ ap (λ (o : Option (Stamped Plain)). with_reply o (backlog_of output)) (sym r.2);
       intake_is = a.now_is ∙ ap (λ (o : Option (Reply Plain)). if is_some o then record { claimed = before.claimed + 1; waits = Loop (replied a.held) } else before) r.1;
     }
 

@@ -34,8 +34,8 @@ use Rattle.mg_calc.proofs.Rounds.{stream_extends, stream_is_prefix}
 use Rattle.mg_calc.proofs.Solutions.{one_solution}
 use Rattle.mg_node.specs.declared.role.Role.{Role}
 use Rattle.mg_node.specs.declared.role.Role.TheVariants.{Loop as LoopRole, Sets as SetsRole}
-use Rattle.mg_node.specs.declared.waits.Waits.{Waits}
-use Rattle.mg_node.specs.declared.waits.Waits.TheVariants.{Sets, Loop}
+use Rattle.mg_node.specs.declared.pending.Pending.{Pending}
+use Rattle.mg_node.specs.declared.pending.Pending.TheVariants.{Sets, Loop}
 use Rattle.mg_node.specs.Views.{IntakeView, EntryView, EngineView}
 use Rattle.mg_node.specs.Ports.{ports_in, port_queue, next_time, horizon_of}
 use Rattle.mg_node.specs.Claims.{has_ended, IsEarly}
@@ -121,20 +121,20 @@ outer_is Constants is = absurd is
 outer_is Loopback is = absurd is
 outer_is law is = refl
 
-never_early : (law : Law) (w : Waits) → IsCalled law → IsEarly (role_of law) w → ⊥
+never_early : (law : Law) (w : Pending) → IsCalled law → IsEarly (role_of law) w → ⊥
 never_early (Count count start apart) w is early = early
 never_early (SideOnce at) w is early = early
 never_early Constants w is early = early
 never_early law w is early = absurd is
 
 -- an engine that goes on, with all laid that is claimed, and outputs that what waits doesn't raise
-pub record Waited (job : LoggedJob) (number : ℕ) (engine : EngineView) (h : IsEngineOf job number engine) (w : Waits) : Type 0 where
+pub record Waited (job : LoggedJob) (number : ℕ) (engine : EngineView) (h : IsEngineOf job number engine) (w : Pending) : Type 0 where
   pub going : engine.closed ≡ false
   pub good : (stage job.job h.streams h.node engine.claimed).fault ≡ None
   pub all : engine.laid ≡ engine.claimed
   pub told : (b : ℕ) → raised_by engine.role engine.offset (horizon_of w) ≡ Some b → AllByRecursion (λ (o : Backlog Plain). b ≤ o.bound) engine.outputs
 
-pub waited : (job : LoggedJob) (number : ℕ) (engine : EngineView) (h : IsEngineOf job number engine) (w : Waits) → has_ended engine ≡ false → engine.window ≡ [] → is_advanced engine w ≡ false → Waited job number engine h w
+pub waited : (job : LoggedJob) (number : ℕ) (engine : EngineView) (h : IsEngineOf job number engine) (w : Pending) → has_ended engine ≡ false → engine.window ≡ [] → is_advanced engine w ≡ false → Waited job number engine h w
 waited job number engine h w goes empty raised =
     let on = second_not engine.closed (is_some engine.fault) goes in
     let order = subst (λ (es : List EntryView). engine.laid + length es ≡ engine.claimed + number_of (λ (e : EntryView). is_close e.phase) es) empty h.order in
@@ -153,7 +153,7 @@ waited job number engine h w goes empty raised =
     }
 
 module _ (job : LoggedJob) (number : ℕ) (engine : EngineView) (h : IsEngineOf job number engine) (streams : List (StreamPrefix Plain)) (e : AreExtendedBy (inputs_of streams h.node) (inputs_of h.streams h.node)) where
-  base_is : (w : Waits) → Waited job number engine h w → AllZip IsRaised (stage job.job h.streams h.node engine.claimed).outputs h.whole
+  base_is : (w : Pending) → Waited job number engine h w → AllZip IsRaised (stage job.job h.streams h.node engine.claimed).outputs h.whole
   base_is w at = subst (λ (n : ℕ). AllZip IsRaised (stage job.job h.streams h.node n).outputs h.whole) at.all (subst (λ (c : Bool). AllZip IsRaised (come_to job h.streams h.node engine.laid c).outputs h.whole) at.going h.raised)
 
   ports_are : streams_at h.streams (ports_of job.job.plan number) ≡ inputs_of h.streams h.node
@@ -173,7 +173,7 @@ module _ (job : LoggedJob) (number : ℕ) (engine : EngineView) (h : IsEngineOf 
       let stands : StandAfter inbox.policy engine.claimed qs now = subst (StandAfter inbox.policy engine.claimed qs) same holds.1.stands in
       subst (λ (p : Policy). AreClaimed p engine.claimed qs now) policy (sets_claimed inbox.policy engine.claimed qs now stands early.0 early.1)
 
-  outer_rests : (w : Waits) → IsOuter h.node.law → Waited job number engine h w → HoldsWaits job h.streams number engine.claimed w → length (inputs_of streams h.node) ≡ ports_in w
+  outer_rests : (w : Pending) → IsOuter h.node.law → Waited job number engine h w → HoldsWaits job h.streams number engine.claimed w → length (inputs_of streams h.node) ≡ ports_in w
       → ((port : ℕ) → port < length (inputs_of streams h.node) → StandsFor (port_queue w port) (slice_index_or (inputs_of streams h.node) port empty_prefix)) → IsEarly SetsRole w
       → AreExtendedBy (outcome_of job.job streams h.node).outputs h.whole
   outer_rests (Loop held) is at holds ports came early = absurd (subst IsOuter (law_is_loop (slice_get job.job.plan.nodes number) h.node h.there holds.0) is)
@@ -208,7 +208,7 @@ module _ (job : LoggedJob) (number : ℕ) (engine : EngineView) (h : IsEngineOf 
       let loop_is : holds.1.loop ≡ loop = stood_same held.loop holds.1.loop loop (loop_of h.streams node) holds.1.stands.at_loop (came 0 (omega (arith, ports))) (stream_extends old (inputs_of h.streams node) 0 extended) loop_further in
       subst (StandsAfter k held main) loop_is (subst (λ (m : StreamPrefix Plain). StandsAfter k held m holds.1.loop) main_is holds.1.stands)
 
-  loop_rests : (w : Waits) → h.node.law ≡ Loopback → IsPrefix (main_of h.streams h.node) → Waited job number engine h w → HoldsWaits job h.streams number engine.claimed w → length (inputs_of streams h.node) ≡ ports_in w
+  loop_rests : (w : Pending) → h.node.law ≡ Loopback → IsPrefix (main_of h.streams h.node) → Waited job number engine h w → HoldsWaits job h.streams number engine.claimed w → length (inputs_of streams h.node) ≡ ports_in w
       → ((port : ℕ) → port < length (inputs_of streams h.node) → StandsFor (port_queue w port) (slice_index_or (inputs_of streams h.node) port empty_prefix)) → IsEarly LoopRole w
       → AreExtendedBy (outcome_of job.job streams h.node).outputs h.whole
   loop_rests (Sets inbox) is wider at holds ports came early = absurd (holds.0 (ap (λ (o : Option PlanNode). option_map (λ n. n.law) o) h.there ∙ ap Some is))

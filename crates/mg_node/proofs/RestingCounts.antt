@@ -17,8 +17,8 @@ use Rattle.mg_calc.specs.Shape.{IsOuter}
 use Rattle.mg_calc.specs.Equations.{Job, inputs_of, outcome_by, outcome_of}
 use Rattle.mg_calc.specs.Meaning.{count_of, fault_of}
 use Rattle.mg_node.specs.declared.role.Role.TheVariants.{Loop as LoopRole, Sets as SetsRole}
-use Rattle.mg_node.specs.declared.waits.Waits.{Waits}
-use Rattle.mg_node.specs.declared.waits.Waits.TheVariants.{Sets, Loop}
+use Rattle.mg_node.specs.declared.pending.Pending.{Pending}
+use Rattle.mg_node.specs.declared.pending.Pending.TheVariants.{Sets, Loop}
 use Rattle.mg_node.specs.Views.{IntakeView, EngineView}
 use Rattle.mg_node.specs.Ports.{ports_in, port_queue}
 use Rattle.mg_node.specs.Claims.{has_ended, IsEarly}
@@ -51,7 +51,7 @@ none_there (Some f) none = absurd cc
 
 module _ (job : LoggedJob) (number : ℕ) (engine : EngineView) (h : IsEngineOf job number engine) where
   -- where no further work is there, and none of them failed
-  become_by : (w : Waits) → has_ended engine ≡ false → Waited job number engine h w → count_by h.node.law h.streams h.node ≡ engine.claimed → (outcome_of job.job h.streams h.node).fault ≡ None
+  become_by : (w : Pending) → has_ended engine ≡ false → Waited job number engine h w → count_by h.node.law h.streams h.node ≡ engine.claimed → (outcome_of job.job h.streams h.node).fault ≡ None
       → (stage job.job h.streams h.node engine.claimed).state ≡ (outcome_of job.job h.streams h.node).state → HasBecome job h.streams number engine h.node
   become_by w goes at all good state =
       let taken = h.taken in
@@ -64,7 +64,7 @@ module _ (job : LoggedJob) (number : ℕ) (engine : EngineView) (h : IsEngineOf 
         state = ap (λ (c : Bool). (come_to job h.streams h.node engine.laid c).state) at.going ∙ ap (λ (n : ℕ). (stage job.job h.streams h.node n).state) at.all ∙ state;
       }
 
-  outer_become : (w : Waits) → has_ended engine ≡ false → IsOuter h.node.law → Waited job number engine h w → HoldsWaits job h.streams number engine.claimed w → length (inputs_of h.streams h.node) ≡ ports_in w
+  outer_become : (w : Pending) → has_ended engine ≡ false → IsOuter h.node.law → Waited job number engine h w → HoldsWaits job h.streams number engine.claimed w → length (inputs_of h.streams h.node) ≡ ports_in w
       → ((port : ℕ) → port < length (inputs_of h.streams h.node) → StandsFor (port_queue w port) (slice_index_or (inputs_of h.streams h.node) port empty_prefix)) → IsEarly SetsRole w → HasBecome job h.streams number engine h.node
   outer_become (Loop held) goes is at holds ports came early = absurd (subst IsOuter (law_is_loop (slice_get job.job.plan.nodes number) h.node h.there holds.0) is)
   outer_become (Sets inbox) goes is at holds ports came early =
@@ -75,7 +75,7 @@ module _ (job : LoggedJob) (number : ℕ) (engine : EngineView) (h : IsEngineOf 
       outer_at_rest job.job h.streams h.streams node engine.claimed is own claimed.all claimed.early at.good in
       become_by (Sets inbox) goes at (outer_count node.law h.streams node is ∙ claimed.all) (ap (λ (o : Outcome). o.fault) into ∙ at.good) (sym (ap (λ (o : Outcome). o.state) into))
 
-  loop_become : (w : Waits) → has_ended engine ≡ false → h.node.law ≡ Loopback → Waited job number engine h w → HoldsWaits job h.streams number engine.claimed w → length (inputs_of h.streams h.node) ≡ ports_in w
+  loop_become : (w : Pending) → has_ended engine ≡ false → h.node.law ≡ Loopback → Waited job number engine h w → HoldsWaits job h.streams number engine.claimed w → length (inputs_of h.streams h.node) ≡ ports_in w
       → ((port : ℕ) → port < length (inputs_of h.streams h.node) → StandsFor (port_queue w port) (slice_index_or (inputs_of h.streams h.node) port empty_prefix)) → IsEarly LoopRole w → HasBecome job h.streams number engine h.node
   loop_become (Sets inbox) goes is at holds ports came early = absurd (holds.0 (ap (λ (o : Option PlanNode). option_map (λ n. n.law) o) h.there ∙ ap Some is))
   loop_become (Loop held) goes is at holds ports came early =

@@ -23,7 +23,7 @@ use Rattle.mg_calc.proofs.Counting.{call_counts, end_counts, end_counts_by}
 use Rattle.mg_calc.proofs.Solutions.{one_solution}
 use Rattle.mg_node.specs.Views.{EngineView}
 use Rattle.mg_node.specs.Claims.{has_ended}
-use Rattle.mg_node.specs.Job.{LoggedJob, Solves, streams_at, sets_of, count_by, count_of_all, stage_by, stage, IsLast}
+use Rattle.mg_node.specs.Job.{LoggedJob, Solves, streams_at, sets_of, count_by, count_of_all, stage_by, stage, IsLastWork}
 use Rattle.mg_node.specs.Lawful.{IsRaised, StandForAll, come_to, IsEngineOf, LawfulEngine, of_node}
 use Rattle.mg_node.proofs.NodeSolution.{node_streams}
 use Rattle.mg_node.proofs.Stages.{kind_of, outer_stage, outer_outcome, outer_count, calls_made, called_stage, called_outcome, called_count, failed_is_all}
@@ -109,7 +109,7 @@ pub record HasAll (job : LoggedJob) (number : ℕ) (engine : EngineView) (h : Is
 
 has_all_by : (job : LoggedJob) (number : ℕ) (engine : EngineView) (h : IsEngineOf job number engine) (c : Bool) (f : Option NodeFault) → engine.closed ≡ c → engine.fault ≡ f → (c || is_some f) ≡ true → HasAll job number engine h
 has_all_by job number engine h true f closed fault ended =
-    let last : IsLast job.job h.streams h.node engine.laid = h.closed closed in
+    let last : IsLastWork job.job h.streams h.node engine.laid = h.closed closed in
     let taken = h.taken in
     let all = last.all in
     let most = most_counted job.job h.streams h.node in

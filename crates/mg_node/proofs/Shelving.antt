@@ -11,7 +11,7 @@ use Rattle.mg_calc.specs.declared.plan_node.PlanNode.{PlanNode}
 use Rattle.mg_node.specs.Views.{PerformedView, OutcomeView, EntryView, EngineView}
 use Rattle.mg_node.specs.Job.{LoggedJob, IsTask}
 use Rattle.mg_node.specs.Lawful.{is_close, IsWorkOf, StandsAt, IsEntry, IsEngineOf, LawfulEngine, of_node, LawfulOutcome, LawfulPerformed}
-use Rattle.mg_node.specs.Shelves.{IsOut, back, shelved, outcome_of, performed_of, shelf_of, shelf_at, Taken, Unshelves}
+use Rattle.mg_node.specs.Shelves.{IsOut, back, shelved, outcome_of, performed_of, shelf_of, shelf_at, IsTakenOut, Unshelves}
 use Rattle.mg_node.proofs.ClaimsKeep.{set_get, number_set}
 use Rattle.mg_node.proofs.FrontWaits.{set_waits}
 
@@ -142,6 +142,6 @@ unshelved_all job owner engine engine_now number (Some p) found now h = unshelve
 abbrev pub with_window : EngineView → List EntryView → EngineView
 with_window engine window = record engine { window = window }
 
-pub unshelves_by : (r : Option PerformedView) (engine engine_now : EngineView) (number : ℕ) (now : List EntryView) → engine_now ≡ with_window engine now → Taken r engine.window now (number - engine.laid) → Unshelves r engine engine_now number
+pub unshelves_by : (r : Option PerformedView) (engine engine_now : EngineView) (number : ℕ) (now : List EntryView) → engine_now ≡ with_window engine now → IsTakenOut r engine.window now (number - engine.laid) → Unshelves r engine engine_now number
 unshelves_by None engine engine_now number now is taken = is ∙ ap (with_window engine) taken
 unshelves_by (Some p) engine engine_now number now is taken = is ∙ ap (with_window engine) taken

@@ -17,8 +17,8 @@ use Rattle.mg_calc.specs.declared.node_fault.Phase.TheVariants.{Process}
 use Rattle.mg_calc.specs.Outcome.{Failure}
 use Rattle.mg_node.specs.declared.role.Role.{Role}
 use Rattle.mg_node.specs.declared.claimed.Claimed.TheVariants.{Work, NotReady}
-use Rattle.mg_node.specs.declared.waits.Waits.{Waits}
-use Rattle.mg_node.specs.declared.waits.Waits.TheVariants.{Sets, Loop}
+use Rattle.mg_node.specs.declared.pending.Pending.{Pending}
+use Rattle.mg_node.specs.declared.pending.Pending.TheVariants.{Sets, Loop}
 use Rattle.mg_node.specs.Intakes.{HasSets}
 use Rattle.mg_node.specs.Views.{IntakeView, BenchView, WorkView, PerformedView, OutcomeView, EntryView, EngineView}
 use Rattle.mg_node.specs.Ports.{IsNext}
@@ -30,7 +30,7 @@ use Rattle.mg_node.specs.Claims.{first_unrun, IsEarly, Takes, Hands, work_of, Cl
 use Rattle.mg_node.specs.Commits.{raised_before, laid_by, Front, answer_laid, front_laid, front_of, HasFront, committed_entry, window_with}
 use Rattle.mg_node.specs.AtOnce.{MayShow, IsDoneBetween, IsLeftPerformed, IsLeftCommitted}
 use Rattle.mg_node.specs.Code.QueueLaying.{IsLaid}
-use Rattle.mg_node.specs.Code.FrontLaying.{end_of, HasWhole}
+use Rattle.mg_node.specs.Code.FrontLaying.{front_end_of, HasWhole}
 use Rattle.mg_node.specs.Code.Showing.{work_at, HasShown, Shows, LaysAnswer, HandsShown}
 use Rattle.mg_node.proofs.Performing.{may_run, performed_well, performed_fault, unchanged}
 use Rattle.mg_node.proofs.Claimable.{cell_sets, cell_fits}
@@ -265,7 +265,7 @@ abbrev pub with_answer_laid : EngineView → List (Backlog Plain) → Option Nod
 with_answer_laid e outputs fault = record e { outputs = outputs; laid = e.laid + 1; claimed = e.claimed + 1; fault = fault }
 
 pub lays_answer : (e : EngineView) (before now : List (Waiting Plain)) (at : ℕ) (answer : Result (List Laid) Cause) (cause : Option Cause) (fault : Option NodeFault) → map backlog_of before ≡ e.outputs
-    → IsLaid e.offset (Process at) (raised_before e.offset (Process at)) answer before now cause → fault ≡ (end_of e.node (Process at) cause).fault → LaysAnswer at answer e (with_answer_laid e (map backlog_of now) fault)
+    → IsLaid e.offset (Process at) (raised_before e.offset (Process at)) answer before now cause → fault ≡ (front_end_of e.node (Process at) cause).fault → LaysAnswer at answer e (with_answer_laid e (map backlog_of now) fault)
 lays_answer e before now at answer cause fault is h fault_same = record {
   now_is = refl;
   given_up = seen_gone now ∙ h.gone ∙ sym (seen_gone before) ∙ ap (map (λ (b : Backlog Plain). b.gone)) is;
@@ -289,7 +289,7 @@ none_shown C e i cell may next = (
 )
 
 -- what may be claimed next is one thing
-one_next : (w : Waits) (a b : Readiness) → HasSets w → IsNext w a → IsNext w b → a ≡ b
+one_next : (w : Pending) (a b : Readiness) → HasSets w → IsNext w a → IsNext w b → a ≡ b
 one_next (Sets inbox) a b has h k = one_readiness inbox.policy a b (queues_of inbox.pool) h k
 one_next (Loop held) a b has h k = absurd has
 

@@ -19,8 +19,8 @@ use Rattle.mg_calc.specs.Shape.{ParametersFit, calls_of}
 use Rattle.mg_calc.proofs.Jobs.{any_state, job_known}
 use Rattle.mg_calc.proofs.Rounds.{stream_is_prefix, streams_are_prefixes}
 use Rattle.mg_calc.proofs.Solutions.{solution_keeps}
-use Rattle.mg_node.specs.declared.waits.Waits.{Waits}
-use Rattle.mg_node.specs.declared.waits.Waits.TheVariants.{Sets, Loop}
+use Rattle.mg_node.specs.declared.pending.Pending.{Pending}
+use Rattle.mg_node.specs.declared.pending.Pending.TheVariants.{Sets, Loop}
 use Rattle.mg_node.specs.Views.{IntakeView, EntryView, EngineView}
 use Rattle.mg_node.specs.Ports.{port_queue}
 use Rattle.mg_node.specs.Job.{LoggedJob, Solves, main_of, loop_of, count_by, count_of_all}
@@ -177,7 +177,7 @@ held_small : (here : Bool) (loop main : Waiting Plain) → IsSmall loop → IsSm
 held_small true loop main a b = a
 held_small false loop main a b = b
 
-waits_small : (job : LoggedJob) (streams : List (StreamPrefix Plain)) (consumer claimed : ℕ) (waits : Waits) (port : ℕ) → HoldsWaits job streams consumer claimed waits → IsSmall (port_queue waits port)
+waits_small : (job : LoggedJob) (streams : List (StreamPrefix Plain)) (consumer claimed : ℕ) (waits : Pending) (port : ℕ) → HoldsWaits job streams consumer claimed waits → IsSmall (port_queue waits port)
 waits_small job streams consumer claimed (Sets inbox) port h = pool_small inbox.pool.spare inbox.pool.ports h.1.came port h.1.stands.each
 waits_small job streams consumer claimed (Loop held) port h =
     (let stands = h.1.stands in held_small (port == 0) held.loop held.main (stands_small held.loop h.1.loop stands.at_loop) (stands_small held.main h.1.main stands.at_main))

@@ -26,7 +26,7 @@ use Rattle.mg_calc.specs.Outcome.{Failure, Outcome, after_laying, after_call, op
 use Rattle.mg_calc.specs.Shape.{IsOuter, IsSource, IsShapeOf, calls_of, offset_of}
 use Rattle.mg_calc.specs.Equations.{Job, inputs_of, sides_of, outcome_by, outcome_of}
 use Rattle.mg_calc.proofs.Outcomes.{goes_on, stays, failed_stays}
-use Rattle.mg_node.specs.Job.{LoggedJob, Solves, sets_of, main_of, loop_of, count_by, count_of_all, IsOverBy, answered, stage_by, stage, IsLast, IsTask}
+use Rattle.mg_node.specs.Job.{LoggedJob, Solves, sets_of, main_of, loop_of, count_by, count_of_all, IsOverBy, answered, stage_by, stage, IsLastWork, IsTask}
 use Rattle.mg_node.specs.Lawful.{HasAnswered, answer_in, is_close}
 use Rattle.mg_node.specs.Commits.{raised_before, closed_after, laid_by, outputs_by, failure_by}
 use Rattle.mg_node.proofs.Performing.{of_node}
@@ -276,7 +276,7 @@ close_laid offset before given (Err cause) now good same has =
     (record { outputs = refl; fault = refl; state_is = same })
 
 -- of a node that is shown sets
-pub outer_last : (job : Job) (streams : List (StreamPrefix Plain)) (node : PlanNode) (n : ℕ) → IsOuter node.law → IsLast job streams node n
+pub outer_last : (job : Job) (streams : List (StreamPrefix Plain)) (node : PlanNode) (n : ℕ) → IsOuter node.law → IsLastWork job streams node n
     → outcome_of job streams node ≡ finished node.law node.shape.offset (record (stage job streams node n) { outputs = all_raised node.shape.offset done (stage job streams node n).outputs })
 outer_last job streams node n is last =
     let offset = node.shape.offset in
@@ -292,7 +292,7 @@ outer_last job streams node n is last =
 abbrev closes : Outcome → Outcome
 closes outcome = record outcome { outputs = map closed outcome.outputs }
 
-called_last : (job : Job) (streams : List (StreamPrefix Plain)) (node : PlanNode) (n : ℕ) → IsCalled node.law → IsLast job streams node n → outcome_of job streams node ≡ closes (stage job streams node n)
+called_last : (job : Job) (streams : List (StreamPrefix Plain)) (node : PlanNode) (n : ℕ) → IsCalled node.law → IsLastWork job streams node n → outcome_of job streams node ≡ closes (stage job streams node n)
 called_last job streams node n is last =
     let before = stage job streams node n in
     let at : before ≡ calls_made job node (calls_of node.law) = called_stage node.law job streams node n is ∙ ap (calls_made job node) (last.all ∙ called_count node.law streams node is) in
@@ -325,7 +325,7 @@ called_finish Constants state is = refl
 called_finish law state is = absurd is
 
 -- the outcome after Close that was answered
-pub closed_stage : (job : LoggedJob) (streams : List (StreamPrefix Plain)) (number : ℕ) (node : PlanNode) (n : ℕ) (answer : Result (List Laid) Cause) (now : List Plain) → Solves job streams → slice_get job.job.plan.nodes number ≡ Some node → IsLast job.job streams node n
+pub closed_stage : (job : LoggedJob) (streams : List (StreamPrefix Plain)) (number : ℕ) (node : PlanNode) (n : ℕ) (answer : Result (List Laid) Cause) (now : List Plain) → Solves job streams → slice_get job.job.plan.nodes number ≡ Some node → IsLastWork job.job streams node n
     → HasAnswered answer (stage job.job streams node n).state now (finish node.law (stage job.job streams node n).state)
     → IsLaid Close (raised_before node.shape.offset Close (stage job.job streams node n).outputs)
     (laid_by node.shape.offset Close (raised_before node.shape.offset Close (stage job.job streams node n).outputs) answer) now (outcome_of job.job streams node)

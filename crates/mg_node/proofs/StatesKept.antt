@@ -18,7 +18,7 @@ use Rattle.mg_calc.specs.Equations.{Job, sides_of, outcome_of}
 use Rattle.mg_calc.proofs.Outcomes.{goes_on}
 use Rattle.mg_time.specs.Time.{done}
 use Rattle.mg_route.specs.HolderView.{HolderView}
-use Rattle.mg_node.specs.Job.{LoggedJob, Solves, stage, IsLast, IsTask}
+use Rattle.mg_node.specs.Job.{LoggedJob, Solves, stage, IsLastWork, IsTask}
 use Rattle.mg_node.specs.Lawful.{HasAnswered, answer_in, come_to}
 use Rattle.mg_node.specs.Begun.{IsOpened}
 use Rattle.mg_node.specs.Commits.{raised_before}
@@ -68,14 +68,14 @@ finish_state (Scripted offset first steps last) before now (Ok emission) h = sam
 finish_state law before now (Ok emission) h = same_state before now [] emission h
 finish_state law before now (Err cause) h = h.1
 
-last_state : (job : Job) (streams : List (StreamPrefix Plain)) (node : PlanNode) (n : ℕ) → IsOuter node.law → IsLast job streams node n → (outcome_of job streams node).state ≡ (stage job streams node n).state
+last_state : (job : Job) (streams : List (StreamPrefix Plain)) (node : PlanNode) (n : ℕ) → IsOuter node.law → IsLastWork job streams node n → (outcome_of job streams node).state ≡ (stage job streams node n).state
 last_state job streams node n outer last =
     let before = stage job streams node n in
     let up : Outcome = record before { outputs = all_raised node.shape.offset done before.outputs } in
     ap (λ (o : Outcome). o.state) (outer_last job streams node n outer last)
     ∙ close_state up (after (finish node.law up.state) (λ given. laid_behind node.shape.offset Close up.outputs given.1))
 
-pub come_state : (job : LoggedJob) (streams : List (StreamPrefix Plain)) (node : PlanNode) (n : ℕ) (closed : Bool) → IsOuter node.law → (closed ≡ true → IsLast job.job streams node n)
+pub come_state : (job : LoggedJob) (streams : List (StreamPrefix Plain)) (node : PlanNode) (n : ℕ) (closed : Bool) → IsOuter node.law → (closed ≡ true → IsLastWork job.job streams node n)
     → (come_to job streams node n closed).state ≡ (stage job.job streams node n).state
 come_state job streams node n false outer last = refl
 come_state job streams node n true outer last = last_state job.job streams node n outer (last refl)

@@ -15,7 +15,7 @@ use Rattle.mg_node.specs.Claims.{TakesUnrun, Hands}
 use Rattle.mg_node.specs.Shelves.{IsOut, back, shelved, performed_of, shelf_at, Unshelves}
 use Rattle.mg_node.specs.Out.{IsMissing, GoesOut, ComesBack}
 use Rattle.mg_node.specs.Windows.{ready_of}
-use Rattle.mg_node.specs.Commits.{Front, counted, answer_laid, has_stopped, with_ready, front_laid, committed_entry, window_with, front_of, Commits}
+use Rattle.mg_node.specs.Commits.{Front, calls_in_phase, answer_laid, has_stopped, with_ready, front_laid, committed_entry, window_with, front_of, Commits}
 use Rattle.mg_node.proofs.Handing.{none_number}
 use Rattle.mg_node.proofs.Making.{some_same}
 use Rattle.mg_node.proofs.Shelving.{found_at}
@@ -109,13 +109,13 @@ unshelved_out job owner engine engine_now number p h found now =
     (result_out job owner engine engine_now number (Some p) (sym found) now h)
 
 -- Close stands behind all others, so each entry before another is counted.
-by_phase : (job : LoggedJob) (streams : List (StreamPrefix Plain)) (node : PlanNode) (n m : ℕ) (phase : Phase) (set : List (Option (Stamped Plain))) → n < m → m ≤ count_of_all streams node → IsTask job.job streams node n phase set → counted phase ≡ 1
+by_phase : (job : LoggedJob) (streams : List (StreamPrefix Plain)) (node : PlanNode) (n m : ℕ) (phase : Phase) (set : List (Option (Stamped Plain))) → n < m → m ≤ count_of_all streams node → IsTask job.job streams node n phase set → calls_in_phase phase ≡ 1
 by_phase job streams node n m Open set less most t = absurd t
 by_phase job streams node n m (Call k) set less most t = refl
 by_phase job streams node n m (Process at) set less most t = refl
 by_phase job streams node n m Close set less most t = (let all = t.all in absurd (omega (arith, all, less, most)))
 
-counted_before : (job : LoggedJob) (number : ℕ) (engine : EngineView) (i j : ℕ) (e f : EntryView) → IsEngineOf job number engine → slice_get engine.window i ≡ Some e → slice_get engine.window j ≡ Some f → i < j → counted e.phase ≡ 1
+counted_before : (job : LoggedJob) (number : ℕ) (engine : EngineView) (i j : ℕ) (e f : EntryView) → IsEngineOf job number engine → slice_get engine.window i ≡ Some e → slice_get engine.window j ≡ Some f → i < j → calls_in_phase e.phase ≡ 1
 counted_before job number engine i j e f h at at_j less =
     let one = h.entries i e at in
     let two = h.entries j f at_j in
@@ -131,18 +131,18 @@ phase_at window place i x y e there same at = elim (cases_eq i place) [
 ]
 
 counted_in : (job : LoggedJob) (number : ℕ) (engine : EngineView) (place i j : ℕ) (x y e f : EntryView) → IsEngineOf job number engine → slice_get engine.window place ≡ Some x → y.phase ≡ x.phase
-    → slice_get (set engine.window place y) i ≡ Some e → slice_get (set engine.window place y) j ≡ Some f → i < j → counted e.phase ≡ 1
+    → slice_get (set engine.window place y) i ≡ Some e → slice_get (set engine.window place y) j ≡ Some f → i < j → calls_in_phase e.phase ≡ 1
 counted_in job number engine place i j x y e f h there same at at_j less =
     let one = phase_at engine.window place i x y e there same at in
     let two = phase_at engine.window place j x y f there same at_j in
-    subst (λ (p : Phase). counted p ≡ 1) one.2 (counted_before job number engine i j one.0 two.0 h one.1 two.1 less)
+    subst (λ (p : Phase). calls_in_phase p ≡ 1) one.2 (counted_before job number engine i j one.0 two.0 h one.1 two.1 less)
 
 -- What is laid of a window are its first entries; none of them is out, and each that is counted is laid once.
 record LaysFirst (entries : List EntryView) (front last : Front) : Type 0 where
   pub k : ℕ
   pub window : last.window ≡ drop k entries
   pub back_there : (i : ℕ) (entry : EntryView) → i < k → slice_get entries i ≡ Some entry → entry.outcome ≡ None → ⊥
-  pub laid : ((i : ℕ) (entry : EntryView) → i < k → slice_get entries i ≡ Some entry → counted entry.phase ≡ 1) → k ≤ length entries → last.laid ≡ front.laid + k
+  pub laid : ((i : ℕ) (entry : EntryView) → i < k → slice_get entries i ≡ Some entry → calls_in_phase entry.phase ≡ 1) → k ≤ length entries → last.laid ≡ front.laid + k
   pub few : k ≤ length entries
 
 ready_none : (committed : Bool) (o : Option OutcomeView) (p : PerformedView) → o ≡ None → (if committed then option_and_then performed_of o else None) ≡ Some p → ⊥
@@ -204,8 +204,8 @@ committed_back job number outcome n before now out h c =
     let f = lays_first before.offset entries front refl in
     let k = f.k in
     let window : now.window ≡ drop k entries = ap (λ (v : EngineView). v.window) has.others ∙ f.window in
-    let laid : ((i : ℕ) (entry : EntryView) → i < k → slice_get entries i ≡ Some entry → counted entry.phase ≡ 1) → now.laid ≡ before.laid + k = λ ones. ap (λ (v : EngineView). v.laid) has.others ∙ f.laid ones f.few in
-    let ones : (j : ℕ) (x : EntryView) → slice_get entries j ≡ Some x → k ≤ j → (i : ℕ) (entry : EntryView) → i < k → slice_get entries i ≡ Some entry → counted entry.phase ≡ 1 = λ j x at_j le i entry less at.
+    let laid : ((i : ℕ) (entry : EntryView) → i < k → slice_get entries i ≡ Some entry → calls_in_phase entry.phase ≡ 1) → now.laid ≡ before.laid + k = λ ones. ap (λ (v : EngineView). v.laid) has.others ∙ f.laid ones f.few in
+    let ones : (j : ℕ) (x : EntryView) → slice_get entries j ≡ Some x → k ≤ j → (i : ℕ) (entry : EntryView) → i < k → slice_get entries i ≡ Some entry → calls_in_phase entry.phase ≡ 1 = λ j x at_j le i entry less at.
     counted_in job number before place i j out.entry (committed_entry outcome) entry x h out.there (sym out.phase_is) at at_j (omega (arith, less, le)) in
     record {
       stays = λ other o apart.
@@ -254,7 +254,7 @@ unrun_goes job number engine engine_now work h t out =
     out_again engine engine_now work t.place hands.entry (record { phase = hands.entry.phase; outcome = None; committed = false }) o
     (ap (λ (v : EngineView). v.node) t.now) (ap (λ (v : EngineView). v.laid) t.now) hands.left hands.there hands.outcome stands.number_is out
 
-counted_open : (phase : Phase) → counted phase ≡ 1 → is_close phase ≡ false
+counted_open : (phase : Phase) → calls_in_phase phase ≡ 1 → is_close phase ≡ false
 counted_open Open is = refl
 counted_open (Call n) is = refl
 counted_open (Process at) is = refl

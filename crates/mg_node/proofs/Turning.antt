@@ -20,9 +20,9 @@ use Rattle.mg_calc.specs.Shape.{IsShapeOf, offset_of}
 use Rattle.mg_calc.specs.Equations.{outcome_of}
 use Rattle.mg_calc.proofs.Outcomes.{call_extends, goes_on}
 use Rattle.mg_node.specs.Views.{BenchView}
-use Rattle.mg_node.specs.Job.{LoggedJob, Solves, streams_at, sets_of, stage, IsLast, IsTask, calls_before, calls_in}
+use Rattle.mg_node.specs.Job.{LoggedJob, Solves, streams_at, sets_of, stage, IsLastWork, IsTask, calls_before, calls_in}
 use Rattle.mg_node.specs.Lawful.{answer_in, is_close, calls_by}
-use Rattle.mg_node.specs.Commits.{raised_before, counted}
+use Rattle.mg_node.specs.Commits.{raised_before, calls_in_phase}
 use Rattle.mg_node.proofs.NodeSolution.{node_streams}
 use Rattle.mg_node.proofs.Performing.{of_node}
 use Rattle.mg_node.proofs.StageCounts.{one_more_counted}
@@ -45,8 +45,8 @@ module _ (job : LoggedJob) (streams : List (StreamPrefix Plain)) (number : ℕ) 
       next_stage job streams number node n phase set solves there task more ∙ goes_on before.fault before (after_call node.shape.offset phase up given) good in
       subst (λ (o : Outcome). AreExtendedBy raised o.outputs) (sym next) (call_extends node.shape.offset phase up given)
 
-  further : (phase : Phase) (bench : BenchView) (answer : Result (List Laid) Cause) → IsDone job streams node n phase bench answer → is_close phase ≡ false → behind_work job streams node n phase ≡ stage job.job streams node (n + 1) → n + counted phase ≡ n + 1
-      → calls_before streams node n ++ calls_in phase bench.set ≡ calls_by streams node (n + counted phase) (is_close phase) → counted phase + (if is_close phase then 1 else 0) ≡ 1 → Turns job streams node n phase bench answer
+  further : (phase : Phase) (bench : BenchView) (answer : Result (List Laid) Cause) → IsDone job streams node n phase bench answer → is_close phase ≡ false → behind_work job streams node n phase ≡ stage job.job streams node (n + 1) → n + calls_in_phase phase ≡ n + 1
+      → calls_before streams node n ++ calls_in phase bench.set ≡ calls_by streams node (n + calls_in_phase phase) (is_close phase) → calls_in_phase phase + (if is_close phase then 1 else 0) ≡ 1 → Turns job streams node n phase bench answer
   further phase bench answer d more next counts log one =
       let ts = streams_at streams node.outputs in
       let less = task_within job streams node n phase bench.set more d.task in
@@ -74,7 +74,7 @@ module _ (job : LoggedJob) (streams : List (StreamPrefix Plain)) (number : ℕ) 
   silent_offset law (inl is) = called_offset law is
   silent_offset law (inr is) = ap offset_of is
 
-  raised_last : IsLast job.job streams node n → AreExtendedBy (all_raised node.shape.offset done (stage job.job streams node n).outputs) (streams_at streams node.outputs)
+  raised_last : IsLastWork job.job streams node n → AreExtendedBy (all_raised node.shape.offset done (stage job.job streams node n).outputs) (streams_at streams node.outputs)
   raised_last last =
       let ts = streams_at streams node.outputs in
       let outputs = (stage job.job streams node n).outputs in
@@ -94,7 +94,7 @@ module _ (job : LoggedJob) (streams : List (StreamPrefix Plain)) (number : ℕ) 
 
   closing : (bench : BenchView) (answer : Result (List Laid) Cause) → IsDone job streams node n Close bench answer → Turns job streams node n Close bench answer
   closing bench answer d =
-      let last : IsLast job.job streams node n = d.task in
+      let last : IsLastWork job.job streams node n = d.task in
       let ts = streams_at streams node.outputs in
       let same : n ≡ n + 0 = omega arith in
       let end = node_streams job streams number node solves there in
@@ -109,7 +109,7 @@ module _ (job : LoggedJob) (streams : List (StreamPrefix Plain)) (number : ℕ) 
         log = ap (λ (k : ℕ). calls_by streams node k true) same;
         nothing = (λ stateless. laid.state_is ∙ sym (state_stays node.law (stage job.job streams node n).state bench.told.state answer d.answered));
         taken = (λ le. omega (arith, le));
-        last = (λ closes. subst (IsLast job.job streams node) same last);
+        last = (λ closes. subst (IsLastWork job.job streams node) same last);
         none = (λ closes k f set later task. (let all = last.all in let most = task_most job streams node k f set task in omega (arith, all, most, later)));
         one = refl;
       }

@@ -12,14 +12,14 @@ use Rattle.mg_calc.specs.Meaning.{count_of}
 use Rattle.mg_route.specs.HolderView.{FitsHolder}
 use Rattle.mg_calc.proofs.Solutions.{one_solution}
 use Rattle.mg_node.specs.Views.{BenchView, PerformedView}
-use Rattle.mg_node.specs.Job.{LoggedJob, Solves, streams_at, stage, IsLast, IsTask, log_after, calls_before, calls_in}
+use Rattle.mg_node.specs.Job.{LoggedJob, Solves, streams_at, stage, IsLastWork, IsTask, log_after, calls_before, calls_in}
 use Rattle.mg_node.specs.Lawful.{HasAnswered, answer_in, IsWorkOf, LawfulOutcome, StandsAt, is_close, come_to, calls_by}
-use Rattle.mg_node.specs.Commits.{raised_before, counted}
+use Rattle.mg_node.specs.Commits.{raised_before, calls_in_phase}
 use Rattle.mg_node.proofs.LayingAll.{outputs_at, failure_at}
 
 -- what a node has come to behind its work of a number
 abbrev pub behind_work : LoggedJob → List (StreamPrefix Plain) → PlanNode → ℕ → Phase → Outcome
-behind_work job streams node n phase = come_to job streams node (n + counted phase) (is_close phase)
+behind_work job streams node n phase = come_to job streams node (n + calls_in_phase phase) (is_close phase)
 
 -- a node's work of a number was performed, with an answer, at a bench
 pub record IsDone (job : LoggedJob) (streams : List (StreamPrefix Plain)) (node : PlanNode) (n : ℕ) (phase : Phase) (bench : BenchView) (answer : Result (List Laid) Cause) : Type 0 where
@@ -57,10 +57,10 @@ pub record Turns (job : LoggedJob) (streams : List (StreamPrefix Plain)) (node :
   pub fault : (behind_work job streams node n phase).fault ≡ failure_at node.shape.offset phase (stage job.job streams node n).outputs answer
   -- what the calculator keeps and its log has is what the node has come to; other calculators keep nothing
   pub state : bench.told.state ≡ (behind_work job streams node n phase).state
-  pub log : calls_before streams node n ++ calls_in phase bench.set ≡ calls_by streams node (n + counted phase) (is_close phase)
+  pub log : calls_before streams node n ++ calls_in phase bench.set ≡ calls_by streams node (n + calls_in_phase phase) (is_close phase)
   pub nothing : node.shape.stateless ≡ true → (behind_work job streams node n phase).state ≡ (stage job.job streams node n).state
   -- the set or call is counted, and Close is the last work
-  pub taken : n ≤ count_of job.job streams node → n + counted phase ≤ count_of job.job streams node
-  pub last : is_close phase ≡ true → IsLast job.job streams node (n + counted phase)
+  pub taken : n ≤ count_of job.job streams node → n + calls_in_phase phase ≤ count_of job.job streams node
+  pub last : is_close phase ≡ true → IsLastWork job.job streams node (n + calls_in_phase phase)
   pub none : is_close phase ≡ true → (k : ℕ) (f : Phase) (set : List (Option (Stamped Plain))) → n < k → IsTask job.job streams node k f set → ⊥
-  pub one : counted phase + (if is_close phase then 1 else 0) ≡ 1
+  pub one : calls_in_phase phase + (if is_close phase then 1 else 0) ≡ 1

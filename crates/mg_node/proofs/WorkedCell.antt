@@ -20,7 +20,7 @@ use Rattle.mg_calc.specs.Equations.{round, next_round}
 use Rattle.mg_calc.specs.Shape.{untagged}
 use Rattle.mg_route.specs.HolderView.{HolderView}
 use Rattle.mg_node.specs.declared.role.Role.TheVariants.{Sets as SetsRole}
-use Rattle.mg_node.specs.declared.waits.Waits.TheVariants.{Sets}
+use Rattle.mg_node.specs.declared.pending.Pending.TheVariants.{Sets}
 use Rattle.mg_node.specs.Views.{IntakeView, BenchView, WorkView, EntryView, EngineView}
 use Rattle.mg_node.specs.Job.{LoggedJob, Solves}
 use Rattle.mg_node.specs.Lawful.{LawfulIntake, LawfulWork, LawfulPerformed, LawfulEngine, IsEntry, IsIdle, of_node}

@@ -7,7 +7,7 @@ use Rattle.mg_calc.specs.declared.node_fault.Phase.{Phase}
 use Rattle.mg_calc.specs.declared.node_fault.Phase.TheVariants.{Process}
 use Rattle.mg_node.specs.declared.role.Role.{Role}
 use Rattle.mg_node.specs.declared.role.Role.TheVariants.{Loop}
-use Rattle.mg_node.specs.declared.waits.Waits.{Waits}
+use Rattle.mg_node.specs.declared.pending.Pending.{Pending}
 use Rattle.mg_node.specs.Views.{EntryView, EngineView}
 use Rattle.mg_node.specs.Ports.{horizon_of}
 use Rattle.mg_node.specs.Windows.{has_ended}
@@ -36,7 +36,7 @@ never_raised role None = true
 never_raised role (Some offset) = false
 
 -- the bound to which an engine raises its outputs by what waits at its node, if it raises them
-abbrev pub advance_bound : EngineView → Waits → Option ℕ
+abbrev pub advance_bound : EngineView → Pending → Option ℕ
 advance_bound engine waits =
     if has_ended engine then None else raised_by engine.role engine.offset (until_claimed engine.window (horizon_of waits))
 
@@ -56,9 +56,9 @@ any_moved_by None outputs = false
 any_moved_by (Some bound) outputs = any_moved bound outputs
 
 -- an engine with its outputs raised as far as what waits at its node tells
-abbrev pub advanced : EngineView → Waits → EngineView
+abbrev pub advanced : EngineView → Pending → EngineView
 advanced engine waits = record engine { outputs = map (raised_output (advance_bound engine waits)) engine.outputs }
 
 -- whether what waits at its node raises at least one output of an engine
-abbrev pub is_advanced : EngineView → Waits → Bool
+abbrev pub is_advanced : EngineView → Pending → Bool
 is_advanced engine waits = any_moved_by (advance_bound engine waits) engine.outputs

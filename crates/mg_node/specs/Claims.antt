@@ -13,8 +13,8 @@ use Rattle.mg_calc.specs.declared.node_fault.Phase.{Phase}
 use Rattle.mg_calc.specs.declared.node_fault.Phase.TheVariants.{Call, Process, Close}
 use Rattle.mg_node.specs.declared.role.Role.{Role}
 use Rattle.mg_node.specs.declared.role.Role.TheVariants.{Source, Loop, Sets}
-use Rattle.mg_node.specs.declared.waits.Waits.{Waits}
-use Rattle.mg_node.specs.declared.waits.Waits.TheVariants.{Loop as WaitsLoop}
+use Rattle.mg_node.specs.declared.pending.Pending.{Pending}
+use Rattle.mg_node.specs.declared.pending.Pending.TheVariants.{Loop as WaitsLoop}
 use Rattle.mg_node.specs.declared.claimed.Claimed.{Claimed}
 use Rattle.mg_node.specs.declared.claimed.Claimed.TheVariants.{Work, Answered, NotReady, InFlightFull, Draining, Ended, OutOfMemory}
 use Rattle.mg_node.specs.Views.{IntakeView, BenchView, WorkView, OutcomeView, EntryView, EngineView}
@@ -41,12 +41,12 @@ first_unrun n [] = None
 first_unrun n (entry ∷ entries) = if is_unrun entry then Some n else first_unrun (n + 1) entries
 
 -- no more works come but Close: a source has had its calls, and at every other node nothing comes any more
-abbrev pub IsOver : Role → ℕ → Waits → Type 0
+abbrev pub IsOver : Role → ℕ → Pending → Type 0
 IsOver (Source calls) claimed waits = calls ≤ claimed
 IsOver role claimed waits = IsNext waits AtEnd
 
 -- neither a work nor the end can be told yet; a source can always tell
-abbrev pub IsEarly : Role → Waits → Type 0
+abbrev pub IsEarly : Role → Pending → Type 0
 IsEarly (Source calls) waits = ⊥
 IsEarly role waits = IsNext waits NotYet
 
@@ -65,14 +65,14 @@ pub record Takes (intake now : IntakeView) (set : List (Option (Stamped Plain)))
   pub in_solution : (job : LoggedJob) (consumer : ℕ) (streams : List (StreamPrefix Plain)) → Solves job streams → LawfulIntake job consumer intake → HasSet job streams consumer intake.claimed set
 
 -- an output with a loopback's answer behind its packets, where that isn't nothing
-abbrev pub behind : Option (Stamped Plain) → Backlog Plain → Backlog Plain
-behind None b = b
-behind (Some p) b = record { gone = b.gone; packets = b.packets ++ p ∷ []; bound = next_time p.at }
+abbrev pub with_reply : Option (Stamped Plain) → Backlog Plain → Backlog Plain
+with_reply None b = b
+with_reply (Some p) b = record { gone = b.gone; packets = b.packets ++ p ∷ []; bound = next_time p.at }
 
 -- the outputs of a loopback, of which there is one, with its answer
 abbrev pub with_answer : Option (Stamped Plain) → List (Backlog Plain) → List (Backlog Plain)
 with_answer answer [] = []
-with_answer answer (b ∷ bs) = behind answer b ∷ bs
+with_answer answer (b ∷ bs) = with_reply answer b ∷ bs
 
 -- nothing has changed
 pub record AreSame (engine : EngineView) (intake : IntakeView) (engine_now : EngineView) (intake_now : IntakeView) : Type 0 where
@@ -133,7 +133,7 @@ pub record TakesSet (engine engine_now : EngineView) (intake intake_now : Intake
   pub takes : Takes intake intake_now work.bench.set
 
 -- Close is handed out: no set comes any more, and all that was claimed is laid
-pub record TakesClose (engine engine_now : EngineView) (waits : Waits) (work : WorkView) : Type 0 where
+pub record TakesClose (engine engine_now : EngineView) (waits : Pending) (work : WorkView) : Type 0 where
   pub over : IsOver engine.role engine.claimed waits
   pub laid : engine.window ≡ []
   pub bench : BenchView

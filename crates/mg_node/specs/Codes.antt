@@ -17,14 +17,14 @@ use Rattle.mg_route.specs.HolderView.{HolderView}
 use Rattle.mg_calc.specs.ToldCodes.{emission_code}
 use Rattle.mg_route.specs.HolderCodes.{holder_code}
 use Rattle.mg_node.specs.declared.role.Role.{Role}
-use Rattle.mg_node.specs.declared.waits.Waits.{Waits}
+use Rattle.mg_node.specs.declared.pending.Pending.{Pending}
 use Rattle.mg_node.specs.contracts.role.Role as role
-use Rattle.mg_node.specs.contracts.waits.Waits as waits
+use Rattle.mg_node.specs.contracts.pending.Pending as waits
 use Rattle.mg_node.specs.Views.{IntakeView, BenchView, WorkView, PerformedView, OutcomeView, EntryView, EngineView}
 
 abbrev pub intake_code : Coded IntakeView
 intake_code =
-    code_by (ℕ × Waits) (coded× coded_ℕ waits.the_row.coded) (λ i. (i.claimed, i.waits)) (λ p. record { claimed = p.0; waits = p.1 }) (λ _. refl)
+    code_by (ℕ × Pending) (coded× coded_ℕ waits.the_row.coded) (λ i. (i.claimed, i.waits)) (λ p. record { claimed = p.0; waits = p.1 }) (λ _. refl)
 
 abbrev pub bench_code : Coded BenchView
 bench_code =

@@ -45,10 +45,10 @@ failure_by phase (Ok outputs) = None
 failure_by phase (Err cause) = Some (record { phase = phase; cause = cause })
 
 -- how many sets or calls are laid in a phase: Open and Close aren't counted
-abbrev pub counted : Phase → ℕ
-counted (Call number) = 1
-counted (Process at) = 1
-counted phase = 0
+abbrev pub calls_in_phase : Phase → ℕ
+calls_in_phase (Call number) = 1
+calls_in_phase (Process at) = 1
+calls_in_phase phase = 0
 
 -- what laying changes of an engine: its outputs in whole, how many sets or calls were laid, what is claimed and isn't laid, the
 -- benches that no work has, whether Close was laid, and the fault
@@ -64,7 +64,7 @@ pub record Front : Type 0 where
 abbrev pub answer_laid : Option ℤ → Phase → BenchView → Result (List Laid) Cause → List EntryView → Front → Front
 answer_laid offset phase bench answer rest front = record {
   outputs = outputs_by (raised_before offset phase front.outputs) (laid_by offset phase (raised_before offset phase front.outputs) answer);
-  laid = front.laid + counted phase;
+  laid = front.laid + calls_in_phase phase;
   window = rest;
   idle = front.idle ++ bench ∷ [];
   closed = is_close phase;

@@ -4,7 +4,7 @@ use Rattle.mg_value.specs.Payload.{Plain}
 use Rattle.mg_value.specs.Prefix.{Stamped, StreamPrefix, IsPrefix}
 use Rattle.mg_value.specs.Extension.{IsExtendedBy}
 use Rattle.mg_stream.specs.Queue.{Waiting, StandsFor, count_of, with_packet, raised_to}
-use Rattle.mg_node.specs.declared.waits.Waits.{Waits}
+use Rattle.mg_node.specs.declared.pending.Pending.{Pending}
 use Rattle.mg_node.specs.declared.delivered.Delivered.{Delivered}
 use Rattle.mg_node.specs.declared.delivered.Delivered.TheVariants.{Moved, OutOfMemory}
 use Rattle.mg_node.specs.Ports.{port_queue, with_port, with_room}
@@ -27,7 +27,7 @@ delivered output port n =
 
 -- what a delivery of at most `most` packets answers and leaves: it moves as many as the port hasn't got, and tells whether it raised the
 -- bound behind them; where memory is short, the packets that it has moved by then stay
-abbrev pub Delivers : Delivered → Waiting Plain → ℕ → ℕ → Waits → Waits → Type 0
+abbrev pub Delivers : Delivered → Waiting Plain → ℕ → ℕ → Pending → Pending → Type 0
 Delivers (Moved packets raised) output port most before now =
     (packets ≡ min most (length (missing output (port_queue before port))))
     × (now ≡ with_port before port (with_room (delivered output (port_queue before port) packets) (port_queue now port).spare))

@@ -12,15 +12,15 @@ use Rattle.mg_loopback.specs.declared.answered.Answered.{Answered}
 use Rattle.mg_calc.specs.declared.law.Law.TheVariants.{Loopback}
 use Rattle.mg_calc.specs.declared.plan.Plan.{Plan}
 use Rattle.mg_calc.specs.declared.plan_node.PlanNode.{PlanNode}
-use Rattle.mg_node.specs.declared.waits.Waits.{Waits}
-use Rattle.mg_node.specs.declared.waits.Waits.TheVariants.{Sets, Loop}
+use Rattle.mg_node.specs.declared.pending.Pending.{Pending}
+use Rattle.mg_node.specs.declared.pending.Pending.TheVariants.{Sets, Loop}
 use Rattle.mg_node.specs.Views.{IntakeView}
 use Rattle.mg_node.specs.Job.{LoggedJob, ports_of, policy_of, law_of, streams_at}
 use Rattle.mg_node.specs.Lawful.{HoldsWaits, LawfulIntake}
 
 -- what waits at a consumer to which nothing came yet: an empty loopback where that is the consumer's law, and otherwise an empty inbox with
 -- the consumer's policy and ports
-abbrev pub HoldsNone : Plan → ℕ → Waits → Type 0
+abbrev pub HoldsNone : Plan → ℕ → Pending → Type 0
 HoldsNone plan consumer (Sets inbox) = ¬ (law_of plan consumer ≡ Some Loopback)
     × (inbox ≡ record { policy = policy_of plan consumer; pool = record { ports = replicate (length (ports_of plan consumer)) empty_backlog; spare = 0 } })
 HoldsNone plan consumer (Loop held) = (law_of plan consumer ≡ Some Loopback) × IsFreshLoop held
@@ -31,13 +31,13 @@ pub record IsFresh (plan : Plan) (consumer : ℕ) (intake : IntakeView) : Type 0
   pub holds : HoldsNone plan consumer intake.waits
 
 -- the input set that is claimed next, where there is one; a loopback has none
-abbrev pub next_set_of : Waits → Option (TimedSet Plain)
+abbrev pub next_set_of : Pending → Option (TimedSet Plain)
 next_set_of (Sets inbox) = next_set inbox.policy (queues_of inbox.pool)
 next_set_of (Loop held) = None
 
 -- what waits once the next set is claimed: at each port what waited before, without the packets that go with the set; the policy is the
 -- same
-abbrev pub IsLeft : Waits → Waits → Type 0
+abbrev pub IsLeft : Pending → Pending → Type 0
 IsLeft (Sets inbox) (Sets now) = (now.policy ≡ inbox.policy) × (rests (queues_of now.pool) ≡ after_sets inbox.policy 1 (rests (queues_of inbox.pool)))
 IsLeft waits now = ⊥
 
@@ -54,28 +54,28 @@ pub record HasSet (job : LoggedJob) (streams : List (StreamPrefix Plain)) (consu
 
 -- the next set of what waits is claimed: one more set is claimed of what waits then, still a number of 64 bits, and the set is the one of
 -- its number in the solution
-pub record Claims (job : LoggedJob) (streams : List (StreamPrefix Plain)) (consumer claimed : ℕ) (now : Waits) (set : List (Option (Stamped Plain))) : Type 0 where
+pub record ClaimsSet (job : LoggedJob) (streams : List (StreamPrefix Plain)) (consumer claimed : ℕ) (now : Pending) (set : List (Option (Stamped Plain))) : Type 0 where
   pub holds : HoldsWaits job streams consumer (claimed + 1) now
   pub few : claimed + 1 ≤ done
   pub shows : HasSet job streams consumer claimed set
 
 -- what waits at a node to which nothing came yet
-abbrev pub NoneWaits : PlanNode → Waits → Type 0
+abbrev pub NoneWaits : PlanNode → Pending → Type 0
 NoneWaits node (Sets inbox) = ¬ (node.law ≡ Loopback) × (inbox ≡ record { policy = node.policy; pool = record { ports = replicate (length node.inputs) empty_backlog; spare = 0 } })
 NoneWaits node (Loop held) = (node.law ≡ Loopback) × IsFreshLoop held
 
 -- what waits is for sets, and not for a loopback
-abbrev pub HasSets : Waits → Type 0
+abbrev pub HasSets : Pending → Type 0
 HasSets (Sets inbox) = ⊤
 HasSets (Loop held) = ⊥
 
 -- what waits is a loopback's
-abbrev pub HasLoop : Waits → Type 0
+abbrev pub HasLoop : Pending → Type 0
 HasLoop (Sets inbox) = ⊥
 HasLoop (Loop held) = ⊤
 
 -- what an intake answers to the next packet of MAIN, and what that leaves: nothing changes where the answer can't be told
-abbrev pub AnswersBy : Waits → Answered → IntakeView → IntakeView → Type 0
+abbrev pub AnswersBy : Pending → Answered → IntakeView → IntakeView → Type 0
 AnswersBy (Sets inbox) result before now = ⊥
 AnswersBy (Loop held) result before now =
     (result ≡ told (next_reply held)) × (now ≡ (if is_some (next_reply held) then record { claimed = before.claimed + 1; waits = Loop (replied held) } else before))

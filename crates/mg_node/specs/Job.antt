@@ -113,7 +113,7 @@ abbrev pub stage : Job → List (StreamPrefix Plain) → PlanNode → ℕ → Ou
 stage job streams node n = stage_by node.law job streams node n
 
 -- a node may be closed as its work of a number: all its sets, calls or answers come before, none failed, and no more come
-pub record IsLast (job : Job) (streams : List (StreamPrefix Plain)) (node : PlanNode) (number : ℕ) : Type 0 where
+pub record IsLastWork (job : Job) (streams : List (StreamPrefix Plain)) (node : PlanNode) (number : ℕ) : Type 0 where
   pub all : number ≡ count_of_all streams node
   pub good : (stage job streams node number).fault ≡ None
   pub over : IsOverBy node.law streams node
@@ -123,7 +123,7 @@ abbrev pub IsTask : Job → List (StreamPrefix Plain) → PlanNode → ℕ → P
 IsTask job streams node number Open set = ⊥
 IsTask job streams node number (SourceCall call) set = IsSource node.law × (call ≡ number) × (number < calls_of node.law)
 IsTask job streams node number (Process at) set = IsOuter node.law × (slice_get (sets_of streams node) number ≡ Some (record { at = at; set = set }))
-IsTask job streams node number Close set = IsLast job streams node number
+IsTask job streams node number Close set = IsLastWork job streams node number
 
 -- Logs.
 

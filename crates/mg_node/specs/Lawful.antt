@@ -27,11 +27,11 @@ use Rattle.mg_calc.specs.Meaning.{count_of}
 use Rattle.mg_route.specs.HolderView.{FitsHolder}
 use Rattle.mg_node.specs.declared.role.Role.{Role}
 use Rattle.mg_node.specs.declared.role.Role.TheVariants.{Input, Source}
-use Rattle.mg_node.specs.declared.waits.Waits.{Waits}
-use Rattle.mg_node.specs.declared.waits.Waits.TheVariants.{Sets as WaitingSets, Loop as WaitingLoop}
+use Rattle.mg_node.specs.declared.pending.Pending.{Pending}
+use Rattle.mg_node.specs.declared.pending.Pending.TheVariants.{Sets as WaitingSets, Loop as WaitingLoop}
 use Rattle.mg_node.specs.Views.{IntakeView, BenchView, WorkView, PerformedView, OutcomeView, EntryView, EngineView}
 use Rattle.mg_node.specs.Windows.{has_ended, starts_ready}
-use Rattle.mg_node.specs.Job.{LoggedJob, Solves, ports_of, policy_of, law_of, streams_at, role_of, stage, IsLast, IsTask, log_after, calls_before, calls_in}
+use Rattle.mg_node.specs.Job.{LoggedJob, Solves, ports_of, policy_of, law_of, streams_at, role_of, stage, IsLastWork, IsTask, log_after, calls_before, calls_in}
 
 -- Intakes.
 
@@ -52,7 +52,7 @@ pub record HoldsLoop (job : LoggedJob) (streams : List (StreamPrefix Plain)) (co
   pub stands : StandsAfter claimed held main loop
 
 -- what waits at a consumer is lawful: a loopback's where that is the consumer's law, and otherwise what waits for sets
-abbrev pub HoldsWaits : LoggedJob → List (StreamPrefix Plain) → ℕ → ℕ → Waits → Type 0
+abbrev pub HoldsWaits : LoggedJob → List (StreamPrefix Plain) → ℕ → ℕ → Pending → Type 0
 HoldsWaits job streams consumer claimed (WaitingSets inbox) = ¬ (law_of job.job.plan consumer ≡ Some Loopback) × HoldsSets job streams consumer claimed inbox
 HoldsWaits job streams consumer claimed (WaitingLoop held) = (law_of job.job.plan consumer ≡ Some Loopback) × HoldsLoop job streams consumer claimed held
 
@@ -187,7 +187,7 @@ pub record IsEngineOf (job : LoggedJob) (number : ℕ) (view : EngineView) : Typ
   -- what is laid is claimed, and no more than the node has; Close is laid only behind all of it
   pub claimed : view.laid ≤ view.claimed
   pub taken : view.laid ≤ count_of job.job streams node
-  pub closed : view.closed ≡ true → IsLast job.job streams node view.laid
+  pub closed : view.closed ≡ true → IsLastWork job.job streams node view.laid
   -- the engine's outputs are those of what is laid, perhaps raised, and the solution's streams extend them; its fault is that of what is
   -- laid
   pub whole : List (StreamPrefix Plain)

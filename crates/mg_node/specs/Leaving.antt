@@ -40,7 +40,7 @@ abbrev pub NoneOut : EngineView → Type 0
 NoneOut engine = All (λ e. is_some e.outcome ≡ true) engine.window
 
 -- a calculator is at rest in an engine whose window is empty: it keeps what all that is laid gives, and its log ends there
-pub record IsAtRest (job : LoggedJob) (node : PlanNode) (engine : EngineView) (held : HolderView) : Type 0 where
+pub record IsAtRestIn (job : LoggedJob) (node : PlanNode) (engine : EngineView) (held : HolderView) : Type 0 where
   pub window : engine.window ≡ []
   pub streams : List (StreamPrefix Plain)
   pub solves : Solves job streams
@@ -62,7 +62,7 @@ pub record HasCalculator (job : LoggedJob) (node : PlanNode) (engine : EngineVie
   pub only : calculators_in engine ≡ held ∷ []
   pub fits : FitsHolder node held
   pub found : handed_in engine ≡ told_by held ∷ []
-  pub stands : IsAtRest job node engine held ⊎ IsInWindow job engine held
+  pub stands : IsAtRestIn job node engine held ⊎ IsInWindow job engine held
 
 -- a calculator was opened with its node's side packets
 pub record IsOpenedFor (job : LoggedJob) (node : PlanNode) (told held : HolderView) : Type 0 where

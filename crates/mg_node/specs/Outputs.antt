@@ -16,8 +16,8 @@ abbrev pub count_at : EngineView → ℕ → ℕ
 count_at engine output = (slice_index_or engine.outputs output empty_backlog).gone + length (slice_index_or engine.outputs output empty_backlog).packets
 
 -- how many packets are kept at an engine's outputs
-abbrev pub kept_in : EngineView → ℕ
-kept_in engine = sum_by (λ b. length b.packets) engine.outputs
+abbrev pub packets_kept : EngineView → ℕ
+packets_kept engine = sum_by (λ b. length b.packets) engine.outputs
 
 -- an output of which the first `got` packets are given up, or as many as were before where those are more
 abbrev pub without_first : ℕ → Backlog Plain → Backlog Plain

@@ -36,9 +36,9 @@ abbrev pub shelf_at : EngineView → ℕ → Option PerformedView
 shelf_at engine number = if nat_lt number engine.laid then None else option_and_then shelf_of (slice_get engine.window (number - engine.laid))
 
 -- a performed work is taken out of a window at a place: its entry has no outcome any more; where there is no work, nothing changes
-abbrev pub Taken : Option PerformedView → List EntryView → List EntryView → ℕ → Type 0
-Taken None window now place = now ≡ window
-Taken (Some p) window now place = now ≡ slice_set window place (record { phase = p.work.phase; outcome = None; committed = false })
+abbrev pub IsTakenOut : Option PerformedView → List EntryView → List EntryView → ℕ → Type 0
+IsTakenOut None window now place = now ≡ window
+IsTakenOut (Some p) window now place = now ≡ slice_set window place (record { phase = p.work.phase; outcome = None; committed = false })
 
 -- the performed work of a number is taken out of an engine's window: it is out again; where there is no such work, nothing changes
 abbrev pub Unshelves : Option PerformedView → EngineView → EngineView → ℕ → Type 0

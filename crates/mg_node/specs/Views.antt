@@ -9,12 +9,12 @@ use Rattle.mg_calc.specs.declared.node_fault.Phase.{Phase}
 use Rattle.mg_calc.specs.declared.node_fault.NodeFault.{NodeFault}
 use Rattle.mg_route.specs.HolderView.{HolderView}
 use Rattle.mg_node.specs.declared.role.Role.{Role}
-use Rattle.mg_node.specs.declared.waits.Waits.{Waits}
+use Rattle.mg_node.specs.declared.pending.Pending.{Pending}
 
 -- an intake: how many input sets were claimed, or packets of MAIN answered; and what waits
 pub record IntakeView : Type 0 where
   pub claimed : ℕ
-  pub waits : Waits
+  pub waits : Pending
 
 -- a bench: what its calculator tells of itself and whether it was handed in, and what its set has
 pub record BenchView : Type 0 where

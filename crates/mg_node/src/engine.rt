@@ -1,6 +1,6 @@
 ghost use Rattle.std.specs.Prelude.{◌≡◌, ◌<◌, ◌-◌, ◌^◌, length, min, is_some, ◌||◌, slice_index_or};
 ghost use Rattle.mg_stream.specs.Pool.{empty_backlog};
-ghost use Rattle.mg_node.specs.Outputs.{count_at, kept_in};
+ghost use Rattle.mg_node.specs.Outputs.{count_at, packets_kept};
 
 mod advancing;
 mod claiming;
@@ -131,7 +131,7 @@ impl<C: Calculator> Engine<C> {
 
     /// How many packets are kept at all outputs, at most `u64::MAX`.
     pub fn held(&self) -> u64
-        ensures { result ≡ min (kept_in self.now) (2 ^ 64 - 1) }
+        ensures { result ≡ min (packets_kept self.now) (2 ^ 64 - 1) }
     {
         held_at(&self.outputs)
     }

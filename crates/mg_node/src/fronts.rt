@@ -3,9 +3,9 @@ ghost use Rattle.std.specs.Prelude.{◌≡◌, ◌<◌, ◌≤◌, ◌+◌, ◌^
 ghost use Rattle.std.specs.VecDeque.{deque_len, deque_capacity};
 ghost use Rattle.mg_stream.specs.Pool.{backlog_of};
 ghost use Rattle.mg_node.specs.Lawful.{is_close as is_close_phase};
-ghost use Rattle.mg_node.specs.Commits.{counted as counted_phase};
+ghost use Rattle.mg_node.specs.Commits.{calls_in_phase as counted_phase};
 ghost use Rattle.mg_node.specs.Code.QueueLaying.{StandForSome, HasRoomFor, packets_by};
-ghost use Rattle.mg_node.specs.Code.FrontLaying.{needed as needed_at, HasRoom, counted_in, end_of, IsFirstLaid, IsFrontLaid};
+ghost use Rattle.mg_node.specs.Code.FrontLaying.{needed as needed_at, HasRoom, counted_in, front_end_of, IsFirstLaid, IsFrontLaid};
 ghost use Rattle.mg_node.specs.Windows.{starts_ready};
 
 use crate::Bench;
@@ -190,7 +190,7 @@ fn lay_first<C: Calculator>(
 
 // What laying an entry of a phase comes to, where `cause` is why it couldn't be laid.
 fn end(node: u32, phase: &Phase, cause: Option<Cause>) -> FrontEnd
-    ensures { result ≡ end_of node phase.now cause }
+    ensures { result ≡ front_end_of node phase.now cause }
 {
     FrontEnd {
         laid: counted(phase),
@@ -201,7 +201,7 @@ fn end(node: u32, phase: &Phase, cause: Option<Cause>) -> FrontEnd
 
 /// The fault of a node, where `cause` is why an entry of a phase couldn't be laid; `None` where there is no cause.
 pub(crate) fn fault_of(node: u32, phase: &Phase, cause: Option<Cause>) -> Option<NodeFault>
-    ensures { result ≡ (end_of node phase.now cause).fault }
+    ensures { result ≡ (front_end_of node phase.now cause).fault }
 {
     match cause {
         Some(cause) => Some(NodeFault {
@@ -222,7 +222,7 @@ pub(crate) fn note_fault(
     cause: Option<Cause>,
 )
     requires { fault.old ≡ None }
-    ensures { fault.new ≡ (end_of node phase.now cause).fault }
+    ensures { fault.new ≡ (front_end_of node phase.now cause).fault }
 {
     if cause.is_some() {
         *fault = fault_of(node, phase, cause);

@@ -7,14 +7,14 @@ ghost use Rattle.mg_stream.specs.Pool.{empty_backlog};
 ghost use Rattle.mg_policy.specs.Inbox.{HasPorts};
 ghost use Rattle.mg_calc.specs.Plan.{IsValid};
 ghost use Rattle.mg_node.specs.Claims.{Takes};
-ghost use Rattle.mg_node.specs.Intakes.{IsLeft, NoneWaits, HoldsNone, IsFresh, next_set_of, SomeJobHasIntake, HasSet, HasSets, HasLoop, AnswersBy, Claims};
+ghost use Rattle.mg_node.specs.Intakes.{IsLeft, NoneWaits, HoldsNone, IsFresh, next_set_of, SomeJobHasIntake, HasSet, HasSets, HasLoop, AnswersBy, ClaimsSet};
 ghost use Rattle.mg_policy.specs.declared.readiness.Readiness as Readiness;
 ghost use Rattle.mg_node.specs.Job.{LoggedJob, Solves};
 ghost use Rattle.mg_node.specs.Lawful.{HoldsWaits, LawfulIntake};
 ghost use Rattle.mg_node.specs.IntakeStanding.{HasGrown, IntakeGrows};
 ghost use Rattle.mg_node.specs.Ports.{ports_in, waiting_in, port_queue, with_port, with_room, IsNext, horizon_of};
 
-use crate::Waits;
+use crate::Pending;
 use crate::counting::held_in;
 use mg_calc::{Law, Plan, PlanNode};
 use mg_loopback::{Answered, Loopback};
@@ -27,7 +27,7 @@ use std::marker::Model;
 /// What waits at a node, and how many of its input sets were claimed.
 #[derive(Debug, Drop)]
 pub struct Intake {
-    waits: Waits,
+    waits: Pending,
     claimed: u64,
 }
 
@@ -113,8 +113,8 @@ impl Intake {
         ensures { result ≡ ports_in self.now.waits }
     {
         match &self.waits {
-            Waits::Sets(inbox) => inbox.ports(),
-            Waits::Loop(_) => 2,
+            Pending::Sets(inbox) => inbox.ports(),
+            Pending::Loop(_) => 2,
         }
     }
 
@@ -124,8 +124,8 @@ impl Intake {
         ensures { result ≡ option_map (λ p. p.at) (slice_get (port_queue self.now.waits port).packets 0) }
     {
         match &self.waits {
-            Waits::Sets(inbox) => inbox.first(port),
-            Waits::Loop(loopback) => loopback.first(port),
+            Pending::Sets(inbox) => inbox.first(port),
+            Pending::Loop(loopback) => loopback.first(port),
         }
     }
 
@@ -135,8 +135,8 @@ impl Intake {
         ensures { result ≡ (port_queue self.now.waits port).bound }
     {
         match &self.waits {
-            Waits::Sets(inbox) => inbox.bound(port),
-            Waits::Loop(loopback) => loopback.bound(port),
+            Pending::Sets(inbox) => inbox.bound(port),
+            Pending::Loop(loopback) => loopback.bound(port),
         }
     }
 
@@ -146,8 +146,8 @@ impl Intake {
         ensures { result ≡ length (port_queue self.now.waits port).packets }
     {
         match &self.waits {
-            Waits::Sets(inbox) => inbox.waiting(port),
-            Waits::Loop(loopback) => loopback.waiting(port),
+            Pending::Sets(inbox) => inbox.waiting(port),
+            Pending::Loop(loopback) => loopback.waiting(port),
         }
     }
 
@@ -156,8 +156,8 @@ impl Intake {
         ensures { result ≡ min (waiting_in self.now.waits) (2 ^ 64 - 1) }
     {
         match &self.waits {
-            Waits::Sets(inbox) => held_in(inbox),
-            Waits::Loop(loopback) => loopback.waiting(0).saturating_add(loopback.waiting(1)),
+            Pending::Sets(inbox) => held_in(inbox),
+            Pending::Loop(loopback) => loopback.waiting(0).saturating_add(loopback.waiting(1)),
         }
     }
 
@@ -167,8 +167,8 @@ impl Intake {
         ensures { result ≡ count_of (port_queue self.now.waits port) }
     {
         match &self.waits {
-            Waits::Sets(inbox) => inbox.count(port),
-            Waits::Loop(loopback) => loopback.count(port),
+            Pending::Sets(inbox) => inbox.count(port),
+            Pending::Loop(loopback) => loopback.count(port),
         }
     }
 
@@ -178,8 +178,8 @@ impl Intake {
         ensures { IsNext self.now.waits result }
     {
         match &self.waits {
-            Waits::Sets(inbox) => inbox.readiness(),
-            Waits::Loop(_) => unreachable!(),
+            Pending::Sets(inbox) => inbox.readiness(),
+            Pending::Loop(_) => unreachable!(),
         }
     }
 
@@ -190,8 +190,8 @@ impl Intake {
         ensures no { result ≡ false → ¬ IsNext self.now.waits Readiness.Close }
     {
         match &self.waits {
-            Waits::Sets(_) => unreachable!(),
-            Waits::Loop(loopback) => loopback.waiting(1) == 0
+            Pending::Sets(_) => unreachable!(),
+            Pending::Loop(loopback) => loopback.waiting(1) == 0
                 && loopback.bound(1) == Timestamp::DONE,
         }
     }
@@ -203,8 +203,8 @@ impl Intake {
         ensures { AnswersBy self.old.waits result self.old self.new }
     {
         let answered = match &mut self.waits {
-            Waits::Sets(_) => unreachable!(),
-            Waits::Loop(loopback) => loopback.answer(),
+            Pending::Sets(_) => unreachable!(),
+            Pending::Loop(loopback) => loopback.answer(),
         };
         if let Answered::NotYet = answered {
             return answered;
@@ -218,8 +218,8 @@ impl Intake {
         ensures { result ≡ horizon_of self.now.waits }
     {
         match &self.waits {
-            Waits::Sets(inbox) => inbox.horizon(),
-            Waits::Loop(loopback) => loopback.out_bound(),
+            Pending::Sets(inbox) => inbox.horizon(),
+            Pending::Loop(loopback) => loopback.out_bound(),
         }
     }
 
@@ -235,8 +235,8 @@ impl Intake {
         } }
     {
         let refused = match &mut self.waits {
-            Waits::Sets(inbox) => inbox.bring(port, packet).is_err(),
-            Waits::Loop(loopback) => loopback.append(port, packet).is_err(),
+            Pending::Sets(inbox) => inbox.bring(port, packet).is_err(),
+            Pending::Loop(loopback) => loopback.append(port, packet).is_err(),
         };
         if refused { Err(AllocError) } else { Ok(()) }
     }
@@ -247,37 +247,37 @@ impl Intake {
         ensures { self.new ≡ record { claimed = self.old.claimed; waits = with_port self.old.waits port (raised_to (port_queue self.old.waits port) bound) } }
     {
         match &mut self.waits {
-            Waits::Sets(inbox) => inbox.raise(port, bound),
-            Waits::Loop(loopback) => loopback.raise(port, bound),
+            Pending::Sets(inbox) => inbox.raise(port, bound),
+            Pending::Loop(loopback) => loopback.raise(port, bound),
         }
     }
 }
 
 /// What waits at a consumer to which nothing came yet.
-fn waits_at(alloc: Global, plan: &Plan, consumer: u32) -> Result<Waits, AllocError>
+fn waits_at(alloc: Global, plan: &Plan, consumer: u32) -> Result<Pending, AllocError>
     requires { IsValid plan.now }
     ensures { IfOk result (λ w. HoldsNone plan.now consumer w) }
 {
     let Some(node) = plan.nodes.get(consumer) else {
         let inbox = Inbox::new(alloc, plan.outputs.len(), Policy::Default)?;
-        return Ok(Waits::Sets(inbox));
+        return Ok(Pending::Sets(inbox));
     };
     waits_of(alloc, node)
 }
 
 /// What waits at a node to which nothing came yet.
-fn waits_of(alloc: Global, node: &PlanNode) -> Result<Waits, AllocError>
+fn waits_of(alloc: Global, node: &PlanNode) -> Result<Pending, AllocError>
     requires { HasPorts node.now.policy (record { ports = replicate (length node.now.inputs) empty_backlog; spare = 0 }) }
     ensures { IfOk result (λ w. NoneWaits node.now w) }
 {
     if let Law::Loopback = node.law {
-        return Ok(Waits::Loop(Loopback::new(alloc)));
+        return Ok(Pending::Loop(Loopback::new(alloc)));
     }
-    Ok(Waits::Sets(Inbox::new(alloc, node.inputs.len(), node.policy)?))
+    Ok(Pending::Sets(Inbox::new(alloc, node.inputs.len(), node.policy)?))
 }
 
 /// Claims the next input set of what waits into `into`, and returns whether there was one.
-fn claim_of(waits: &mut Waits, into: &mut InputSet) -> bool
+fn claim_of(waits: &mut Pending, into: &mut InputSet) -> bool
     requires { length into.old ≡ ports_in waits.old }
     ensures claimed { IsTrue result ↔ IsSome (next_set_of waits.old) }
     ensures shown { IfSome (next_set_of waits.old) (λ e. into.new ≡ e.set) }
@@ -288,18 +288,18 @@ fn claim_of(waits: &mut Waits, into: &mut InputSet) -> bool
     ensures counts { (port : ℕ) → count_of (port_queue waits.new port) ≡ count_of (port_queue waits.old port) }
     ensures bounds { (port : ℕ) → (port_queue waits.new port).bound ≡ (port_queue waits.old port).bound }
     ensures holds { (job : LoggedJob) (streams : List (StreamPrefix Plain)) (consumer k : ℕ) → HoldsWaits job streams consumer k waits.old
-        → OnTrue result (Claims job streams consumer k waits.new into.new) }
+        → OnTrue result (ClaimsSet job streams consumer k waits.new into.new) }
     ensures grow { (job : LoggedJob) (streams : List (StreamPrefix Plain)) (consumer k port : ℕ) → HoldsWaits job streams consumer k waits.old
         → HasGrown (port_queue waits.old port) (port_queue waits.new port) }
 {
     match waits {
-        Waits::Sets(inbox) => inbox.claim(into),
-        Waits::Loop(_) => false,
+        Pending::Sets(inbox) => inbox.claim(into),
+        Pending::Loop(_) => false,
     }
 }
 
 /// Claims the next input set of what waits, which must stand at `at`. What waits must not be a loopback's.
-fn claim_known(waits: &mut Waits, at: Timestamp, into: &mut InputSet)
+fn claim_known(waits: &mut Pending, at: Timestamp, into: &mut InputSet)
     requires places { length into.old ≡ ports_in waits.old }
     requires sets { HasSets waits.old }
     requires next { IsNext waits.old (Readiness.Ready at) }
@@ -309,12 +309,12 @@ fn claim_known(waits: &mut Waits, at: Timestamp, into: &mut InputSet)
     ensures counts { (port : ℕ) → count_of (port_queue waits.new port) ≡ count_of (port_queue waits.old port) }
     ensures bounds { (port : ℕ) → (port_queue waits.new port).bound ≡ (port_queue waits.old port).bound }
     ensures holds { (job : LoggedJob) (streams : List (StreamPrefix Plain)) (consumer k : ℕ) → HoldsWaits job streams consumer k waits.old
-        → Claims job streams consumer k waits.new into.new }
+        → ClaimsSet job streams consumer k waits.new into.new }
     ensures grow { (job : LoggedJob) (streams : List (StreamPrefix Plain)) (consumer k port : ℕ) → HoldsWaits job streams consumer k waits.old
         → HasGrown (port_queue waits.old port) (port_queue waits.new port) }
 {
     match waits {
-        Waits::Sets(inbox) => inbox.claim_at(at, into),
-        Waits::Loop(_) => unreachable!(),
+        Pending::Sets(inbox) => inbox.claim_at(at, into),
+        Pending::Loop(_) => unreachable!(),
     }
 }

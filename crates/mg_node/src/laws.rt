@@ -27,7 +27,7 @@ ghost use Rattle.mg_node.specs.Standing.{EngineGrows};
 ghost use Rattle.mg_node.specs.Commits.{SomeJobHasEngine, Commits};
 ghost use Rattle.mg_node.specs.Claims.{first_unrun, TakesAnswer, Claims};
 ghost use Rattle.mg_node.specs.declared.claimed.Claimed.{Claimed};
-ghost use Rattle.mg_node.specs.declared.waits.Waits.{Waits};
+ghost use Rattle.mg_node.specs.declared.pending.Pending.{Pending};
 ghost use Rattle.mg_node.specs.Advances.{advanced};
 ghost use Rattle.mg_node.specs.Out.{GoesOut, ComesBack, KeepsOut, PutsOut, KeepsSetUp};
 ghost use Rattle.mg_node.specs.Windows.{has_ended, starts_ready};
@@ -163,9 +163,9 @@ pub fn works_come_back_one_by_one()
 
 /// An advance leaves the same works out, and the engine as it was set up; and the engine's standing grows.
 pub fn advances_leave_works_out()
-    ensures out { (engine : EngineView) (waits : Waits) → KeepsOut engine (advanced engine waits) }
-    ensures set_up { (engine : EngineView) (waits : Waits) → KeepsSetUp engine (advanced engine waits) }
-    ensures grows { (engine : EngineView) (waits : Waits) → EngineGrows engine (advanced engine waits) }
+    ensures out { (engine : EngineView) (waits : Pending) → KeepsOut engine (advanced engine waits) }
+    ensures set_up { (engine : EngineView) (waits : Pending) → KeepsSetUp engine (advanced engine waits) }
+    ensures grows { (engine : EngineView) (waits : Pending) → EngineGrows engine (advanced engine waits) }
 {}
 
 /// The growth of standings is transitive and reflexive.

@@ -2,7 +2,7 @@
 ghost use Rattle.std.specs.Prelude.{◌≡◌, ℕ, ◌<◌, length, slice_get, slice_set, Some, None, [], true, false, is_some, option_and_then, IsSome, IsSomeAnd, IfSome, IfNone, OnOk, OnErr};
 ghost use Rattle.std.specs.VecDeque.{deque_len, deque_capacity};
 ghost use Rattle.mg_node.specs.Claims.{first_unrun as first_unrun_from, HandsOut};
-ghost use Rattle.mg_node.specs.Shelves.{back, shelf_of, Taken};
+ghost use Rattle.mg_node.specs.Shelves.{back, shelf_of, IsTakenOut};
 ghost use Rattle.mg_node.specs.Commits.{committed_entry};
 ghost use Rattle.mg_node.specs.Windows.{starts_ready};
 ghost use Rattle.mg_node.specs.WindingUp.{FinishesFirst};
@@ -107,7 +107,7 @@ pub(crate) fn take_shelf<C: Calculator>(
     place: u64,
 ) -> Option<Performed<C>>
     ensures found { result ≡ option_and_then shelf_of (slice_get window.old.items place) }
-    ensures taken { Taken result window.old.items window.new.items place }
+    ensures taken { IsTakenOut result window.old.items window.new.items place }
     ensures len { deque_len window.new ≡ deque_len window.old }
     ensures capacity { deque_capacity window.new ≡ deque_capacity window.old }
 {

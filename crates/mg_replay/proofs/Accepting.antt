@@ -7,7 +7,7 @@ use Rattle.mg_value.specs.Prefix.{StreamPrefix}
 use Rattle.mg_calc.specs.declared.plan.Plan.{Plan}
 use Rattle.mg_calc.specs.Equations.{IsSolution}
 use Rattle.mg_answer.specs.Answer.{packet_lines}
-use Rattle.mg_answer.specs.Text.{output_names, output_of}
+use Rattle.mg_answer.specs.Text.{output_names, output_text_of}
 use Rattle.mg_answer.specs.Put.{TextView, nothing_put}
 use Rattle.mg_answer.specs.Devices.{device, TookFront}
 use Rattle.mg_node.specs.Job.{LoggedJob, Solves}
@@ -47,7 +47,7 @@ whole_of plan job first sink rested net text told same stands running rests is n
 
 -- or a front of it
 pub front_told : (plan : Plan) (job : LoggedJob) (first sink : SinkTold) (net : NetView) (text : TextView) (streams : List (StreamPrefix Plain)) → job.job.plan ≡ plan → StandsFor job net → text ≡ nothing_put (output_names plan) → taken_out net ≡ 0
-    → (IsTold HasLines job.job first first (taken_out net) text → IsToldSome HasLines job.job first sink) → IsSolution job.job streams → TookFront (device first sink) (output_of job.job.plan streams)
+    → (IsTold HasLines job.job first first (taken_out net) text → IsToldSome HasLines job.job first sink) → IsSolution job.job streams → TookFront (device first sink) (output_text_of job.job.plan streams)
 front_told plan job first sink net text streams same stands is none tells solution =
     front_lines job first sink (valid_plan job net stands) (inl (tells (told_none job first net text (text_of plan job text same is) none))) streams solution
 

@@ -12,7 +12,7 @@ use Rattle.mg_calc.specs.Told.{CalculatorTold}
 use Rattle.mg_feed.specs.Lines.{all_lines}
 use Rattle.mg_feed.specs.Ran.{EndCame}
 use Rattle.mg_feed.specs.declared.feed_end.FeedEnd.TheVariants.{Ended}
-use Rattle.mg_answer.specs.Answer.{Answer, by_lines, answer_of, failed_notes}
+use Rattle.mg_answer.specs.Answer.{RunAnswer, by_lines, answer_of, failed_notes}
 use Rattle.mg_answer.specs.Frozen.{frozen_answer}
 use Rattle.mg_answer.specs.Devices.{Device, RunDevices, Untouched, TookText, HasRisen, Unrisen, NoneFailed}
 use Rattle.mg_answer.specs.Told.{ended_status}
@@ -21,7 +21,7 @@ use Rattle.mg_answer.specs.Status.{IsOneOf}
 use Rattle.mg_answer.specs.declared.status.Status.{Status}
 use Rattle.mg_answer.specs.declared.status.Status.TheVariants.{Good, StoreFault, Usage, GraphRefused, LineRefused, NodeFault, Stalled, ReadFault, WriteFault, OutOfMemory}
 use Rattle.mg_answer.proofs.Answering.{WriteRisen, ended_statuses, read_statuses, no-one, steady-risen, one-unrisen, rose-unrisen, none-left}
-use Rattle.mg_replay.specs.Replay.{CameAs, FailsAs, ComesTo, WasRead}
+use Rattle.mg_replay.specs.Replay.{CameAs, FailsAs, LinesComeTo, WasRead}
 use Rattle.mg_replay.specs.Note.{trace_note, trace_status, WroteNote}
 use Rattle.mg_replay.specs.Replayed.{job_over, AnswersJob, AnswersEnd, AnswersTrace, WroteJob, WroteEnd, Replayed, ReplayedBy}
 use Rattle.mg_replay.specs.declared.trace_end.TraceEnd.{TraceEnd}
@@ -30,11 +30,11 @@ use Rattle.mg_replay.specs.declared.trace_end.TraceEnd.TheVariants.{Accepted, Re
 -- What was written --
 
 -- the answer was met, or a write failed
-abbrev MetOr : Answer → Status → Device SinkTold → Device SinkTold → Type 0
+abbrev MetOr : RunAnswer → Status → Device SinkTold → Device SinkTold → Type 0
 MetOr answer status output notes =
     ((status ≡ WriteFault) × (Rose output.before.faults output.now.faults ⊎ Rose notes.before.faults notes.now.faults)) ⊎ Meets answer status output notes
 
-met_by : (status : Status) (answer : Answer) (failed : List ℕ) (output notes : Device SinkTold) → WroteBy status answer failed output notes → MetOr answer status output notes
+met_by : (status : Status) (answer : RunAnswer) (failed : List ℕ) (output notes : Device SinkTold) → WroteBy status answer failed output notes → MetOr answer status output notes
 met_by Good answer failed output notes wrote = inr wrote
 met_by StoreFault answer failed output notes wrote = inr wrote
 met_by Usage answer failed output notes wrote = inr wrote
@@ -54,7 +54,7 @@ end_status (Failed lines) fs ns = ReadFault
 
 -- what was written is an answer's
 record EndMet (end : TraceEnd) (report : Bool) (plan : Plan) (job : Option Inputs) (status : Status) (output notes : Device SinkTold) : Type 0 where
-  answer : Answer
+  answer : RunAnswer
   is : AnswersEnd end report plan job answer
   fs : List Fault
   ns : List ℕ
@@ -65,7 +65,7 @@ job_met : (ended report : Bool) (plan : Plan) (inputs : Inputs) (status : Status
     → EndMet Accepted report plan (Some inputs) status output notes
 job_met true report plan inputs status output notes is wrote =
     let job : Job = job_over plan inputs in
-    let answer : Answer = answer_of (by_lines report) job Ended wrote.streams in
+    let answer : RunAnswer = answer_of (by_lines report) job Ended wrote.streams in
     record {
       answer = answer;
       is = subst (λ (b : Bool). AnswersJob b report job answer) (sym is) (record { streams = wrote.streams; solution = wrote.solution; is = refl });
@@ -76,7 +76,7 @@ job_met true report plan inputs status output notes is wrote =
     }
 job_met false report plan inputs status output notes is wrote =
     let job : Job = job_over plan inputs in
-    let answer : Answer = frozen_answer (by_lines report) job wrote.streams in
+    let answer : RunAnswer = frozen_answer (by_lines report) job wrote.streams in
     record {
       answer = answer;
       is = subst (λ (b : Bool). AnswersJob b report job answer) (sym is) (record { streams = wrote.streams; solution = wrote.solution; is = refl });
@@ -90,7 +90,7 @@ job_met false report plan inputs status output notes is wrote =
 took_nothing : (sink : Device SinkTold) → Untouched sink → TookText sink []
 took_nothing sink untouched = record { whole = rw untouched (TookAll-start sink.before.taken); steady = ap (λ s. s.faults) untouched }
 
-abbrev note_answer : TraceEnd → Answer
+abbrev note_answer : TraceEnd → RunAnswer
 note_answer end = record { output = []; notes = trace_note end; status = trace_status end }
 
 note_met : (end : TraceEnd) (status : Status) (output notes : Device SinkTold) → Untouched output → WroteNote end status notes → MetOr (note_answer end) status output notes
@@ -203,7 +203,7 @@ replayed_read_risen report plan status all boxes ran risen = by (out_or status r
           | inr met ↦ failed_read whole.end status e.fs e.ns all.input.before all.input.now (met.told ∙ e.says) whole.read.faults risen
         ]
 
-met_unrisen : (answer : Answer) (status : Status) (all : RunDevices) → Meets answer status all.output all.notes → WriteRisen all → ⊥
+met_unrisen : (answer : RunAnswer) (status : Status) (all : RunDevices) → Meets answer status all.output all.notes → WriteRisen all → ⊥
 met_unrisen answer status all met (inl risen) = steady-risen _ _ met.text.steady risen
 met_unrisen answer status all met (inr risen) = steady-risen _ _ met.noted.steady risen
 
@@ -223,30 +223,30 @@ replayed_write_risen report plan status all boxes ran risen = by (out_or status 
 -- The whole input --
 
 comes_by : (end : TraceEnd) (plan : Plan) (boxes : List CalculatorTold) (input : Device SourceTold) (came bytes left : List ℕ) (job : Option Inputs) → input.before.left ≡ Some bytes → input.now.left ≡ Some left → bytes ≡ came ++ left
-    → CameAs end plan boxes input came job → FailsAs end input.before input.now → Unrisen input.before.faults input.now.faults → ComesTo plan boxes (all_lines bytes) job end
+    → CameAs end plan boxes input came job → FailsAs end input.before input.now → Unrisen input.before.faults input.now.faults → LinesComeTo plan boxes (all_lines bytes) job end
 comes_by Accepted plan boxes input came bytes left job is is_left cut by failed un =
     let none : input.now.left ≡ Some [] = subst (λ (o : Option (List ℕ)). IfSome o (λ _. input.now.left ≡ Some [])) is by.0.none in
     let nothing : left ≡ [] = cc in
-    subst (λ (bs : List ℕ). ComesTo plan boxes (all_lines bs) job Accepted) (sym (cut ∙ ap (λ l. came ++ l) nothing ∙ append-nil came)) by.1
+    subst (λ (bs : List ℕ). LinesComeTo plan boxes (all_lines bs) job Accepted) (sym (cut ∙ ap (λ l. came ++ l) nothing ∙ append-nil came)) by.1
 comes_by (Refused line cause) plan boxes input came bytes left job is is_left cut by failed un =
-    subst (λ (bs : List ℕ). ComesTo plan boxes (all_lines bs) job (Refused line cause)) (sym cut) (by.2 left (none-left by.0 input.before input.now bytes left is is_left by.1))
+    subst (λ (bs : List ℕ). LinesComeTo plan boxes (all_lines bs) job (Refused line cause)) (sym cut) (by.2 left (none-left by.0 input.before input.now bytes left is is_left by.1))
 comes_by (Failed lines) plan boxes input came bytes left job is is_left cut by failed un = absurd (one-unrisen input.before.faults input.now.faults failed.once un)
 
 comes_to : (end : TraceEnd) (plan : Plan) (boxes : List CalculatorTold) (input : Device SourceTold) (bytes : List ℕ) (job : Option Inputs) → WasRead plan boxes input job end → input.before.left ≡ Some bytes
-    → Unrisen input.before.faults input.now.faults → ComesTo plan boxes (all_lines bytes) job end
+    → Unrisen input.before.faults input.now.faults → LinesComeTo plan boxes (all_lines bytes) job end
 comes_to end plan boxes input bytes job read is un =
     let gave : Gave (Some bytes) input.now.left read.came = subst (λ (o : Option (List ℕ)). Gave o input.now.left read.came) is read.gave in
     comes_by end plan boxes input read.came bytes gave.0 job is gave.1 gave.2 read.by read.faults un
 
 abbrev AnswersBytes : Option (List ℕ) → Bool → Plan → List CalculatorTold → Status → Device SinkTold → Device SinkTold → Type 0
-AnswersBytes left report plan boxes status output notes = IfSome left (λ bytes. (answer : Answer) × AnswersTrace report plan boxes (all_lines bytes) answer × Meets answer status output notes)
+AnswersBytes left report plan boxes status output notes = IfSome left (λ bytes. (answer : RunAnswer) × AnswersTrace report plan boxes (all_lines bytes) answer × Meets answer status output notes)
 
 none_rose : (all : RunDevices) → NoneFailed all → Rose all.output.before.faults all.output.now.faults ⊎ Rose all.notes.before.faults all.notes.now.faults → ⊥
 none_rose all none (inl rose) = rose-unrisen _ _ rose none.output
 none_rose all none (inr rose) = rose-unrisen _ _ rose none.notes
 
 pub replayed_answered : (report : Bool) (plan : Plan) (status : Status) (all : RunDevices) (boxes : Device (List CalculatorTold)) → ReplayedBy status report plan all boxes → NoneFailed all → status ≢ OutOfMemory
-    → IfSome all.input.before.left (λ bytes. (answer : Answer) × AnswersTrace report plan boxes.before (all_lines bytes) answer × Meets answer status all.output all.notes)
+    → IfSome all.input.before.left (λ bytes. (answer : RunAnswer) × AnswersTrace report plan boxes.before (all_lines bytes) answer × Meets answer status all.output all.notes)
 replayed_answered report plan status all boxes ran none some = by (out_or status report plan all boxes ran)
   where
     at : (whole : Replayed report plan status all boxes) (left : Option (List ℕ)) → all.input.before.left ≡ left → AnswersBytes left report plan boxes.before status all.output all.notes

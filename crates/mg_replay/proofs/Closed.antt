@@ -24,13 +24,13 @@ use Rattle.mg_sched.proofs.ClosedBack.{closed_back}
 use Rattle.mg_sched.proofs.Solved.{solved}
 use Rattle.mg_drive.specs.Nets.{Keeps}
 use Rattle.mg_drive.specs.Batches.{logged}
-use Rattle.mg_drive.specs.Leaves.{first_calls, IsAt}
+use Rattle.mg_drive.specs.Leaves.{first_calls, IsRelatedAt}
 use Rattle.mg_drive.proofs.Jobs.{valid_plan, plan_stood}
 use Rattle.mg_drive.proofs.BoxesBack.{box_at, log_was, all_had_now}
 use Rattle.mg_drive.proofs.FrontsBack.{none_had, fronts_now}
 use Rattle.mg_replay.specs.Leaves.{HadAClose, HadCloses}
 use Rattle.mg_replay.specs.Replayed.{job_over, HadEnd}
-use Rattle.mg_replay.specs.Reading.{HasOpened}
+use Rattle.mg_replay.specs.Reading.{BeginsWithJob}
 use Rattle.mg_replay.specs.Code.Nets.{ClosedAllOf, HadBy, NetReplayed, NetShort, JobReplayed, JobShort}
 use Rattle.mg_replay.specs.declared.trace_end.TraceEnd.{TraceEnd}
 use Rattle.mg_replay.specs.declared.trace_end.TraceEnd.TheVariants.{Accepted, Refused, Failed}
@@ -66,7 +66,7 @@ closed_where job before back wound engines desks running is stands none winds al
 -- By the calculators that were handed in --
 
 closed_at : (plan : Plan) (inputs : Inputs) (boxes : List CalculatorTold) (net : NetView) (streams : List (StreamPrefix Plain)) (number place : ℕ) (node : PlanNode) → BoxesFit plan boxes → slice_get plan.nodes number ≡ Some node → node.box_number ≡ Some place
-    → (IsOuter node.law → (told : CalculatorTold) × (slice_get (given_back net) place ≡ Some told) × HadClose (job_of plan inputs boxes) streams node told) → IsAt place (HadAClose (job_over plan inputs) streams node) (device boxes (given_back net))
+    → (IsOuter node.law → (told : CalculatorTold) × (slice_get (given_back net) place ≡ Some told) × HadClose (job_of plan inputs boxes) streams node told) → IsRelatedAt place (HadAClose (job_over plan inputs) streams node) (device boxes (given_back net))
 closed_at plan inputs boxes net streams number place node fit there has closed =
     let box = box_at plan boxes number place node fit there has in
     let back = closed (subst IsOuter box.2.fits.same_law box.2.outer) in
@@ -121,7 +121,7 @@ job_short plan inputs boxes handed now devices net fit same back h =
     }
 
 -- no net was made
-pub job_unmade : (plan : Plan) (inputs : Inputs) (boxes now : List CalculatorTold) (devices : RunDevices) → IsJob (job_over plan inputs) → BoxesFit plan boxes → Untouched devices.output → HasOpened plan devices.input inputs → now ≡ boxes
+pub job_unmade : (plan : Plan) (inputs : Inputs) (boxes now : List CalculatorTold) (devices : RunDevices) → IsJob (job_over plan inputs) → BoxesFit plan boxes → Untouched devices.output → BeginsWithJob plan devices.input inputs → now ≡ boxes
     → JobShort plan inputs devices (device boxes now)
 job_unmade plan inputs boxes now devices is fit untouched opened same = subst (λ (bs : List CalculatorTold). JobShort plan inputs devices (device boxes bs)) (sym same)
     (record { took = inl untouched; opened = opened; fronts = none_had (job_over plan inputs) boxes is fit })

@@ -14,7 +14,7 @@ use Rattle.mg_feed.specs.Graph.{GraphInputs, inputs_of}
 use Rattle.mg_feed.specs.Accepted.{State, given_by}
 use Rattle.mg_feed.specs.Given.{ended_streams}
 use Rattle.mg_feed.specs.View.{View}
-use Rattle.mg_feed.specs.Stands.{AllGood, Stands, nothing_taken}
+use Rattle.mg_feed.specs.Stands.{AllGood, HasAccepted, nothing_taken}
 use Rattle.mg_feed.specs.Fed.{Reading}
 use Rattle.mg_feed.specs.Ran.{MetEnd}
 use Rattle.mg_feed.specs.Handed.{HasHanded}
@@ -27,7 +27,7 @@ use Rattle.mg_feed.specs.Lines.{all_lines}
 use Rattle.mg_trace.specs.Job.{end_word}
 use Rattle.mg_answer.specs.Answer.{Read, is_ended, inputs_by}
 use Rattle.mg_answer.specs.Told.{ended_status}
-use Rattle.mg_answer.specs.Text.{output_of}
+use Rattle.mg_answer.specs.Text.{output_text_of}
 use Rattle.mg_answer.specs.Devices.{Device, device, RunDevices, run_devices, Untouched, TookFront}
 use Rattle.mg_answer.specs.declared.status.Status.{Status}
 use Rattle.mg_answer.specs.declared.status.Status.TheVariants.{Good, StoreFault, Usage, GraphRefused, LineRefused, NodeFault, Stalled, ReadFault, WriteFault, OutOfMemory}
@@ -35,7 +35,7 @@ use Rattle.mg_answer.proofs.Fitting.{inputs-fit}
 use Rattle.mg_node.specs.Job.{LoggedJob}
 use Rattle.mg_sched.specs.Views.{NetView}
 use Rattle.mg_sched.specs.StandsFor.{StandsFor, StandsForSome, IsRunning}
-use Rattle.mg_sched.specs.Begins.{Begins}
+use Rattle.mg_sched.specs.Begins.{BeginsNet}
 use Rattle.mg_sched.specs.Sweeps.{Becomes}
 use Rattle.mg_sched.specs.Taking.{taken_out}
 use Rattle.mg_sched.specs.Made.{IsMade, job_of}
@@ -52,8 +52,8 @@ use Rattle.mg_replay.specs.Opening.{inputs_with}
 use Rattle.mg_replay.specs.Replay.{StopsEarly, StopsEarlyAt, WasRead}
 use Rattle.mg_replay.specs.Note.{WroteNote}
 use Rattle.mg_replay.specs.Replayed.{job_over, WroteJob, WroteEnd, Replayed, ReplayedSome, ReplayedBy}
-use Rattle.mg_replay.specs.Reading.{HasOpened, IsReading, IsOpening, HasJob, IsMaking}
-use Rattle.mg_replay.specs.Code.Reading.{HasInputs}
+use Rattle.mg_replay.specs.Reading.{BeginsWithJob, IsReading, IsOpening, HasJob, IsMaking}
+use Rattle.mg_replay.specs.Code.Reading.{HasReadInputs}
 use Rattle.mg_drive.specs.Code.Tracing.{IsSomeMade}
 use Rattle.mg_replay.specs.Code.Nets.{accepts, StandsForPlan, ClosedAllOf, NetReplayed, NetShort, JobReplayed, JobShort}
 use Rattle.mg_replay.proofs.JobLines.{lines_then}
@@ -63,7 +63,7 @@ use Rattle.mg_replay.specs.declared.trace_end.TraceEnd.TheVariants.{Accepted, Re
 -- The begin --
 
 -- nothing was read
-pub opening_none : (plan : Plan) (told : SourceTold) (read : Reading) (number : ℕ) (view : View) → read ≡ record { kept = []; ended = false } → number ≡ 0 → view.graph ≡ inputs_of plan → Stands [] (nothing_taken (inputs_of plan)) view
+pub opening_none : (plan : Plan) (told : SourceTold) (read : Reading) (number : ℕ) (view : View) → read ≡ record { kept = []; ended = false } → number ≡ 0 → view.graph ≡ inputs_of plan → HasAccepted [] (nothing_taken (inputs_of plan)) view
     → IsOpening plan told told read number view
 opening_none plan told read number view unread none graph stands = record {
   lines = [];
@@ -85,9 +85,9 @@ abbrev inputs_same : (inputs : Inputs) (ss : List (StreamPrefix Plain)) (sides :
 inputs_same inputs ss sides ended a b c = λ i. record { streams = a i; sides = b i; ended = c i }
 
 abbrev pub has_inputs : (plan : Plan) (ended : Bool) (first now : SourceTold) (read : Reading) (number : ℕ) (view : View) (inputs : Inputs) → HasJob plan ended first now read number view → inputs.streams ≡ ended_streams ended view.given.streams → inputs.sides ≡ view.given.sides
-    → inputs.ended ≡ ended → HasInputs plan inputs first now read number
+    → inputs.ended ≡ ended → HasReadInputs plan inputs first now read number
 has_inputs plan ended first now read number view inputs h streams sides is =
-    let stands : Stands h.given (nothing_taken view.graph) view = subst (λ (g : GraphInputs). Stands h.given (nothing_taken g) view) (sym h.graph) h.stands in
+    let stands : HasAccepted h.given (nothing_taken view.graph) view = subst (λ (g : GraphInputs). HasAccepted h.given (nothing_taken g) view) (sym h.graph) h.stands in
     let given : view.given ≡ given_by (inputs_of plan) h.given = given-untaken h.given view stands ∙ ap (λ (g : GraphInputs). given_by g h.given) h.graph in
     record {
       given = h.given;
@@ -118,8 +118,8 @@ is_job plan ended first now read number view inputs valid h streams sides is =
     }
 
 -- the nodes were begun
-pub making_begins : (plan : Plan) (inputs : Inputs) (boxes : List CalculatorTold) (first now : SourceTold) (read : Reading) (number : ℕ) (made begun : NetView) → IsMade plan inputs boxes made → Begins made begun
-    → ((job : LoggedJob) → StandsFor job made → StandsFor job begun) → IsRunning begun → HasInputs plan inputs first now read number → IsMaking plan boxes inputs first now read number begun
+pub making_begins : (plan : Plan) (inputs : Inputs) (boxes : List CalculatorTold) (first now : SourceTold) (read : Reading) (number : ℕ) (made begun : NetView) → IsMade plan inputs boxes made → BeginsNet made begun
+    → ((job : LoggedJob) → StandsFor job made → StandsFor job begun) → IsRunning begun → HasReadInputs plan inputs first now read number → IsMaking plan boxes inputs first now read number begun
 making_begins plan inputs boxes first now read number made begun is begins keeps running h = record {
   lines = h.given ++ end_word inputs.ended ∷ [];
   reading = h.reading;
@@ -136,7 +136,7 @@ making_begins plan inputs boxes first now read number made begun is begins keeps
 }
 
 -- only the lines of the job were read
-pub opened_yet : (plan : Plan) (inputs : Inputs) (first now : SourceTold) (read : Reading) (number : ℕ) → HasInputs plan inputs first now read number → HasOpened plan (device first now) inputs
+pub opened_yet : (plan : Plan) (inputs : Inputs) (first now : SourceTold) (read : Reading) (number : ℕ) → HasReadInputs plan inputs first now read number → BeginsWithJob plan (device first now) inputs
 opened_yet plan inputs first now read number h = record {
   came = h.reading.came;
   gave = h.reading.gave;
@@ -166,10 +166,10 @@ pub plan_is_of : (plan : Plan) (net : NetView) → StandsForPlan plan net → ne
 plan_is_of plan net some = plan_stood some.job net some.stands ∙ some.plan_is
 
 -- no set was taken out of it yet
-pub none_taken : (plan : Plan) (inputs : Inputs) (boxes : List CalculatorTold) (made begun later : NetView) → IsMade plan inputs boxes made → Begins made begun → Becomes begun later → taken_out later ≡ 0
+pub none_taken : (plan : Plan) (inputs : Inputs) (boxes : List CalculatorTold) (made begun later : NetView) → IsMade plan inputs boxes made → BeginsNet made begun → Becomes begun later → taken_out later ≡ 0
 none_taken plan inputs boxes made begun later is begins becomes = becomes_taken begun later becomes ∙ begins_taken made begun begins ∙ none_yet plan inputs boxes made is
 
-pub keeps_later : (made begun later : NetView) → Begins made begun → Becomes begun later → Keeps made later
+pub keeps_later : (made begun later : NetView) → BeginsNet made begun → Becomes begun later → Keeps made later
 keeps_later made begun later begins becomes = keeps_on made begun later (begins_keep made begun begins) (becomes_keeps begun later becomes)
 
 -- it stood for its job
@@ -210,16 +210,16 @@ net_refused report plan inputs boxes (Failed lines) status input output notes ne
 
 -- Memory ran out --
 
-pub short_begun : (plan : Plan) (inputs : Inputs) (boxes : List CalculatorTold) (first now : SourceTold) (read : Reading) (number : ℕ) (output notes : Device SinkTold) (net : NetView) → HasInputs plan inputs first now read number → Untouched output
+pub short_begun : (plan : Plan) (inputs : Inputs) (boxes : List CalculatorTold) (first now : SourceTold) (read : Reading) (number : ℕ) (output notes : Device SinkTold) (net : NetView) → HasReadInputs plan inputs first now read number → Untouched output
     → StoodFor (job_of plan inputs boxes) net → NetShort plan inputs boxes (run_devices (device first now) output notes) net
 short_begun plan inputs boxes first now read number output notes net h untouched stood = record { took = inl untouched; opened = opened_yet plan inputs first now read number h; stood = stood }
 
-pub short_events : (plan : Plan) (inputs : Inputs) (boxes : List CalculatorTold) (input : Device SourceTold) (output notes : Device SinkTold) (net : NetView) → HasOpened plan input inputs → Untouched output → StoodFor (job_of plan inputs boxes) net
+pub short_events : (plan : Plan) (inputs : Inputs) (boxes : List CalculatorTold) (input : Device SourceTold) (output notes : Device SinkTold) (net : NetView) → BeginsWithJob plan input inputs → Untouched output → StoodFor (job_of plan inputs boxes) net
     → NetShort plan inputs boxes (run_devices input output notes) net
 short_events plan inputs boxes input output notes net opened untouched stood = record { took = inl untouched; opened = opened; stood = stood }
 
-pub short_accepted : (plan : Plan) (inputs : Inputs) (boxes : List CalculatorTold) (end : TraceEnd) (input : Device SourceTold) (output notes : Device SinkTold) (net : NetView) → end ≡ Accepted → WasRead plan boxes input (Some inputs) end → HasOpened plan input inputs
-    → ((streams : List (StreamPrefix Plain)) → IsSolution (job_over plan inputs) streams → TookFront output (output_of plan streams)) → StoodFor (job_of plan inputs boxes) net → NetShort plan inputs boxes (run_devices input output notes) net
+pub short_accepted : (plan : Plan) (inputs : Inputs) (boxes : List CalculatorTold) (end : TraceEnd) (input : Device SourceTold) (output notes : Device SinkTold) (net : NetView) → end ≡ Accepted → WasRead plan boxes input (Some inputs) end → BeginsWithJob plan input inputs
+    → ((streams : List (StreamPrefix Plain)) → IsSolution (job_over plan inputs) streams → TookFront output (output_text_of plan streams)) → StoodFor (job_of plan inputs boxes) net → NetShort plan inputs boxes (run_devices input output notes) net
 short_accepted plan inputs boxes end input output notes net is read opened front stood = record { took = inr (subst (WasRead plan boxes input (Some inputs)) is read, front); opened = opened; stood = stood }
 
 -- The call --

@@ -11,7 +11,7 @@ use Rattle.mg_calc.specs.declared.event.Effect.TheVariants.{Did}
 use Rattle.mg_calc.specs.declared.inputs.Inputs.{Inputs}
 use Rattle.mg_calc.specs.declared.plan.Plan.{Plan}
 use Rattle.mg_calc.specs.Told.{CalculatorTold}
-use Rattle.mg_feed.specs.Lines.{all_lines, rest_of}
+use Rattle.mg_feed.specs.Lines.{all_lines, unended_line}
 use Rattle.mg_feed.specs.Fed.{Reading}
 use Rattle.mg_feed.specs.Ran.{MetEnd}
 use Rattle.mg_feed.specs.Handed.{ComesAs, NextComes, MovesOn, counted_with}
@@ -31,8 +31,8 @@ use Rattle.mg_sched.specs.Code.Left.{left_in}
 use Rattle.mg_sched.proofs.LeftIn.{acts_less}
 use Rattle.mg_sched.proofs.RunsOn.{run_one, run_on}
 use Rattle.mg_answer.specs.Devices.{device}
-use Rattle.mg_replay.specs.Replay.{HasRun, StopsLater, IsIdleEvent, EndsAt, WasRead}
-use Rattle.mg_replay.specs.Reading.{HasOpened, IsReading, IsMaking}
+use Rattle.mg_replay.specs.Replay.{LinesLedTo, StopsAfterJob, IsIdleEvent, EndsAt, WasRead}
+use Rattle.mg_replay.specs.Reading.{BeginsWithJob, IsReading, IsMaking}
 use Rattle.mg_replay.specs.Code.Reading.{ComesBehind, MakesOn, MakesEvent, MakesLine, TakesEvent, StopsBy, StopsBehind, EndsRun}
 use Rattle.mg_replay.specs.declared.trace_end.TraceFault.{TraceFault}
 use Rattle.mg_replay.specs.declared.trace_end.TraceFault.TheVariants.{BadEvent, IdleEvent, NotAtRest, NoEnd, AfterEnd}
@@ -44,12 +44,12 @@ use Rattle.mg_replay.proofs.JobLines.{reading_line, came_behind, lines_then, lin
 -- The lines of the job were read --
 
 -- they stand in front of all lines
-module _ (plan : Plan) (boxes : List CalculatorTold) (inputs : Inputs) (lines : List (List ℕ)) (net : NetView) (run : HasRun plan boxes lines inputs net) where
+module _ (plan : Plan) (boxes : List CalculatorTold) (inputs : Inputs) (lines : List (List ℕ)) (net : NetView) (run : LinesLedTo plan boxes lines inputs net) where
   opens_with : (all rest : List (List ℕ)) → all ≡ lines ++ rest → (more : List (List ℕ)) × (all ≡ run.given ++ end_word inputs.ended ∷ more)
   opens_with all rest is = (map event_line run.events ++ rest, is ∙ ap (λ (l : List (List ℕ)). l ++ rest) run.lines_are ∙ append_assoc run.given (end_word inputs.ended ∷ map event_line run.events) rest)
 
   opened_with : (came : List ℕ) (ended : Bool) (first now : SourceTold) → Gave first.left now.left came → MetEnd false ended first now
-      → ((more : List ℕ) → (ended ≡ true → more ≡ []) → (rest : List (List ℕ)) × (all_lines (came ++ more) ≡ lines ++ rest)) → HasOpened plan (device first now) inputs
+      → ((more : List ℕ) → (ended ≡ true → more ≡ []) → (rest : List (List ℕ)) × (all_lines (came ++ more) ≡ lines ++ rest)) → BeginsWithJob plan (device first now) inputs
   opened_with came ended first now gave met all = record {
     came = came;
     gave = gave;
@@ -82,7 +82,7 @@ module _ (line : List ℕ) (lines : List (List ℕ)) (new : Reading) where
   )
   in_front_of TooLong came comes more fits = (let c = comes more fits in (c.0 ∷ c.1, c.2))
   in_front_of Ended came comes more fits = ([], ap (λ (l : List ℕ). all_lines (came ++ l)) (fits comes.0) ∙ ap all_lines (append-nil came) ∙ sym comes.1 ∙ sym (append-nil lines))
-  in_front_of Failed came comes more fits = (all_lines (rest_of came ++ more), whole_then came more ∙ ap (λ (l : List (List ℕ)). l ++ all_lines (rest_of came ++ more)) (sym comes))
+  in_front_of Failed came comes more fits = (all_lines (unended_line came ++ more), whole_then came more ∙ ap (λ (l : List (List ℕ)). l ++ all_lines (unended_line came ++ more)) (sym comes))
 
 pub behind_next : (next : NextLine) (line : List ℕ) (before now : SourceTold) (old new : Reading) → NextComes next line before now old new → ComesBehind before now old new
 behind_next next line before now old new n = record {
@@ -93,7 +93,7 @@ behind_next next line before now old new n = record {
 }
 
 pub opened_by : (plan : Plan) (boxes : List CalculatorTold) (inputs : Inputs) (first now later : SourceTold) (read new : Reading) (number : ℕ) (net : NetView) → IsMaking plan boxes inputs first now read number net → ComesBehind now later read new
-    → HasOpened plan (device first later) inputs
+    → BeginsWithJob plan (device first later) inputs
 opened_by plan boxes inputs first now later read new number net m b =
     opened_with plan boxes inputs m.lines net m.has_run (m.reading.came ++ b.came) new.ended first later
     (gave-then first.left now.left later.left m.reading.came b.came m.reading.gave b.gave) (met-then false read.ended new.ended first now later m.reading.came m.reading.gave m.reading.met b.met)
@@ -101,7 +101,7 @@ opened_by plan boxes inputs first now later read new number net m b =
 
 -- behind a line more, whatever it is
 pub opened_behind : (line : List ℕ) (plan : Plan) (boxes : List CalculatorTold) (inputs : Inputs) (first before now later : SourceTold) (old read new : Reading) (number : ℕ) (net : NetView) → IsMaking plan boxes inputs first before old number net
-    → NextComes Line line before now old read → ComesBehind now later read new → HasOpened plan (device first later) inputs
+    → NextComes Line line before now old read → ComesBehind now later read new → BeginsWithJob plan (device first later) inputs
 opened_behind line plan boxes inputs first before now later old read new number net m n b =
     let r = reading_line line first before now old read number (number + 1) m.lines m.reading n refl in
     opened_with plan boxes inputs m.lines net m.has_run (r.came ++ b.came) new.ended first later
@@ -181,8 +181,8 @@ net_event (Commit node number) plan net same of = subst (λ (p : Plan). node < l
 net_event Relax plan net same of = tt
 
 -- it was made
-pub run_more : (event : Event) (line : List ℕ) (plan : Plan) (boxes : List CalculatorTold) (lines : List (List ℕ)) (inputs : Inputs) (net now : NetView) → net.plan ≡ plan → HasRun plan boxes lines inputs net → IsEventOf plan event → line ≡ event_line event
-    → Acts event Did net now → HasRun plan boxes (lines ++ line ∷ []) inputs now
+pub run_more : (event : Event) (line : List ℕ) (plan : Plan) (boxes : List CalculatorTold) (lines : List (List ℕ)) (inputs : Inputs) (net now : NetView) → net.plan ≡ plan → LinesLedTo plan boxes lines inputs net → IsEventOf plan event → line ≡ event_line event
+    → Acts event Did net now → LinesLedTo plan boxes (lines ++ line ∷ []) inputs now
 run_more event line plan boxes lines inputs net now same h of is acts = record {
   given = h.given;
   packets = h.packets;
@@ -289,7 +289,7 @@ ends_early line plan boxes inputs first before now old new number count net m n 
 -- where it is at rest, by what comes next
 module _ (line : List ℕ) (plan : Plan) (boxes : List CalculatorTold) (inputs : Inputs) (first before now later : SourceTold) (old read new : Reading) (number count : ℕ) (net : NetView) (m : IsMaking plan boxes inputs first before old number net)
     (n : NextComes Line line before now old read) (is : count ≡ number + 1) (line_is : line ≡ codes "end") (rests : IsAtRest net) where
-  behind : (rest : List (List ℕ)) (all : List (List ℕ)) → all ≡ (m.lines ++ line ∷ []) ++ rest → (end : TraceEnd) → EndsAt (length m.lines + 1) rest end → StopsLater plan boxes all inputs end
+  behind : (rest : List (List ℕ)) (all : List (List ℕ)) → all ≡ (m.lines ++ line ∷ []) ++ rest → (end : TraceEnd) → EndsAt (length m.lines + 1) rest end → StopsAfterJob plan boxes all inputs end
   behind rest all all_are end ends = record {
     front = m.lines;
     tail = line ∷ rest;
@@ -429,7 +429,7 @@ takes_next stop next plan boxes inputs first before now later line old read new 
     takes_event stop line plan boxes inputs first before now later old read new number count last net net_now same m (line_comes next line before now old read number stopped long n is) (one_more next count number stopped long counted is) takes
 
 pub opened_next : (next : NextLine) (line : List ℕ) (plan : Plan) (boxes : List CalculatorTold) (inputs : Inputs) (first before now later : SourceTold) (old read new : Reading) (number stopped : ℕ) (long : TraceFault) (net : NetView) → IsMaking plan boxes inputs first before old number net
-    → NextComes next line before now old read → StopsBy next stopped long None → ComesBehind now later read new → HasOpened plan (device first later) inputs
+    → NextComes next line before now old read → StopsBy next stopped long None → ComesBehind now later read new → BeginsWithJob plan (device first later) inputs
 opened_next next line plan boxes inputs first before now later old read new number stopped long net m n is behind =
     opened_behind line plan boxes inputs first before now later old read new number net m (line_comes next line before now old read number stopped long n is) behind
 

@@ -8,7 +8,7 @@ use Rattle.mg_feed.specs.Graph.{GraphInputs, inputs_of}
 use Rattle.mg_feed.specs.Lines.{all_lines}
 use Rattle.mg_feed.specs.Accepted.{longest_line, most_lines}
 use Rattle.mg_feed.specs.View.{View}
-use Rattle.mg_feed.specs.Stands.{Stands, nothing_taken}
+use Rattle.mg_feed.specs.Stands.{HasAccepted, nothing_taken}
 use Rattle.mg_feed.specs.Fed.{Reading}
 use Rattle.mg_feed.specs.Ran.{MetEnd, Unfailed}
 use Rattle.mg_feed.specs.Handed.{HasHanded, EndsReads, ComesAs, NextComes, counted_with}
@@ -127,7 +127,7 @@ stops_early Failed line plan boxes end first before now old new number view o n 
 pub opens_line : (line : List ℕ) (plan : Plan) (first before now : SourceTold) (old new : Reading) (number count : ℕ) (view later : View) → IsOpening plan first before old number view → NextComes Line line before now old new
     → count ≡ number + 1 → TakesLine None line count view later → OpensOn None plan first now new count view later
 opens_line line plan first before now old new number count view later o n is (word, takes) =
-    let stands : Stands o.lines (nothing_taken (inputs_of plan)) view = o.stands in
+    let stands : HasAccepted o.lines (nothing_taken (inputs_of plan)) view = o.stands in
     let t = takes o.lines (nothing_taken (inputs_of plan)) stands in
     let good : packet_refusal (inputs_of plan) o.lines line ≡ None = ap (λ (g : GraphInputs). packet_refusal g o.lines line) (sym o.graph) ∙ t.0 in
     let before_is = stands.number in

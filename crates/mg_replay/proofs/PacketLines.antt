@@ -10,12 +10,12 @@ use Rattle.mg_value.specs.Prefix.{Stamped}
 use Rattle.mg_feed.specs.Graph.{GraphInputs}
 use Rattle.mg_feed.specs.View.{View}
 use Rattle.mg_feed.specs.Accepted.{longest_line, most_lines, refusal}
-use Rattle.mg_feed.specs.Stands.{Stands}
+use Rattle.mg_feed.specs.Stands.{HasAccepted}
 use Rattle.mg_feed.specs.declared.line_fault.LineFault.{LineFault}
 use Rattle.mg_feed.specs.declared.line_fault.LineFault.TheVariants.{TooLong, TooManyLines}
 use Rattle.mg_trace.specs.Job.{end_word}
 use Rattle.mg_replay.specs.Opening.{is_end_word, may_say_packet, packet_refusal, IsPacket, ArePackets}
-use Rattle.mg_replay.specs.Code.Packets.{ends_so, Takes}
+use Rattle.mg_replay.specs.Code.Packets.{ends_so, TakesPackets}
 use Rattle.mg_replay.specs.Code.Reading.{TakesOther, TakesLine}
 use Rattle.mg_replay.specs.declared.opening.Opened.{Opened}
 use Rattle.mg_replay.specs.declared.opening.Opened.TheVariants.{Job, Stopped}
@@ -82,19 +82,19 @@ pub refused_packet : (graph : GraphInputs) (lines : List (List ℕ)) (line : Lis
 refused_packet graph lines line fault short packet is =
     refused_short graph lines line short ∙ ap (λ (b : Bool). if b then option_map Line (refusal graph lines line) else Some BadEvent) packet ∙ ap (option_map Line) is
 
-pub other_takes : (line : List ℕ) (old new : View) → length line ≤ longest_line → may_say_packet line ≡ false → Takes (Some BadEvent) line old new
+pub other_takes : (line : List ℕ) (old new : View) → length line ≤ longest_line → may_say_packet line ≡ false → TakesPackets (Some BadEvent) line old new
 other_takes line old new short other lines gone stands = refused_other old.graph lines line short other
 
 pub good_takes : (line : List ℕ) (old new : View) → length line ≤ longest_line → may_say_packet line ≡ true → new.graph ≡ old.graph
-    → ((lines : List (List ℕ)) (gone : List (List (Stamped Plain))) → Stands lines gone old → (refusal old.graph lines line ≡ None) × Stands (lines ++ line ∷ []) gone new) → Takes None line old new
+    → ((lines : List (List ℕ)) (gone : List (List (Stamped Plain))) → HasAccepted lines gone old → (refusal old.graph lines line ≡ None) × HasAccepted (lines ++ line ∷ []) gone new) → TakesPackets None line old new
 good_takes line old new short packet graph good lines gone stands =
     let g = good lines gone stands in
     (refused_packet old.graph lines line None short packet g.0, g.1, graph)
 
 pub bad_takes : (line : List ℕ) (old new : View) (fault : LineFault) (cause : Option TraceFault) → length line ≤ longest_line → may_say_packet line ≡ true → cause ≡ Some (Line fault)
-    → ((lines : List (List ℕ)) (gone : List (List (Stamped Plain))) → Stands lines gone old → refusal old.graph lines line ≡ Some fault) → Takes cause line old new
+    → ((lines : List (List ℕ)) (gone : List (List (Stamped Plain))) → HasAccepted lines gone old → refusal old.graph lines line ≡ Some fault) → TakesPackets cause line old new
 bad_takes line old new fault cause short packet is bad =
-    subst (λ (c : Option TraceFault). Takes c line old new) (sym is) (λ lines gone stands. refused_packet old.graph lines line (Some fault) short packet (bad lines gone stands))
+    subst (λ (c : Option TraceFault). TakesPackets c line old new) (sym is) (λ lines gone stands. refused_packet old.graph lines line (Some fault) short packet (bad lines gone stands))
 
 -- Several lines --
 

@@ -1,7 +1,7 @@
 -- Bytes are their whole lines, and a rest.
 use Rattle.std.proofs.Common.{◌≡◌, ◌==◌, ℕ, Bool, true, false, List, [], ◌∷◌, ◌++◌, refl, ap, arith, if◌then◌else◌}
 use Rattle.std.proofs.lemmas.Bool.Decides.{nat_tests}
-use Rattle.mg_feed.specs.Lines.{IsCut, parts, with_first, but_last, last_part, all_lines, whole_lines, rest_of}
+use Rattle.mg_feed.specs.Lines.{IsCut, parts, with_first, but_last, last_part, all_lines, whole_lines, unended_line}
 use Rattle.mg_feed.proofs.Cutting.{cut-all}
 
 is_feed : (b : ℕ) → (b == 10) ≡ true → b ≡ 10
@@ -23,9 +23,9 @@ cut_more true b bytes (p ∷ ps) is some cut = record { whole = (tt, cut.whole);
 cut_more false b bytes (p ∷ []) is some cut = record { whole = tt; is = ap (λ (l : List ℕ). b ∷ l) cut.is }
 cut_more false b bytes (p ∷ q ∷ ps) is some cut = record { whole = ((is, cut.whole.0), cut.whole.1); is = ap (λ (l : List ℕ). b ∷ l) cut.is }
 
-cut_of : (bytes : List ℕ) → IsCut bytes (whole_lines bytes) (rest_of bytes)
+cut_of : (bytes : List ℕ) → IsCut bytes (whole_lines bytes) (unended_line bytes)
 cut_of [] = record { whole = tt; is = refl }
 cut_of (b ∷ bytes) = cut_more (b == 10) b bytes (parts bytes) refl (never_none bytes) (cut_of bytes)
 
-pub whole_then : (bytes more : List ℕ) → all_lines (bytes ++ more) ≡ whole_lines bytes ++ all_lines (rest_of bytes ++ more)
-whole_then bytes more = cut-all bytes (whole_lines bytes) (rest_of bytes) more (cut_of bytes)
+pub whole_then : (bytes more : List ℕ) → all_lines (bytes ++ more) ≡ whole_lines bytes ++ all_lines (unended_line bytes ++ more)
+whole_then bytes more = cut-all bytes (whole_lines bytes) (unended_line bytes) more (cut_of bytes)

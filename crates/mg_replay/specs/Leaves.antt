@@ -7,7 +7,7 @@ use Rattle.mg_calc.specs.Equations.{Job, IsSolution}
 use Rattle.mg_calc.specs.Told.{CalculatorTold}
 use Rattle.mg_answer.specs.Devices.{Device}
 use Rattle.mg_node.specs.Had.{FailsToOpen}
-use Rattle.mg_drive.specs.Leaves.{HadAFront, IsAt}
+use Rattle.mg_drive.specs.Leaves.{HadAFront, IsRelatedAt}
 
 -- A calculator was opened and closed: its log, where it tells one, grew by a front of the calls that its node has in a solution, Open and
 -- perhaps a Process for each of the first sets that the node is shown, and by Close behind them. Where Open fails it grew by that alone.
@@ -21,4 +21,4 @@ pub record HadCloses (job : Job) (boxes : Device (List CalculatorTold)) : Type 0
   pub streams : List (StreamPrefix Plain)
   pub solution : IsSolution job streams
   pub each : (number place : ℕ) (node : PlanNode) → slice_get job.plan.nodes number ≡ Some node → node.box_number ≡ Some place
-      → IsAt place (HadAClose job streams node) boxes
+      → IsRelatedAt place (HadAClose job streams node) boxes

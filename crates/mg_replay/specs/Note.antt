@@ -2,7 +2,7 @@
 use Rattle.std.specs.Prelude.{◌≡◌, ◌⊎◌, ℕ, List, [], ◌++◌, codes, decimal}
 use Rattle.mg_edge.specs.Edge.{SinkTold}
 use Rattle.mg_answer.specs.Devices.{Device, TookText, TookPart}
-use Rattle.mg_answer.specs.Notes.{line_refusal, read_note}
+use Rattle.mg_answer.specs.Notes.{line_fault_text, read_note}
 use Rattle.mg_answer.specs.declared.status.Status.{Status}
 use Rattle.mg_answer.specs.declared.status.Status.TheVariants.{Good, LineRefused, ReadFault, WriteFault}
 use Rattle.mg_replay.specs.declared.trace_end.TraceFault.{TraceFault}
@@ -12,7 +12,7 @@ use Rattle.mg_replay.specs.declared.trace_end.TraceEnd.TheVariants.{Accepted, Re
 
 -- the word that a note has for a cause
 abbrev pub trace_refusal : TraceFault → List ℕ
-trace_refusal (Line cause) = line_refusal cause
+trace_refusal (Line cause) = line_fault_text cause
 trace_refusal BadEvent = codes "BadEvent"
 trace_refusal IdleEvent = codes "IdleEvent"
 trace_refusal NotAtRest = codes "NotAtRest"

@@ -7,7 +7,7 @@ use Rattle.mg_calc.specs.declared.plan.Plan.{Plan}
 use Rattle.mg_calc.specs.Told.{CalculatorTold}
 use Rattle.mg_feed.specs.Graph.{inputs_of}
 use Rattle.mg_feed.specs.View.{View}
-use Rattle.mg_feed.specs.Stands.{Stands, nothing_taken}
+use Rattle.mg_feed.specs.Stands.{HasAccepted, nothing_taken}
 use Rattle.mg_feed.specs.Lines.{all_lines}
 use Rattle.mg_feed.specs.Fed.{Reading}
 use Rattle.mg_feed.specs.Ran.{MetEnd, Unfailed}
@@ -16,7 +16,7 @@ use Rattle.mg_trace.specs.Job.{end_word}
 use Rattle.mg_sched.specs.Views.{NetView}
 use Rattle.mg_answer.specs.Devices.{Device, device}
 use Rattle.mg_replay.specs.Opening.{ArePackets, inputs_with}
-use Rattle.mg_replay.specs.Replay.{HasRun, WasRead}
+use Rattle.mg_replay.specs.Replay.{LinesLedTo, WasRead}
 use Rattle.mg_replay.specs.declared.opening.Opened.{Opened}
 use Rattle.mg_replay.specs.declared.opening.Opened.TheVariants.{Job, Stopped}
 
@@ -34,7 +34,7 @@ pub record IsOpening (plan : Plan) (first now : SourceTold) (read : Reading) (nu
   pub lines : List (List ℕ)
   pub reading : IsReading first now read number lines
   pub graph : view.graph ≡ inputs_of plan
-  pub stands : Stands lines (nothing_taken (inputs_of plan)) view
+  pub stands : HasAccepted lines (nothing_taken (inputs_of plan)) view
   pub packets : ArePackets (inputs_of plan) [] lines
 
 -- the lines that were handed out are packet lines for some plan, from some source
@@ -48,7 +48,7 @@ pub record HasJob (plan : Plan) (ended : Bool) (first now : SourceTold) (read : 
   pub given : List (List ℕ)
   pub reading : IsReading first now read number (given ++ end_word ended ∷ [])
   pub graph : view.graph ≡ inputs_of plan
-  pub stands : Stands given (nothing_taken (inputs_of plan)) view
+  pub stands : HasAccepted given (nothing_taken (inputs_of plan)) view
   pub packets : ArePackets (inputs_of plan) [] given
 
 -- What the reading of a job's lines came to: the job, or where it stopped, with no node begun.
@@ -60,11 +60,11 @@ Opens (Stopped end) plan first now read number view = (boxes : List CalculatorTo
 pub record IsMaking (plan : Plan) (boxes : List CalculatorTold) (inputs : Inputs) (first now : SourceTold) (read : Reading) (number : ℕ) (net : NetView) : Type 0 where
   pub lines : List (List ℕ)
   pub reading : IsReading first now read number lines
-  pub has_run : HasRun plan boxes lines inputs net
+  pub has_run : LinesLedTo plan boxes lines inputs net
 
 -- The bytes that came begin with the lines of a job that has these inputs, whatever bytes may follow, of which there are none where the
 -- source has ended.
-pub record HasOpened (plan : Plan) (input : Device SourceTold) (inputs : Inputs) : Type 0 where
+pub record BeginsWithJob (plan : Plan) (input : Device SourceTold) (inputs : Inputs) : Type 0 where
   pub came : List ℕ
   pub gave : Gave input.before.left input.now.left came
   pub ended : Bool

@@ -46,7 +46,7 @@ pub record StopsEarly (plan : Plan) (lines : List (List ℕ)) (end : TraceEnd) :
 
 -- Lines led a net to where it is: they are the packet lines of a job, the word behind them, and the lines of the events of a run from where
 -- the job's runs begin.
-pub record HasRun (plan : Plan) (boxes : List CalculatorTold) (lines : List (List ℕ)) (inputs : Inputs) (net : NetView) : Type 0 where
+pub record LinesLedTo (plan : Plan) (boxes : List CalculatorTold) (lines : List (List ℕ)) (inputs : Inputs) (net : NetView) : Type 0 where
   pub given : List (List ℕ)
   pub packets : ArePackets (inputs_of plan) [] given
   pub inputs_are : inputs ≡ inputs_with plan given inputs.ended
@@ -75,21 +75,21 @@ EndsAt number [] end = end ≡ Accepted
 EndsAt number (line ∷ more) end = end ≡ Refused (number + 1) AfterEnd
 
 -- A line is the last line of a run. Some event may still do something; or the net is at rest.
-pub record IsEnd (net : NetView) (number : ℕ) (line : List ℕ) (more : List (List ℕ)) (end : TraceEnd) : Type 0 where
+pub record IsLastLine (net : NetView) (number : ℕ) (line : List ℕ) (more : List (List ℕ)) (end : TraceEnd) : Type 0 where
   pub line_is : line ≡ codes "end"
   pub ends : (MayGoOn net × (end ≡ Refused number NotAtRest)) ⊎ (IsAtRest net × EndsAt number more end)
 
 -- The reading stops with this net. The next line, if there is one, has this number.
 abbrev pub StopsAt : Plan → NetView → ℕ → List (List ℕ) → TraceEnd → Type 0
 StopsAt plan net number [] end = end ≡ Refused number NoEnd
-StopsAt plan net number (line ∷ more) end = IsNoEvent plan number line end ⊎ (IsIdleEvent plan net number line end ⊎ IsEnd net number line more end)
+StopsAt plan net number (line ∷ more) end = IsNoEvent plan number line end ⊎ (IsIdleEvent plan net number line end ⊎ IsLastLine net number line more end)
 
 -- The lines begin with those that led a net somewhere, where the reading stops.
-pub record StopsLater (plan : Plan) (boxes : List CalculatorTold) (lines : List (List ℕ)) (inputs : Inputs) (end : TraceEnd) : Type 0 where
+pub record StopsAfterJob (plan : Plan) (boxes : List CalculatorTold) (lines : List (List ℕ)) (inputs : Inputs) (end : TraceEnd) : Type 0 where
   pub front : List (List ℕ)
   pub tail : List (List ℕ)
   pub net : NetView
-  pub has_run : HasRun plan boxes front inputs net
+  pub has_run : LinesLedTo plan boxes front inputs net
   pub lines_are : lines ≡ front ++ tail
   pub stops : StopsAt plan net (length front + 1) tail end
 
@@ -97,30 +97,30 @@ pub record StopsLater (plan : Plan) (boxes : List CalculatorTold) (lines : List 
 
 -- What the lines of an input that ends behind them come to: with `None` they stop before there is a job, and no node is begun; else they
 -- tell a job that has these inputs, whose nodes are begun.
-abbrev pub ComesTo : Plan → List CalculatorTold → List (List ℕ) → Option Inputs → TraceEnd → Type 0
-ComesTo plan boxes lines None end = StopsEarly plan lines end
-ComesTo plan boxes lines (Some inputs) end = StopsLater plan boxes lines inputs end
+abbrev pub LinesComeTo : Plan → List CalculatorTold → List (List ℕ) → Option Inputs → TraceEnd → Type 0
+LinesComeTo plan boxes lines None end = StopsEarly plan lines end
+LinesComeTo plan boxes lines (Some inputs) end = StopsAfterJob plan boxes lines inputs end
 
 -- More lines may come: none so far is refused. The last of them may be `end`, where the net is at rest.
-pub record GoesOn (plan : Plan) (boxes : List CalculatorTold) (lines : List (List ℕ)) (inputs : Inputs) : Type 0 where
+pub record MoreMayCome (plan : Plan) (boxes : List CalculatorTold) (lines : List (List ℕ)) (inputs : Inputs) : Type 0 where
   pub front : List (List ℕ)
   pub net : NetView
-  pub has_run : HasRun plan boxes front inputs net
+  pub has_run : LinesLedTo plan boxes front inputs net
   pub lines_are : (lines ≡ front) ⊎ ((lines ≡ front ++ codes "end" ∷ []) × IsAtRest net)
 
 -- More lines may come: where there is no job yet, all lines so far are packet lines; else none of them is refused.
 abbrev pub MayComeTo : Plan → List CalculatorTold → List (List ℕ) → Option Inputs → Type 0
 MayComeTo plan boxes lines None = ArePackets (inputs_of plan) [] lines
-MayComeTo plan boxes lines (Some inputs) = GoesOn plan boxes lines inputs
+MayComeTo plan boxes lines (Some inputs) = MoreMayCome plan boxes lines inputs
 
 -- The input --
 
 -- What the bytes that came say of the whole input. It ended after them; or one of their lines is refused, whatever bytes may follow, of which
 -- there are none where the source has ended; or a read failed after them, and none of their whole lines is refused.
 abbrev pub CameAs : TraceEnd → Plan → List CalculatorTold → Device SourceTold → List ℕ → Option Inputs → Type 0
-CameAs Accepted plan boxes input came job = EndCame input.before input.now × ComesTo plan boxes (all_lines came) job Accepted
+CameAs Accepted plan boxes input came job = EndCame input.before input.now × LinesComeTo plan boxes (all_lines came) job Accepted
 CameAs (Refused line cause) plan boxes input came job =
-    (ended : Bool) × MetEnd false ended input.before input.now × ((more : List ℕ) → (ended ≡ true → more ≡ []) → ComesTo plan boxes (all_lines (came ++ more)) job (Refused line cause))
+    (ended : Bool) × MetEnd false ended input.before input.now × ((more : List ℕ) → (ended ≡ true → more ≡ []) → LinesComeTo plan boxes (all_lines (came ++ more)) job (Refused line cause))
 CameAs (Failed lines) plan boxes input came job = (lines ≡ length (whole_lines came)) × MayComeTo plan boxes (whole_lines came) job
 
 -- no read failed, unless the reading ended by that

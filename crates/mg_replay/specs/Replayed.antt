@@ -8,18 +8,18 @@ use Rattle.mg_calc.specs.declared.plan.Plan.{Plan}
 use Rattle.mg_calc.specs.Equations.{Job, IsSolution}
 use Rattle.mg_calc.specs.Told.{CalculatorTold}
 use Rattle.mg_feed.specs.declared.feed_end.FeedEnd.TheVariants.{Ended}
-use Rattle.mg_answer.specs.Text.{output_of}
+use Rattle.mg_answer.specs.Text.{output_text_of}
 use Rattle.mg_answer.specs.Notes.{memory_note}
-use Rattle.mg_answer.specs.Answer.{by_lines, Answer, IsAnswerOf}
+use Rattle.mg_answer.specs.Answer.{by_lines, RunAnswer, IsAnswerOf}
 use Rattle.mg_answer.specs.Frozen.{IsFrozenAnswer, WroteFrozen}
 use Rattle.mg_answer.specs.Wrote.{Wrote}
-use Rattle.mg_answer.specs.Devices.{Device, RunDevices, Untouched, TookFront, Noted}
+use Rattle.mg_answer.specs.Devices.{Device, RunDevices, Untouched, TookFront, TookNotes}
 use Rattle.mg_answer.specs.declared.status.Status.{Status}
 use Rattle.mg_answer.specs.declared.status.Status.TheVariants.{OutOfMemory}
 use Rattle.mg_drive.specs.Leaves.{HadCallsOf, HadFronts}
-use Rattle.mg_replay.specs.Replay.{ComesTo, WasRead}
+use Rattle.mg_replay.specs.Replay.{LinesComeTo, WasRead}
 use Rattle.mg_replay.specs.Note.{trace_note, trace_status, WroteNote}
-use Rattle.mg_replay.specs.Reading.{HasOpened}
+use Rattle.mg_replay.specs.Reading.{BeginsWithJob}
 use Rattle.mg_replay.specs.Leaves.{HadCloses}
 use Rattle.mg_replay.specs.declared.trace_end.TraceEnd.{TraceEnd}
 use Rattle.mg_replay.specs.declared.trace_end.TraceEnd.TheVariants.{Accepted, Refused, Failed}
@@ -31,22 +31,22 @@ job_over plan inputs = record { plan = plan; inputs = inputs }
 -- The answer --
 
 -- The answer of a job is that of a run of it where its input ended well, and else that of a frozen job.
-abbrev pub AnswersJob : Bool → Bool → Job → Answer → Type 0
+abbrev pub AnswersJob : Bool → Bool → Job → RunAnswer → Type 0
 AnswersJob true report job answer = IsAnswerOf (by_lines report) job Ended answer
 AnswersJob false report job answer = IsFrozenAnswer (by_lines report) job answer
 
 -- The answer to lines that come to this: that of the job, where they are accepted; and otherwise nothing but the one note.
-abbrev pub AnswersEnd : TraceEnd → Bool → Plan → Option Inputs → Answer → Type 0
+abbrev pub AnswersEnd : TraceEnd → Bool → Plan → Option Inputs → RunAnswer → Type 0
 AnswersEnd Accepted report plan None answer = ⊥
 AnswersEnd Accepted report plan (Some inputs) answer = AnswersJob inputs.ended report (job_over plan inputs) answer
 AnswersEnd (Refused line cause) report plan job answer = answer ≡ record { output = []; notes = trace_note (Refused line cause); status = trace_status (Refused line cause) }
 AnswersEnd (Failed lines) report plan job answer = answer ≡ record { output = []; notes = trace_note (Failed lines); status = trace_status (Failed lines) }
 
 -- The answer to a recorded run of these lines.
-pub record AnswersTrace (report : Bool) (plan : Plan) (boxes : List CalculatorTold) (lines : List (List ℕ)) (answer : Answer) : Type 0 where
+pub record AnswersTrace (report : Bool) (plan : Plan) (boxes : List CalculatorTold) (lines : List (List ℕ)) (answer : RunAnswer) : Type 0 where
   pub job : Option Inputs
   pub end : TraceEnd
-  pub comes : ComesTo plan boxes lines job end
+  pub comes : LinesComeTo plan boxes lines job end
   pub answers : AnswersEnd end report plan job answer
 
 -- What was written --
@@ -91,12 +91,12 @@ pub record TookOutput (plan : Plan) (boxes : List CalculatorTold) (input : Devic
   pub read : WasRead plan boxes input (Some inputs) Accepted
   pub streams : List (StreamPrefix Plain)
   pub solution : IsSolution (job_over plan inputs) streams
-  pub front : TookFront output (output_of plan streams)
+  pub front : TookFront output (output_text_of plan streams)
 
 -- The lines of a job were read, and each calculator had a front of the calls that it has in the solution of that job.
 pub record HadSomeCalls (plan : Plan) (input : Device SourceTold) (boxes : Device (List CalculatorTold)) : Type 0 where
   pub inputs : Inputs
-  pub opened : HasOpened plan input inputs
+  pub opened : BeginsWithJob plan input inputs
   pub fronts : HadFronts (job_over plan inputs) boxes
 
 -- Memory ran out: nothing was written, or a front of the text of an accepted run; and no calculator had a call, or each had a front of its
@@ -107,5 +107,5 @@ pub record ReplayedSome (plan : Plan) (devices : RunDevices) (boxes : Device (Li
 
 -- A call ended with this status. Where memory ran out the notes say that alone.
 abbrev pub ReplayedBy : Status → Bool → Plan → RunDevices → Device (List CalculatorTold) → Type 0
-ReplayedBy OutOfMemory report plan devices boxes = ReplayedSome plan devices boxes × Noted devices.notes memory_note
+ReplayedBy OutOfMemory report plan devices boxes = ReplayedSome plan devices boxes × TookNotes devices.notes memory_note
 ReplayedBy status report plan devices boxes = Replayed report plan status devices boxes

@@ -11,7 +11,7 @@ ghost use Rattle.mg_sched.specs.Sweeps.{Becomes};
 ghost use Rattle.mg_sched.specs.Code.Left.{left_in};
 ghost use Rattle.mg_answer.specs.Devices.{device};
 ghost use Rattle.mg_replay.specs.Replay.{WasRead};
-ghost use Rattle.mg_replay.specs.Reading.{HasOpened, IsMaking};
+ghost use Rattle.mg_replay.specs.Reading.{BeginsWithJob, IsMaking};
 ghost use Rattle.mg_replay.specs.Code.Reading.{ComesBehind, MakesOn, MakesEvent, MakesLine, TakesEvent, StopsBehind, EndsRun};
 
 use crate::opening::stopped_at;
@@ -46,7 +46,7 @@ pub fn replay_events<G: Gate, C: Calculator, S: Source>(
         → WasRead plan.now boxes (device first (S.told input.new)) (Some inputs) end) }
     ensures rests { IfOk result (λ end. end ≡ TraceEnd.Accepted → IsAtRest net.new) }
     ensures opened { (boxes : List CalculatorTold) (inputs : Inputs) (first : SourceTold) → IsMaking plan.now boxes inputs first (S.told input.old) (reading lines.old) (number_of lines.old) net.old
-        → HasOpened plan.now (device first (S.told input.new)) inputs }
+        → BeginsWithJob plan.now (device first (S.told input.new)) inputs }
     ensures becomes { Becomes net.old net.new }
 {
     'events: loop {
@@ -73,7 +73,7 @@ fn next_event<G: Gate, C: Calculator, S: Source>(
         → MakesOn stop plan.now boxes inputs first (S.told input.new) (reading lines.new) (number_of lines.new) net.new) }
     ensures rests { IfOk result (λ stop. stop ≡ Some TraceEnd.Accepted → IsAtRest net.new) }
     ensures opened { (boxes : List CalculatorTold) (inputs : Inputs) (first : SourceTold) → IsMaking plan.now boxes inputs first (S.told input.old) (reading lines.old) (number_of lines.old) net.old
-        → HasOpened plan.now (device first (S.told input.new)) inputs }
+        → BeginsWithJob plan.now (device first (S.told input.new)) inputs }
     ensures less { IfOk result (λ stop. stop ≡ None → left_in net.new < left_in net.old) }
     ensures becomes { Becomes net.old net.new }
 {

@@ -4,7 +4,7 @@ ghost use Rattle.mg_feed.specs.Accepted.{longest_line};
 ghost use Rattle.mg_feed.specs.Form.{is_blank};
 ghost use Rattle.mg_feed.specs.FeedSeen.{seen};
 ghost use Rattle.mg_replay.specs.Opening.{may_say_packet};
-ghost use Rattle.mg_replay.specs.Code.Packets.{ends_so, Takes};
+ghost use Rattle.mg_replay.specs.Code.Packets.{ends_so, TakesPackets};
 
 use crate::TraceFault;
 use mg_feed::{Feed, LineFault};
@@ -45,7 +45,7 @@ pub fn end_word(line: &[u8]) -> Option<bool>
 /// Takes a line that stands where packet lines do, or tells why it isn't good.
 pub fn take_packet(feed: &mut Feed, line: &[u8]) -> Result<Option<TraceFault>, AllocError>
     requires { length line.now ≤ longest_line }
-    ensures { IfOk result (λ fault. Takes fault line.now (seen feed.old) (seen feed.new)) }
+    ensures { IfOk result (λ fault. TakesPackets fault line.now (seen feed.old) (seen feed.new)) }
 {
     if !may_say_packet(line) {
         return Ok(Some(TraceFault::BadEvent));

@@ -10,7 +10,7 @@ ghost use Rattle.mg_calc.specs.Told.{CalculatorTold};
 ghost use Rattle.mg_node.specs.Job.{LoggedJob};
 ghost use Rattle.mg_feed.specs.LinesSeen.{reading, number_of};
 ghost use Rattle.mg_answer.specs.Answer.{packet_lines};
-ghost use Rattle.mg_answer.specs.Text.{output_of};
+ghost use Rattle.mg_answer.specs.Text.{output_text_of};
 ghost use Rattle.mg_answer.specs.Devices.{device, TookFront};
 ghost use Rattle.mg_answer.specs.Held.{told_by, SameDevices};
 ghost use Rattle.mg_sched.specs.Made.{BoxesFit, IsMade};
@@ -19,13 +19,13 @@ ghost use Rattle.mg_sched.specs.AtRest.{IsAtRest};
 ghost use Rattle.mg_sched.specs.Taking.{taken_out};
 ghost use Rattle.mg_sched.specs.GivesBack.{StoodFor};
 ghost use Rattle.mg_drive.specs.Nets.{Keeps};
-ghost use Rattle.mg_drive.specs.OneRun.{CameBack};
+ghost use Rattle.mg_drive.specs.OneRun.{CalculatorsCameBack};
 ghost use Rattle.mg_drive.specs.Code.Tracing.{IsSomeMade};
 ghost use Rattle.mg_drive.specs.Code.Running.{HasRested};
 ghost use Rattle.mg_drive.specs.Code.Ending.{IsWhole, HadAllOf};
 ghost use Rattle.mg_replay.specs.Replayed.{job_over, WroteJob, ReplayedBy, Replayed, ReplayedSome};
 ghost use Rattle.mg_replay.specs.Note.{WroteNote};
-ghost use Rattle.mg_replay.specs.Code.Reading.{HasInputs};
+ghost use Rattle.mg_replay.specs.Code.Reading.{HasReadInputs};
 ghost use Rattle.mg_replay.specs.Code.Nets.{told_since, accepts, StandsForPlan, ClosedAllOf, NetReplayed, NetShort, JobReplayed, JobShort};
 
 use crate::TraceEnd;
@@ -62,7 +62,7 @@ pub fn replay_lines<G: Gate, C: Calculator, S: Source, K: Sink, E: Sink>(
 
     // What each status says of the run, the devices and the calculators.
     ensures replayed { ReplayedBy result run.now.report run.now.plan.now (told_by S.told K.told E.told devices.old devices.new) (device (map C.told boxes.old.items) (map C.told boxes.new.items)) }
-    ensures back { CameBack run.now.plan.now (map C.told boxes.old.items) (map C.told boxes.new.items) }
+    ensures back { CalculatorsCameBack run.now.plan.now (map C.told boxes.old.items) (map C.told boxes.new.items) }
     ensures same { SameDevices devices.old devices.new }
 {
     match replay_whole(run, gate, boxes, devices) {
@@ -83,7 +83,7 @@ fn replay_whole<G: Gate, C: Calculator, S: Source, K: Sink, E: Sink>(
     ensures replayed { IfOk result (λ status. Replayed run.now.report run.now.plan.now status (told_by S.told K.told E.told devices.old devices.new) (device (map C.told boxes.old.items) (map C.told boxes.new.items))) }
     ensures some { OnErr result (ReplayedSome run.now.plan.now (told_by S.told K.told E.told devices.old devices.new) (device (map C.told boxes.old.items) (map C.told boxes.new.items))) }
     ensures unnoted { OnErr result (E.told devices.new.notes.now ≡ E.told devices.old.notes.now) }
-    ensures back { CameBack run.now.plan.now (map C.told boxes.old.items) (map C.told boxes.new.items) }
+    ensures back { CalculatorsCameBack run.now.plan.now (map C.told boxes.old.items) (map C.told boxes.new.items) }
     ensures same { SameDevices devices.old devices.new }
 {
     let mut feed = Feed::new(run.alloc, run.plan)?;
@@ -119,12 +119,12 @@ fn replay_job<G: Gate, C: Calculator, S: Source, K: Sink, E: Sink>(
 ) -> Result<Status, AllocError>
     requires job { IsJob (job_over run.now.plan.now opening.inputs) }
     requires boxes { BoxesFit run.now.plan.now (map C.told boxes.old.items) }
-    ensures replayed { IfOk result (λ status. (first : SourceTold) → HasInputs run.now.plan.now opening.inputs first (S.told devices.old.input.now) (reading opening.lines) (number_of opening.lines)
+    ensures replayed { IfOk result (λ status. (first : SourceTold) → HasReadInputs run.now.plan.now opening.inputs first (S.told devices.old.input.now) (reading opening.lines) (number_of opening.lines)
         → JobReplayed run.now.report run.now.plan.now opening.inputs status (told_since first (told_by S.told K.told E.told devices.old devices.new)) (device (map C.told boxes.old.items) (map C.told boxes.new.items))) }
-    ensures some { OnErr result ((first : SourceTold) → HasInputs run.now.plan.now opening.inputs first (S.told devices.old.input.now) (reading opening.lines) (number_of opening.lines)
+    ensures some { OnErr result ((first : SourceTold) → HasReadInputs run.now.plan.now opening.inputs first (S.told devices.old.input.now) (reading opening.lines) (number_of opening.lines)
         → JobShort run.now.plan.now opening.inputs (told_since first (told_by S.told K.told E.told devices.old devices.new)) (device (map C.told boxes.old.items) (map C.told boxes.new.items))) }
     ensures unnoted { OnErr result (E.told devices.new.notes.now ≡ E.told devices.old.notes.now) }
-    ensures back { CameBack run.now.plan.now (map C.told boxes.old.items) (map C.told boxes.new.items) }
+    ensures back { CalculatorsCameBack run.now.plan.now (map C.told boxes.old.items) (map C.told boxes.new.items) }
     ensures same { SameDevices devices.old devices.new }
 {
     let Opening { inputs, lines } = opening;
@@ -155,10 +155,10 @@ fn replay_net<G: Gate, C: Calculator, S: Source, K: Sink, E: Sink>(
     requires valid { IsValid run.now.plan.now }
     requires made { IsSomeMade run.now.plan.now net.old.net }
     ensures replayed { IfOk result (λ status. (inputs : Given) (boxes : List CalculatorTold) (first : SourceTold) → IsMade run.now.plan.now inputs boxes net.old.net → ended ≡ inputs.ended
-        → HasInputs run.now.plan.now inputs first (S.told devices.old.input.now) (reading lines) (number_of lines)
+        → HasReadInputs run.now.plan.now inputs first (S.told devices.old.input.now) (reading lines) (number_of lines)
         → NetReplayed run.now.report run.now.plan.now inputs boxes status (told_since first (told_by S.told K.told E.told devices.old devices.new)) net.new.net) }
     ensures some { OnErr result ((inputs : Given) (boxes : List CalculatorTold) (first : SourceTold) → IsMade run.now.plan.now inputs boxes net.old.net → ended ≡ inputs.ended
-        → HasInputs run.now.plan.now inputs first (S.told devices.old.input.now) (reading lines) (number_of lines)
+        → HasReadInputs run.now.plan.now inputs first (S.told devices.old.input.now) (reading lines) (number_of lines)
         → NetShort run.now.plan.now inputs boxes (told_since first (told_by S.told K.told E.told devices.old devices.new)) net.new.net) }
     ensures unnoted { OnErr result (E.told devices.new.notes.now ≡ E.told devices.old.notes.now) }
     ensures stood { (job : LoggedJob) → StandsFor job net.old.net → StoodFor job net.new.net }
@@ -225,7 +225,7 @@ fn accept<G: Gate, C: Calculator, K: Sink, E: Sink>(
         → WroteJob ended run.now.report job.job status (device (K.told output.old) (K.told output.new)) (device (E.told notes.old) (E.told notes.new))) }
     ensures had { OnOk result ((job : LoggedJob) → StandsFor job net.old.net → HadAllOf job net.new.net) }
     ensures front { OnErr result ((job : LoggedJob) (streams : List (StreamPrefix Plain)) → job.job.plan ≡ run.now.plan.now → StandsFor job net.old.net → IsSolution job.job streams
-        → TookFront (device (K.told output.old) (K.told output.new)) (output_of job.job.plan streams)) }
+        → TookFront (device (K.told output.old) (K.told output.new)) (output_text_of job.job.plan streams)) }
     ensures stood { (job : LoggedJob) → StandsFor job net.old.net → StoodFor job net.new.net }
     ensures unnoted { OnErr result (E.told notes.new ≡ E.told notes.old) }
     ensures keeps { Keeps net.old.net net.new.net }
@@ -253,7 +253,7 @@ fn tell_outputs<G: Gate, C: Calculator, K: Sink>(
     ensures rested { OnOk result ((job : LoggedJob) → StandsFor job net.old.net → HasRested job net.new.net) }
     ensures whole { IfOk result (λ text. (job : LoggedJob) → job.job.plan ≡ run.now.plan.now → StandsFor job net.old.net → IsWhole packet_lines (K.told output.old) (K.told output.new) job.job text) }
     ensures front { OnErr result ((job : LoggedJob) (streams : List (StreamPrefix Plain)) → job.job.plan ≡ run.now.plan.now → StandsFor job net.old.net → IsSolution job.job streams
-        → TookFront (device (K.told output.old) (K.told output.new)) (output_of job.job.plan streams)) }
+        → TookFront (device (K.told output.old) (K.told output.new)) (output_text_of job.job.plan streams)) }
     ensures stands { (job : LoggedJob) → StandsFor job net.old.net → StandsFor job net.new.net }
     ensures keeps { Keeps net.old.net net.new.net }
 {

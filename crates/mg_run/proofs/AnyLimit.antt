@@ -18,7 +18,7 @@ use Rattle.mg_subgraph.specs.Expansion.{expansion_of}
 use Rattle.mg_subgraph.specs.declared.fault.ExpandFault.{ExpandFault}
 use Rattle.mg_files.specs.Files.{Files, graphs, no_graphs}
 use Rattle.mg_run.specs.Task.{Task}
-use Rattle.mg_run.specs.Answer.{Answer, Job, with_limit, with_workers, limit_or, way_job, live_job, used_job, plan_job, verb_job, expanded_job, files_job, job_of, IsAnswerOf, Records, Replays}
+use Rattle.mg_run.specs.Answer.{RunAnswer, Action, with_limit, with_workers, limit_or, way_action, live_action, used_action, plan_action, verb_action, expanded_action, files_action, action_of, AnswersAction, Records, Replays}
 use Rattle.mg_words.specs.declared.limits.TheConstants.{MOST_WORKERS}
 use Rattle.mg_words.specs.declared.words.Order.{Order}
 use Rattle.mg_words.specs.declared.words.Verb.{Verb}
@@ -27,19 +27,19 @@ use Rattle.mg_words.specs.declared.words.Way.{Way}
 use Rattle.mg_words.specs.declared.words.Way.TheVariants.{Run, Solve, Generate, Trace, Replay}
 
 -- each answer of one job is one of the other, where it is of no recorded run
-abbrev Answers : Job → Job → Type 0
-Answers one other = (boxes : List CalculatorTold) (input : List ℕ) (a : Answer) → ¬ Records one → ¬ Replays one → IsAnswerOf one boxes input a → IsAnswerOf other boxes input a
+abbrev Answers : Action → Action → Type 0
+Answers one other = (boxes : List CalculatorTold) (input : List ℕ) (a : RunAnswer) → ¬ Records one → ¬ Replays one → AnswersAction one boxes input a → AnswersAction other boxes input a
 
-same : (job : Job) → Answers job job
+same : (job : Action) → Answers job job
 same job boxes input a unrecorded given answers = answers
 
-pub ended_same : (report : Bool) (limit : Option ℤ) (plan : Plan) (input : List ℕ) (a : Answer) → AnswersEnded report (with_limit limit plan) input a → AnswersEnded report plan input a
+pub ended_same : (report : Bool) (limit : Option ℤ) (plan : Plan) (input : List ℕ) (a : RunAnswer) → AnswersEnded report (with_limit limit plan) input a → AnswersEnded report plan input a
 ended_same report None plan input a answers = answers
 ended_same report (Some limit) plan input a answers =
     unlimited_answer (by_lines report) (input_job plan (ended_input (inputs_of plan) input)) (limit_or limit plan.limit) plan.workers (ended_input (inputs_of plan) input).end a answers
 
 -- and so it is where the words ask for workers too
-ended_asked : (report : Bool) (limit : Option ℤ) (workers : Option ℕ) (plan : Plan) (input : List ℕ) (a : Answer) → AnswersEnded report (with_workers workers (with_limit limit plan)) input a
+ended_asked : (report : Bool) (limit : Option ℤ) (workers : Option ℕ) (plan : Plan) (input : List ℕ) (a : RunAnswer) → AnswersEnded report (with_workers workers (with_limit limit plan)) input a
     → AnswersEnded report plan input a
 ended_asked report limit None plan input a answers = ended_same report limit plan input a answers
 ended_asked report None (Some workers) plan input a answers =
@@ -47,7 +47,7 @@ ended_asked report None (Some workers) plan input a answers =
 ended_asked report (Some limit) (Some workers) plan input a answers =
     unlimited_answer (by_lines report) (input_job plan (ended_input (inputs_of plan) input)) (limit_or limit plan.limit) (min workers MOST_WORKERS) (ended_input (inputs_of plan) input).end a answers
 
-made_asked : (report : Bool) (number : ℕ) (limit : Option ℤ) (workers : Option ℕ) (plan : Plan) (a : Answer) → AnswersGenerated report (with_workers workers (with_limit limit plan)) number a
+made_asked : (report : Bool) (number : ℕ) (limit : Option ℤ) (workers : Option ℕ) (plan : Plan) (a : RunAnswer) → AnswersGenerated report (with_workers workers (with_limit limit plan)) number a
     → AnswersGenerated report plan number a
 made_asked report number None None plan a answers = answers
 made_asked report number (Some limit) None plan a answers = unlimited_answer (by_summary report) (generated_job plan number) (limit_or limit plan.limit) plan.workers Ended a answers
@@ -59,48 +59,48 @@ made_asked report number (Some limit) (Some workers) plan a answers =
 abbrev free : Order → Order
 free order = record order { limit = None; workers = None }
 
-way_same : (way : Way) (order : Order) (plan : Plan) → Answers (way_job way order plan) (way_job way (free order) plan)
+way_same : (way : Way) (order : Order) (plan : Plan) → Answers (way_action way order plan) (way_action way (free order) plan)
 way_same Run order plan boxes input a unrecorded given answers = ended_asked order.report order.limit order.workers plan input a answers
 way_same Solve order plan boxes input a unrecorded given answers = answers
 way_same Generate order plan boxes input a unrecorded given answers = made_asked order.report order.number order.limit order.workers plan a answers
 way_same Trace order plan boxes input a unrecorded given answers = absurd (unrecorded tt)
 way_same Replay order plan boxes input a unrecorded given answers = absurd (given tt)
 
-way_same_live : (way : Way) (order : Order) (first : ℕ) (plan : Plan) → Answers (live_job way order first plan) (live_job way (free order) first plan)
+way_same_live : (way : Way) (order : Order) (first : ℕ) (plan : Plan) → Answers (live_action way order first plan) (live_action way (free order) first plan)
 way_same_live Run order first plan boxes input a unrecorded given answers = live_asked order.report order.limit order.workers plan input a answers
 way_same_live Solve order first plan boxes input a unrecorded given answers = answers
 way_same_live Generate order first plan boxes input a unrecorded given answers = live_made_asked order.report order.number order.limit order.workers plan a answers
 way_same_live Trace order first plan boxes input a unrecorded given answers = answers
 way_same_live Replay order first plan boxes input a unrecorded given answers = answers
 
-used_same : (first : Option ℕ) (way : Way) (order : Order) (plan : Plan) → Answers (used_job first way order plan) (used_job first way (free order) plan)
+used_same : (first : Option ℕ) (way : Way) (order : Order) (plan : Plan) → Answers (used_action first way order plan) (used_action first way (free order) plan)
 used_same None way order plan = way_same way order plan
 used_same (Some first) way order plan = way_same_live way order first plan
 
-plan_same : (way : Way) (order : Order) (checked : Result Plan CheckFault) → Answers (plan_job way order checked) (plan_job way (free order) checked)
+plan_same : (way : Way) (order : Order) (checked : Result Plan CheckFault) → Answers (plan_action way order checked) (plan_action way (free order) checked)
 plan_same way order (Ok plan) = used_same (first_free plan) way order plan
-plan_same way order (Err fault) = same (plan_job way order (Err fault))
+plan_same way order (Err fault) = same (plan_action way order (Err fault))
 
-by_verb : (verb : Verb) (order : Order) (outers : List OuterShape) (g : GraphView) → Answers (verb_job verb order outers g) (verb_job verb (free order) outers g)
-by_verb Check order outers g = same (verb_job Check order outers g)
-by_verb Expand order outers g = same (verb_job Expand order outers g)
+by_verb : (verb : Verb) (order : Order) (outers : List OuterShape) (g : GraphView) → Answers (verb_action verb order outers g) (verb_action verb (free order) outers g)
+by_verb Check order outers g = same (verb_action Check order outers g)
+by_verb Expand order outers g = same (verb_action Expand order outers g)
 by_verb (Use way) order outers g = plan_same way order (check_of outers g)
 
-expanded_same : (order : Order) (outers : List OuterShape) (expanded : Result GraphView ExpandFault) → Answers (expanded_job order outers expanded) (expanded_job (free order) outers expanded)
+expanded_same : (order : Order) (outers : List OuterShape) (expanded : Result GraphView ExpandFault) → Answers (expanded_action order outers expanded) (expanded_action (free order) outers expanded)
 expanded_same order outers (Ok g) = by_verb order.verb order outers g
-expanded_same order outers (Err fault) = same (expanded_job order outers (Err fault))
+expanded_same order outers (Err fault) = same (expanded_action order outers (Err fault))
 
-files_same : (order : Order) (outers : List OuterShape) (files : Files) → Answers (files_job order outers files) (files_job (free order) outers files)
-files_same order outers (graphs []) = same (files_job order outers (graphs []))
+files_same : (order : Order) (outers : List OuterShape) (files : Files) → Answers (files_action order outers files) (files_action (free order) outers files)
+files_same order outers (graphs []) = same (files_action order outers (graphs []))
 files_same order outers (graphs (main ∷ library)) = expanded_same order outers (expansion_of main library)
-files_same order outers (no_graphs note) = same (files_job order outers (no_graphs note))
+files_same order outers (no_graphs note) = same (files_action order outers (no_graphs note))
 
-pub words_same : (task : Task) (files : Files) (boxes : List CalculatorTold) (input : List ℕ) (a : Answer) → ¬ Records (job_of task files) → ¬ Replays (job_of task files)
-    → IsAnswerOf (job_of task files) boxes input a → IsAnswerOf (job_of (record task { order = free task.order }) files) boxes input a
+pub words_same : (task : Task) (files : Files) (boxes : List CalculatorTold) (input : List ℕ) (a : RunAnswer) → ¬ Records (action_of task files) → ¬ Replays (action_of task files)
+    → AnswersAction (action_of task files) boxes input a → AnswersAction (action_of (record task { order = free task.order }) files) boxes input a
 words_same task files boxes input a unrecorded given answers = files_same task.order task.outers files boxes input a unrecorded given answers
 
 -- of a recorded run the end is that of the run without a limit of the words
-pub limit_ends : (report : Bool) (limit : Option ℤ) (plan : Plan) (boxes : List CalculatorTold) (input : List ℕ) (a b : Answer) → TracesEnded report (with_limit limit plan) boxes input a → AnswersEnded report plan input b → EndAlike a b
+pub limit_ends : (report : Bool) (limit : Option ℤ) (plan : Plan) (boxes : List CalculatorTold) (input : List ℕ) (a b : RunAnswer) → TracesEnded report (with_limit limit plan) boxes input a → AnswersEnded report plan input b → EndAlike a b
 limit_ends report limit plan boxes input a b one two =
     let same = one-of-run report plan input one.of_run b (ended_same report limit plan input one.of_run one.is_answer) two in
-    (ap (λ (x : Answer). x.notes) one.is ∙ ap (λ (x : Answer). x.notes) same, ap (λ (x : Answer). x.status) one.is ∙ ap (λ (x : Answer). x.status) same)
+    (ap (λ (x : RunAnswer). x.notes) one.is ∙ ap (λ (x : RunAnswer). x.notes) same, ap (λ (x : RunAnswer). x.status) one.is ∙ ap (λ (x : RunAnswer). x.status) same)

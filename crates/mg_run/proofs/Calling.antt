@@ -19,10 +19,10 @@ use Rattle.mg_answer.proofs.Answering.{ran-answered}
 use Rattle.mg_drive.specs.Traced.{TracedAll}
 use Rattle.mg_drive.proofs.TracesRan.{traced_told, traced_answered}
 use Rattle.mg_replay.proofs.Answered.{replayed_otherwise, replayed_answered}
-use Rattle.mg_run.specs.Answer.{Answer, Job, refuse, show, run_plan, run_live, solve, generate, generate_live, trace, replay, job_of}
-use Rattle.mg_run.specs.Devices.{Device, device, Devices, devices, run_of, Untouched, Unrisen, NoneFailed, TookText, Noted}
+use Rattle.mg_run.specs.Answer.{RunAnswer, Action, refuse, show, run_plan, run_live, solve, generate, generate_live, trace, replay, action_of}
+use Rattle.mg_run.specs.Devices.{Device, device, CallDevices, devices, run_devices_of, Untouched, Unrisen, NoneFailed, TookText, TookNotes}
 use Rattle.mg_answer.specs.Wrote.{Meets}
-use Rattle.mg_run.specs.Call.{Written, WasShown, Did, IsJob, CallDid, CallShort, Called, MetAnswer, IsAnswered}
+use Rattle.mg_run.specs.Call.{Written, WasShown, DidAction, IsActionOf, CallDid, CallShort, Called, MetAnswer, IsAnswered}
 use Rattle.mg_answer.specs.declared.status.Status.{Status}
 use Rattle.mg_answer.specs.declared.status.Status.TheVariants.{Good, StoreFault, Usage, GraphRefused, LineRefused, NodeFault, Stalled, ReadFault, WriteFault, OutOfMemory}
 
@@ -36,17 +36,17 @@ if-any None P all = tt
 if-any (Some x) P all = all x
 
 pub short-nothing : (task : Task) (store : Device StoreTold) (input : SourceTold) (output : SinkTold) (notes : Device SinkTold) (boxes : List CalculatorTold)
-    → Noted notes memory_note → CallShort task (devices store (device input input) (device output output) notes (device boxes boxes))
+    → TookNotes notes memory_note → CallShort task (devices store (device input input) (device output output) notes (device boxes boxes))
 short-nothing task store input output notes boxes noted = record { noted = noted; by = inl (record { unread = refl; unwritten = refl; uncalled = refl }) }
 
 pub called-short : (task : Task) (status : Status) (store : Device StoreTold) (input : SourceTold) (output : SinkTold) (notes : Device SinkTold) (boxes : List CalculatorTold)
-    → status ≡ OutOfMemory → Noted notes memory_note → Called status task (devices store (device input input) (device output output) notes (device boxes boxes))
+    → status ≡ OutOfMemory → TookNotes notes memory_note → Called status task (devices store (device input input) (device output output) notes (device boxes boxes))
 called-short task status store input output notes boxes is noted =
     subst (λ (s : Status). Called s task (devices store (device input input) (device output output) notes (device boxes boxes))) (sym is)
     (short-nothing task store input output notes boxes noted)
 
 -- The statuses of what was done.
-not-shown : (text : List ℕ) (status : Status) (all : Devices) → status ≢ Good → status ≢ WriteFault → WasShown text status all → ⊥
+not-shown : (text : List ℕ) (status : Status) (all : CallDevices) → status ≢ Good → status ≢ WriteFault → WasShown text status all → ⊥
 not-shown text status all not_good not_failed shown = by shown.written
   where
     by : Written text status all → ⊥
@@ -55,62 +55,62 @@ not-shown text status all not_good not_failed shown = by shown.written
 
 not-ran : (report : Bool) (plan : Plan) (status : Status) (all : running_devices.RunDevices) → (status ≡ StoreFault) ⊎ (status ≡ Usage) → running.RanAll report plan status all → ⊥
 not-ran report plan status all other ran =
-    no-status status ran.read.end (faults (answers.job_of plan ran.read) ran.is.streams) (stalled ran.is.streams) other (ran.met.told ∙ ap (λ (a : Answer). a.status) ran.is.is)
+    no-status status ran.read.end (faults (answers.job_of plan ran.read) ran.is.streams) (stalled ran.is.streams) other (ran.met.told ∙ ap (λ (a : RunAnswer). a.status) ran.is.is)
 
 not-traced : (report : Bool) (plan : Plan) (boxes : List CalculatorTold) (status : Status) (all : running_devices.RunDevices) → (status ≡ StoreFault) ⊎ (status ≡ Usage) → TracedAll report plan boxes status all → ⊥
 not-traced report plan boxes status all other ran =
     let told = traced_told report plan boxes status all ran in
     no-status status ran.read.end told.0 told.1 other told.2
 
-did-store : (job : Job) (all : Devices) → Did job StoreFault all → ⊥
+did-store : (action : Action) (all : CallDevices) → DidAction action StoreFault all → ⊥
 did-store (refuse note) all did = let e = did.ended in cc
 did-store (show text) all did = not-shown text StoreFault all (λ e. cc) (λ e. cc) did
-did-store (run_plan report plan) all did = lines-no-store report plan (run_of all) all.boxes did
-did-store (run_live report plan) all did = live-no-other report plan StoreFault (run_of all) all.boxes (inl refl) did
-did-store (solve report plan) all did = not-ran report plan StoreFault (run_of all) (inl refl) did.ran
+did-store (run_plan report plan) all did = lines-no-store report plan (run_devices_of all) all.boxes did
+did-store (run_live report plan) all did = live-no-other report plan StoreFault (run_devices_of all) all.boxes (inl refl) did
+did-store (solve report plan) all did = not-ran report plan StoreFault (run_devices_of all) (inl refl) did.ran
 did-store (generate report number plan) all did = packets-no-store report plan number all.output all.notes all.boxes did.ran
 did-store (generate_live report number plan) all did = live-made-no-other report plan number StoreFault all.output all.notes all.boxes (inl refl) did.ran
-did-store (trace report plan) all did = not-traced report plan all.boxes.before StoreFault (run_of all) (inl refl) did.ran
-did-store (replay report plan) all did = replayed_otherwise StoreFault report plan (run_of all) all.boxes (inl refl) did.replayed
+did-store (trace report plan) all did = not-traced report plan all.boxes.before StoreFault (run_devices_of all) (inl refl) did.ran
+did-store (replay report plan) all did = replayed_otherwise StoreFault report plan (run_devices_of all) all.boxes (inl refl) did.replayed
 
-did-usage : (job : Job) (all : Devices) → Did job Usage all → ⊥
+did-usage : (action : Action) (all : CallDevices) → DidAction action Usage all → ⊥
 did-usage (refuse note) all did = let e = did.ended in cc
 did-usage (show text) all did = not-shown text Usage all (λ e. cc) (λ e. cc) did
-did-usage (run_plan report plan) all did = lines-no-usage report plan (run_of all) all.boxes did
-did-usage (run_live report plan) all did = live-no-other report plan Usage (run_of all) all.boxes (inr refl) did
-did-usage (solve report plan) all did = not-ran report plan Usage (run_of all) (inr refl) did.ran
+did-usage (run_plan report plan) all did = lines-no-usage report plan (run_devices_of all) all.boxes did
+did-usage (run_live report plan) all did = live-no-other report plan Usage (run_devices_of all) all.boxes (inr refl) did
+did-usage (solve report plan) all did = not-ran report plan Usage (run_devices_of all) (inr refl) did.ran
 did-usage (generate report number plan) all did = packets-no-usage report plan number all.output all.notes all.boxes did.ran
 did-usage (generate_live report number plan) all did = live-made-no-other report plan number Usage all.output all.notes all.boxes (inr refl) did.ran
-did-usage (trace report plan) all did = not-traced report plan all.boxes.before Usage (run_of all) (inr refl) did.ran
-did-usage (replay report plan) all did = replayed_otherwise Usage report plan (run_of all) all.boxes (inr refl) did.replayed
+did-usage (trace report plan) all did = not-traced report plan all.boxes.before Usage (run_devices_of all) (inr refl) did.ran
+did-usage (replay report plan) all did = replayed_otherwise Usage report plan (run_devices_of all) all.boxes (inr refl) did.replayed
 
-did-noted : (job : Job) (all : Devices) → Did job OutOfMemory all → Noted all.notes memory_note
+did-noted : (action : Action) (all : CallDevices) → DidAction action OutOfMemory all → TookNotes all.notes memory_note
 did-noted (refuse note) all did = let e = did.ended in absurd (differ e)
   where
     differ : OutOfMemory ≡ GraphRefused → ⊥
     differ e = cc
 did-noted (show text) all did = absurd (not-shown text OutOfMemory all (λ e. cc) (λ e. cc) did)
-did-noted (run_plan report plan) all did = lines-noted report plan (run_of all) all.boxes did
-did-noted (run_live report plan) all did = live-noted report plan (run_of all) all.boxes did
+did-noted (run_plan report plan) all did = lines-noted report plan (run_devices_of all) all.boxes did
+did-noted (run_live report plan) all did = live-noted report plan (run_devices_of all) all.boxes did
 did-noted (solve report plan) all did = did.ran.1
 did-noted (generate report number plan) all did = packets-noted report plan number all.output all.notes all.boxes did.ran
 did-noted (generate_live report number plan) all did = live-made-noted report plan number all.output all.notes all.boxes did.ran
 did-noted (trace report plan) all did = did.ran.1
 did-noted (replay report plan) all did = did.replayed.1
 
-pub called-did : (job : Job) (status : Status) (task : Task) (contents : List (List ℕ)) (all : Devices)
-    → LoadedAll task.files contents all.store → IsJob task contents job → Did job status all → Called status task all
-called-did job Good task contents all loaded due did = record { contents = contents; loaded = loaded; job = job; due = due; did = did }
-called-did job StoreFault task contents all loaded due did = absurd (did-store job all did)
-called-did job Usage task contents all loaded due did = absurd (did-usage job all did)
-called-did job GraphRefused task contents all loaded due did = record { contents = contents; loaded = loaded; job = job; due = due; did = did }
-called-did job LineRefused task contents all loaded due did = record { contents = contents; loaded = loaded; job = job; due = due; did = did }
-called-did job NodeFault task contents all loaded due did = record { contents = contents; loaded = loaded; job = job; due = due; did = did }
-called-did job Stalled task contents all loaded due did = record { contents = contents; loaded = loaded; job = job; due = due; did = did }
-called-did job ReadFault task contents all loaded due did = record { contents = contents; loaded = loaded; job = job; due = due; did = did }
-called-did job WriteFault task contents all loaded due did = record { contents = contents; loaded = loaded; job = job; due = due; did = did }
-called-did job OutOfMemory task contents all loaded due did =
-    record { noted = did-noted job all did; by = inr (record { contents = contents; loaded = loaded; job = job; due = due; did = did }) }
+pub called-did : (action : Action) (status : Status) (task : Task) (contents : List (List ℕ)) (all : CallDevices)
+    → LoadedAll task.files contents all.store → IsActionOf task contents action → DidAction action status all → Called status task all
+called-did action Good task contents all loaded due did = record { contents = contents; loaded = loaded; action = action; due = due; did = did }
+called-did action StoreFault task contents all loaded due did = absurd (did-store action all did)
+called-did action Usage task contents all loaded due did = absurd (did-usage action all did)
+called-did action GraphRefused task contents all loaded due did = record { contents = contents; loaded = loaded; action = action; due = due; did = did }
+called-did action LineRefused task contents all loaded due did = record { contents = contents; loaded = loaded; action = action; due = due; did = did }
+called-did action NodeFault task contents all loaded due did = record { contents = contents; loaded = loaded; action = action; due = due; did = did }
+called-did action Stalled task contents all loaded due did = record { contents = contents; loaded = loaded; action = action; due = due; did = did }
+called-did action ReadFault task contents all loaded due did = record { contents = contents; loaded = loaded; action = action; due = due; did = did }
+called-did action WriteFault task contents all loaded due did = record { contents = contents; loaded = loaded; action = action; due = due; did = did }
+called-did action OutOfMemory task contents all loaded due did =
+    record { noted = did-noted action all did; by = inr (record { contents = contents; loaded = loaded; action = action; due = due; did = did }) }
 
 -- What follows --
 
@@ -121,65 +121,65 @@ unrisen-rose a b same rose = absurd (omega (arith, same.0, same.1, rose))
 took-nothing : (sink : Device SinkTold) → Untouched sink → TookText sink []
 took-nothing sink untouched = record { whole = rw untouched (TookAll-start sink.before.taken); steady = ap (λ s. s.faults) untouched }
 
-took-noted : (notes : Device SinkTold) (note : List ℕ) → Unrisen notes.before.faults notes.now.faults → Noted notes note → TookText notes note
+took-noted : (notes : Device SinkTold) (note : List ℕ) → Unrisen notes.before.faults notes.now.faults → TookNotes notes note → TookText notes note
 took-noted notes note same (inl whole) = whole
 took-noted notes note same (inr part) = absurd (unrisen-rose notes.before.faults notes.now.faults same part.rose)
 
-abbrev refuse_answer : List ℕ → Answer
+abbrev refuse_answer : List ℕ → RunAnswer
 refuse_answer note = record { output = []; notes = note; status = GraphRefused }
 
-abbrev show_answer : List ℕ → Answer
+abbrev show_answer : List ℕ → RunAnswer
 show_answer text = record { output = text; notes = []; status = Good }
 
-shown-answer : (text : List ℕ) (status : Status) (all : Devices) → WasShown text status all → NoneFailed all → Meets (show_answer text) status all.output all.notes
+shown-answer : (text : List ℕ) (status : Status) (all : CallDevices) → WasShown text status all → NoneFailed all → Meets (show_answer text) status all.output all.notes
 shown-answer text status all shown none = by shown.written
   where
     by : Written text status all → Meets (show_answer text) status all.output all.notes
     by (inl good) = record { text = good.1; noted = took-nothing all.notes good.2; told = good.0 }
     by (inr failed) = absurd (unrisen-rose all.output.before.faults all.output.now.faults none.output failed.1.rose)
 
-none-run : (all : Devices) → NoneFailed all → running_devices.NoneFailed (run_of all)
+none-run : (all : CallDevices) → NoneFailed all → running_devices.NoneFailed (run_devices_of all)
 none-run all none = record { input = none.input; output = none.output; notes = none.notes }
 
-did-answer : (job : Job) (status : Status) (all : Devices) → Did job status all → NoneFailed all → status ≢ OutOfMemory
-    → IfSome all.input.before.left (λ read. MetAnswer job read status all)
+did-answer : (action : Action) (status : Status) (all : CallDevices) → DidAction action status all → NoneFailed all → status ≢ OutOfMemory
+    → IfSome all.input.before.left (λ read. MetAnswer action read status all)
 did-answer (refuse note) status all did none some =
     if-any all.input.before.left (λ r. MetAnswer (refuse note) r status all)
     (λ r. (refuse_answer note, refl, record { text = took-nothing all.output did.unwritten; noted = took-noted all.notes note none.notes did.noted; told = did.ended }))
 did-answer (show text) status all did none some =
     if-any all.input.before.left (λ r. MetAnswer (show text) r status all) (λ r. (show_answer text, refl, shown-answer text status all did none))
 did-answer (run_plan report plan) status all did none some =
-    lines-answered report plan status (run_of all) all.boxes did (none-run all none) some
+    lines-answered report plan status (run_devices_of all) all.boxes did (none-run all none) some
 did-answer (run_live report plan) status all did none some =
-    live-answered report plan status (run_of all) all.boxes did (none-run all none) some
+    live-answered report plan status (run_devices_of all) all.boxes did (none-run all none) some
 did-answer (solve report plan) status all did none some =
-    ran-answered report plan status (run_of all) did.ran (none-run all none) some
+    ran-answered report plan status (run_devices_of all) did.ran (none-run all none) some
 did-answer (generate report number plan) status all did none some =
     if-any all.input.before.left (λ r. MetAnswer (generate report number plan) r status all)
-    (λ r. packets-answered report plan number status (run_of all) all.boxes did.ran (none-run all none) some)
+    (λ r. packets-answered report plan number status (run_devices_of all) all.boxes did.ran (none-run all none) some)
 did-answer (generate_live report number plan) status all did none some =
     if-any all.input.before.left (λ r. MetAnswer (generate_live report number plan) r status all)
-    (λ r. live-made-answered report plan number status (run_of all) all.boxes did.ran (none-run all none) some)
+    (λ r. live-made-answered report plan number status (run_devices_of all) all.boxes did.ran (none-run all none) some)
 did-answer (trace report plan) status all did none some =
-    traced_answered report plan all.boxes.before status (run_of all) did.ran (none-run all none) some
+    traced_answered report plan all.boxes.before status (run_devices_of all) did.ran (none-run all none) some
 did-answer (replay report plan) status all did none some =
-    replayed_answered report plan status (run_of all) all.boxes did.replayed (none-run all none) some
+    replayed_answered report plan status (run_devices_of all) all.boxes did.replayed (none-run all none) some
 
--- The answer of the job is that of the files' bytes and the input's.
-job-answered : (task : Task) (contents : List (List ℕ)) (status : Status) (job : Job) (input : Option (List ℕ)) (all : Devices) → IsJob task contents job
-    → IfSome input (λ read. MetAnswer job read status all)
-    → IfSome input (λ read. (files : Files) × AreFiles task.files contents files × MetAnswer (job_of task files) read status all)
-job-answered task contents status job None all due meets = tt
-job-answered task contents status job (Some read) all (files, are, same) meets = (files, are, subst (λ (j : Job). MetAnswer j read status all) same meets)
+-- The answer of the action is that of the files' bytes and the input's.
+action-answered : (task : Task) (contents : List (List ℕ)) (status : Status) (action : Action) (input : Option (List ℕ)) (all : CallDevices) → IsActionOf task contents action
+    → IfSome input (λ read. MetAnswer action read status all)
+    → IfSome input (λ read. (files : Files) × AreFiles task.files contents files × MetAnswer (action_of task files) read status all)
+action-answered task contents status action None all due meets = tt
+action-answered task contents status action (Some read) all (files, are, same) meets = (files, are, subst (λ (j : Action). MetAnswer j read status all) same meets)
 
-call-answered : (status : Status) (task : Task) (all : Devices) → CallDid status task all → NoneFailed all → status ≢ OutOfMemory → IsAnswered status task all
+call-answered : (status : Status) (task : Task) (all : CallDevices) → CallDid status task all → NoneFailed all → status ≢ OutOfMemory → IsAnswered status task all
 call-answered status task all called none some =
     of-loads all.store.before.content task.files called.contents
-    (λ known. IfSome all.input.before.left (λ read. (files : Files) × AreFiles task.files known files × MetAnswer (job_of task files) read status all))
+    (λ known. IfSome all.input.before.left (λ read. (files : Files) × AreFiles task.files known files × MetAnswer (action_of task files) read status all))
     called.loaded.given
-    (job-answered task called.contents status called.job all.input.before.left all called.due (did-answer called.job status all called.did none some))
+    (action-answered task called.contents status called.action all.input.before.left all called.due (did-answer called.action status all called.did none some))
 
-pub answered-from : (status : Status) (task : Task) (all : Devices) → Called status task all → NoneFailed all → status ≢ OutOfMemory → IsAnswered status task all
+pub answered-from : (status : Status) (task : Task) (all : CallDevices) → Called status task all → NoneFailed all → status ≢ OutOfMemory → IsAnswered status task all
 answered-from Good task all called none some = call-answered Good task all called none some
 answered-from StoreFault task all called none some = absurd (unrisen-rose all.store.before.faults all.store.now.faults none.store (rose-after all.store.before.faults all.store.before.faults all.store.now.faults refl called.failed.once))
 answered-from Usage task all called none some = elim called [ ]

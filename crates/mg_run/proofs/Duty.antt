@@ -8,15 +8,15 @@ use Rattle.mg_files.specs.Loads.{LoadedAll}
 use Rattle.mg_run.specs.Task.{task}
 use Rattle.mg_run.specs.Boxes.{outers_told}
 use Rattle.mg_run.specs.Devices.{Device}
-use Rattle.mg_run.specs.Answer.{Job}
-use Rattle.mg_run.specs.Call.{IsJob}
-use Rattle.mg_run.specs.Code.Job.{IsDue}
+use Rattle.mg_run.specs.Answer.{Action}
+use Rattle.mg_run.specs.Call.{IsActionOf}
+use Rattle.mg_run.specs.Code.Action.{IsDue}
 
-pub due_by : (asked : Command) (known outers : List OuterShape) (contents : List (List ℕ)) (store : Device StoreTold) (job : Job) → known ≡ outers
-    → LoadedAll asked.files contents store → IsJob (task asked known) contents job → IsDue (task asked outers) store job
-due_by asked known outers contents store job same loaded due =
-    record { contents = contents; loaded = loaded; due = subst (λ (o : List OuterShape). IsJob (task asked o) contents job) same due }
+pub due_by : (asked : Command) (known outers : List OuterShape) (contents : List (List ℕ)) (store : Device StoreTold) (action : Action) → known ≡ outers
+    → LoadedAll asked.files contents store → IsActionOf (task asked known) contents action → IsDue (task asked outers) store action
+due_by asked known outers contents store action same loaded due =
+    record { contents = contents; loaded = loaded; due = subst (λ (o : List OuterShape). IsActionOf (task asked o) contents action) same due }
 
-pub due_among : (asked : Command) (handed boxes : List CalculatorTold) (store : Device StoreTold) (job : Job) → handed ≡ boxes → IsDue (task asked (outers_told handed)) store job
-    → IsDue (task asked (outers_told boxes)) store job
-due_among asked handed boxes store job same due = subst (λ (bs : List CalculatorTold). IsDue (task asked (outers_told bs)) store job) same due
+pub due_among : (asked : Command) (handed boxes : List CalculatorTold) (store : Device StoreTold) (action : Action) → handed ≡ boxes → IsDue (task asked (outers_told handed)) store action
+    → IsDue (task asked (outers_told boxes)) store action
+due_among asked handed boxes store action same due = subst (λ (bs : List CalculatorTold). IsDue (task asked (outers_told bs)) store action) same due

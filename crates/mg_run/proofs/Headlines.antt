@@ -29,9 +29,9 @@ use Rattle.mg_files.specs.Notes.{expand_note}
 use Rattle.mg_files.specs.CheckNotes.{check_note}
 use Rattle.mg_files.specs.Files.{Files, graphs, no_graphs, AreGraphs, AreFiles}
 use Rattle.mg_files.specs.Loads.{LoadedAll, loads_of}
-use Rattle.mg_run.specs.Devices.{Device, Devices, run_of, Untouched, Unrisen}
-use Rattle.mg_run.specs.Answer.{Job, refuse, run_plan, run_live, generate, generate_live, with_limit, with_workers, as_asked, way_job, live_job, used_job, plan_job, verb_job, expanded_job, job_of}
-use Rattle.mg_run.specs.Call.{GeneratedGraph, GeneratedLive, Did, IsJob, CallDid, Called, Came, IsOneOf}
+use Rattle.mg_run.specs.Devices.{Device, CallDevices, run_devices_of, Untouched, Unrisen}
+use Rattle.mg_run.specs.Answer.{Action, refuse, run_plan, run_live, generate, generate_live, with_limit, with_workers, as_asked, way_action, live_action, used_action, plan_action, verb_action, expanded_action, action_of}
+use Rattle.mg_run.specs.Call.{GeneratedGraph, GeneratedLive, DidAction, IsActionOf, CallDid, Called, CallEnded, IsOneOf}
 use Rattle.mg_run.specs.Headline.{RunsGraph, ran_statuses, IsGraph, Origin, from_input, from_number, IsOrigin, job_from, end_from, telling_from, bare, Headline, IsLiveGraph, form_from, LiveHeadline, RanGraph}
 use Rattle.mg_words.specs.declared.words.Order.{Order}
 use Rattle.mg_words.specs.declared.words.Verb.{Verb}
@@ -46,52 +46,52 @@ use Rattle.mg_run.proofs.LiveUnlimited.{batches_same, unlimited_live}
 -- What there is to do is a refusal, or the graph of the files is used so --
 
 -- a graph is found, and this is to be done with its plan
-record Finds (task : Task) (contents : List (List ℕ)) (way : Way) (job : Job) : Type 0 where
+record Finds (task : Task) (contents : List (List ℕ)) (way : Way) (job : Action) : Type 0 where
   plan : Plan
   graph : IsGraph task contents plan
-  is : job ≡ way_job way task.order plan
+  is : job ≡ way_action way task.order plan
 
 -- or one with a free node
-record FindsLive (task : Task) (contents : List (List ℕ)) (way : Way) (job : Job) : Type 0 where
+record FindsLive (task : Task) (contents : List (List ℕ)) (way : Way) (job : Action) : Type 0 where
   plan : Plan
   graph : IsLiveGraph task contents plan
-  is : job ≡ live_job way task.order graph.first plan
+  is : job ≡ live_action way task.order graph.first plan
 
-abbrev Due : Task → List (List ℕ) → Way → Job → Type 0
+abbrev Due : Task → List (List ℕ) → Way → Action → Type 0
 Due task contents way job = ((note : List ℕ) × (job ≡ refuse note)) ⊎ (Finds task contents way job ⊎ FindsLive task contents way job)
 
 -- by whether a node is free
 by_free : (task : Task) (contents : List (List ℕ)) (way : Way) (plan : Plan) (o : Option ℕ) → first_free plan ≡ o → (first_free plan ≡ None → IsGraph task contents plan)
-    → ((first : ℕ) → first_free plan ≡ Some first → (graph : IsLiveGraph task contents plan) × (graph.first ≡ first)) → Due task contents way (used_job o way task.order plan)
+    → ((first : ℕ) → first_free plan ≡ Some first → (graph : IsLiveGraph task contents plan) × (graph.first ≡ first)) → Due task contents way (used_action o way task.order plan)
 by_free task contents way plan None is found live = inr (inl (record { plan = plan; graph = found is; is = refl }))
 by_free task contents way plan (Some node) is found live =
     let graph = live node is in
-    inr (inr (record { plan = plan; graph = graph.0; is = ap (λ (first : ℕ). live_job way task.order first plan) (sym graph.1) }))
+    inr (inr (record { plan = plan; graph = graph.0; is = ap (λ (first : ℕ). live_action way task.order first plan) (sym graph.1) }))
 
 -- by what the check answers
 by_check : (task : Task) (contents : List (List ℕ)) (way : Way) (g : GraphView) (checked : Result Plan CheckFault) → check_of task.outers g ≡ checked
     → ((plan : Plan) → check_of task.outers g ≡ Ok plan → first_free plan ≡ None → IsGraph task contents plan)
-    → ((plan : Plan) → check_of task.outers g ≡ Ok plan → (first : ℕ) → first_free plan ≡ Some first → (graph : IsLiveGraph task contents plan) × (graph.first ≡ first)) → Due task contents way (plan_job way task.order checked)
+    → ((plan : Plan) → check_of task.outers g ≡ Ok plan → (first : ℕ) → first_free plan ≡ Some first → (graph : IsLiveGraph task contents plan) × (graph.first ≡ first)) → Due task contents way (plan_action way task.order checked)
 by_check task contents way g (Ok plan) is found live = by_free task contents way plan (first_free plan) refl (found plan is) (live plan is)
 by_check task contents way g (Err fault) is found live = inl (check_note fault, refl)
 
 -- by what the expansion answers
 by_expansion : (task : Task) (contents : List (List ℕ)) (way : Way) (main : GraphView) (library : List GraphView) (expanded : Result GraphView ExpandFault) → task.order.verb ≡ Use way → AreGraphs contents (main ∷ library) → expansion_of main library ≡ expanded
-    → Due task contents way (expanded_job task.order task.outers expanded)
+    → Due task contents way (expanded_action task.order task.outers expanded)
 by_expansion task contents way main library (Ok g) verb are is =
-    subst (λ (v : Verb). Due task contents way (verb_job v task.order task.outers g)) (sym verb)
+    subst (λ (v : Verb). Due task contents way (verb_action v task.order task.outers g)) (sym verb)
     (by_check task contents way g (check_of task.outers g) refl
     (λ plan checked bound. record { main = main; library = library; files = are; graph = g; expanded = is; checked = checked; bound = bound })
     (λ plan checked first free. (record { main = main; library = library; files = are; graph = g; expanded = is; checked = checked; first = first; free = free }, refl)))
 by_expansion task contents way main library (Err fault) verb are is = inl (expand_note fault, refl)
 
 -- by what the files are
-by_files : (task : Task) (contents : List (List ℕ)) (way : Way) (files : Files) → task.order.verb ≡ Use way → AreFiles task.files contents files → Due task contents way (job_of task files)
+by_files : (task : Task) (contents : List (List ℕ)) (way : Way) (files : Files) → task.order.verb ≡ Use way → AreFiles task.files contents files → Due task contents way (action_of task files)
 by_files task contents way (graphs []) verb are = inl ([], refl)
 by_files task contents way (graphs (main ∷ library)) verb are = by_expansion task contents way main library (expansion_of main library) verb are refl
 by_files task contents way (no_graphs note) verb are = inl (note, refl)
 
-due_by : (task : Task) (contents : List (List ℕ)) (way : Way) (job : Job) → task.order.verb ≡ Use way → IsJob task contents job → Due task contents way job
+due_by : (task : Task) (contents : List (List ℕ)) (way : Way) (job : Action) → task.order.verb ≡ Use way → IsActionOf task contents job → Due task contents way job
 due_by task contents way job verb (files, are, same) = subst (Due task contents way) (sym same) (by_files task contents way files verb are)
 
 -- The plan's limit and workers have no part in it --
@@ -134,7 +134,7 @@ made_asked (Some limit) (Some workers) plan number = refl
 -- The headline --
 
 -- a graph was found, and its run came from this
-headline : (task : Task) (contents : List (List ℕ)) (plan : Plan) (status : Status) (all : Devices) (from : Origin) → LoadedAll task.files contents all.store → IsGraph task contents plan → IsOrigin task.order plan all.input from
+headline : (task : Task) (contents : List (List ℕ)) (plan : Plan) (status : Status) (all : CallDevices) (from : Origin) → LoadedAll task.files contents all.store → IsGraph task contents plan → IsOrigin task.order plan all.input from
     → OneRun (telling_from task.order.report from) (job_from (as_asked task.order plan) from) (end_from from) status all.output all.notes all.boxes → Headline task status all
 headline task contents plan status all from loaded graph origin run = record {
   contents = contents;
@@ -153,19 +153,19 @@ came_asked None (Some workers) plan input read came = came
 came_asked (Some limit) None plan input read came = came
 came_asked (Some limit) (Some workers) plan input read came = came
 
-lines_headline : (task : Task) (contents : List (List ℕ)) (plan : Plan) (status : Status) (all : Devices) → task.order.verb ≡ Use Run → status ≢ OutOfMemory → LoadedAll task.files contents all.store → IsGraph task contents plan
-    → RanOverLines task.order.report (as_asked task.order plan) status (run_of all) all.boxes → Headline task status all
+lines_headline : (task : Task) (contents : List (List ℕ)) (plan : Plan) (status : Status) (all : CallDevices) → task.order.verb ≡ Use Run → status ≢ OutOfMemory → LoadedAll task.files contents all.store → IsGraph task contents plan
+    → RanOverLines task.order.report (as_asked task.order plan) status (run_devices_of all) all.boxes → Headline task status all
 lines_headline task contents plan status all verb some loaded graph (inl one) =
     headline task contents plan status all (from_input one.read) loaded graph (verb, came_asked task.order.limit task.order.workers plan all.input one.read one.came) one.run
 lines_headline task contents plan status all verb some loaded graph (inr short) = absurd (some short.is)
 
-packets_headline : (task : Task) (contents : List (List ℕ)) (plan : Plan) (status : Status) (all : Devices) → task.order.verb ≡ Use Generate → status ≢ OutOfMemory → LoadedAll task.files contents all.store → IsGraph task contents plan
+packets_headline : (task : Task) (contents : List (List ℕ)) (plan : Plan) (status : Status) (all : CallDevices) → task.order.verb ≡ Use Generate → status ≢ OutOfMemory → LoadedAll task.files contents all.store → IsGraph task contents plan
     → Untouched all.input → RanOverPackets task.order.report (as_asked task.order plan) task.order.number status all.output all.notes all.boxes → Headline task status all
 packets_headline task contents plan status all verb some loaded graph unread (inl one) = headline task contents plan status all (from_number task.order.number) loaded graph (verb, refl, unread) one
 packets_headline task contents plan status all verb some loaded graph unread (inr short) = absurd (some short.is)
 
-live_lines_headline : (task : Task) (contents : List (List ℕ)) (plan : Plan) (status : Status) (all : Devices) → task.order.verb ≡ Use Run → status ≢ OutOfMemory → LoadedAll task.files contents all.store → IsLiveGraph task contents plan
-    → RanLive task.order.report (as_asked task.order plan) status (run_of all) all.boxes → LiveHeadline task status all
+live_lines_headline : (task : Task) (contents : List (List ℕ)) (plan : Plan) (status : Status) (all : CallDevices) → task.order.verb ≡ Use Run → status ≢ OutOfMemory → LoadedAll task.files contents all.store → IsLiveGraph task contents plan
+    → RanLive task.order.report (as_asked task.order plan) status (run_devices_of all) all.boxes → LiveHeadline task status all
 live_lines_headline task contents plan status all verb some loaded graph (inl one) = record {
   contents = contents;
   loaded = loaded;
@@ -180,7 +180,7 @@ live_lines_headline task contents plan status all verb some loaded graph (inl on
 }
 live_lines_headline task contents plan status all verb some loaded graph (inr short) = absurd (some short.is)
 
-live_packets_headline : (task : Task) (contents : List (List ℕ)) (plan : Plan) (status : Status) (all : Devices) → task.order.verb ≡ Use Generate → status ≢ OutOfMemory → LoadedAll task.files contents all.store → IsLiveGraph task contents plan
+live_packets_headline : (task : Task) (contents : List (List ℕ)) (plan : Plan) (status : Status) (all : CallDevices) → task.order.verb ≡ Use Generate → status ≢ OutOfMemory → LoadedAll task.files contents all.store → IsLiveGraph task contents plan
     → Untouched all.input → RanLiveMade task.order.report (as_asked task.order plan) task.order.number status all.output all.notes all.boxes → LiveHeadline task status all
 live_packets_headline task contents plan status all verb some loaded graph unread (inl one) = record {
   contents = contents;
@@ -197,29 +197,29 @@ live_packets_headline task contents plan status all verb some loaded graph unrea
 live_packets_headline task contents plan status all verb some loaded graph unread (inr short) = absurd (some short.is)
 
 -- a call did what there was to do, and the graph wasn't refused
-did_headline : (task : Task) (status : Status) (all : Devices) (called : CallDid status task all) (way : Way) → (way ≡ Run) ⊎ (way ≡ Generate) → task.order.verb ≡ Use way → status ≢ GraphRefused → status ≢ OutOfMemory
-    → Due task called.contents way called.job → RanGraph task status all
-did_headline task status all called way used verb good some (inl refused) = absurd (good (let d : Did (refuse refused.0) status all = subst (λ (j : Job). Did j status all) refused.1 called.did in d.ended))
+did_headline : (task : Task) (status : Status) (all : CallDevices) (called : CallDid status task all) (way : Way) → (way ≡ Run) ⊎ (way ≡ Generate) → task.order.verb ≡ Use way → status ≢ GraphRefused → status ≢ OutOfMemory
+    → Due task called.contents way called.action → RanGraph task status all
+did_headline task status all called way used verb good some (inl refused) = absurd (good (let d : DidAction (refuse refused.0) status all = subst (λ (j : Action). DidAction j status all) refused.1 called.did in d.ended))
 did_headline task status all called way (inl is) verb good some (inr (inl found)) =
-    let same : called.job ≡ run_plan task.order.report (as_asked task.order found.plan) = found.is ∙ ap (λ (w : Way). way_job w task.order found.plan) is in
-    inl (lines_headline task called.contents found.plan status all (verb ∙ ap Use is) some called.loaded found.graph (subst (λ (j : Job). Did j status all) same called.did))
+    let same : called.action ≡ run_plan task.order.report (as_asked task.order found.plan) = found.is ∙ ap (λ (w : Way). way_action w task.order found.plan) is in
+    inl (lines_headline task called.contents found.plan status all (verb ∙ ap Use is) some called.loaded found.graph (subst (λ (j : Action). DidAction j status all) same called.did))
 did_headline task status all called way (inr is) verb good some (inr (inl found)) =
-    let same : called.job ≡ generate task.order.report task.order.number (as_asked task.order found.plan) = found.is ∙ ap (λ (w : Way). way_job w task.order found.plan) is in
-    let d : GeneratedGraph task.order.report task.order.number (as_asked task.order found.plan) status all = subst (λ (j : Job). Did j status all) same called.did in
+    let same : called.action ≡ generate task.order.report task.order.number (as_asked task.order found.plan) = found.is ∙ ap (λ (w : Way). way_action w task.order found.plan) is in
+    let d : GeneratedGraph task.order.report task.order.number (as_asked task.order found.plan) status all = subst (λ (j : Action). DidAction j status all) same called.did in
     inl (packets_headline task called.contents found.plan status all (verb ∙ ap Use is) some called.loaded found.graph d.unread d.ran)
 did_headline task status all called way (inl is) verb good some (inr (inr found)) =
-    let same : called.job ≡ run_live task.order.report (as_asked task.order found.plan) = found.is ∙ ap (λ (w : Way). live_job w task.order found.graph.first found.plan) is in
-    inr (live_lines_headline task called.contents found.plan status all (verb ∙ ap Use is) some called.loaded found.graph (subst (λ (j : Job). Did j status all) same called.did))
+    let same : called.action ≡ run_live task.order.report (as_asked task.order found.plan) = found.is ∙ ap (λ (w : Way). live_action w task.order found.graph.first found.plan) is in
+    inr (live_lines_headline task called.contents found.plan status all (verb ∙ ap Use is) some called.loaded found.graph (subst (λ (j : Action). DidAction j status all) same called.did))
 did_headline task status all called way (inr is) verb good some (inr (inr found)) =
-    let same : called.job ≡ generate_live task.order.report task.order.number (as_asked task.order found.plan) = found.is ∙ ap (λ (w : Way). live_job w task.order found.graph.first found.plan) is in
-    let d : GeneratedLive task.order.report task.order.number (as_asked task.order found.plan) status all = subst (λ (j : Job). Did j status all) same called.did in
+    let same : called.action ≡ generate_live task.order.report task.order.number (as_asked task.order found.plan) = found.is ∙ ap (λ (w : Way). live_action w task.order found.graph.first found.plan) is in
+    let d : GeneratedLive task.order.report task.order.number (as_asked task.order found.plan) status all = subst (λ (j : Action). DidAction j status all) same called.did in
     inr (live_packets_headline task called.contents found.plan status all (verb ∙ ap Use is) some called.loaded found.graph d.unread d.ran)
 
-call_headline : (status : Status) (task : Task) (all : Devices) → CallDid status task all → RunsGraph task.order.verb → status ≢ GraphRefused → status ≢ OutOfMemory → RanGraph task status all
+call_headline : (status : Status) (task : Task) (all : CallDevices) → CallDid status task all → RunsGraph task.order.verb → status ≢ GraphRefused → status ≢ OutOfMemory → RanGraph task status all
 call_headline status task all called (inl verb) good some =
-    did_headline task status all called Run (inl refl) verb good some (due_by task called.contents Run called.job verb called.due)
+    did_headline task status all called Run (inl refl) verb good some (due_by task called.contents Run called.action verb called.due)
 call_headline status task all called (inr verb) good some =
-    did_headline task status all called Generate (inr refl) verb good some (due_by task called.contents Generate called.job verb called.due)
+    did_headline task status all called Generate (inr refl) verb good some (due_by task called.contents Generate called.action verb called.due)
 
 -- no run ends so
 store_ran : IsOneOf StoreFault ran_statuses → ⊥
@@ -249,7 +249,7 @@ memory_ran (inr (inr (inr (inr (inl e))))) = cc
 memory_ran (inr (inr (inr (inr (inr (inl e)))))) = cc
 memory_ran (inr (inr (inr (inr (inr (inr none)))))) = none
 
-called_headline : (status : Status) (task : Task) (all : Devices) → Called status task all → RunsGraph task.order.verb → IsOneOf status ran_statuses → RanGraph task status all
+called_headline : (status : Status) (task : Task) (all : CallDevices) → Called status task all → RunsGraph task.order.verb → IsOneOf status ran_statuses → RanGraph task status all
 called_headline Good task all called runs one = call_headline Good task all called runs (λ e. cc) (λ e. cc)
 called_headline StoreFault task all called runs one = absurd (store_ran one)
 called_headline Usage task all called runs one = elim called [ ]
@@ -261,7 +261,7 @@ called_headline ReadFault task all called runs one = call_headline ReadFault tas
 called_headline WriteFault task all called runs one = call_headline WriteFault task all called runs (λ e. cc) (λ e. cc)
 called_headline OutOfMemory task all called runs one = absurd (memory_ran one)
 
-pub came-headline : (outers : List OuterShape) (asked : Asked) (status : Status) (all : Devices) → Came outers asked status all
+pub came-headline : (outers : List OuterShape) (asked : Asked) (status : Status) (all : CallDevices) → CallEnded outers asked status all
     → IfSome (command_by asked) (λ command. RunsGraph command.order.verb → IsOneOf status ran_statuses → RanGraph (task command outers) status all)
 came-headline outers asks_usage status all came = tt
 came-headline outers (asks_text text) status all came = tt
@@ -316,7 +316,7 @@ one_origin order plan input other bytes (from_input read) (from_number number) l
 one_origin order plan input other bytes (from_number number) (from_input read) left left_too un un_too one two = absurd (not_both order two.0 one.0)
 one_origin order plan input other bytes (from_number number) (from_number again) left left_too un un_too one two = ap from_number (one.1 ∙ sym two.1)
 
-pub one_headline : (task : Task) (status other_status : Status) (all other : Devices) (contents : List (List ℕ)) (bytes : List ℕ) (a : Headline task status all) (b : Headline task other_status other)
+pub one_headline : (task : Task) (status other_status : Status) (all other : CallDevices) (contents : List (List ℕ)) (bytes : List ℕ) (a : Headline task status all) (b : Headline task other_status other)
     → loads_of all.store.before.content task.files ≡ Some contents → loads_of other.store.before.content task.files ≡ Some contents → all.input.before.left ≡ Some bytes → other.input.before.left ≡ Some bytes
     → Unrisen all.input.before.faults all.input.now.faults → Unrisen other.input.before.faults other.input.now.faults → (a.plan ≡ b.plan) × (a.from ≡ b.from) × (a.run.streams ≡ b.run.streams)
 one_headline task status other_status all other contents bytes a b loads loads_too left left_too un un_too =

@@ -9,7 +9,7 @@ use Rattle.mg_feed.specs.Graph.{inputs_of}
 use Rattle.mg_feed.specs.Ran.{EndCame}
 use Rattle.mg_feed.specs.declared.feed_end.FeedEnd.{FeedEnd}
 use Rattle.mg_feed.specs.declared.feed_end.FeedEnd.TheVariants.{Ended}
-use Rattle.mg_answer.specs.Answer.{Form, packet_lines, totals, Read, Answer, output_in, ended_input, generated_job}
+use Rattle.mg_answer.specs.Answer.{OutputForm, packet_lines, totals, Read, RunAnswer, output_in, ended_input, generated_job}
 use Rattle.mg_answer.specs.Devices as answers
 use Rattle.mg_answer.specs.Outcomes.{told_answer, told_failed}
 use Rattle.mg_answer.specs.Notes.{memory_note}
@@ -22,14 +22,14 @@ use Rattle.mg_answer.proofs.Answering.{no-want, end-by, no-one, failed-by, stead
 use Rattle.mg_drive.specs.InBatches.{come_after}
 use Rattle.mg_drive.specs.OneLive.{OneLive, OneLiveReading, OneLiveMade, AreBatchesOf, IsLiveAnswer, LiveShortIn, LiveShortInMade, RanLive, RanLiveMade, AnswersLive, AnswersLiveMade}
 use Rattle.mg_drive.proofs.Cuts.{some_cut}
-use Rattle.mg_run.specs.Devices.{Device, RunDevices, HasRisen, Noted}
+use Rattle.mg_run.specs.Devices.{Device, RunDevices, HasRisen, TookNotes}
 use Rattle.mg_run.specs.Call.{IsOneOf}
 use Rattle.mg_run.proofs.Readings.{no-status, no_memory}
 
 -- What was written --
 
 -- the answer was written, or a write failed
-either_wrote : (status : Status) (answer : Answer) (failed : List ℕ) (output notes : Device SinkTold) → WroteBy status answer failed output notes → Meets answer status output notes ⊎ ((status ≡ WriteFault) × MetShort answer failed output notes)
+either_wrote : (status : Status) (answer : RunAnswer) (failed : List ℕ) (output notes : Device SinkTold) → WroteBy status answer failed output notes → Meets answer status output notes ⊎ ((status ≡ WriteFault) × MetShort answer failed output notes)
 either_wrote Good answer failed output notes wrote = inl wrote
 either_wrote StoreFault answer failed output notes wrote = inl wrote
 either_wrote Usage answer failed output notes wrote = inl wrote
@@ -46,7 +46,7 @@ abbrev Ended_so : Bool → Plan → FeedEnd → Outcomes → List ℕ → Status
 Ended_so report whole end live text status output notes =
     Meets (told_answer report whole end live text) status output notes ⊎ ((status ≡ WriteFault) × MetShort (told_answer report whole end live text) (told_failed report whole end live) output notes)
 
-ended_so : (form : Form) (report : Bool) (whole : Plan) (first : Inputs) (later : List Inputs) (end : FeedEnd) (status : Status) (output notes : Device SinkTold) (boxes : Device (List CalculatorTold))
+ended_so : (form : OutputForm) (report : Bool) (whole : Plan) (first : Inputs) (later : List Inputs) (end : FeedEnd) (status : Status) (output notes : Device SinkTold) (boxes : Device (List CalculatorTold))
     → (run : OneLive form report whole first later end status output notes boxes) → Ended_so report whole end run.comes.live (output_in form (split_of whole).core run.comes.streams) status output notes
 ended_so form report whole first later end status output notes boxes run =
     either_wrote status (told_answer report whole end run.comes.live (output_in form (split_of whole).core run.comes.streams)) (told_failed report whole end run.comes.live) output notes run.wrote
@@ -85,7 +85,7 @@ live-made-no-other report whole number status output notes boxes other (inl one)
 live-made-no-other report whole number status output notes boxes other (inr short) = not_short status other short.is
 
 -- Where memory ran out the notes say so.
-pub live-noted : (report : Bool) (whole : Plan) (all : RunDevices) (boxes : Device (List CalculatorTold)) → RanLive report whole OutOfMemory all boxes → Noted all.notes memory_note
+pub live-noted : (report : Bool) (whole : Plan) (all : RunDevices) (boxes : Device (List CalculatorTold)) → RanLive report whole OutOfMemory all boxes → TookNotes all.notes memory_note
 live-noted report whole all boxes (inr short) = short.noted
 live-noted report whole all boxes (inl one) = absurd (by (read_so report whole OutOfMemory all boxes one))
   where
@@ -93,7 +93,7 @@ live-noted report whole all boxes (inl one) = absurd (by (read_so report whole O
     by (inl met) = no-want whole all.input one.read.end one.run.comes.live.faults (open_numbers one.run.comes.live.ends.items) one.came.came one.read one.came.by met.told
     by (inr short) = let e = short.0 in cc
 
-pub live-made-noted : (report : Bool) (whole : Plan) (number : ℕ) (output notes : Device SinkTold) (boxes : Device (List CalculatorTold)) → RanLiveMade report whole number OutOfMemory output notes boxes → Noted notes memory_note
+pub live-made-noted : (report : Bool) (whole : Plan) (number : ℕ) (output notes : Device SinkTold) (boxes : Device (List CalculatorTold)) → RanLiveMade report whole number OutOfMemory output notes boxes → TookNotes notes memory_note
 live-made-noted report whole number output notes boxes (inr short) = short.noted
 live-made-noted report whole number output notes boxes (inl one) = absurd (by (made_so report whole number OutOfMemory output notes boxes one))
   where
@@ -125,7 +125,7 @@ live-made-boxes report whole number status output notes boxes (inr short) = made
 
 -- The answer, the input's end and faults --
 
-no_short : (answer : Answer) (failed : List ℕ) (output notes : Device SinkTold) → MetShort answer failed output notes → answers.Unrisen output.before.faults output.now.faults → answers.Unrisen notes.before.faults notes.now.faults → ⊥
+no_short : (answer : RunAnswer) (failed : List ℕ) (output notes : Device SinkTold) → MetShort answer failed output notes → answers.Unrisen output.before.faults output.now.faults → answers.Unrisen notes.before.faults notes.now.faults → ⊥
 no_short answer failed output notes short one two = elim short.rose [ inl rose ↦ rose-unrisen _ _ rose one | inr rose ↦ rose-unrisen _ _ rose two ]
 
 met_then : (report : Bool) (whole : Plan) (end : FeedEnd) (live : Outcomes) (text : List ℕ) (status : Status) (output notes : Device SinkTold) → answers.Unrisen output.before.faults output.now.faults → answers.Unrisen notes.before.faults notes.now.faults
@@ -134,7 +134,7 @@ met_then report whole end live text status output notes one two (inl met) = met
 met_then report whole end live text status output notes one two (inr short) = absurd (no_short (told_answer report whole end live text) (told_failed report whole end live) output notes short.1 one two)
 
 abbrev MetLive : Bool → Plan → Status → RunDevices → List ℕ → Type 0
-MetLive report whole status all bytes = (answer : Answer) × AnswersLive report whole bytes answer × Meets answer status all.output all.notes
+MetLive report whole status all bytes = (answer : RunAnswer) × AnswersLive report whole bytes answer × Meets answer status all.output all.notes
 
 pub live-answered : (report : Bool) (whole : Plan) (status : Status) (all : RunDevices) (boxes : Device (List CalculatorTold)) → RanLive report whole status all boxes → answers.NoneFailed all → status ≢ OutOfMemory
     → IfSome all.input.before.left (MetLive report whole status all)
@@ -158,7 +158,7 @@ live-answered report whole status all boxes (inl one) none some = by all.input.b
         )
 
 pub live-made-answered : (report : Bool) (whole : Plan) (number : ℕ) (status : Status) (all : RunDevices) (boxes : Device (List CalculatorTold)) → RanLiveMade report whole number status all.output all.notes boxes → answers.NoneFailed all → status ≢ OutOfMemory
-    → (answer : Answer) × AnswersLiveMade report whole number answer × Meets answer status all.output all.notes
+    → (answer : RunAnswer) × AnswersLiveMade report whole number answer × Meets answer status all.output all.notes
 live-made-answered report whole number status all boxes (inr short) none some = absurd (some short.is)
 live-made-answered report whole number status all boxes (inl one) none some =
     let text = output_in totals (split_of whole).core one.comes.streams in (

@@ -14,7 +14,7 @@ use Rattle.mg_free.specs.Turns.{last_batch}
 use Rattle.mg_feed.specs.declared.feed_end.FeedEnd.{FeedEnd}
 use Rattle.mg_feed.specs.declared.feed_end.FeedEnd.TheVariants.{Ended}
 use Rattle.mg_feed.specs.Graph.{inputs_of}
-use Rattle.mg_answer.specs.Answer.{Form, packet_lines, totals, Answer, Read, output_in, ended_input, generated_job}
+use Rattle.mg_answer.specs.Answer.{OutputForm, packet_lines, totals, RunAnswer, Read, output_in, ended_input, generated_job}
 use Rattle.mg_answer.specs.Devices.{Device}
 use Rattle.mg_answer.specs.Outcomes.{told_answer, told_failed}
 use Rattle.mg_answer.specs.Notes.{end_note, fault_note}
@@ -24,7 +24,7 @@ use Rattle.mg_answer.specs.Wrote.{WroteBy}
 use Rattle.mg_answer.specs.declared.outcomes.Outcomes.{Outcomes}
 use Rattle.mg_answer.specs.declared.status.Status.{Status}
 use Rattle.mg_answer.specs.declared.status.Status.TheVariants.{WriteFault}
-use Rattle.mg_drive.specs.Live.{fault_in, sets_by, LiveTells}
+use Rattle.mg_drive.specs.Live.{renumbered_fault, sets_by, LiveTells}
 use Rattle.mg_drive.specs.OneLive.{ComesTo, IsLiveAnswer, OneLive, AreBatchesOf, AnswersLive, AnswersLiveMade}
 use Rattle.mg_run.specs.Answer.{with_limit, with_workers, limit_or}
 use Rattle.mg_words.specs.declared.limits.TheConstants.{MOST_WORKERS}
@@ -50,7 +50,7 @@ tells_same : (plan : Plan) (limit : ℤ) (workers : ℕ) (base : Inputs) (stream
     → LiveTells (limited_plan plan limit workers) (core_job (split_of (limited_plan plan limit workers)) base takens) streams (split_of (limited_plan plan limit workers)).free takens live
     → LiveTells plan (core_job (split_of plan) base takens) streams (split_of plan).free takens live
 tells_same plan limit workers base streams takens live t = record {
-  faults = t.faults ∙ ap (λ (fs : List NodeFault). map (fault_in (split_of plan).numbers) fs) (faults_same (core_job (split_of plan) base takens) limit workers streams);
+  faults = t.faults ∙ ap (λ (fs : List NodeFault). map (renumbered_fault (split_of plan).numbers) fs) (faults_same (core_job (split_of plan) base takens) limit workers streams);
   sets = t.sets ∙ ap (λ (cs : List ℕ). sets_by plan.nodes cs (map (λ (taken : Taken). length taken.log) takens)) (counts_same (core_job (split_of plan) base takens) limit workers streams);
   ends = t.ends;
   arrivals = t.arrivals;
@@ -70,7 +70,7 @@ comes_same plan limit workers first later c = record {
 
 -- The answer --
 
-answer_same : (form : Form) (report : Bool) (plan : Plan) (limit : ℤ) (workers : ℕ) (end : FeedEnd) (live : Outcomes) (streams : List (StreamPrefix Plain))
+answer_same : (form : OutputForm) (report : Bool) (plan : Plan) (limit : ℤ) (workers : ℕ) (end : FeedEnd) (live : Outcomes) (streams : List (StreamPrefix Plain))
     → told_answer report (limited_plan plan limit workers) end live (output_in form (split_of (limited_plan plan limit workers)).core streams) ≡ told_answer report plan end live (output_in form (split_of plan).core streams)
 answer_same form report plan limit workers end live streams =
     let stopped = open_numbers live.ends.items in
@@ -82,7 +82,7 @@ answer_same form report plan limit workers end live streams =
       status = status;
     }
 
-live_same : (form : Form) (report : Bool) (plan : Plan) (limit : ℤ) (workers : ℕ) (first : Inputs) (later : List Inputs) (end : FeedEnd) (a : Answer)
+live_same : (form : OutputForm) (report : Bool) (plan : Plan) (limit : ℤ) (workers : ℕ) (first : Inputs) (later : List Inputs) (end : FeedEnd) (a : RunAnswer)
     → IsLiveAnswer form report (limited_plan plan limit workers) first later end a → IsLiveAnswer form report plan first later end a
 unfolding comes_same
 live_same form report plan limit workers first later end a is = record {
@@ -93,7 +93,7 @@ live_same form report plan limit workers first later end a is = record {
 pub batches_same : (plan : Plan) (limit : ℤ) (workers : ℕ) (read : Read) (batches : List Inputs) → AreBatchesOf (limited_plan plan limit workers) read batches → AreBatchesOf plan read batches
 batches_same plan limit workers read batches b = record { lines = b.lines; in_batches = b.in_batches; are = b.are }
 
-lines_same : (report : Bool) (plan : Plan) (limit : ℤ) (workers : ℕ) (input : List ℕ) (a : Answer) → AnswersLive report (limited_plan plan limit workers) input a → AnswersLive report plan input a
+lines_same : (report : Bool) (plan : Plan) (limit : ℤ) (workers : ℕ) (input : List ℕ) (a : RunAnswer) → AnswersLive report (limited_plan plan limit workers) input a → AnswersLive report plan input a
 lines_same report plan limit workers input a is = record {
   first = is.first;
   later = is.later;
@@ -101,16 +101,16 @@ lines_same report plan limit workers input a is = record {
   answers = live_same packet_lines report plan limit workers is.first is.later (ended_input (inputs_of plan) input).end a is.answers;
 }
 
-pub live_asked : (report : Bool) (limit : Option ℤ) (workers : Option ℕ) (plan : Plan) (input : List ℕ) (a : Answer) → AnswersLive report (with_workers workers (with_limit limit plan)) input a → AnswersLive report plan input a
+pub live_asked : (report : Bool) (limit : Option ℤ) (workers : Option ℕ) (plan : Plan) (input : List ℕ) (a : RunAnswer) → AnswersLive report (with_workers workers (with_limit limit plan)) input a → AnswersLive report plan input a
 live_asked report None None plan input a is = is
 live_asked report (Some limit) None plan input a is = lines_same report plan (limit_or limit plan.limit) plan.workers input a is
 live_asked report None (Some workers) plan input a is = lines_same report plan plan.limit (min workers MOST_WORKERS) input a is
 live_asked report (Some limit) (Some workers) plan input a is = lines_same report plan (limit_or limit plan.limit) (min workers MOST_WORKERS) input a is
 
-made_same : (report : Bool) (number : ℕ) (plan : Plan) (limit : ℤ) (workers : ℕ) (a : Answer) → AnswersLiveMade report (limited_plan plan limit workers) number a → AnswersLiveMade report plan number a
+made_same : (report : Bool) (number : ℕ) (plan : Plan) (limit : ℤ) (workers : ℕ) (a : RunAnswer) → AnswersLiveMade report (limited_plan plan limit workers) number a → AnswersLiveMade report plan number a
 made_same report number plan limit workers a is = live_same totals report plan limit workers (generated_job plan number).inputs [] Ended a is
 
-pub live_made_asked : (report : Bool) (number : ℕ) (limit : Option ℤ) (workers : Option ℕ) (plan : Plan) (a : Answer) → AnswersLiveMade report (with_workers workers (with_limit limit plan)) number a → AnswersLiveMade report plan number a
+pub live_made_asked : (report : Bool) (number : ℕ) (limit : Option ℤ) (workers : Option ℕ) (plan : Plan) (a : RunAnswer) → AnswersLiveMade report (with_workers workers (with_limit limit plan)) number a → AnswersLiveMade report plan number a
 live_made_asked report number None None plan a is = is
 live_made_asked report number (Some limit) None plan a is = made_same report number plan (limit_or limit plan.limit) plan.workers a is
 live_made_asked report number None (Some workers) plan a is = made_same report number plan plan.limit (min workers MOST_WORKERS) a is
@@ -124,14 +124,14 @@ failed_same report plan limit workers end live =
     λ i. (end_note end ++ flat_map (fault_note plan) live.faults ++ notes_same WriteFault plan limit workers (end_bounds live.ends.items) stopped i)
     ++ live.arrivals.items ++ asked_report report (report_by plan live.sets live.ends.items)
 
-pub unlimited_live : (form : Form) (report : Bool) (plan : Plan) (limit : ℤ) (workers : ℕ) (first : Inputs) (later : List Inputs) (end : FeedEnd) (status : Status) (output notes : Device SinkTold) (boxes : Device (List CalculatorTold))
+pub unlimited_live : (form : OutputForm) (report : Bool) (plan : Plan) (limit : ℤ) (workers : ℕ) (first : Inputs) (later : List Inputs) (end : FeedEnd) (status : Status) (output notes : Device SinkTold) (boxes : Device (List CalculatorTold))
     → OneLive form report (limited_plan plan limit workers) first later end status output notes boxes → OneLive form report plan first later end status output notes boxes
 unfolding comes_same
 unlimited_live form report plan limit workers first later end status output notes boxes r =
     let job = core_job (split_of plan) (last_batch first later) r.comes.takens in
     record {
       comes = comes_same plan limit workers first later r.comes;
-      wrote = subst (λ (a : Answer). WroteBy status a (told_failed report plan end r.comes.live) output notes) (answer_same form report plan limit workers end r.comes.live r.comes.streams)
+      wrote = subst (λ (a : RunAnswer). WroteBy status a (told_failed report plan end r.comes.live) output notes) (answer_same form report plan limit workers end r.comes.live r.comes.streams)
           (subst (λ (f : List ℕ). WroteBy status (told_answer report (limited_plan plan limit workers) end r.comes.live (output_in form (split_of (limited_plan plan limit workers)).core r.comes.streams)) f output notes)
           (failed_same report plan limit workers end r.comes.live) r.wrote);
       had = record {

@@ -8,15 +8,15 @@ use Rattle.mg_answer.specs.Answer.{totals, ended_input, by_summary, generated_jo
 use Rattle.mg_answer.proofs.OneAnswer.{one-answer, one-of}
 use Rattle.mg_drive.specs.Traced.{TracesEnded}
 use Rattle.mg_run.proofs.OneLiveAnswer.{one-of-live, one-of-lines}
-use Rattle.mg_run.specs.Answer.{Answer, Job, refuse, show, run_plan, run_live, solve, generate, generate_live, trace, replay, IsAnswerOf, Records, Replays}
+use Rattle.mg_run.specs.Answer.{RunAnswer, Action, refuse, show, run_plan, run_live, solve, generate, generate_live, trace, replay, AnswersAction, Records, Replays}
 
-pub one-of-run : (report : Bool) (plan : Plan) (input : List ℕ) (a b : Answer) → AnswersEnded report plan input a → AnswersEnded report plan input b → a ≡ b
+pub one-of-run : (report : Bool) (plan : Plan) (input : List ℕ) (a b : RunAnswer) → AnswersEnded report plan input a → AnswersEnded report plan input b → a ≡ b
 one-of-run report plan input a b one two = one-answer report plan (ended_input (inputs_of plan) input) a b one two
 
-one-of-made : (report : Bool) (plan : Plan) (number : ℕ) (a b : Answer) → AnswersGenerated report plan number a → AnswersGenerated report plan number b → a ≡ b
+one-of-made : (report : Bool) (plan : Plan) (number : ℕ) (a b : RunAnswer) → AnswersGenerated report plan number a → AnswersGenerated report plan number b → a ≡ b
 one-of-made report plan number a b one two = one-of (by_summary report) (generated_job plan number) Ended a b one two
 
-pub one-of-job : (job : Job) (boxes : List CalculatorTold) (input : List ℕ) (a b : Answer) → ¬ Records job → ¬ Replays job → IsAnswerOf job boxes input a → IsAnswerOf job boxes input b → a ≡ b
+pub one-of-job : (job : Action) (boxes : List CalculatorTold) (input : List ℕ) (a b : RunAnswer) → ¬ Records job → ¬ Replays job → AnswersAction job boxes input a → AnswersAction job boxes input b → a ≡ b
 one-of-job (refuse note) boxes input a b other given one two = one ∙ sym two
 one-of-job (show text) boxes input a b other given one two = one ∙ sym two
 one-of-job (run_plan report plan) boxes input a b other given one two = one-of-run report plan input a b one two
@@ -28,23 +28,23 @@ one-of-job (trace report plan) boxes input a b other given one two = absurd (oth
 one-of-job (replay report plan) boxes input a b other given one two = absurd (given tt)
 
 -- what two answers end with is the same
-abbrev pub EndAlike : Answer → Answer → Type 0
+abbrev pub EndAlike : RunAnswer → RunAnswer → Type 0
 EndAlike a b = (a.notes ≡ b.notes) × (a.status ≡ b.status)
 
-alike : (a b : Answer) → a ≡ b → EndAlike a b
-alike a b same = (ap (λ (x : Answer). x.notes) same, ap (λ (x : Answer). x.status) same)
+alike : (a b : RunAnswer) → a ≡ b → EndAlike a b
+alike a b same = (ap (λ (x : RunAnswer). x.notes) same, ap (λ (x : RunAnswer). x.status) same)
 
-pub ends-as-run : (report : Bool) (plan : Plan) (boxes : List CalculatorTold) (input : List ℕ) (a b : Answer) → TracesEnded report plan boxes input a → AnswersEnded report plan input b → EndAlike a b
+pub ends-as-run : (report : Bool) (plan : Plan) (boxes : List CalculatorTold) (input : List ℕ) (a b : RunAnswer) → TracesEnded report plan boxes input a → AnswersEnded report plan input b → EndAlike a b
 ends-as-run report plan boxes input a b one two =
     let same = one-of-run report plan input one.of_run b one.is_answer two in
-    (ap (λ (x : Answer). x.notes) one.is ∙ ap (λ (x : Answer). x.notes) same, ap (λ (x : Answer). x.status) one.is ∙ ap (λ (x : Answer). x.status) same)
+    (ap (λ (x : RunAnswer). x.notes) one.is ∙ ap (λ (x : RunAnswer). x.notes) same, ap (λ (x : RunAnswer). x.status) one.is ∙ ap (λ (x : RunAnswer). x.status) same)
 
-two-traces : (report : Bool) (plan : Plan) (boxes : List CalculatorTold) (input : List ℕ) (a b : Answer) → TracesEnded report plan boxes input a → TracesEnded report plan boxes input b → EndAlike a b
+two-traces : (report : Bool) (plan : Plan) (boxes : List CalculatorTold) (input : List ℕ) (a b : RunAnswer) → TracesEnded report plan boxes input a → TracesEnded report plan boxes input b → EndAlike a b
 two-traces report plan boxes input a b one two =
     let first = ends-as-run report plan boxes input a two.of_run one two.is_answer in
-    (first.0 ∙ sym (ap (λ (x : Answer). x.notes) two.is), first.1 ∙ sym (ap (λ (x : Answer). x.status) two.is))
+    (first.0 ∙ sym (ap (λ (x : RunAnswer). x.notes) two.is), first.1 ∙ sym (ap (λ (x : RunAnswer). x.status) two.is))
 
-pub one-end : (job : Job) (boxes : List CalculatorTold) (input : List ℕ) (a b : Answer) → ¬ Replays job → IsAnswerOf job boxes input a → IsAnswerOf job boxes input b → EndAlike a b
+pub one-end : (job : Action) (boxes : List CalculatorTold) (input : List ℕ) (a b : RunAnswer) → ¬ Replays job → AnswersAction job boxes input a → AnswersAction job boxes input b → EndAlike a b
 one-end (refuse note) boxes input a b given one two = alike a b (one ∙ sym two)
 one-end (show text) boxes input a b given one two = alike a b (one ∙ sym two)
 one-end (run_plan report plan) boxes input a b given one two = alike a b (one-of-run report plan input a b one two)

@@ -15,18 +15,18 @@ use Rattle.mg_free.specs.Turns.{last_batch}
 use Rattle.mg_free.proofs.RoundsEnd.{all_rounds_one}
 use Rattle.mg_feed.specs.Graph.{inputs_of}
 use Rattle.mg_feed.specs.declared.feed_end.FeedEnd.{FeedEnd}
-use Rattle.mg_answer.specs.Answer.{Form, packet_lines, Answer, Read, output_in, ended_input}
+use Rattle.mg_answer.specs.Answer.{OutputForm, packet_lines, RunAnswer, Read, output_in, ended_input}
 use Rattle.mg_answer.specs.Notes.{notes_by}
 use Rattle.mg_answer.specs.Report.{end_of, open_numbers, end_bounds, report_by, asked_report}
 use Rattle.mg_answer.specs.Told.{status_of}
 use Rattle.mg_answer.specs.declared.outcomes.StreamEnd.{StreamEnd}
 use Rattle.mg_drive.specs.InBatches.{come_after}
-use Rattle.mg_drive.specs.Live.{fault_in, sets_by, arrivals_text}
+use Rattle.mg_drive.specs.Live.{renumbered_fault, sets_by, arrivals_text}
 use Rattle.mg_drive.specs.OneLive.{IsLiveAnswer, AreBatchesOf, AnswersLive}
 use Rattle.mg_drive.proofs.Cuts.{one_cut}
 
 -- an answer, by all that it tells
-abbrev answer_by : Bool → Plan → FeedEnd → List NodeFault → List ℕ → List StreamEnd → List ℕ → List ℕ → Answer
+abbrev answer_by : Bool → Plan → FeedEnd → List NodeFault → List ℕ → List StreamEnd → List ℕ → List ℕ → RunAnswer
 answer_by report whole end fs sets ends arrivals text = record {
   output = text;
   notes = notes_by (status_of end fs (open_numbers ends)) whole end fs (end_bounds ends) (open_numbers ends) ++ arrivals ++ asked_report report (report_by whole sets ends);
@@ -34,22 +34,22 @@ answer_by report whole end fs sets ends arrivals text = record {
 }
 
 -- what the logs and the core's solution make of it
-abbrev answer_in : Form → Bool → Plan → Inputs → FeedEnd → List Taken → List (StreamPrefix Plain) → Answer
+abbrev answer_in : OutputForm → Bool → Plan → Inputs → FeedEnd → List Taken → List (StreamPrefix Plain) → RunAnswer
 answer_in form report whole base end takens streams =
     answer_by report whole end
-    (map (fault_in (split_of whole).numbers) (faults (core_job (split_of whole) base takens) streams))
+    (map (renumbered_fault (split_of whole).numbers) (faults (core_job (split_of whole) base takens) streams))
     (sets_by whole.nodes (counts (core_job (split_of whole) base takens) streams) (map (λ t. length t.log) takens))
     (map (λ s. end_of (stream_of streams (stream_number whole s))) (numbers (length whole.streams)))
     (arrivals_text (split_of whole).free takens)
     (output_in form (split_of whole).core streams)
 
-answer_told : (form : Form) (report : Bool) (whole : Plan) (first : Inputs) (later : List Inputs) (end : FeedEnd) (a : Answer) → (is : IsLiveAnswer form report whole first later end a)
+answer_told : (form : OutputForm) (report : Bool) (whole : Plan) (first : Inputs) (later : List Inputs) (end : FeedEnd) (a : RunAnswer) → (is : IsLiveAnswer form report whole first later end a)
     → a ≡ answer_in form report whole (last_batch first later) end is.comes.takens is.comes.streams
 answer_told form report whole first later end a is =
     let told = is.comes.tells in
     is.is ∙ (λ i. answer_by report whole end (told.faults i) (told.sets i) (told.ends i) (told.arrivals i) (output_in form (split_of whole).core is.comes.streams))
 
-pub one-of-live : (form : Form) (report : Bool) (whole : Plan) (first : Inputs) (later : List Inputs) (end : FeedEnd) (a b : Answer) → IsLiveAnswer form report whole first later end a → IsLiveAnswer form report whole first later end b → a ≡ b
+pub one-of-live : (form : OutputForm) (report : Bool) (whole : Plan) (first : Inputs) (later : List Inputs) (end : FeedEnd) (a b : RunAnswer) → IsLiveAnswer form report whole first later end a → IsLiveAnswer form report whole first later end b → a ≡ b
 one-of-live form report whole first later end a b one two =
     let split = split_of whole in
     let base = last_batch first later in
@@ -63,7 +63,7 @@ pub one-batches : (whole : Plan) (read : Read) (batches other : List Inputs) →
 one-batches whole read batches other a b =
     sym a.are ∙ ap (come_after (inputs_of whole) read.end []) (one_cut read.lines read.lines a.lines b.lines refl a.in_batches b.in_batches) ∙ b.are
 
-pub one-of-lines : (report : Bool) (whole : Plan) (input : List ℕ) (a b : Answer) → AnswersLive report whole input a → AnswersLive report whole input b → a ≡ b
+pub one-of-lines : (report : Bool) (whole : Plan) (input : List ℕ) (a b : RunAnswer) → AnswersLive report whole input a → AnswersLive report whole input b → a ≡ b
 one-of-lines report whole input a b one two =
     let end = (ended_input (inputs_of whole) input).end in
     let same = one-batches whole (ended_input (inputs_of whole) input) (one.first ∷ one.later) (two.first ∷ two.later) one.batches two.batches in

@@ -8,7 +8,7 @@ use Rattle.mg_calc.specs.Told.{CalculatorTold}
 use Rattle.mg_feed.specs.Ran.{EndCame}
 use Rattle.mg_feed.specs.declared.feed_end.FeedEnd.{FeedEnd}
 use Rattle.mg_feed.specs.declared.feed_end.FeedEnd.TheVariants.{Ended, Failed, Refused, OutOfMemory as no_lines}
-use Rattle.mg_answer.specs.Answer.{job_of, generated_job, Answer, AnswersGenerated}
+use Rattle.mg_answer.specs.Answer.{job_of, generated_job, RunAnswer, AnswersGenerated}
 use Rattle.mg_answer.specs.Notes.{memory_note}
 use Rattle.mg_answer.specs.Told.{status_of}
 use Rattle.mg_answer.specs.Devices as answers
@@ -20,7 +20,7 @@ use Rattle.mg_answer.proofs.Generating.{generated-ran, generated-answered, gener
 use Rattle.mg_answer.specs.declared.status.Status.{Status}
 use Rattle.mg_answer.specs.declared.status.Status.TheVariants.{Good, StoreFault, Usage, NodeFault, Stalled, ReadFault, WriteFault, OutOfMemory}
 use Rattle.mg_drive.specs.OneRun.{OneReading, ShortIn, RanOverLines, OneMade, ShortInMade, RanOverPackets}
-use Rattle.mg_run.specs.Devices.{Device, RunDevices, HasRisen, Noted}
+use Rattle.mg_run.specs.Devices.{Device, RunDevices, HasRisen, TookNotes}
 use Rattle.mg_run.specs.Call.{IsOneOf}
 
 -- Without want of memory a run is what mg_answer says of one.
@@ -70,12 +70,12 @@ packets-no-usage report plan number output notes boxes (inl one) = no-status Usa
 packets-no-usage report plan number output notes boxes (inr short) = let e = short.is in cc
 
 -- Where memory ran out the notes say so.
-pub lines-noted : (report : Bool) (plan : Plan) (all : RunDevices) (boxes : Device (List CalculatorTold)) → RanOverLines report plan OutOfMemory all boxes → Noted all.notes memory_note
+pub lines-noted : (report : Bool) (plan : Plan) (all : RunDevices) (boxes : Device (List CalculatorTold)) → RanOverLines report plan OutOfMemory all boxes → TookNotes all.notes memory_note
 lines-noted report plan all boxes (inl one) =
     absurd (no-want plan all.input one.read.end (faults (job_of plan one.read) one.run.streams) (stalled one.run.streams) one.came.came one.read one.came.by one.run.wrote.told)
 lines-noted report plan all boxes (inr short) = short.noted
 
-pub packets-noted : (report : Bool) (plan : Plan) (number : ℕ) (output notes : Device SinkTold) (boxes : Device (List CalculatorTold)) → RanOverPackets report plan number OutOfMemory output notes boxes → Noted notes memory_note
+pub packets-noted : (report : Bool) (plan : Plan) (number : ℕ) (output notes : Device SinkTold) (boxes : Device (List CalculatorTold)) → RanOverPackets report plan number OutOfMemory output notes boxes → TookNotes notes memory_note
 packets-noted report plan number output notes boxes (inl one) = absurd (no_memory (faults (generated_job plan number) one.streams) (stalled one.streams) one.wrote.told)
 packets-noted report plan number output notes boxes (inr short) = short.noted
 
@@ -105,7 +105,7 @@ lines-answered report plan status all boxes (inl one) none some = on-answered re
 lines-answered report plan status all boxes (inr short) none some = absurd (some short.is)
 
 pub packets-answered : (report : Bool) (plan : Plan) (number : ℕ) (status : Status) (all : RunDevices) (boxes : Device (List CalculatorTold)) → RanOverPackets report plan number status all.output all.notes boxes → answers.NoneFailed all → status ≢ OutOfMemory
-    → (answer : Answer) × AnswersGenerated report plan number answer × Meets answer status all.output all.notes
+    → (answer : RunAnswer) × AnswersGenerated report plan number answer × Meets answer status all.output all.notes
 packets-answered report plan number status all boxes (inl one) none some = generated-answered report plan number status all (made_ran report plan number status all boxes one) none.output none.notes some
 packets-answered report plan number status all boxes (inr short) none some = absurd (some short.is)
 

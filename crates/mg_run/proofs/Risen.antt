@@ -7,9 +7,9 @@ use Rattle.mg_run.proofs.Readings.{lines-read-risen, lines-write-risen, packets-
 use Rattle.mg_run.proofs.LiveReadings.{live-read-risen, live-write-risen, live-made-write-risen}
 use Rattle.mg_drive.proofs.TracesRan.{traced_read_risen, traced_write_risen}
 use Rattle.mg_replay.proofs.Answered.{replayed_read_risen, replayed_write_risen}
-use Rattle.mg_run.specs.Answer.{Job, refuse, show, run_plan, run_live, solve, generate, generate_live, trace, replay}
-use Rattle.mg_run.specs.Devices.{Device, Devices, run_of, Untouched, HasRisen}
-use Rattle.mg_run.specs.Call.{Written, WasShown, Did, Called, IsOneOf}
+use Rattle.mg_run.specs.Answer.{Action, refuse, show, run_plan, run_live, solve, generate, generate_live, trace, replay}
+use Rattle.mg_run.specs.Devices.{Device, CallDevices, run_devices_of, Untouched, HasRisen}
+use Rattle.mg_run.specs.Call.{Written, WasShown, DidAction, Called, IsOneOf}
 use Rattle.mg_answer.specs.declared.status.Status.{Status}
 use Rattle.mg_answer.specs.declared.status.Status.TheVariants.{Good, StoreFault, Usage, GraphRefused, LineRefused, NodeFault, Stalled, ReadFault, WriteFault, OutOfMemory}
 
@@ -23,7 +23,7 @@ risen-unwritten : (sink : Device SinkTold) → HasRisen sink.before.faults sink.
 risen-unwritten sink risen untouched = risen-steady _ _ risen (ap (λ s. s.faults) untouched)
 
 -- The store's count rose.
-pub store-risen : (status : Status) (task : Task) (all : Devices) → Called status task all → HasRisen all.store.before.faults all.store.now.faults → IsOneOf status (StoreFault ∷ OutOfMemory ∷ [])
+pub store-risen : (status : Status) (task : Task) (all : CallDevices) → Called status task all → HasRisen all.store.before.faults all.store.now.faults → IsOneOf status (StoreFault ∷ OutOfMemory ∷ [])
 store-risen Good task all called risen = absurd (risen-steady _ _ risen called.loaded.steady)
 store-risen StoreFault task all called risen = inl refl
 store-risen Usage task all called risen = elim called [ ]
@@ -39,25 +39,25 @@ store-risen OutOfMemory task all called risen = inr (inl refl)
 abbrev read_statuses : List Status
 read_statuses = ReadFault ∷ WriteFault ∷ OutOfMemory ∷ []
 
-read-did : (job : Job) (status : Status) (all : Devices) → Did job status all → HasRisen all.input.before.faults all.input.now.faults → IsOneOf status read_statuses
+read-did : (action : Action) (status : Status) (all : CallDevices) → DidAction action status all → HasRisen all.input.before.faults all.input.now.faults → IsOneOf status read_statuses
 read-did (refuse note) status all did risen = absurd (risen-unread all.input risen did.unread)
 read-did (show text) status all did risen = absurd (risen-unread all.input risen did.unread)
-read-did (run_plan report plan) status all did risen = lines-read-risen report plan status (run_of all) all.boxes did risen
-read-did (run_live report plan) status all did risen = live-read-risen report plan status (run_of all) all.boxes did risen
-read-did (solve report plan) status all did risen = run-read-risen report plan status (run_of all) did.ran risen
+read-did (run_plan report plan) status all did risen = lines-read-risen report plan status (run_devices_of all) all.boxes did risen
+read-did (run_live report plan) status all did risen = live-read-risen report plan status (run_devices_of all) all.boxes did risen
+read-did (solve report plan) status all did risen = run-read-risen report plan status (run_devices_of all) did.ran risen
 read-did (generate report number plan) status all did risen = absurd (risen-unread all.input risen did.unread)
 read-did (generate_live report number plan) status all did risen = absurd (risen-unread all.input risen did.unread)
-read-did (trace report plan) status all did risen = traced_read_risen report plan all.boxes.before status (run_of all) did.ran risen
-read-did (replay report plan) status all did risen = replayed_read_risen report plan status (run_of all) all.boxes did.replayed risen
+read-did (trace report plan) status all did risen = traced_read_risen report plan all.boxes.before status (run_devices_of all) did.ran risen
+read-did (replay report plan) status all did risen = replayed_read_risen report plan status (run_devices_of all) all.boxes did.replayed risen
 
-pub read-risen : (status : Status) (task : Task) (all : Devices) → Called status task all → HasRisen all.input.before.faults all.input.now.faults → IsOneOf status read_statuses
-read-risen Good task all called risen = read-did called.job Good all called.did risen
+pub read-risen : (status : Status) (task : Task) (all : CallDevices) → Called status task all → HasRisen all.input.before.faults all.input.now.faults → IsOneOf status read_statuses
+read-risen Good task all called risen = read-did called.action Good all called.did risen
 read-risen StoreFault task all called risen = absurd (risen-unread all.input risen called.unread)
 read-risen Usage task all called risen = elim called [ ]
-read-risen GraphRefused task all called risen = read-did called.job GraphRefused all called.did risen
-read-risen LineRefused task all called risen = read-did called.job LineRefused all called.did risen
-read-risen NodeFault task all called risen = read-did called.job NodeFault all called.did risen
-read-risen Stalled task all called risen = read-did called.job Stalled all called.did risen
+read-risen GraphRefused task all called risen = read-did called.action GraphRefused all called.did risen
+read-risen LineRefused task all called risen = read-did called.action LineRefused all called.did risen
+read-risen NodeFault task all called risen = read-did called.action NodeFault all called.did risen
+read-risen Stalled task all called risen = read-did called.action Stalled all called.did risen
 read-risen ReadFault task all called risen = inl refl
 read-risen WriteFault task all called risen = inr (inl refl)
 read-risen OutOfMemory task all called risen = inr (inr (inl refl))
@@ -66,10 +66,10 @@ read-risen OutOfMemory task all called risen = inr (inr (inl refl))
 abbrev write_statuses : List Status
 write_statuses = StoreFault ∷ GraphRefused ∷ WriteFault ∷ OutOfMemory ∷ []
 
-abbrev EitherRisen : Devices → Type 0
+abbrev EitherRisen : CallDevices → Type 0
 EitherRisen all = HasRisen all.output.before.faults all.output.now.faults ⊎ HasRisen all.notes.before.faults all.notes.now.faults
 
-write-shown : (text : List ℕ) (status : Status) (all : Devices) → WasShown text status all → EitherRisen all → IsOneOf status write_statuses
+write-shown : (text : List ℕ) (status : Status) (all : CallDevices) → WasShown text status all → EitherRisen all → IsOneOf status write_statuses
 write-shown text status all shown risen = by shown.written risen
   where
     by : Written text status all → EitherRisen all → IsOneOf status write_statuses
@@ -80,27 +80,27 @@ write-shown text status all shown risen = by shown.written risen
 write-status : (status : Status) → IsOneOf status (WriteFault ∷ OutOfMemory ∷ []) → IsOneOf status write_statuses
 write-status status one = inr (inr one)
 
-write-did : (job : Job) (status : Status) (all : Devices) → Did job status all → EitherRisen all → IsOneOf status write_statuses
+write-did : (action : Action) (status : Status) (all : CallDevices) → DidAction action status all → EitherRisen all → IsOneOf status write_statuses
 write-did (refuse note) status all did risen = inr (inl did.ended)
 write-did (show text) status all did risen = write-shown text status all did risen
-write-did (run_plan report plan) status all did risen = write-status status (lines-write-risen report plan status (run_of all) all.boxes did risen)
-write-did (run_live report plan) status all did risen = write-status status (live-write-risen report plan status (run_of all) all.boxes did risen)
-write-did (solve report plan) status all did risen = write-status status (run-write-risen report plan status (run_of all) did.ran risen)
+write-did (run_plan report plan) status all did risen = write-status status (lines-write-risen report plan status (run_devices_of all) all.boxes did risen)
+write-did (run_live report plan) status all did risen = write-status status (live-write-risen report plan status (run_devices_of all) all.boxes did risen)
+write-did (solve report plan) status all did risen = write-status status (run-write-risen report plan status (run_devices_of all) did.ran risen)
 write-did (generate report number plan) status all did risen =
-    write-status status (packets-write-risen report plan number status (run_of all) all.boxes did.ran risen)
+    write-status status (packets-write-risen report plan number status (run_devices_of all) all.boxes did.ran risen)
 write-did (generate_live report number plan) status all did risen =
-    write-status status (live-made-write-risen report plan number status (run_of all) all.boxes did.ran risen)
-write-did (trace report plan) status all did risen = write-status status (traced_write_risen report plan all.boxes.before status (run_of all) did.ran risen)
-write-did (replay report plan) status all did risen = write-status status (replayed_write_risen report plan status (run_of all) all.boxes did.replayed risen)
+    write-status status (live-made-write-risen report plan number status (run_devices_of all) all.boxes did.ran risen)
+write-did (trace report plan) status all did risen = write-status status (traced_write_risen report plan all.boxes.before status (run_devices_of all) did.ran risen)
+write-did (replay report plan) status all did risen = write-status status (replayed_write_risen report plan status (run_devices_of all) all.boxes did.replayed risen)
 
-pub write-risen : (status : Status) (task : Task) (all : Devices) → Called status task all → EitherRisen all → IsOneOf status write_statuses
-write-risen Good task all called risen = write-did called.job Good all called.did risen
+pub write-risen : (status : Status) (task : Task) (all : CallDevices) → Called status task all → EitherRisen all → IsOneOf status write_statuses
+write-risen Good task all called risen = write-did called.action Good all called.did risen
 write-risen StoreFault task all called risen = inl refl
 write-risen Usage task all called risen = elim called [ ]
-write-risen GraphRefused task all called risen = write-did called.job GraphRefused all called.did risen
-write-risen LineRefused task all called risen = write-did called.job LineRefused all called.did risen
-write-risen NodeFault task all called risen = write-did called.job NodeFault all called.did risen
-write-risen Stalled task all called risen = write-did called.job Stalled all called.did risen
-write-risen ReadFault task all called risen = write-did called.job ReadFault all called.did risen
+write-risen GraphRefused task all called risen = write-did called.action GraphRefused all called.did risen
+write-risen LineRefused task all called risen = write-did called.action LineRefused all called.did risen
+write-risen NodeFault task all called risen = write-did called.action NodeFault all called.did risen
+write-risen Stalled task all called risen = write-did called.action Stalled all called.did risen
+write-risen ReadFault task all called risen = write-did called.action ReadFault all called.did risen
 write-risen WriteFault task all called risen = inr (inr (inl refl))
 write-risen OutOfMemory task all called risen = inr (inr (inr (inl refl)))

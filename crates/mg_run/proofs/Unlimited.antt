@@ -20,7 +20,7 @@ use Rattle.mg_feed.specs.declared.feed_end.FeedEnd.{FeedEnd}
 use Rattle.mg_answer.specs.Told.{status_of}
 use Rattle.mg_answer.specs.Notes.{end_note, fault_note, status_notes, bounds_of}
 use Rattle.mg_answer.specs.Report.{report_by, end_of, asked_report}
-use Rattle.mg_answer.specs.Answer.{Telling, Form, packet_lines, totals, in_place, output_in, Answer, answer_of, failed_notes, IsAnswerOf}
+use Rattle.mg_answer.specs.Answer.{Telling, OutputForm, packet_lines, totals, in_place, output_in, RunAnswer, answer_of, failed_notes, IsAnswerOf}
 use Rattle.mg_answer.specs.Devices.{Device}
 use Rattle.mg_answer.specs.Wrote.{WroteBy}
 use Rattle.mg_answer.specs.declared.status.Status.{Status}
@@ -64,7 +64,7 @@ unlimited job limit workers streams s = record {
 }
 
 -- what is told of it
-abbrev told : Telling → Plan → FeedEnd → List NodeFault → List ℕ → List (StreamPrefix Plain) → Answer
+abbrev told : Telling → Plan → FeedEnd → List NodeFault → List ℕ → List (StreamPrefix Plain) → RunAnswer
 told telling plan end fs cs streams = record {
   output = output_in telling.form plan streams;
   notes = (end_note end ++ flat_map (fault_note plan) fs ++ status_notes (status_of end fs (stalled streams)) plan (bounds_of streams) (stalled streams))
@@ -79,7 +79,7 @@ faults_same job limit workers xs = λ i. filter_map (λ (entry : ℕ × PlanNode
 pub counts_same : (job : Job) (limit : ℤ) (workers : ℕ) (xs : List (StreamPrefix Plain)) → counts (limited job limit workers) xs ≡ counts job xs
 counts_same job limit workers xs = λ i. map (λ node. (outcome_same job limit workers xs node i).taken) job.plan.nodes
 
-pub output_same : (form : Form) (plan : Plan) (limit : ℤ) (workers : ℕ) (xs : List (StreamPrefix Plain)) → output_in form (limited_plan plan limit workers) xs ≡ output_in form plan xs
+pub output_same : (form : OutputForm) (plan : Plan) (limit : ℤ) (workers : ℕ) (xs : List (StreamPrefix Plain)) → output_in form (limited_plan plan limit workers) xs ≡ output_in form plan xs
 output_same packet_lines plan limit workers xs = refl
 output_same totals plan limit workers xs = refl
 output_same (in_place text) plan limit workers xs = refl
@@ -103,7 +103,7 @@ answer_same telling job limit workers end xs =
     ∙ (ap (λ cs. told telling (limited_plan job.plan limit workers) end (faults job xs) cs xs) (counts_same job limit workers xs)
     ∙ told_same telling job.plan limit workers end (faults job xs) (counts job xs) xs)
 
-pub unlimited_answer : (telling : Telling) (job : Job) (limit : ℤ) (workers : ℕ) (end : FeedEnd) (answer : Answer) → IsAnswerOf telling (limited job limit workers) end answer → IsAnswerOf telling job end answer
+pub unlimited_answer : (telling : Telling) (job : Job) (limit : ℤ) (workers : ℕ) (end : FeedEnd) (answer : RunAnswer) → IsAnswerOf telling (limited job limit workers) end answer → IsAnswerOf telling job end answer
 unlimited_answer telling job limit workers end answer a = record {
   streams = a.streams;
   solution = unlimited job limit workers a.streams a.solution;
@@ -137,7 +137,7 @@ pub unlimited_run : (telling : Telling) (job : Job) (limit : ℤ) (workers : ℕ
 unlimited_run telling job limit workers end status output notes boxes r = record {
   streams = r.streams;
   solution = unlimited job limit workers r.streams r.solution;
-  wrote = subst (λ (a : Answer). WroteBy status a (failed_notes telling job end r.streams) output notes) (answer_same telling job limit workers end r.streams)
+  wrote = subst (λ (a : RunAnswer). WroteBy status a (failed_notes telling job end r.streams) output notes) (answer_same telling job limit workers end r.streams)
       (subst (λ (f : List ℕ). WroteBy status (answer_of telling (limited job limit workers) end r.streams) f output notes) (failed_same telling job limit workers end r.streams) r.wrote);
   had = record {
     back = record { count = r.had.back.count; unused = r.had.back.unused };

@@ -14,7 +14,7 @@ use Rattle.mg_files.specs.File.{graph_text}
 use Rattle.mg_files.specs.Files.{Files, graphs, no_graphs}
 use Rattle.mg_files.specs.CheckNotes.{check_note, check_text}
 use Rattle.mg_answer.specs.Answer.{AnswersEnded, AnswersGenerated}
-pub use Rattle.mg_answer.specs.Answer.{Answer}
+pub use Rattle.mg_answer.specs.Answer.{RunAnswer}
 use Rattle.mg_drive.specs.OneLive.{AnswersLive, AnswersLiveMade}
 use Rattle.mg_drive.specs.Traced.{TracesEnded}
 use Rattle.mg_feed.specs.Lines.{all_lines}
@@ -34,22 +34,22 @@ use Rattle.mg_answer.specs.declared.status.Status.TheVariants.{Good, GraphRefuse
 -- What a command has to do: to refuse a file, the expansion or the graph with a note; to write a text; to run the graph of a plan, without
 -- free nodes or with; to solve it; to run it over a number of packets that are made, without free nodes or with; to run it and record the
 -- run; or to make a recorded run of it again. Where there is a truth value, it says whether the notes end with a report.
-pub data Job : Type 0 where
-  refuse : List ℕ → Job
-  show : List ℕ → Job
-  run_plan : Bool → Plan → Job
-  run_live : Bool → Plan → Job
-  solve : Bool → Plan → Job
-  generate : Bool → ℕ → Plan → Job
-  generate_live : Bool → ℕ → Plan → Job
-  trace : Bool → Plan → Job
-  replay : Bool → Plan → Job
+pub data Action : Type 0 where
+  refuse : List ℕ → Action
+  show : List ℕ → Action
+  run_plan : Bool → Plan → Action
+  run_live : Bool → Plan → Action
+  solve : Bool → Plan → Action
+  generate : Bool → ℕ → Plan → Action
+  generate_live : Bool → ℕ → Plan → Action
+  trace : Bool → Plan → Action
+  replay : Bool → Plan → Action
 
--- The job of `check`: to write a text where the graph has a plan, and else to refuse the graph. A graph is checked before its plan is used,
+-- The action of `check`: to write a text where the graph has a plan, and else to refuse the graph. A graph is checked before its plan is used,
 -- too.
-abbrev pub check_job : Result Plan CheckFault → Job
-check_job (Ok plan) = show (check_text plan)
-check_job (Err fault) = refuse (check_note fault)
+abbrev pub check_action : Result Plan CheckFault → Action
+check_action (Ok plan) = show (check_text plan)
+check_action (Err fault) = refuse (check_note fault)
 
 -- the limit that the words ask for, where 0 stands for the plan's own
 abbrev pub limit_or : ℤ → ℤ → ℤ
@@ -78,81 +78,81 @@ way_word Generate = codes "generate"
 way_word Trace = codes "trace"
 way_word Replay = codes "replay"
 
--- the job of using a plan without free nodes in a way; for a run that is recorded or made again the number of workers doesn't count
-abbrev pub way_job : Way → Order → Plan → Job
-way_job Run order plan = run_plan order.report (as_asked order plan)
-way_job Solve order plan = solve order.report plan
-way_job Generate order plan = generate order.report order.number (as_asked order plan)
-way_job Trace order plan = trace order.report (with_limit order.limit plan)
-way_job Replay order plan = replay order.report (with_limit order.limit plan)
+-- the action of using a plan without free nodes in a way; for a run that is recorded or made again the number of workers doesn't count
+abbrev pub way_action : Way → Order → Plan → Action
+way_action Run order plan = run_plan order.report (as_asked order plan)
+way_action Solve order plan = solve order.report plan
+way_action Generate order plan = generate order.report order.number (as_asked order plan)
+way_action Trace order plan = trace order.report (with_limit order.limit plan)
+way_action Replay order plan = replay order.report (with_limit order.limit plan)
 
--- The job of using a graph with free nodes in a way, of which `first` is the first: it is run, over the input or over packets that are
+-- The action of using a graph with free nodes in a way, of which `first` is the first: it is run, over the input or over packets that are
 -- made, and refused in each other way.
-abbrev pub live_job : Way → Order → ℕ → Plan → Job
-live_job Run order first plan = run_live order.report (as_asked order plan)
-live_job Solve order first plan = refuse (free_note (way_word Solve) first)
-live_job Generate order first plan = generate_live order.report order.number (as_asked order plan)
-live_job Trace order first plan = refuse (free_note (way_word Trace) first)
-live_job Replay order first plan = refuse (free_note (way_word Replay) first)
+abbrev pub live_action : Way → Order → ℕ → Plan → Action
+live_action Run order first plan = run_live order.report (as_asked order plan)
+live_action Solve order first plan = refuse (free_note (way_word Solve) first)
+live_action Generate order first plan = generate_live order.report order.number (as_asked order plan)
+live_action Trace order first plan = refuse (free_note (way_word Trace) first)
+live_action Replay order first plan = refuse (free_note (way_word Replay) first)
 
--- the job of using a plan in a way, by its first free node, if it has one
-abbrev pub used_job : Option ℕ → Way → Order → Plan → Job
-used_job None way order plan = way_job way order plan
-used_job (Some first) way order plan = live_job way order first plan
+-- the action of using a plan in a way, by its first free node, if it has one
+abbrev pub used_action : Option ℕ → Way → Order → Plan → Action
+used_action None way order plan = way_action way order plan
+used_action (Some first) way order plan = live_action way order first plan
 
--- the job of using a graph in a way, by what the check says of it
-abbrev pub plan_job : Way → Order → Result Plan CheckFault → Job
-plan_job way order (Ok plan) = used_job (first_free plan) way order plan
-plan_job way order (Err fault) = refuse (check_note fault)
+-- the action of using a graph in a way, by what the check says of it
+abbrev pub plan_action : Way → Order → Result Plan CheckFault → Action
+plan_action way order (Ok plan) = used_action (first_free plan) way order plan
+plan_action way order (Err fault) = refuse (check_note fault)
 
--- the job of a command with a graph whose subgraphs are expanded
-abbrev pub verb_job : Verb → Order → List OuterShape → GraphView → Job
-verb_job Check order outers g = check_job (check_of outers g)
-verb_job Expand order outers g = show (graph_text g)
-verb_job (Use way) order outers g = plan_job way order (check_of outers g)
+-- the action of a command with a graph whose subgraphs are expanded
+abbrev pub verb_action : Verb → Order → List OuterShape → GraphView → Action
+verb_action Check order outers g = check_action (check_of outers g)
+verb_action Expand order outers g = show (graph_text g)
+verb_action (Use way) order outers g = plan_action way order (check_of outers g)
 
-abbrev pub graph_job : Order → List OuterShape → GraphView → Job
-graph_job order outers g = verb_job order.verb order outers g
+abbrev pub graph_action : Order → List OuterShape → GraphView → Action
+graph_action order outers g = verb_action order.verb order outers g
 
--- the job of a command, by what the expansion of its graph comes to
-abbrev pub expanded_job : Order → List OuterShape → Result GraphView ExpandFault → Job
-expanded_job order outers (Ok g) = graph_job order outers g
-expanded_job order outers (Err fault) = refuse (expand_note fault)
+-- the action of a command, by what the expansion of its graph comes to
+abbrev pub expanded_action : Order → List OuterShape → Result GraphView ExpandFault → Action
+expanded_action order outers (Ok g) = graph_action order outers g
+expanded_action order outers (Err fault) = refuse (expand_note fault)
 
--- The job of a command over graphs: the first is the main one, and it is expanded with the others as its library. A command always has a
+-- The action of a command over graphs: the first is the main one, and it is expanded with the others as its library. A command always has a
 -- first.
-abbrev pub graphs_job : Order → List OuterShape → List GraphView → Job
-graphs_job order outers [] = refuse []
-graphs_job order outers (main ∷ library) = expanded_job order outers (expansion_of main library)
+abbrev pub graphs_action : Order → List OuterShape → List GraphView → Action
+graphs_action order outers [] = refuse []
+graphs_action order outers (main ∷ library) = expanded_action order outers (expansion_of main library)
 
--- the job of a command, by what its files are
-abbrev pub files_job : Order → List OuterShape → Files → Job
-files_job order outers (graphs gs) = graphs_job order outers gs
-files_job order outers (no_graphs note) = refuse note
+-- the action of a command, by what its files are
+abbrev pub files_action : Order → List OuterShape → Files → Action
+files_action order outers (graphs gs) = graphs_action order outers gs
+files_action order outers (no_graphs note) = refuse note
 
--- the job of a task, by what its files are
-abbrev pub job_of : Task → Files → Job
-job_of task files = files_job task.order task.outers files
+-- the action of a task, by what its files are
+abbrev pub action_of : Task → Files → Action
+action_of task files = files_action task.order task.outers files
 
 -- The answers --
 
--- The answer of a job where an input of these bytes ends well, and these calculators are handed in. Running a graph without free nodes and
+-- The answer of an action where an input of these bytes ends well, and these calculators are handed in. Running a graph without free nodes and
 -- solving it have the same answer, and recording a run has that answer too, but that the output is a trace of any run of the job. Making a
 -- recorded run again has the answer of its job's run where the input's lines are such a run to rest, and else refuses a line. Where packets
 -- are made the input doesn't matter.
-abbrev pub IsAnswerOf : Job → List CalculatorTold → List ℕ → Answer → Type 0
-IsAnswerOf (refuse note) boxes input given = given ≡ record { output = []; notes = note; status = GraphRefused }
-IsAnswerOf (show text) boxes input given = given ≡ record { output = text; notes = []; status = Good }
-IsAnswerOf (run_plan report plan) boxes input given = AnswersEnded report plan input given
-IsAnswerOf (run_live report plan) boxes input given = AnswersLive report plan input given
-IsAnswerOf (solve report plan) boxes input given = AnswersEnded report plan input given
-IsAnswerOf (generate report number plan) boxes input given = AnswersGenerated report plan number given
-IsAnswerOf (generate_live report number plan) boxes input given = AnswersLiveMade report plan number given
-IsAnswerOf (trace report plan) boxes input given = TracesEnded report plan boxes input given
-IsAnswerOf (replay report plan) boxes input given = AnswersTrace report plan boxes (all_lines input) given
+abbrev pub AnswersAction : Action → List CalculatorTold → List ℕ → RunAnswer → Type 0
+AnswersAction (refuse note) boxes input given = given ≡ record { output = []; notes = note; status = GraphRefused }
+AnswersAction (show text) boxes input given = given ≡ record { output = text; notes = []; status = Good }
+AnswersAction (run_plan report plan) boxes input given = AnswersEnded report plan input given
+AnswersAction (run_live report plan) boxes input given = AnswersLive report plan input given
+AnswersAction (solve report plan) boxes input given = AnswersEnded report plan input given
+AnswersAction (generate report number plan) boxes input given = AnswersGenerated report plan number given
+AnswersAction (generate_live report number plan) boxes input given = AnswersLiveMade report plan number given
+AnswersAction (trace report plan) boxes input given = TracesEnded report plan boxes input given
+AnswersAction (replay report plan) boxes input given = AnswersTrace report plan boxes (all_lines input) given
 
--- the output of a job is a trace, and there may be many
-abbrev pub Records : Job → Type 0
+-- the output of an action is a trace, and there may be many
+abbrev pub Records : Action → Type 0
 Records (refuse note) = ⊥
 Records (show text) = ⊥
 Records (run_plan report plan) = ⊥
@@ -163,8 +163,8 @@ Records (generate_live report number plan) = ⊥
 Records (trace report plan) = Unit {0}
 Records (replay report plan) = ⊥
 
--- a job makes a recorded run again, whose events the input's lines tell
-abbrev pub Replays : Job → Type 0
+-- an action makes a recorded run again, whose events the input's lines tell
+abbrev pub Replays : Action → Type 0
 Replays (refuse note) = ⊥
 Replays (show text) = ⊥
 Replays (run_plan report plan) = ⊥

@@ -13,11 +13,11 @@ use Rattle.mg_answer.specs.Ran as runs
 use Rattle.mg_answer.specs.Wrote.{Meets}
 use Rattle.mg_drive.specs.Traced.{Traced}
 use Rattle.mg_replay.specs.Replayed.{ReplayedBy}
-use Rattle.mg_drive.specs.OneRun.{CameBack, RanOverLines, RanOverPackets}
+use Rattle.mg_drive.specs.OneRun.{CalculatorsCameBack, RanOverLines, RanOverPackets}
 use Rattle.mg_drive.specs.OneLive.{RanLive, RanLiveMade}
 use Rattle.mg_run.specs.Boxes.{RunLeaves}
-use Rattle.mg_run.specs.Answer.{Answer, Job, refuse, show, run_plan, run_live, solve, generate, generate_live, trace, replay, job_of, IsAnswerOf}
-use Rattle.mg_run.specs.Devices.{Devices, run_of, Untouched, TookText, TookPart, Noted}
+use Rattle.mg_run.specs.Answer.{RunAnswer, Action, refuse, show, run_plan, run_live, solve, generate, generate_live, trace, replay, action_of, AnswersAction}
+use Rattle.mg_run.specs.Devices.{CallDevices, run_devices_of, Untouched, TookText, TookPart, TookNotes}
 pub use Rattle.mg_answer.specs.Status.{IsOneOf}
 use Rattle.mg_answer.specs.declared.status.Status.{Status}
 use Rattle.mg_answer.specs.declared.status.Status.TheVariants.{Good, StoreFault, Usage, GraphRefused, WriteFault, OutOfMemory}
@@ -26,45 +26,45 @@ use Rattle.mg_answer.specs.declared.status.Status.TheVariants.{Good, StoreFault,
 
 -- The words were no command, and the note says how the program is used. Where memory didn't suffice to judge them, the note says that.
 -- Nothing else was done.
-pub record WasUsage (status : Status) (devices : Devices) : Type 0 where
-  pub noted : ((status ≡ Usage) × Noted devices.notes usage_note) ⊎ ((status ≡ OutOfMemory) × Noted devices.notes memory_note)
+pub record WasUsage (status : Status) (devices : CallDevices) : Type 0 where
+  pub noted : ((status ≡ Usage) × TookNotes devices.notes usage_note) ⊎ ((status ≡ OutOfMemory) × TookNotes devices.notes memory_note)
   pub unloaded : Untouched devices.store
   pub unread : Untouched devices.input
   pub unwritten : Untouched devices.output
   pub uncalled : Untouched devices.boxes
 
 -- A text was written, and no note; or a write of it failed, and the note says so.
-abbrev pub Written : List ℕ → Status → Devices → Type 0
+abbrev pub Written : List ℕ → Status → CallDevices → Type 0
 Written text status devices = ((status ≡ Good) × TookText devices.output text × Untouched devices.notes)
-    ⊎ ((status ≡ WriteFault) × TookPart devices.output text × Noted devices.notes write_note)
+    ⊎ ((status ≡ WriteFault) × TookPart devices.output text × TookNotes devices.notes write_note)
 
 -- A text of the program's own was asked for: it was written, or a write of it failed. Where memory didn't suffice to judge the words, the
 -- note says that. Nothing else was done.
-pub record WasTold (text : List ℕ) (status : Status) (devices : Devices) : Type 0 where
-  pub written : Written text status devices ⊎ ((status ≡ OutOfMemory) × Untouched devices.output × Noted devices.notes memory_note)
+pub record WasTold (text : List ℕ) (status : Status) (devices : CallDevices) : Type 0 where
+  pub written : Written text status devices ⊎ ((status ≡ OutOfMemory) × Untouched devices.output × TookNotes devices.notes memory_note)
   pub unloaded : Untouched devices.store
   pub unread : Untouched devices.input
   pub uncalled : Untouched devices.boxes
 
 -- One of these files couldn't be loaded, and the note names the first such file.
-pub record WasUnloaded (files : List (List ℕ)) (devices : Devices) : Type 0 where
+pub record WasUnloaded (files : List (List ℕ)) (devices : CallDevices) : Type 0 where
   pub file : List ℕ
   pub failed : FailedAt files file devices.store
-  pub noted : Noted devices.notes (store_note file)
+  pub noted : TookNotes devices.notes (store_note file)
   pub unread : Untouched devices.input
   pub unwritten : Untouched devices.output
   pub uncalled : Untouched devices.boxes
 
 -- A file, the expansion or the graph was refused with this note.
-pub record WasRefused (note : List ℕ) (status : Status) (devices : Devices) : Type 0 where
+pub record WasRefused (note : List ℕ) (status : Status) (devices : CallDevices) : Type 0 where
   pub ended : status ≡ GraphRefused
-  pub noted : Noted devices.notes note
+  pub noted : TookNotes devices.notes note
   pub unread : Untouched devices.input
   pub unwritten : Untouched devices.output
   pub uncalled : Untouched devices.boxes
 
 -- This text was written, or a write of it failed. The input was left as it was.
-pub record WasShown (text : List ℕ) (status : Status) (devices : Devices) : Type 0 where
+pub record WasShown (text : List ℕ) (status : Status) (devices : CallDevices) : Type 0 where
   pub written : Written text status devices
   pub unread : Untouched devices.input
   pub uncalled : Untouched devices.boxes
@@ -72,88 +72,88 @@ pub record WasShown (text : List ℕ) (status : Status) (devices : Devices) : Ty
 -- A run --
 
 -- The graph of this plan was solved.
-pub record SolvedGraph (report : Bool) (plan : Plan) (status : Status) (devices : Devices) : Type 0 where
-  pub ran : runs.Ran report plan status (run_of devices)
+pub record SolvedGraph (report : Bool) (plan : Plan) (status : Status) (devices : CallDevices) : Type 0 where
+  pub ran : runs.Ran report plan status (run_devices_of devices)
   pub uncalled : Untouched devices.boxes
 
 -- The graph of this plan was run over `number` packets that are made, and a summary of its outputs was written. The input was left as it
 -- was.
-pub record GeneratedGraph (report : Bool) (number : ℕ) (plan : Plan) (status : Status) (devices : Devices) : Type 0 where
+pub record GeneratedGraph (report : Bool) (number : ℕ) (plan : Plan) (status : Status) (devices : CallDevices) : Type 0 where
   pub ran : RanOverPackets report plan number status devices.output devices.notes devices.boxes
   pub unread : Untouched devices.input
 
 -- The graph of this plan, which has free nodes, was run over `number` packets that are made, and a summary of its outputs was written. The
 -- input was left as it was.
-pub record GeneratedLive (report : Bool) (number : ℕ) (plan : Plan) (status : Status) (devices : Devices) : Type 0 where
+pub record GeneratedLive (report : Bool) (number : ℕ) (plan : Plan) (status : Status) (devices : CallDevices) : Type 0 where
   pub ran : RanLiveMade report plan number status devices.output devices.notes devices.boxes
   pub unread : Untouched devices.input
 
 -- The graph of this plan was run over the input, and a trace of the run was written.
-pub record TracedGraph (report : Bool) (plan : Plan) (status : Status) (devices : Devices) : Type 0 where
-  pub ran : Traced report plan devices.boxes.before status (run_of devices)
+pub record TracedGraph (report : Bool) (plan : Plan) (status : Status) (devices : CallDevices) : Type 0 where
+  pub ran : Traced report plan devices.boxes.before status (run_devices_of devices)
   pub left : RunLeaves plan status devices.input devices.boxes
 
 -- A recorded run of the graph of this plan was made again.
-pub record ReplayedGraph (report : Bool) (plan : Plan) (status : Status) (devices : Devices) : Type 0 where
-  pub replayed : ReplayedBy status report plan (run_of devices) devices.boxes
-  pub left : CameBack plan devices.boxes.before devices.boxes.now
+pub record ReplayedGraph (report : Bool) (plan : Plan) (status : Status) (devices : CallDevices) : Type 0 where
+  pub replayed : ReplayedBy status report plan (run_devices_of devices) devices.boxes
+  pub left : CalculatorsCameBack plan devices.boxes.before devices.boxes.now
 
 -- A call --
 
--- what was done with a job; where a graph is run over the input, its outputs are written as they settle
-abbrev pub Did : Job → Status → Devices → Type 0
-Did (refuse note) status devices = WasRefused note status devices
-Did (show text) status devices = WasShown text status devices
-Did (run_plan report plan) status devices = RanOverLines report plan status (run_of devices) devices.boxes
-Did (run_live report plan) status devices = RanLive report plan status (run_of devices) devices.boxes
-Did (solve report plan) status devices = SolvedGraph report plan status devices
-Did (generate report number plan) status devices = GeneratedGraph report number plan status devices
-Did (generate_live report number plan) status devices = GeneratedLive report number plan status devices
-Did (trace report plan) status devices = TracedGraph report plan status devices
-Did (replay report plan) status devices = ReplayedGraph report plan status devices
+-- what was done with an action; where a graph is run over the input, its outputs are written as they settle
+abbrev pub DidAction : Action → Status → CallDevices → Type 0
+DidAction (refuse note) status devices = WasRefused note status devices
+DidAction (show text) status devices = WasShown text status devices
+DidAction (run_plan report plan) status devices = RanOverLines report plan status (run_devices_of devices) devices.boxes
+DidAction (run_live report plan) status devices = RanLive report plan status (run_devices_of devices) devices.boxes
+DidAction (solve report plan) status devices = SolvedGraph report plan status devices
+DidAction (generate report number plan) status devices = GeneratedGraph report number plan status devices
+DidAction (generate_live report number plan) status devices = GeneratedLive report number plan status devices
+DidAction (trace report plan) status devices = TracedGraph report plan status devices
+DidAction (replay report plan) status devices = ReplayedGraph report plan status devices
 
 -- what a command has to do with the contents of its files
-abbrev pub IsJob : Task → List (List ℕ) → Job → Type 0
-IsJob task contents job = (files : Files) × AreFiles task.files contents files × (job ≡ job_of task files)
+abbrev pub IsActionOf : Task → List (List ℕ) → Action → Type 0
+IsActionOf task contents action = (files : Files) × AreFiles task.files contents files × (action ≡ action_of task files)
 
 -- All files were loaded, and what the command has to do with their contents was done.
-pub record CallDid (status : Status) (task : Task) (devices : Devices) : Type 0 where
+pub record CallDid (status : Status) (task : Task) (devices : CallDevices) : Type 0 where
   pub contents : List (List ℕ)
   pub loaded : LoadedAll task.files contents devices.store
-  pub job : Job
-  pub due : IsJob task contents job
-  pub did : Did job status devices
+  pub action : Action
+  pub due : IsActionOf task contents action
+  pub did : DidAction action status devices
 
 -- Nothing was read from the input, written to the output or called.
-pub record DidNothing (devices : Devices) : Type 0 where
+pub record DidNothing (devices : CallDevices) : Type 0 where
   pub unread : Untouched devices.input
   pub unwritten : Untouched devices.output
   pub uncalled : Untouched devices.boxes
 
 -- Memory ran out, before it was known what there is to do or while that was done. The only note says that.
-pub record CallShort (task : Task) (devices : Devices) : Type 0 where
-  pub noted : Noted devices.notes memory_note
+pub record CallShort (task : Task) (devices : CallDevices) : Type 0 where
+  pub noted : TookNotes devices.notes memory_note
   pub by : DidNothing devices ⊎ CallDid OutOfMemory task devices
 
 -- A call with a command ended with this status.
-abbrev pub Called : Status → Task → Devices → Type 0
+abbrev pub Called : Status → Task → CallDevices → Type 0
 Called StoreFault task devices = WasUnloaded task.files devices
 Called Usage task devices = ⊥
 Called OutOfMemory task devices = CallShort task devices
 Called status task devices = CallDid status task devices
 
 -- A call ended with this status, by what its words ask for and by the calculators that are handed in.
-abbrev pub Came : List OuterShape → Asked → Status → Devices → Type 0
-Came outers asks_usage status devices = WasUsage status devices
-Came outers (asks_text text) status devices = WasTold text status devices
-Came outers (asks_command command) status devices = Called status (task command outers) devices
+abbrev pub CallEnded : List OuterShape → Asked → Status → CallDevices → Type 0
+CallEnded outers asks_usage status devices = WasUsage status devices
+CallEnded outers (asks_text text) status devices = WasTold text status devices
+CallEnded outers (asks_command command) status devices = Called status (task command outers) devices
 
--- The call wrote the answer of a job over an input that ends after these bytes.
-abbrev pub MetAnswer : Job → List ℕ → Status → Devices → Type 0
-MetAnswer job read status devices = (given : Answer) × IsAnswerOf job devices.boxes.before read given × Meets given status devices.output devices.notes
+-- The call wrote the answer of an action over an input that ends after these bytes.
+abbrev pub MetAnswer : Action → List ℕ → Status → CallDevices → Type 0
+MetAnswer action read status devices = (given : RunAnswer) × AnswersAction action devices.boxes.before read given × Meets given status devices.output devices.notes
 
 -- Where the devices tell the files' bytes and the input's, the call wrote the answer to them.
-abbrev pub IsAnswered : Status → Task → Devices → Type 0
+abbrev pub IsAnswered : Status → Task → CallDevices → Type 0
 IsAnswered status task devices =
     IfSome (loads_of devices.store.before.content task.files) (λ contents. IfSome devices.input.before.left (λ read.
-    (files : Files) × AreFiles task.files contents files × MetAnswer (job_of task files) read status devices))
+    (files : Files) × AreFiles task.files contents files × MetAnswer (action_of task files) read status devices))

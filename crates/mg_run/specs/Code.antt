@@ -1,2 +1,2 @@
 -- Definitions that only the code's own functions use.
-pub mod Job
+pub mod Action

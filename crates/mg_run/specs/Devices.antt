@@ -6,35 +6,35 @@ use Rattle.mg_calc.specs.Told.{CalculatorTold}
 use Rattle.mg_edge.specs.Edge.{SourceTold, SinkTold, StoreTold, Rose}
 use Rattle.mg_answer.specs.declared.devices.Devices.{Devices as Held}
 pub use Rattle.mg_answer.specs.Held.{told_by, SameDevices}
-pub use Rattle.mg_answer.specs.Devices.{Device, device, Untouched, HasRisen, Unrisen, IsFront, TookFront, TookText, TookPart, Noted, RunDevices, run_devices}
+pub use Rattle.mg_answer.specs.Devices.{Device, device, Untouched, HasRisen, Unrisen, IsFront, TookFront, TookText, TookPart, TookNotes, RunDevices, run_devices}
 
-pub record Devices : Type 0 where
+pub record CallDevices : Type 0 where
   pub store : Device StoreTold
   pub input : Device SourceTold
   pub output : Device SinkTold
   pub notes : Device SinkTold
   pub boxes : Device (List CalculatorTold)
 
-abbrev pub devices : Device StoreTold → Device SourceTold → Device SinkTold → Device SinkTold → Device (List CalculatorTold) → Devices
+abbrev pub devices : Device StoreTold → Device SourceTold → Device SinkTold → Device SinkTold → Device (List CalculatorTold) → CallDevices
 devices store input output notes boxes = record { store = store; input = input; output = output; notes = notes; boxes = boxes }
 
 -- the devices of a run
-abbrev pub run_of : Devices → RunDevices
-run_of all = run_devices all.input all.output all.notes
+abbrev pub run_devices_of : CallDevices → RunDevices
+run_devices_of all = run_devices all.input all.output all.notes
 
 -- the devices of a call, made of a store, those of a run and the calculators that are handed in
-abbrev pub with_run : Device StoreTold → RunDevices → Device (List CalculatorTold) → Devices
+abbrev pub with_run : Device StoreTold → RunDevices → Device (List CalculatorTold) → CallDevices
 with_run store run boxes = devices store run.input run.output run.notes boxes
 
 -- what the devices of a call tell, before the call and after it, where those of a run are held as one value
 abbrev pub told_at : {T S K E C : Type 0} → (T → StoreTold) → (S → SourceTold) → (K → SinkTold) → (E → SinkTold) → (C → CalculatorTold)
-    → T → T → Held S K E → Held S K E → Vec C → Vec C → Devices
+    → T → T → Held S K E → Held S K E → Vec C → Vec C → CallDevices
 told_at t s k e c store store_now held held_now boxes boxes_now =
     with_run (device (t store) (t store_now)) (told_by s k e held held_now) (device (map c boxes.items) (map c boxes_now.items))
 
 -- what the devices of a call tell, before the call and after it, where each is by itself
 abbrev pub told_apart : {T S K E C : Type 0} → (T → StoreTold) → (S → SourceTold) → (K → SinkTold) → (E → SinkTold) → (C → CalculatorTold)
-    → T → T → S → S → K → K → E → E → Vec C → Vec C → Devices
+    → T → T → S → S → K → K → E → E → Vec C → Vec C → CallDevices
 told_apart t s k e c store store_now input input_now output output_now notes notes_now boxes boxes_now =
     devices (device (t store) (t store_now)) (device (s input) (s input_now)) (device (k output) (k output_now)) (device (e notes) (e notes_now))
     (device (map c boxes.items) (map c boxes_now.items))
@@ -42,7 +42,7 @@ told_apart t s k e c store store_now input input_now output output_now notes not
 -- Faults --
 
 -- No device failed.
-pub record NoneFailed (devices : Devices) : Type 0 where
+pub record NoneFailed (devices : CallDevices) : Type 0 where
   pub store : Unrisen devices.store.before.faults devices.store.now.faults
   pub input : Unrisen devices.input.before.faults devices.input.now.faults
   pub output : Unrisen devices.output.before.faults devices.output.now.faults
@@ -51,6 +51,6 @@ pub record NoneFailed (devices : Devices) : Type 0 where
 -- Sources --
 
 -- The source answered `End`, and where it tells its bytes none is left.
-pub record HasEnded (input : Device SourceTold) : Type 0 where
+pub record InputHasEnded (input : Device SourceTold) : Type 0 where
   pub rose : Rose input.before.ends input.now.ends
   pub none : IfSome input.before.left (λ bytes. input.now.left ≡ Some [])

@@ -12,7 +12,7 @@ use Rattle.mg_free.specs.Core.{first_free}
 use Rattle.mg_feed.specs.Graph.{inputs_of}
 use Rattle.mg_feed.specs.declared.feed_end.FeedEnd.{FeedEnd}
 use Rattle.mg_feed.specs.declared.feed_end.FeedEnd.TheVariants.{Ended}
-use Rattle.mg_answer.specs.Answer.{Form, packet_lines, totals, Read, Telling, by_lines, by_summary, job_of, generated_job}
+use Rattle.mg_answer.specs.Answer.{OutputForm, packet_lines, totals, Read, Telling, by_lines, by_summary, job_of, generated_job}
 use Rattle.mg_answer.specs.Ran.{CameTo}
 use Rattle.mg_answer.specs.declared.status.Status.{Status}
 use Rattle.mg_answer.specs.declared.status.Status.TheVariants.{Good, LineRefused, NodeFault, Stalled, ReadFault, WriteFault}
@@ -21,7 +21,7 @@ use Rattle.mg_drive.specs.OneLive.{AreBatchesOf, OneLive}
 use Rattle.mg_run.specs.Task.{Task}
 use Rattle.mg_files.specs.Files.{AreGraphs}
 use Rattle.mg_files.specs.Loads.{LoadedAll}
-use Rattle.mg_run.specs.Devices.{Device, Devices, Untouched}
+use Rattle.mg_run.specs.Devices.{Device, CallDevices, Untouched}
 use Rattle.mg_words.specs.declared.words.Order.{Order}
 use Rattle.mg_words.specs.declared.words.Verb.{Verb}
 use Rattle.mg_words.specs.declared.words.Verb.TheVariants.{Use}
@@ -79,7 +79,7 @@ bare plan = record plan { limit = negsuc 0; workers = 0 }
 
 -- A call ran its graph, in which no node is free: there is one content of each file, one plan, one thing that it was run over, and one
 -- solution.
-pub record Headline (task : Task) (status : Status) (devices : Devices) : Type 0 where
+pub record Headline (task : Task) (status : Status) (devices : CallDevices) : Type 0 where
   pub contents : List (List ℕ)
   pub loaded : LoadedAll task.files contents devices.store
   pub plan : Plan
@@ -108,13 +108,13 @@ abbrev pub AreBatchesFrom : Plan → Origin → List Inputs → Type 0
 AreBatchesFrom plan (from_input read) batches = AreBatchesOf plan read batches
 AreBatchesFrom plan (from_number number) batches = batches ≡ (generated_job plan number).inputs ∷ []
 
-abbrev pub form_from : Origin → Form
+abbrev pub form_from : Origin → OutputForm
 form_from (from_input read) = packet_lines
 form_from (from_number number) = totals
 
 -- A call ran its graph, which has free nodes: there is one content of each file, one plan, one thing that it was run over, the logs to
 -- which the free nodes' rounds over its batches come, and one solution of the core for these.
-pub record LiveHeadline (task : Task) (status : Status) (devices : Devices) : Type 0 where
+pub record LiveHeadline (task : Task) (status : Status) (devices : CallDevices) : Type 0 where
   pub contents : List (List ℕ)
   pub loaded : LoadedAll task.files contents devices.store
   pub plan : Plan
@@ -127,5 +127,5 @@ pub record LiveHeadline (task : Task) (status : Status) (devices : Devices) : Ty
   pub run : OneLive (form_from from) task.order.report (bare plan) first later (end_from from) status devices.output devices.notes devices.boxes
 
 -- a call ran its graph, without free nodes or with
-abbrev pub RanGraph : Task → Status → Devices → Type 0
+abbrev pub RanGraph : Task → Status → CallDevices → Type 0
 RanGraph task status devices = Headline task status devices ⊎ LiveHeadline task status devices

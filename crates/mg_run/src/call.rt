@@ -3,16 +3,16 @@ ghost use Rattle.mg_words.specs.Command.{command, reads_input, calls_boxes};
 ghost use Rattle.mg_run.specs.Boxes.{outers_told, MayBeHandedIn};
 ghost use Rattle.mg_run.specs.Task.{task};
 ghost use Rattle.mg_words.specs.Words.{asks_usage, asks_text, asked_of, command_by, command_of};
-ghost use Rattle.mg_run.specs.Devices.{Device, device, with_run, told_at, told_apart, told_by, SameDevices, Untouched, HasEnded, HasRisen, NoneFailed, TookText, TookPart, Noted};
+ghost use Rattle.mg_run.specs.Devices.{Device, device, with_run, told_at, told_apart, told_by, SameDevices, Untouched, InputHasEnded, HasRisen, NoneFailed, TookText, TookPart, TookNotes};
 ghost use Rattle.mg_run.specs.Headline.{RunsGraph, ran_statuses, RanGraph};
-ghost use Rattle.mg_run.specs.Call.{WasUsage, WasTold, Came, Called, Did, IsAnswered, IsOneOf};
+ghost use Rattle.mg_run.specs.Call.{WasUsage, WasTold, CallEnded, Called, DidAction, IsAnswered, IsOneOf};
 ghost use Rattle.mg_answer.specs.Notes.{write_note, memory_note};
 ghost use Rattle.mg_words.specs.Asked.{asked_view};
 ghost use Rattle.mg_files.specs.Reads.{HasFailed};
-ghost use Rattle.mg_run.specs.Code.Job.{job_view, use_job, MayRead, CanBeDone, IsDue};
+ghost use Rattle.mg_run.specs.Code.Action.{action_view, use_action, MayRead, CanBeDone, IsDue};
 ghost use Rattle.mg_edge.specs.Edge.{StoreTold};
 
-use crate::job::{Job, Use, job_of};
+use crate::action::{Action, Use, action_of};
 use crate::outers::outers_of;
 use mg_answer::{Devices, Run, Status, note_out_of_memory, note_write_fault, solve_input};
 use mg_calc::Calculator;
@@ -72,7 +72,7 @@ pub fn run_words<R: Threads + Wait + Sync, S: Source, K: Sink, E: Sink, T: Store
         store.old store.new input.old input.new output.old output.new notes.old notes.new boxes.old boxes.new)) }
 
     // Where memory ran out the notes say that alone.
-    ensures memory_noted { result ≡ Status.OutOfMemory → Noted (device (E.told notes.old) (E.told notes.new)) memory_note }
+    ensures memory_noted { result ≡ Status.OutOfMemory → TookNotes (device (E.told notes.old) (E.told notes.new)) memory_note }
 
     // A `check`, an `expand` and a `generate` leave the input as it was.
     ensures unread { IfSome (command_of words.now) (λ command. reads_input command.order.verb ≡ false
@@ -80,7 +80,7 @@ pub fn run_words<R: Threads + Wait + Sync, S: Source, K: Sink, E: Sink, T: Store
 
     // A call that read the input and went well, or in which a node failed or a stream never closed, met the input's end.
     ensures ended { IfSome (command_of words.now) (λ command. reads_input command.order.verb ≡ true
-        → IsOneOf result (Status.Good ∷ Status.NodeFault ∷ Status.Stalled ∷ []) → HasEnded (device (S.told input.old) (S.told input.new))) }
+        → IsOneOf result (Status.Good ∷ Status.NodeFault ∷ Status.Stalled ∷ []) → InputHasEnded (device (S.told input.old) (S.told input.new))) }
 
     // No fault of a device hides behind another status.
     ensures store_rose { HasRisen (T.told store.old).faults (T.told store.new).faults
@@ -120,7 +120,7 @@ fn do_words<
     store: &mut T,
     devices: &mut Devices<'_, '_, '_, S, K, E>,
 ) -> Status
-    ensures came { Came (outers_told (map C.told boxes.old.items)) (asked_of words.now) result
+    ensures came { CallEnded (outers_told (map C.told boxes.old.items)) (asked_of words.now) result
         (told_at T.told S.told K.told E.told C.told store.old store.new devices.old devices.new boxes.old boxes.new) }
     ensures unread { IfSome (command_of words.now) (λ command. reads_input command.order.verb ≡ false → Untouched (told_by S.told K.told E.told devices.old devices.new).input) }
     ensures same { SameDevices devices.old devices.new }
@@ -147,7 +147,7 @@ fn do_asked<
     store: &mut T,
     devices: &mut Devices<'_, '_, '_, S, K, E>,
 ) -> Status
-    ensures came { Came (outers_told (map C.told boxes.old.items)) (asked_view asked) result
+    ensures came { CallEnded (outers_told (map C.told boxes.old.items)) (asked_view asked) result
         (told_at T.told S.told K.told E.told C.told store.old store.new devices.old devices.new boxes.old boxes.new) }
     ensures unread { IfSome (command_by (asked_view asked)) (λ command. reads_input command.order.verb ≡ false → Untouched (told_by S.told K.told E.told devices.old devices.new).input) }
     ensures same { SameDevices devices.old devices.new }
@@ -172,7 +172,7 @@ fn do_asked<
 // Writes a text, and no note. Where a write of it fails, the note says so.
 fn told<K: Sink, E: Sink>(output: &mut K, notes: &mut E, text: &[u8]) -> Status
     ensures { ((result ≡ Status.Good) × TookText (device (K.told output.old) (K.told output.new)) text.now × Untouched (device (E.told notes.old) (E.told notes.new)))
-        ⊎ ((result ≡ Status.WriteFault) × TookPart (device (K.told output.old) (K.told output.new)) text.now × Noted (device (E.told notes.old) (E.told notes.new)) write_note) }
+        ⊎ ((result ≡ Status.WriteFault) × TookPart (device (K.told output.old) (K.told output.new)) text.now × TookNotes (device (E.told notes.old) (E.told notes.new)) write_note) }
 {
     if put_all(output, text) {
         Status::Good
@@ -210,8 +210,8 @@ fn do_command<
     ensures unread { reads_input ordered.now.order.verb ≡ false → Untouched (told_by S.told K.told E.told devices.old devices.new).input }
     ensures same { SameDevices devices.old devices.new }
 {
-    match due_job(alloc, ordered, boxes.as_slice(), store) {
-        Ok(job) => do_job(alloc, job, crew, boxes, devices),
+    match due_action(alloc, ordered, boxes.as_slice(), store) {
+        Ok(action) => do_action(alloc, action, crew, boxes, devices),
         Err(Fault::Noted(note)) => {
             let _ = put_all(devices.notes, &note);
             Status::StoreFault
@@ -221,24 +221,24 @@ fn do_command<
 }
 
 // Loads the files of a command, and returns what there is to do with them. `boxes` are the calculators that are handed in.
-fn due_job<C: Calculator, T: Store>(
+fn due_action<C: Calculator, T: Store>(
     alloc: Global,
     ordered: &Ordered<'_>,
     boxes: &[C],
     store: &mut T,
-) -> Result<Job, Fault>
-    ensures due { IfOk result (λ job. IsDue (task (command ordered.now.order ordered.now.files.now) (outers_told (map C.told boxes.now))) (device (T.told store.old) (T.told store.new)) (job_view job)) }
-    ensures can { IfOk result (λ job. CanBeDone (outers_told (map C.told boxes.now)) (job_view job)) }
-    ensures lawful { IfOk result (λ job. All MayBeHandedIn (outers_told (map C.told boxes.now))) }
+) -> Result<Action, Fault>
+    ensures due { IfOk result (λ action. IsDue (task (command ordered.now.order ordered.now.files.now) (outers_told (map C.told boxes.now))) (device (T.told store.old) (T.told store.new)) (action_view action)) }
+    ensures can { IfOk result (λ action. CanBeDone (outers_told (map C.told boxes.now)) (action_view action)) }
+    ensures lawful { IfOk result (λ action. All MayBeHandedIn (outers_told (map C.told boxes.now))) }
     ensures failed { IfErr result (λ fault. HasFailed fault ordered.now.files.now (device (T.told store.old) (T.told store.new))) }
 {
     let outers = outers_of(alloc, boxes)?;
     let contents = load_all(alloc, store, ordered.files)?;
-    let job = job_of(alloc, ordered.order, &outers, ordered.files, contents)?;
-    Ok(job)
+    let action = action_of(alloc, ordered.order, &outers, ordered.files, contents)?;
+    Ok(action)
 }
 
-fn do_job<
+fn do_action<
     R: Threads + Wait + Sync,
     G: Gate + Sync,
     C: Calculator + Send,
@@ -247,25 +247,25 @@ fn do_job<
     E: Sink,
 >(
     alloc: Global,
-    job: Job,
+    action: Action,
     crew: &Crew<'_, R, G>,
     boxes: &mut Vec<C>,
     devices: &mut Devices<'_, '_, '_, S, K, E>,
 ) -> Status
-    requires can { CanBeDone (outers_told (map C.told boxes.old.items)) (job_view job) }
+    requires can { CanBeDone (outers_told (map C.told boxes.old.items)) (action_view action) }
     requires lawful { All MayBeHandedIn (outers_told (map C.told boxes.old.items)) }
-    ensures did { (store : Device StoreTold) → Did (job_view job) result
+    ensures did { (store : Device StoreTold) → DidAction (action_view action) result
         (with_run store (told_by S.told K.told E.told devices.old devices.new) (device (map C.told boxes.old.items) (map C.told boxes.new.items))) }
-    ensures unread { MayRead (job_view job) ⊎ Untouched (told_by S.told K.told E.told devices.old devices.new).input }
+    ensures unread { MayRead (action_view action) ⊎ Untouched (told_by S.told K.told E.told devices.old devices.new).input }
     ensures same { SameDevices devices.old devices.new }
 {
-    match job {
-        Job::Refuse(note) => {
+    match action {
+        Action::Refuse(note) => {
             let _ = put_all(devices.notes, &note);
             Status::GraphRefused
         }
-        Job::Show(text) => told(devices.output, devices.notes, &text),
-        Job::Graph(used, report, plan) => use_plan(
+        Action::Show(text) => told(devices.output, devices.notes, &text),
+        Action::Graph(used, report, plan) => use_plan(
             used,
             &Run {
                 alloc,
@@ -294,11 +294,11 @@ fn use_plan<
     boxes: &mut Vec<C>,
     devices: &mut Devices<'_, '_, '_, S, K, E>,
 ) -> Status
-    requires can { CanBeDone (outers_told (map C.told boxes.old.items)) (use_job used run.now.report run.now.plan.now) }
+    requires can { CanBeDone (outers_told (map C.told boxes.old.items)) (use_action used run.now.report run.now.plan.now) }
     requires lawful { All MayBeHandedIn (outers_told (map C.told boxes.old.items)) }
-    ensures did { (store : Device StoreTold) → Did (use_job used run.now.report run.now.plan.now) result
+    ensures did { (store : Device StoreTold) → DidAction (use_action used run.now.report run.now.plan.now) result
         (with_run store (told_by S.told K.told E.told devices.old devices.new) (device (map C.told boxes.old.items) (map C.told boxes.new.items))) }
-    ensures unread { MayRead (use_job used run.now.report run.now.plan.now) ⊎ Untouched (told_by S.told K.told E.told devices.old devices.new).input }
+    ensures unread { MayRead (use_action used run.now.report run.now.plan.now) ⊎ Untouched (told_by S.told K.told E.told devices.old devices.new).input }
     ensures same { SameDevices devices.old devices.new }
 {
     match used {

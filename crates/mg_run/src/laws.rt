@@ -9,18 +9,18 @@ ghost use Rattle.mg_answer.specs.Answer.{Read, ended_input};
 ghost use Rattle.mg_answer.specs.Ran.{CameTo};
 ghost use Rattle.mg_answer.specs.declared.status.Status.{Status};
 ghost use Rattle.mg_run.specs.Task.{Task};
-ghost use Rattle.mg_run.specs.Devices.{Device, Devices, Unrisen};
+ghost use Rattle.mg_run.specs.Devices.{Device, CallDevices, Unrisen};
 ghost use Rattle.mg_files.specs.Loads.{LoadedAll, loads_of};
 ghost use Rattle.mg_run.specs.Headline.{Headline};
-ghost use Rattle.mg_run.specs.Answer.{Answer, Job, run_plan, solve, trace, job_of, with_limit, IsAnswerOf, Records, Replays};
+ghost use Rattle.mg_run.specs.Answer.{RunAnswer, Action, run_plan, solve, trace, action_of, with_limit, AnswersAction, Records, Replays};
 
 /// The program has at most one answer to the bytes of an input, but for the events of a run that it records: these are those of any run of
-/// the job. A recorded run too has one status and one text of notes, which are those of the run. A recorded run that is made again isn't
+/// the action. A recorded run too has one status and one text of notes, which are those of the run. A recorded run that is made again isn't
 /// part of this law.
 pub fn one_answer()
-    ensures one { (job : Job) (boxes : List CalculatorTold) (input : List ℕ) (a b : Answer) → ¬ Records job → ¬ Replays job → IsAnswerOf job boxes input a → IsAnswerOf job boxes input b → a ≡ b }
-    ensures ends { (job : Job) (boxes : List CalculatorTold) (input : List ℕ) (a b : Answer) → ¬ Replays job → IsAnswerOf job boxes input a → IsAnswerOf job boxes input b → (a.notes ≡ b.notes) × (a.status ≡ b.status) }
-    ensures as_run { (report : Bool) (plan : Plan) (boxes : List CalculatorTold) (input : List ℕ) (a b : Answer) → IsAnswerOf (trace report plan) boxes input a → IsAnswerOf (run_plan report plan) boxes input b
+    ensures one { (action : Action) (boxes : List CalculatorTold) (input : List ℕ) (a b : RunAnswer) → ¬ Records action → ¬ Replays action → AnswersAction action boxes input a → AnswersAction action boxes input b → a ≡ b }
+    ensures ends { (action : Action) (boxes : List CalculatorTold) (input : List ℕ) (a b : RunAnswer) → ¬ Replays action → AnswersAction action boxes input a → AnswersAction action boxes input b → (a.notes ≡ b.notes) × (a.status ≡ b.status) }
+    ensures as_run { (report : Bool) (plan : Plan) (boxes : List CalculatorTold) (input : List ℕ) (a b : RunAnswer) → AnswersAction (trace report plan) boxes input a → AnswersAction (run_plan report plan) boxes input b
         → (a.notes ≡ b.notes) × (a.status ≡ b.status) }
 {}
 
@@ -28,17 +28,17 @@ pub fn one_answer()
 /// words without these options. Of a recorded run the notes and the status are the same. A recorded run that is made again isn't part of
 /// this law, since that is done under the limit that the words ask for.
 pub fn limits_and_workers_change_no_answer()
-    ensures words { (task : Task) (files : Files) (boxes : List CalculatorTold) (input : List ℕ) (a : Answer) → ¬ Records (job_of task files) → ¬ Replays (job_of task files)
-        → IsAnswerOf (job_of task files) boxes input a → IsAnswerOf (job_of (record task { order = record task.order { limit = None; workers = None } }) files) boxes input a }
-    ensures recorded { (report : Bool) (limit : Option ℤ) (plan : Plan) (boxes : List CalculatorTold) (input : List ℕ) (a b : Answer)
-        → IsAnswerOf (trace report (with_limit limit plan)) boxes input a → IsAnswerOf (run_plan report plan) boxes input b
+    ensures words { (task : Task) (files : Files) (boxes : List CalculatorTold) (input : List ℕ) (a : RunAnswer) → ¬ Records (action_of task files) → ¬ Replays (action_of task files)
+        → AnswersAction (action_of task files) boxes input a → AnswersAction (action_of (record task { order = record task.order { limit = None; workers = None } }) files) boxes input a }
+    ensures recorded { (report : Bool) (limit : Option ℤ) (plan : Plan) (boxes : List CalculatorTold) (input : List ℕ) (a b : RunAnswer)
+        → AnswersAction (trace report (with_limit limit plan)) boxes input a → AnswersAction (run_plan report plan) boxes input b
         → (a.notes ≡ b.notes) × (a.status ≡ b.status) }
 {}
 
 /// A graph without free nodes has the same answer whether it is run, with any limit of queues, or solved.
 pub fn run_and_solve_answer_the_same()
-    ensures { (report : Bool) (limit : Option ℤ) (plan : Plan) (boxes : List CalculatorTold) (input : List ℕ) (a b : Answer)
-        → IsAnswerOf (run_plan report (with_limit limit plan)) boxes input a → IsAnswerOf (solve report plan) boxes input b → a ≡ b }
+    ensures { (report : Bool) (limit : Option ℤ) (plan : Plan) (boxes : List CalculatorTold) (input : List ℕ) (a b : RunAnswer)
+        → AnswersAction (run_plan report (with_limit limit plan)) boxes input a → AnswersAction (solve report plan) boxes input b → a ≡ b }
 {}
 
 /// Devices that tell what they hold determine what was run: the contents of the files are those that the store tells, and where no read
@@ -52,7 +52,7 @@ pub fn told_devices_pin_a_headline()
 /// Two calls have the same headline where no node is free: with the same words and boxes, and with stores and inputs that tell the same and
 /// of which no read failed, they have the same plan, the same reading and the same solution.
 pub fn one_headline()
-    ensures { (task : Task) (status other_status : Status) (devices other : Devices) (contents : List (List ℕ)) (bytes : List ℕ) (a : Headline task status devices) (b : Headline task other_status other)
+    ensures { (task : Task) (status other_status : Status) (devices other : CallDevices) (contents : List (List ℕ)) (bytes : List ℕ) (a : Headline task status devices) (b : Headline task other_status other)
         → loads_of devices.store.before.content task.files ≡ Some contents → loads_of other.store.before.content task.files ≡ Some contents
         → devices.input.before.left ≡ Some bytes → other.input.before.left ≡ Some bytes
         → Unrisen devices.input.before.faults devices.input.now.faults → Unrisen other.input.before.faults other.input.now.faults

@@ -2,8 +2,8 @@
 //! Answers to the definitions of `specs/Headline.antt`, `specs/Call.antt` and `specs/Answer.antt`.
 #![tactic(auto)]
 
+mod action;
 mod call;
-mod job;
 pub mod laws;
 mod limited;
 mod outers;

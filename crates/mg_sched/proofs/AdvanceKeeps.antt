@@ -7,14 +7,14 @@ use Rattle.mg_node.specs.Ports.{port_queue}
 use Rattle.mg_node.proofs.Lemmas.{advance_grows, advance_lawful, advance_out, advance_set_up}
 use Rattle.mg_sched.specs.Views.{NetView}
 use Rattle.mg_sched.specs.StandsFor.{IsNetOf, StandsFor, IsRunning}
-use Rattle.mg_sched.specs.Acts.{Advanced}
+use Rattle.mg_sched.specs.Acts.{NodeAdvances}
 use Rattle.mg_sched.proofs.Finding.{cell_at, found}
 use Rattle.mg_sched.proofs.Works.{works_kept}
 use Rattle.mg_sched.proofs.Changed.{CellStep, cell_stands}
 use Rattle.mg_sched.proofs.LimitsKnow.{cell_knows}
 use Rattle.mg_sched.proofs.CellForms.{only_engine, stays_so, gone_same}
 
-pub advance_stands : (job : LoggedJob) (node : ℕ) (effect : Effect) (before now : NetView) → node < length before.plan.nodes → IsRunning before → StandsFor job before → Advanced node effect before now → StandsFor job now
+pub advance_stands : (job : LoggedJob) (node : ℕ) (effect : Effect) (before now : NetView) → node < length before.plan.nodes → IsRunning before → StandsFor job before → NodeAdvances node effect before now → StandsFor job now
 unfolding StandsFor
 advance_stands job node effect before now within running h a =
     let long = h.desks in

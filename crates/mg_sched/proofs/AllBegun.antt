@@ -6,7 +6,7 @@ use Rattle.mg_node.specs.Outputs.{laid_at}
 use Rattle.mg_node.specs.Standing.{EngineGrows}
 use Rattle.mg_node.specs.Views.{EngineView}
 use Rattle.mg_node.proofs.Lemmas.{grown_by_itself}
-use Rattle.mg_sched.specs.Begins.{Begins}
+use Rattle.mg_sched.specs.Begins.{BeginsNet}
 use Rattle.mg_sched.specs.StandsFor.{StandsFor, StandsForSome, IsRunning}
 use Rattle.mg_sched.specs.Views.{NetView}
 use Rattle.mg_sched.proofs.Finding.{found}
@@ -33,7 +33,7 @@ grows_on a b c h k =
           record { count = omega (arith, x, y); bound = omega (arith, z, w) };
     }
 
-pub begins_none : (net : NetView) → Begins net net
+pub begins_none : (net : NetView) → BeginsNet net net
 begins_none net = record {
   more = omega arith;
   parts = refl;
@@ -47,7 +47,7 @@ begins_none net = record {
   gone = λ place engine now at at_now output. subst (λ (v : EngineView). (laid_at v output).gone ≤ (laid_at engine output).gone) (same_Some engine now (sym at ∙ at_now)) (omega arith);
 }
 
-pub begins_on : (a b c : NetView) → Begins a b → Begins b c → Begins a c
+pub begins_on : (a b c : NetView) → BeginsNet a b → BeginsNet b c → BeginsNet a c
 begins_on a b c h k =
     let one = h.more in
     let two = k.more in
@@ -89,5 +89,5 @@ more_left shown net count is long less =
     let nodes = ap (λ (v : NetView). length v.plan.nodes) is in
     omega (arith, long, less, begun, nodes))
 
-pub fewer_left : (before now : NetView) → Begins before now → now.begun ≡ before.begun + 1 → before.begun < length before.plan.nodes → length now.plan.nodes - now.begun < length before.plan.nodes - before.begun
+pub fewer_left : (before now : NetView) → BeginsNet before now → now.begun ≡ before.begun + 1 → before.begun < length before.plan.nodes → length now.plan.nodes - now.begun < length before.plan.nodes - before.begun
 fewer_left before now h next within = (let same = ap (λ (v : NetView). length v.plan.nodes) h.parts in omega (arith, same, next, within))

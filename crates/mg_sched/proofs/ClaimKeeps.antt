@@ -14,7 +14,7 @@ use Rattle.mg_node.specs.Claims.{has_ended, Claims}
 use Rattle.mg_node.proofs.Lemmas.{claim_grows, claim_lawful, claim_puts_out, claim_set_up, claim_stays, intake_ports}
 use Rattle.mg_sched.specs.Views.{DeskView, NetView}
 use Rattle.mg_sched.specs.StandsFor.{IsCell, HasWorks, IsNetOf, StandsFor, IsRunning}
-use Rattle.mg_sched.specs.Acts.{TakesWork, ClaimsBy, ClaimsNext, Claimed as ClaimedAt}
+use Rattle.mg_sched.specs.Acts.{TakesWork, ClaimsBy, ClaimsNext, NodeClaims as ClaimedAt}
 use Rattle.mg_sched.proofs.Finding.{cell_at, found}
 use Rattle.mg_sched.proofs.PlanEdges.{ports_of_node}
 use Rattle.mg_node.specs.Out.{GoesOut, KeepsOut}

@@ -13,7 +13,7 @@ use Rattle.mg_node.specs.Standing.{EngineGrows}
 use Rattle.mg_node.proofs.Lemmas.{commit_grows, commit_lawful, commits_back, commits_set_up, engine_further, ran_outcome, unshelved_lawful, unshelved_out, unshelving_grows, unshelving_set_up}
 use Rattle.mg_sched.specs.Views.{NetView}
 use Rattle.mg_sched.specs.StandsFor.{IsNetOf, StandsFor, IsRunning}
-use Rattle.mg_sched.specs.Acts.{CommitsTo, CommittedAt, Committed, stopped_by}
+use Rattle.mg_sched.specs.Acts.{CommitsTo, CommittedAt, NodeCommits, stopped_by}
 use Rattle.mg_sched.proofs.Finding.{cell_at, found}
 use Rattle.mg_sched.proofs.Works.{works_through}
 use Rattle.mg_sched.proofs.Changed.{CellStep, cell_stands}
@@ -65,5 +65,5 @@ taken_stands job node number (Some p) Did engine before now within running h at 
 taken_stands job node number (Some p) Idle engine before now within running h at is c = absurd c
 taken_stands job node number (Some p) OutOfMemory engine before now within running h at is c = subst (λ (v : NetView). StandsFor job v) (sym c) h
 
-pub commit_stands : (job : LoggedJob) (node number : ℕ) (effect : Effect) (before now : NetView) → node < length before.plan.nodes → IsRunning before → StandsFor job before → Committed node number effect before now → StandsFor job now
+pub commit_stands : (job : LoggedJob) (node number : ℕ) (effect : Effect) (before now : NetView) → node < length before.plan.nodes → IsRunning before → StandsFor job before → NodeCommits node number effect before now → StandsFor job now
 commit_stands job node number effect before now within running h c = taken_stands job node number (shelf_at c.engine number) effect c.engine before now within running h c.at refl c.committed

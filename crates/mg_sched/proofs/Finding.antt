@@ -7,7 +7,7 @@ use Rattle.mg_calc.specs.Plan.{IsValid}
 use Rattle.mg_node.specs.Views.{IntakeView, EngineView}
 use Rattle.mg_node.specs.Job.{LoggedJob}
 use Rattle.mg_node.specs.Lawful.{AreCell, LawfulEngine, LawfulIntake, Agree, of_node}
-use Rattle.mg_throttle.specs.Throttle.{IsOf}
+use Rattle.mg_throttle.specs.Throttle.{AreLimitsOf}
 use Rattle.mg_sched.specs.Views.{DeskView, NetView}
 use Rattle.mg_sched.specs.StandsFor.{IsCell, StandsFor, StandsForSome, IsRunning}
 
@@ -21,7 +21,7 @@ pub places : (net : NetView) → StandsForSome net → (length net.engines ≡ l
 unfolding StandsFor
 places net h = (h.stands.engines, h.stands.intakes, h.stands.desks)
 
-pub of_plan : (net : NetView) → StandsForSome net → IsOf net.plan net.limits
+pub of_plan : (net : NetView) → StandsForSome net → AreLimitsOf net.plan net.limits
 unfolding StandsFor
 of_plan net h = h.stands.limits.of_plan
 

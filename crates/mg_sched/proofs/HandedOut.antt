@@ -13,7 +13,7 @@ use Rattle.mg_route.specs.HolderView.{HolderView, holder_view}
 use Rattle.mg_node.specs.Views.{EngineView}
 use Rattle.mg_node.specs.Fresh.{own_told, fresh_engine}
 use Rattle.mg_node.proofs.Lemmas.{at_each, get_set, set_get, some_same}
-use Rattle.mg_sched.specs.Code.Made.{AtPlaces, IsEngineAt, IsLeft, HasTaken, FindEach, first_holder, holder_before}
+use Rattle.mg_sched.specs.Code.Made.{AtPlaces, IsEngineAt, IsLeftOver, HasTaken, FindEach, first_holder, holder_before}
 use Rattle.mg_sched.proofs.AtEach.{one_changed}
 use Rattle.std.proofs.lemmas.Option.{slice_get_within}
 
@@ -72,7 +72,7 @@ earlier_or_last nodes count number t = elim (below t.place count) [
 later : (nodes : List PlanNode) (count number : ℕ) → HasTaken nodes count number → HasTaken nodes (count + 1) number
 later nodes count number t = (let less = t.before in record { place = t.place; node = t.node; before = omega (arith, less); there = t.there; takes = t.takes })
 
-pub left_first : (nodes : List PlanNode) (given : List (Option CalculatorTold)) → ((number : ℕ) → ¬ (slice_get given number ≡ Some None)) → IsLeft nodes given 0 given
+pub left_first : (nodes : List PlanNode) (given : List (Option CalculatorTold)) → ((number : ℕ) → ¬ (slice_get given number ≡ Some None)) → IsLeftOver nodes given 0 given
 left_first nodes given full = record {
   places = refl;
   taken = λ number there. absurd (full number there);
@@ -80,7 +80,7 @@ left_first nodes given full = record {
 }
 
 -- a node without a number takes nothing
-pub left_passed : (nodes : List PlanNode) (given now : List (Option CalculatorTold)) (count : ℕ) (node : PlanNode) → IsLeft nodes given count now → slice_get nodes count ≡ Some node → node.box_number ≡ None → IsLeft nodes given (count + 1) now
+pub left_passed : (nodes : List PlanNode) (given now : List (Option CalculatorTold)) (count : ℕ) (node : PlanNode) → IsLeftOver nodes given count now → slice_get nodes count ≡ Some node → node.box_number ≡ None → IsLeftOver nodes given (count + 1) now
 left_passed nodes given now count node l there none = record {
   places = l.places;
   taken = λ number gone. later nodes count number (l.taken number gone);
@@ -97,9 +97,9 @@ left_passed nodes given now count node l there none = record {
     no_number a b number same none takes = (let not_one : None ≡ Some number = sym none ∙ ap (λ (m : PlanNode). m.box_number) same ∙ takes in absurd cc)
 
 -- a node with a number takes the one of its place
-pub left_taken : (nodes : List PlanNode) (given now after : List (Option CalculatorTold)) (count number : ℕ) (node : PlanNode) (lay : CalculatorTold) → IsLeft nodes given count now → slice_get nodes count ≡ Some node → node.box_number ≡ Some number
-    → slice_get now number ≡ Some (Some lay) → after ≡ set now number None → IsLeft nodes given (count + 1) after
-left_taken nodes given now after count number node lay l there takes lies is = subst (IsLeft nodes given (count + 1)) (sym is) (record {
+pub left_taken : (nodes : List PlanNode) (given now after : List (Option CalculatorTold)) (count number : ℕ) (node : PlanNode) (lay : CalculatorTold) → IsLeftOver nodes given count now → slice_get nodes count ≡ Some node → node.box_number ≡ Some number
+    → slice_get now number ≡ Some (Some lay) → after ≡ set now number None → IsLeftOver nodes given (count + 1) after
+left_taken nodes given now after count number node lay l there takes lies is = subst (IsLeftOver nodes given (count + 1)) (sym is) (record {
   places = length-set now number None ∙ l.places;
   taken = λ m gone. elim (set_get now number m None None gone) [
     | inl before ↦ later nodes count m (l.taken m before)
@@ -136,7 +136,7 @@ pub record Finds (given now : List (Option CalculatorTold)) (number : ℕ) : Typ
   pub at_first : slice_get given number ≡ Some (Some told)
   pub lies : slice_get now number ≡ Some (Some told)
 
-pub finds : (nodes : List PlanNode) (given now : List (Option CalculatorTold)) (count number : ℕ) (node : PlanNode) → IsLeft nodes given count now → AllPairs ◌≢◌ (filter_map (λ n. n.box_number) nodes) → FindEach nodes given
+pub finds : (nodes : List PlanNode) (given now : List (Option CalculatorTold)) (count number : ℕ) (node : PlanNode) → IsLeftOver nodes given count now → AllPairs ◌≢◌ (filter_map (λ n. n.box_number) nodes) → FindEach nodes given
     → slice_get nodes count ≡ Some node → node.box_number ≡ Some number → Finds given now number
 finds nodes given now count number node l apart find there takes = lying (slice_get now number) refl
   where

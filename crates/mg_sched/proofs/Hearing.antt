@@ -8,7 +8,7 @@ use Rattle.mg_node.specs.Views.{IntakeView}
 use Rattle.mg_calc.specs.declared.event.Effect.{Effect}
 use Rattle.mg_calc.specs.declared.event.Effect.TheVariants.{Did, Idle}
 use Rattle.mg_throttle.specs.Throttle.{QueueLimits, is_full, relaxed}
-use Rattle.mg_sched.specs.Acts.{all_noted, with_noted, Relaxed}
+use Rattle.mg_sched.specs.Acts.{all_noted, with_noted, LimitsRelax}
 use Rattle.mg_sched.specs.Places.{first_edge, lengths_of, with_limits}
 use Rattle.mg_sched.specs.Views.{NetView}
 use Rattle.mg_sched.proofs.Finding.{intake_read_at}
@@ -29,6 +29,6 @@ noted_is shown net place read intake first limits is there value at first_is lim
 
 -- limits are relaxed, or none is full
 pub relaxed_by : (any : Bool) (effect : Effect) (before now : NetView) (limits : QueueLimits) → any ≡ list_any is_full before.limits.queues → effect ≡ (if any then Did else Idle) → now ≡ with_limits before limits
-    → limits ≡ record before.limits { queues = map relaxed before.limits.queues } → (any ≡ false → limits ≡ before.limits) → Relaxed effect before now
+    → limits ≡ record before.limits { queues = map relaxed before.limits.queues } → (any ≡ false → limits ≡ before.limits) → LimitsRelax effect before now
 relaxed_by true effect before now limits some is now_is limits_are none = inr (sym some, is, now_is ∙ ap (with_limits before) limits_are)
 relaxed_by false effect before now limits some is now_is limits_are none = inl ((λ full. false≢true (some ∙ full)), record { idle = is; same = now_is ∙ ap (with_limits before) (none refl) })

@@ -8,7 +8,8 @@ use Rattle.mg_calc.specs.declared.plan_stream.PlanStream.{PlanStream}
 use Rattle.mg_calc.specs.declared.plan_stream.Producer.{Producer}
 use Rattle.mg_calc.specs.declared.plan_stream.Producer.TheVariants.{Input}
 use Rattle.mg_calc.specs.Plan.{IsValid, Feeder, graph_input, source_node, feeders}
-use Rattle.mg_throttle.specs.Throttle.{QueueLimits, IsOf, IsThrottled, producer_of}
+use Rattle.mg_calc.specs.Reaching.{producer_of}
+use Rattle.mg_throttle.specs.Throttle.{QueueLimits, AreLimitsOf, IsThrottled}
 use Rattle.mg_sched.specs.Views.{NetView}
 use Rattle.mg_sched.specs.StandsFor.{StandsForSome}
 use Rattle.mg_sched.specs.Acts.{IsHeld, IsHeldSource}
@@ -19,10 +20,10 @@ use Rattle.mg_sched.proofs.PlanFeeders.{feeder_of_input, sources_have_feeders}
 
 -- what the limits answer of a feeder
 abbrev pub Told : QueueLimits → ℕ → Bool → Type 0
-Told limits feeder answer = (plan : Plan) (f : Feeder) → IsOf plan limits → slice_get (feeders plan) feeder ≡ Some f → (answer ≡ false) ↔ IsThrottled plan limits f
+Told limits feeder answer = (plan : Plan) (f : Feeder) → AreLimitsOf plan limits → slice_get (feeders plan) feeder ≡ Some f → (answer ≡ false) ↔ IsThrottled plan limits f
 
 -- the graph input that writes an edge's stream is there
-pub input_there : (plan : Plan) (e : Edge) (input : ℕ) → IsValid plan → e.stream < length plan.streams → producer_of plan e ≡ Some (Input input) → input < length plan.inputs
+pub input_there : (plan : Plan) (e : Edge) (input : ℕ) → IsValid plan → e.stream < length plan.streams → producer_of plan e.stream ≡ Some (Input input) → input < length plan.inputs
 input_there plan e input valid within from =
     let it = producer_there plan valid e.stream within in
     let is : it.0.producer ≡ Input input = same_Some it.0.producer (Input input) (sym (ap (option_map (λ (s : PlanStream). s.producer)) it.1) ∙ from) in
@@ -30,7 +31,7 @@ input_there plan e input valid within from =
     let same = w.0 in let less = w.1 in
     omega (arith, same, less)
 
-pub input_fits : (net : NetView) (e : Edge) (input : ℕ) → StandsForSome net → e.stream < length net.plan.streams → producer_of net.plan e ≡ Some (Input input) → input < net.limits.feeders
+pub input_fits : (net : NetView) (e : Edge) (input : ℕ) → StandsForSome net → e.stream < length net.plan.streams → producer_of net.plan e.stream ≡ Some (Input input) → input < net.limits.feeders
 input_fits net e input h within from =
     let there = input_there net.plan e input (valid net h) within from in
     let same = (of_plan net h).marked_feeders in
@@ -49,14 +50,14 @@ same_input : (a b : ℕ) → Some (Input a) ≡ Some (Input b) → a ≡ b
 same_input a b h = cc
 
 -- an edge from a graph input
-pub held_input : (net : NetView) (e : Edge) (input : ℕ) (answer : Bool) → StandsForSome net → e.stream < length net.plan.streams → producer_of net.plan e ≡ Some (Input input) → Told net.limits input answer → not answer ≡ true → IsHeld net e
+pub held_input : (net : NetView) (e : Edge) (input : ℕ) (answer : Bool) → StandsForSome net → e.stream < length net.plan.streams → producer_of net.plan e.stream ≡ Some (Input input) → Told net.limits input answer → not answer ≡ true → IsHeld net e
 held_input net e input answer h within from told is = record {
   input = input;
   from = from;
   throttled = (told net.plan (graph_input input) (of_plan net h) (feeder_of_input net.plan input (input_there net.plan e input (valid net h) within from))).0 (not_true answer is);
 }
 
-pub free_input : (net : NetView) (e : Edge) (input : ℕ) (answer : Bool) → StandsForSome net → e.stream < length net.plan.streams → producer_of net.plan e ≡ Some (Input input) → Told net.limits input answer → not answer ≡ false → ¬ IsHeld net e
+pub free_input : (net : NetView) (e : Edge) (input : ℕ) (answer : Bool) → StandsForSome net → e.stream < length net.plan.streams → producer_of net.plan e.stream ≡ Some (Input input) → Told net.limits input answer → not answer ≡ false → ¬ IsHeld net e
 free_input net e input answer h within from told is held =
     let other : input ≡ held.input = same_input input held.input (sym from ∙ held.from) in
     let told_by = told net.plan (graph_input input) (of_plan net h) (feeder_of_input net.plan input (input_there net.plan e input (valid net h) within from)) in
@@ -64,7 +65,7 @@ free_input net e input answer h within from told is held =
     absurd (let yes_feed = not_false answer is in cc)
 
 -- an edge from a node
-pub free_node : (net : NetView) (e : Edge) (p : Producer) → producer_of net.plan e ≡ Some p → ((input : ℕ) → ¬ (p ≡ Input input)) → ¬ IsHeld net e
+pub free_node : (net : NetView) (e : Edge) (p : Producer) → producer_of net.plan e.stream ≡ Some p → ((input : ℕ) → ¬ (p ≡ Input input)) → ¬ IsHeld net e
 free_node net e p from other held = other held.input (same_Some p (Input held.input) (sym from ∙ held.from))
 
 -- Sources.

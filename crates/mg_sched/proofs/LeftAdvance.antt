@@ -15,7 +15,7 @@ use Rattle.mg_node.proofs.Lemmas.{advance_lawful, bounds_small}
 use Rattle.mg_sched.specs.Views.{NetView}
 use Rattle.mg_sched.specs.Places.{with_engine}
 use Rattle.mg_sched.specs.StandsFor.{StandsFor, IsRunning}
-use Rattle.mg_sched.specs.Acts.{Advanced}
+use Rattle.mg_sched.specs.Acts.{NodeAdvances}
 use Rattle.mg_sched.specs.Code.Left.{engine_left, left_in}
 use Rattle.mg_sched.proofs.Finding.{cell_at, found}
 use Rattle.mg_sched.proofs.PlanEdges.{all_at}
@@ -65,7 +65,7 @@ engine_falls e outputs fall = omega (arith, fall)
 engine_low : (e : EngineView) (outputs : List (Backlog Plain)) → sum_by output_left outputs ≤ sum_by output_left e.outputs → engine_left (record e { outputs = outputs }) ≤ engine_left e
 engine_low e outputs low = omega (arith, low)
 
-pub advance_less : (job : LoggedJob) (node : ℕ) (before now : NetView) → node < length before.plan.nodes → IsRunning before → StandsFor job before → Advanced node Did before now → left_in now < left_in before
+pub advance_less : (job : LoggedJob) (node : ℕ) (before now : NetView) → node < length before.plan.nodes → IsRunning before → StandsFor job before → NodeAdvances node Did before now → left_in now < left_in before
 unfolding StandsFor
 advance_less job node before now within running h a =
     let long = h.desks in
@@ -78,7 +78,7 @@ advance_less job node before now within running h a =
     subst (λ (v : NetView). left_in v < left_in before) (sym a.now_is)
     (put_less (left_in (with_engine before node engine_now)) (left_in before) (engine_left engine_now) (engine_left a.engine) (engine_put before node a.engine engine_now a.at) (engine_falls a.engine engine_now.outputs fall))
 
-pub advance_no_more : (node : ℕ) (effect : Effect) (before now : NetView) → Advanced node effect before now → left_in now ≤ left_in before
+pub advance_no_more : (node : ℕ) (effect : Effect) (before now : NetView) → NodeAdvances node effect before now → left_in now ≤ left_in before
 advance_no_more node effect before now a =
     let engine_now = advanced a.engine a.intake.waits in
     subst (λ (v : NetView). left_in v ≤ left_in before) (sym a.now_is)

@@ -26,7 +26,7 @@ use Rattle.mg_node.proofs.Lemmas.{claim_grows, claim_stays, claims_small}
 use Rattle.mg_sched.specs.Views.{DeskView, NetView}
 use Rattle.mg_sched.specs.Places.{first_edge, lengths_of, with_engine, with_intake, with_desk}
 use Rattle.mg_sched.specs.StandsFor.{IsCell, StandsFor, IsRunning}
-use Rattle.mg_sched.specs.Acts.{ClaimsBy, ClaimsNext, Claimed}
+use Rattle.mg_sched.specs.Acts.{ClaimsBy, ClaimsNext, NodeClaims}
 use Rattle.mg_sched.specs.Code.Left.{came_left, entry_left, engine_left, intake_left, left_in}
 use Rattle.mg_sched.proofs.Finding.{cell_at}
 use Rattle.mg_sched.proofs.LeftParts.{engine_put, intake_put, noted_same, not_idle, not_without}
@@ -179,7 +179,7 @@ next_less job node before now within running h c =
     let less = cell_less job node c.engine c.engine_now c.intake c.intake_now c.desk c.desk_now cell (claims_small job (of_node node) c.engine cell.lawful_engine) c.claims in
     both_less (left_in now) (left_in before) (engine_left c.engine_now) (engine_left c.engine) (intake_left c.intake_now) (intake_left c.intake) (next_left node Did before now c) less.engine_less less.intake_same
 
-pub claim_less : (job : LoggedJob) (node : ℕ) (before now : NetView) → node < length before.plan.nodes → IsRunning before → StandsFor job before → Claimed node Did before now → left_in now < left_in before
+pub claim_less : (job : LoggedJob) (node : ℕ) (before now : NetView) → node < length before.plan.nodes → IsRunning before → StandsFor job before → NodeClaims node Did before now → left_in now < left_in before
 claim_less job node before now within running h c = elim c [
   | inl held ↦ absurd (not_idle held.1.idle)
   | inr free ↦ next_less job node before now within running h free.1
@@ -206,7 +206,7 @@ next_no_more job node Did before now within running h c = less_left (left_in now
 next_no_more job node Idle before now within running h c = next_same node Idle before now (λ e. not_idle (sym e)) c
 next_no_more job node OutOfMemory before now within running h c = next_same node OutOfMemory before now (λ e. not_without (sym e)) c
 
-pub claim_no_more : (job : LoggedJob) (node : ℕ) (effect : Effect) (before now : NetView) → node < length before.plan.nodes → IsRunning before → StandsFor job before → Claimed node effect before now → left_in now ≤ left_in before
+pub claim_no_more : (job : LoggedJob) (node : ℕ) (effect : Effect) (before now : NetView) → node < length before.plan.nodes → IsRunning before → StandsFor job before → NodeClaims node effect before now → left_in now ≤ left_in before
 claim_no_more job node effect before now within running h c = elim c [
   | inl held ↦ same_left before now held.1.same
   | inr free ↦ next_no_more job node effect before now within running h free.1

@@ -20,7 +20,7 @@ use Rattle.mg_throttle.specs.Throttle.{QueueLimits, stopped}
 use Rattle.mg_sched.specs.Views.{NetView}
 use Rattle.mg_sched.specs.Places.{with_engine, with_limits}
 use Rattle.mg_sched.specs.StandsFor.{StandsFor, IsRunning}
-use Rattle.mg_sched.specs.Acts.{stopped_by, CommitsTo, CommittedAt, Committed}
+use Rattle.mg_sched.specs.Acts.{stopped_by, CommitsTo, CommittedAt, NodeCommits}
 use Rattle.mg_sched.specs.Code.Left.{came_left, entry_left, engine_left, intake_left, limit_left, left_in}
 use Rattle.mg_sched.proofs.Finding.{cell_at, found}
 use Rattle.mg_sched.proofs.SumsFall.{sum_put}
@@ -158,7 +158,7 @@ taken_less : (job : LoggedJob) (node number : ℕ) (r : Option PerformedView) (e
 taken_less job node number None engine before now within running h at is c = absurd (not_idle c.idle)
 taken_less job node number (Some p) engine before now within running h at is c = laid_less job node number engine p before now within running h at is c
 
-pub commit_less : (job : LoggedJob) (node number : ℕ) (before now : NetView) → node < length before.plan.nodes → IsRunning before → StandsFor job before → Committed node number Did before now → left_in now < left_in before
+pub commit_less : (job : LoggedJob) (node number : ℕ) (before now : NetView) → node < length before.plan.nodes → IsRunning before → StandsFor job before → NodeCommits node number Did before now → left_in now < left_in before
 commit_less job node number before now within running h c = taken_less job node number (shelf_at c.engine number) c.engine before now within running h c.at refl c.committed
 
 -- and what did nothing leaves as much
@@ -169,5 +169,5 @@ taken_no_more job node number (Some p) Did engine before now within running h at
 taken_no_more job node number (Some p) Idle engine before now within running h at is c = absurd c
 taken_no_more job node number (Some p) OutOfMemory engine before now within running h at is c = same_left before now c
 
-pub commit_no_more : (job : LoggedJob) (node number : ℕ) (effect : Effect) (before now : NetView) → node < length before.plan.nodes → IsRunning before → StandsFor job before → Committed node number effect before now → left_in now ≤ left_in before
+pub commit_no_more : (job : LoggedJob) (node number : ℕ) (effect : Effect) (before now : NetView) → node < length before.plan.nodes → IsRunning before → StandsFor job before → NodeCommits node number effect before now → left_in now ≤ left_in before
 commit_no_more job node number effect before now within running h c = taken_no_more job node number (shelf_at c.engine number) effect c.engine before now within running h c.at refl c.committed

@@ -11,7 +11,7 @@ use Rattle.mg_calc.specs.declared.event.Effect.TheVariants.{Did}
 use Rattle.mg_calc.specs.Plan.{IsValid, numbers}
 use Rattle.mg_node.specs.declared.delivered.Delivered.{Delivered}
 use Rattle.mg_node.specs.declared.delivered.Delivered.TheVariants.{Moved, OutOfMemory as NoRoom}
-use Rattle.mg_node.specs.declared.waits.Waits.{Waits}
+use Rattle.mg_node.specs.declared.pending.Pending.{Pending}
 use Rattle.mg_node.specs.Views.{IntakeView}
 use Rattle.mg_node.specs.Job.{LoggedJob}
 use Rattle.mg_node.specs.Lawful.{LawfulIntake}
@@ -61,20 +61,20 @@ did_raise : (raised : Bool) → Did ≡ effect_of (Moved 0 raised) → raised �
 did_raise true e = refl
 did_raise false e = absurd (not_idle e)
 
-moved_more : (packets : ℕ) (raised : Bool) (o : Waiting Plain) (port most : ℕ) (before now : Waits) → port < ports_in before → Delivers (Moved packets raised) o port most before now → Did ≡ effect_of (Moved packets raised) → HasMore (port_queue before port) (port_queue now port)
+moved_more : (packets : ℕ) (raised : Bool) (o : Waiting Plain) (port most : ℕ) (before now : Pending) → port < ports_in before → Delivers (Moved packets raised) o port most before now → Did ≡ effect_of (Moved packets raised) → HasMore (port_queue before port) (port_queue now port)
 moved_more zero raised o port most before now there d e =
     let higher : nat_lt (port_queue before port).bound (port_queue now port).bound ≡ true = sym d.2 ∙ did_raise raised e in
     inr (grind (arith, nat_tests, higher))
 moved_more (suc n) raised o port most before now there d e =
     let q = port_queue before port in
     let spare = (port_queue now port).spare in
-    let is : port_queue now port ≡ with_room (delivered o q (suc n)) spare = ap (λ (w : Waits). port_queue w port) d.1 ∙ queue-there before port (with_room (delivered o q (suc n)) spare) there in
+    let is : port_queue now port ≡ with_room (delivered o q (suc n)) spare = ap (λ (w : Pending). port_queue w port) d.1 ∙ queue-there before port (with_room (delivered o q (suc n)) spare) there in
     let within : suc n ≤ length (missing o q) = (let count = d.0 in omega (arith, count)) in
     let count = delivered_count o q (suc n) within in
     let same : count_of (port_queue now port) ≡ count_of (delivered o q (suc n)) = ap (λ (r : Waiting Plain). count_of r) is in
     inl (omega (arith, count, same))
 
-came_more : (answer : Delivered) (o : Waiting Plain) (port most : ℕ) (before now : Waits) → port < ports_in before → Delivers answer o port most before now → Did ≡ effect_of answer → HasMore (port_queue before port) (port_queue now port)
+came_more : (answer : Delivered) (o : Waiting Plain) (port most : ℕ) (before now : Pending) → port < ports_in before → Delivers answer o port most before now → Did ≡ effect_of answer → HasMore (port_queue before port) (port_queue now port)
 came_more (Moved packets raised) o port most before now there d e = moved_more packets raised o port most before now there d e
 came_more (NoRoom packets) o port most before now there d e = absurd (not_without e)
 

@@ -9,7 +9,7 @@ use Rattle.mg_node.specs.Shelves.{IsOut, back, outcome_of, shelved}
 use Rattle.mg_sched.specs.Views.{DeskView, NetView}
 use Rattle.mg_sched.specs.Places.{with_engine}
 use Rattle.mg_sched.specs.StandsFor.{StandsFor, IsRunning}
-use Rattle.mg_sched.specs.Acts.{Performs, Performed}
+use Rattle.mg_sched.specs.Acts.{Performs, NodePerforms}
 use Rattle.mg_sched.specs.Code.Left.{entry_left, engine_left, left_in}
 use Rattle.mg_sched.proofs.Finding.{cell_at, found}
 use Rattle.mg_sched.proofs.Middles.{all_middle}
@@ -37,7 +37,7 @@ done_less job node number desk before now within running h on q =
     subst (λ (v : NetView). left_in v < left_in before) (sym q.performed.2)
     (put_less (left_in (with_engine before node engine_now)) (left_in before) (engine_left engine_now) (engine_left q.engine) (engine_put before node q.engine engine_now q.at) (shelved_less job node q.engine p out cell.lawful_engine))
 
-pub perform_less : (job : LoggedJob) (node number : ℕ) (before now : NetView) → node < length before.plan.nodes → IsRunning before → StandsFor job before → Performed node number Did before now → left_in now < left_in before
+pub perform_less : (job : LoggedJob) (node number : ℕ) (before now : NetView) → node < length before.plan.nodes → IsRunning before → StandsFor job before → NodePerforms node number Did before now → left_in now < left_in before
 perform_less job node number before now within running h p = elim p.performed [
   | inl none ↦ absurd (not_idle none.1.idle)
   | inr some ↦ done_less job node number p.desk before now within running h p.on some
@@ -56,7 +56,7 @@ performs_no_more job node number Did desk before now within running h on q = les
 performs_no_more job node number Idle desk before now within running h on q = absurd q.performed
 performs_no_more job node number OutOfMemory desk before now within running h on q = same_left before now q.performed
 
-pub perform_no_more : (job : LoggedJob) (node number : ℕ) (effect : Effect) (before now : NetView) → node < length before.plan.nodes → IsRunning before → StandsFor job before → Performed node number effect before now → left_in now ≤ left_in before
+pub perform_no_more : (job : LoggedJob) (node number : ℕ) (effect : Effect) (before now : NetView) → node < length before.plan.nodes → IsRunning before → StandsFor job before → NodePerforms node number effect before now → left_in now ≤ left_in before
 perform_no_more job node number effect before now within running h p = elim p.performed [
   | inl none ↦ same_left before now none.1.same
   | inr some ↦ performs_no_more job node number effect p.desk before now within running h p.on some

@@ -9,10 +9,10 @@ use Rattle.mg_calc.specs.declared.event.Effect.TheVariants.{Did}
 use Rattle.mg_node.specs.Job.{LoggedJob}
 use Rattle.mg_node.proofs.Lemmas.{few_packets}
 use Rattle.mg_throttle.specs.declared.queue.Queue.{Queue}
-use Rattle.mg_throttle.specs.Throttle.{is_at, is_full, relaxed}
+use Rattle.mg_throttle.specs.Throttle.{is_limit_reached, is_full, relaxed}
 use Rattle.mg_sched.specs.Views.{NetView}
 use Rattle.mg_sched.specs.StandsFor.{StandsFor, StandsForSome}
-use Rattle.mg_sched.specs.Acts.{IsAnyFull, Relaxed}
+use Rattle.mg_sched.specs.Acts.{IsAnyFull, LimitsRelax}
 use Rattle.mg_sched.specs.Code.Left.{limit_left, left_in}
 use Rattle.mg_sched.proofs.Finding.{found, valid}
 use Rattle.mg_sched.proofs.PlanEdges.{edge_ends}
@@ -38,14 +38,14 @@ both_so : (a b : Bool) → (a && b) ≡ true → b ≡ true
 both_so true b e = e
 both_so false b e = absurd cc
 
-at_limit : (limit : Option ℕ) (waiting : ℕ) → is_at limit waiting ≡ true → waiting + 1 < 2 ^ 64 → limit_left (Some (waiting + 1)) < limit_left limit
+at_limit : (limit : Option ℕ) (waiting : ℕ) → is_limit_reached limit waiting ≡ true → waiting + 1 < 2 ^ 64 → limit_left (Some (waiting + 1)) < limit_left limit
 at_limit None waiting e few = absurd cc
 at_limit (Some limit) waiting e few = (let low : limit ≤ waiting = grind (arith, nat_tests, e) in omega (arith, low, few))
 
 full_falls : (q : Queue) → q.waiting + 1 < 2 ^ 64 → is_full q ≡ true → queue_left (relaxed q) < queue_left q
 full_falls q few is =
     subst (λ (b : Bool). queue_left (let x : Queue = if b then record q { limit = Some (q.waiting + 1) } else q in x) < queue_left q) (sym is)
-    (at_limit q.limit q.waiting (both_so q.counts (is_at q.limit q.waiting) is) few)
+    (at_limit q.limit q.waiting (both_so q.counts (is_limit_reached q.limit q.waiting) is) few)
 
 queue_low : (q : Queue) → q.waiting + 1 < 2 ^ 64 → queue_left (relaxed q) ≤ queue_left q
 queue_low q few = elim (cases_Bool (is_full q)) [
@@ -61,13 +61,13 @@ queues_fall job net h full =
     let fall = sums_fall queue_left (λ (q : Queue). queue_left (relaxed q)) qs some.0 some.1 (λ j q there. queue_low q (few_there job net j q h there)) at (full_falls some.1 (few_there job net some.0 some.1 h at) some.4) in
     omega (arith, fall, sum_mapped queue_left relaxed qs)
 
-pub relax_less : (job : LoggedJob) (before now : NetView) → StandsFor job before → Relaxed Did before now → left_in now < left_in before
+pub relax_less : (job : LoggedJob) (before now : NetView) → StandsFor job before → LimitsRelax Did before now → left_in now < left_in before
 relax_less job before now h r = elim r [
   | inl none ↦ absurd (not_idle none.1.idle)
   | inr some ↦ (let fall = queues_fall job before h some.0 in subst (λ (v : NetView). left_in v < left_in before) (sym some.2) (omega (arith, fall)))
 ]
 
-pub relax_no_more : (job : LoggedJob) (effect : Effect) (before now : NetView) → StandsFor job before → Relaxed effect before now → left_in now ≤ left_in before
+pub relax_no_more : (job : LoggedJob) (effect : Effect) (before now : NetView) → StandsFor job before → LimitsRelax effect before now → left_in now ≤ left_in before
 relax_no_more job effect before now h r = elim r [
   | inl none ↦ subst (λ (v : NetView). left_in v ≤ left_in before) (sym none.1.same) (omega arith)
   | inr some ↦ (let fall = queues_fall job before h some.0 in subst (λ (v : NetView). left_in v ≤ left_in before) (sym some.2) (omega (arith, fall)))

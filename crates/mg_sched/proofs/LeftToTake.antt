@@ -15,8 +15,8 @@ use Rattle.mg_calc.specs.declared.law.Law.TheVariants.{Loopback}
 use Rattle.mg_calc.specs.declared.plan.Plan.{Plan}
 use Rattle.mg_calc.specs.declared.plan_node.PlanNode.{PlanNode}
 use Rattle.mg_calc.proofs.Solutions.{one_solution}
-use Rattle.mg_node.specs.declared.waits.Waits.{Waits}
-use Rattle.mg_node.specs.declared.waits.Waits.TheVariants.{Sets, Loop}
+use Rattle.mg_node.specs.declared.pending.Pending.{Pending}
+use Rattle.mg_node.specs.declared.pending.Pending.TheVariants.{Sets, Loop}
 use Rattle.mg_node.specs.Views.{IntakeView}
 use Rattle.mg_node.specs.Intakes.{next_set_of}
 use Rattle.mg_node.specs.Job.{LoggedJob, Solves, ports_of, policy_of, law_of, streams_at}
@@ -30,7 +30,7 @@ use Rattle.mg_sched.specs.Taking.{collector_of, settled_outputs}
 use Rattle.mg_sched.proofs.RestingNets.{rests_with_inputs}
 
 -- what waits has the sets from a number on
-record HasLeft (k : ℕ) (waits : Waits) (sets : List (TimedSet Plain)) : Type 0 where
+record HasLeft (k : ℕ) (waits : Pending) (sets : List (TimedSet Plain)) : Type 0 where
   next : next_set_of waits ≡ slice_get sets k
   claimed : k ≤ length sets
 
@@ -40,7 +40,7 @@ next_after policy k qs ss h =
     ap (λ (es : List (TimedSet Plain)). slice_get es 0) (what_is_next policy k qs ss h) ∙ get_drop k (settled_sets policy ss) 0 ∙ ap (slice_get (settled_sets policy ss)) none
 
 -- so it is where the streams came in whole
-sets_left : (job : LoggedJob) (streams : List (StreamPrefix Plain)) (consumer claimed : ℕ) (waits : Waits) → HoldsWaits job streams consumer claimed waits → ¬ (law_of job.job.plan consumer ≡ Some Loopback)
+sets_left : (job : LoggedJob) (streams : List (StreamPrefix Plain)) (consumer claimed : ℕ) (waits : Pending) → HoldsWaits job streams consumer claimed waits → ¬ (law_of job.job.plan consumer ≡ Some Loopback)
     → HasCome (record { claimed = claimed; waits = waits }) (streams_at streams (ports_of job.job.plan consumer)) → HasLeft claimed waits (settled_sets (policy_of job.job.plan consumer) (streams_at streams (ports_of job.job.plan consumer)))
 sets_left job streams consumer claimed (Sets inbox) holds other came =
     let h = holds.1 in

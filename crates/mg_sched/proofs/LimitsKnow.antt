@@ -9,15 +9,15 @@ use Rattle.mg_calc.specs.declared.plan.Plan.{Plan}
 use Rattle.mg_calc.specs.declared.plan_node.PlanNode.{PlanNode}
 use Rattle.mg_calc.specs.Plan.{IsValid, numbers}
 use Rattle.mg_calc.proofs.Earlier.{there, get_map}
-use Rattle.mg_node.specs.declared.waits.Waits.{Waits}
+use Rattle.mg_node.specs.declared.pending.Pending.{Pending}
 use Rattle.mg_node.specs.Views.{IntakeView, EngineView}
 use Rattle.mg_node.specs.Job.{ports_of}
 use Rattle.mg_node.specs.Ports.{ports_in, port_queue}
 use Rattle.mg_node.specs.Claims.{has_ended}
 use Rattle.mg_node.proofs.Lemmas.{get_other, put_there, some_same}
 use Rattle.mg_throttle.specs.declared.queue.Queue.{Queue}
-use Rattle.mg_throttle.specs.Throttle.{QueueLimits, IsOf, noted, relaxed, stopped, is_full}
-use Rattle.mg_throttle.proofs.Counts.{View-noted, IsOf-noted, IsOf-relaxed, IsOf-stopped}
+use Rattle.mg_throttle.specs.Throttle.{QueueLimits, AreLimitsOf, noted, relaxed, stopped, is_full}
+use Rattle.mg_throttle.proofs.Counts.{View-noted, AreLimitsOf-noted, AreLimitsOf-relaxed, AreLimitsOf-stopped}
 use Rattle.mg_sched.specs.Views.{DeskView, NetView}
 use Rattle.mg_sched.specs.Places.{first_edge, lengths_of, with_limits}
 use Rattle.mg_sched.specs.StandsFor.{KnowsQueue, KnowsLimits}
@@ -37,16 +37,16 @@ noted_past (q ∷ qs) (suc i) n le = ap (λ (rest : List Queue). q ∷ rest) (no
 abbrev pub with_queues : QueueLimits → List Queue → QueueLimits
 with_queues t qs = record t { queues = qs }
 
-noted_of : (plan : Plan) (t : QueueLimits) (i n : ℕ) → IsOf plan t → IsOf plan (with_queues t (noted t.queues i n))
+noted_of : (plan : Plan) (t : QueueLimits) (i n : ℕ) → AreLimitsOf plan t → AreLimitsOf plan (with_queues t (noted t.queues i n))
 noted_of plan t i n of = elim (cases_lt i (length t.queues)) [
   | inl less ↦
       (let it = there t.queues i less in
       let read : it.0 ≡ get_or t.queues i it.0 = sym (get_or_from_slice_get t.queues i it.0 it.0 it.1) in
-      subst (IsOf plan) (View-noted t.queues t.reached t.feeders t i n it.0 refl less read) (IsOf-noted t.queues t.reached t.feeders t i n it.0 refl less read plan of))
-  | inr past ↦ subst (λ (qs : List Queue). IsOf plan (with_queues t qs)) (sym (noted_past t.queues i n past)) of
+      subst (AreLimitsOf plan) (View-noted t.queues t.reached t.feeders t i n it.0 refl less read) (AreLimitsOf-noted t.queues t.reached t.feeders t i n it.0 refl less read plan of))
+  | inr past ↦ subst (λ (qs : List Queue). AreLimitsOf plan (with_queues t qs)) (sym (noted_past t.queues i n past)) of
 ]
 
-pub all_noted_of : (plan : Plan) (t : QueueLimits) (i : ℕ) (ns : List ℕ) → IsOf plan t → IsOf plan (with_queues t (all_noted t.queues i ns))
+pub all_noted_of : (plan : Plan) (t : QueueLimits) (i : ℕ) (ns : List ℕ) → AreLimitsOf plan t → AreLimitsOf plan (with_queues t (all_noted t.queues i ns))
 all_noted_of plan t i [] of = of
 all_noted_of plan t i (n ∷ ns) of = all_noted_of plan (with_queues t (noted t.queues i n)) (i + 1) ns (noted_of plan t i n of)
 
@@ -95,7 +95,7 @@ all_noted_get (n ∷ ns) qs first number q h =
       told = told_next qs first n ns number q r b;
     }
 
-pub lengths_get : (waits : Waits) (port : ℕ) → port < ports_in waits → slice_get (lengths_of waits) port ≡ Some (length (port_queue waits port).packets)
+pub lengths_get : (waits : Pending) (port : ℕ) → port < ports_in waits → slice_get (lengths_of waits) port ≡ Some (length (port_queue waits port).packets)
 lengths_get waits port less = get_map (λ (p : ℕ). length (port_queue waits p).packets) (numbers (ports_in waits)) port port (number_there 0 (ports_in waits) port less ∙ ap Some (let same : 0 + port ≡ port = omega arith in same))
 
 -- Another cell at a node, and what its ports have is told.
@@ -187,7 +187,7 @@ stopped_waiting node q = by_test (q.node == node)
     by_test false = refl
 
 -- the queue of an edge has its consumer
-pub queue_node : (plan : Plan) (t : QueueLimits) (number : ℕ) (e : Edge) (q : Queue) → IsOf plan t → slice_get plan.edges number ≡ Some e → slice_get t.queues number ≡ Some q → q.node ≡ e.node
+pub queue_node : (plan : Plan) (t : QueueLimits) (number : ℕ) (e : Edge) (q : Queue) → AreLimitsOf plan t → slice_get plan.edges number ≡ Some e → slice_get t.queues number ≡ Some q → q.node ≡ e.node
 queue_node plan t number e q of at_e at_q =
     same_Some q.node e.node
     (sym (get_map (λ (x : Queue). x.node) t.queues number q at_q) ∙ ap (λ (ns : List ℕ). slice_get ns number) of.queues ∙ get_map (λ (x : Edge). x.node) plan.edges number e at_e)
@@ -196,7 +196,7 @@ stopping_knows : (net : NetView) (node : ℕ) (engine engine_now : EngineView) (
     → slice_get net.intakes node ≡ Some intake → (has_ended engine ≡ true → has_ended engine_now ≡ true) → has_ended engine_now ≡ b
     → KnowsLimits (with_cell net node engine_now intake desk_now (if b then with_queues net.limits (map (stopped node) net.limits.queues) else net.limits))
 stopping_knows net node engine engine_now intake desk_now true within h at_engine at_intake ended is = record {
-  of_plan = IsOf-stopped node net.limits.queues net.limits.reached net.limits.feeders net.limits refl net.plan h.of_plan;
+  of_plan = AreLimitsOf-stopped node net.limits.queues net.limits.reached net.limits.feeders net.limits refl net.plan h.of_plan;
   queues = λ number e q at_e at_q.
       let limits = with_queues net.limits (map (stopped node) net.limits.queues) in
       let it = mapped_at (stopped node) net.limits.queues number q at_q in
@@ -278,7 +278,7 @@ relaxed_counts q = by_test (is_full q)
 
 pub relaxed_knows : (net : NetView) → KnowsLimits net → KnowsLimits (with_limits net (with_queues net.limits (map relaxed net.limits.queues)))
 relaxed_knows net h = record {
-  of_plan = IsOf-relaxed net.limits.queues net.limits.reached net.limits.feeders net.limits refl net.plan h.of_plan;
+  of_plan = AreLimitsOf-relaxed net.limits.queues net.limits.reached net.limits.feeders net.limits refl net.plan h.of_plan;
   queues = λ number e q at_e at_q.
       let it = mapped_at relaxed net.limits.queues number q at_q in
       let k = h.queues number e it.0 at_e it.1 in

@@ -14,7 +14,7 @@ use Rattle.mg_node.specs.Fresh.{own_told}
 use Rattle.mg_node.proofs.Lemmas.{at_each, some_same}
 use Rattle.mg_sched.specs.StandsFor.{HasSpare}
 use Rattle.mg_sched.specs.Made.{job_of, FitsNew, BoxesFit}
-use Rattle.mg_sched.specs.Code.Made.{IsLeft, HasTaken, FindEach, first_holder}
+use Rattle.mg_sched.specs.Code.Made.{IsLeftOver, HasTaken, FindEach, first_holder}
 
 -- Lists.
 
@@ -93,7 +93,7 @@ placed (b ∷ boxes) zero told is = some_same (Some (Some b)) _ _ refl is
 placed (b ∷ boxes) (suc place) told is = placed boxes place told is
 
 -- what is left of them
-pub spare : (plan : Plan) (inputs : Inputs) (boxes : List CalculatorTold) (now : List (Option CalculatorTold)) → BoxesFit plan boxes → IsLeft plan.nodes (given_of boxes) (length plan.nodes) now → HasSpare (job_of plan inputs boxes) now
+pub spare : (plan : Plan) (inputs : Inputs) (boxes : List CalculatorTold) (now : List (Option CalculatorTold)) → BoxesFit plan boxes → IsLeftOver plan.nodes (given_of boxes) (length plan.nodes) now → HasSpare (job_of plan inputs boxes) now
 spare plan inputs boxes now fit l = record {
   count = l.places ∙ length-map boxes (λ b. Some b);
   numbers = every (λ (n : PlanNode). IfSome n.box_number (λ place. place < length now)) plan.nodes (λ i node there. below node i there node.box_number refl);

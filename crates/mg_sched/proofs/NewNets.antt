@@ -20,8 +20,8 @@ use Rattle.mg_route.specs.HolderView.{HolderView}
 use Rattle.mg_calc.proofs.Earlier.{get_map}
 use Rattle.mg_node.specs.declared.role.Role.{Role}
 use Rattle.mg_node.specs.declared.role.Role.TheVariants.{Source}
-use Rattle.mg_node.specs.declared.waits.Waits.{Waits}
-use Rattle.mg_node.specs.declared.waits.Waits.TheVariants.{Sets, Loop}
+use Rattle.mg_node.specs.declared.pending.Pending.{Pending}
+use Rattle.mg_node.specs.declared.pending.Pending.TheVariants.{Sets, Loop}
 use Rattle.mg_node.specs.Views.{IntakeView, EngineView}
 use Rattle.mg_node.specs.Job.{LoggedJob, ports_of}
 use Rattle.mg_node.specs.Claims.{has_ended}
@@ -33,14 +33,14 @@ use Rattle.mg_node.specs.Outputs.{laid_at, input_engine, kept_whole}
 use Rattle.mg_node.specs.Ports.{port_queue}
 use Rattle.mg_node.proofs.Lemmas.{at_each, fresh_unbegun, input_lawful, some_same}
 use Rattle.mg_throttle.specs.declared.queue.Queue.{Queue}
-use Rattle.mg_throttle.specs.Throttle.{QueueLimits, IsOf, limit_of, new_queue}
+use Rattle.mg_throttle.specs.Throttle.{QueueLimits, AreLimitsOf, limit_of, new_queue}
 use Rattle.mg_sched.specs.Views.{DeskView, NetView}
 use Rattle.mg_sched.specs.Places.{place_of}
 use Rattle.mg_sched.specs.Writers.{output_of}
 use Rattle.mg_sched.specs.Looks.{HasFrom}
 use Rattle.mg_sched.specs.StandsFor.{HasWorks, IsCell, KnowsQueue, IsNetOf, StandsFor}
 use Rattle.mg_sched.specs.Made.{job_of, BoxesFit, IsMade}
-use Rattle.mg_sched.specs.Code.Made.{AtPlaces, IsEngineAt, IsIntakeAt, IsDeskAt, HasParts, IsLeft, first_holder}
+use Rattle.mg_sched.specs.Code.Made.{AtPlaces, IsEngineAt, IsIntakeAt, IsDeskAt, HasParts, IsLeftOver, first_holder}
 use Rattle.mg_sched.proofs.HandedOut.{below}
 use Rattle.mg_sched.proofs.Solved.{solved}
 use Rattle.mg_sched.proofs.NewBoxes.{there_at, given_of, handed, placed, spare}
@@ -129,7 +129,7 @@ held_none held port fresh = either (port == 0)
     either true = like_none held.loop fresh.loop
     either false = like_none held.main fresh.main
 
-pub nothing_waits : (plan : Plan) (consumer port : ℕ) (waits : Waits) → HoldsNone plan consumer waits → WaitsNone (port_queue waits port)
+pub nothing_waits : (plan : Plan) (consumer port : ℕ) (waits : Pending) → HoldsNone plan consumer waits → WaitsNone (port_queue waits port)
 nothing_waits plan consumer port (Sets inbox) holds = subst (λ (i : Gathered). WaitsNone (port_queue (Sets i) port)) (sym holds.1) (waits_none (length (ports_of plan consumer)) port)
 nothing_waits plan consumer port (Loop held) holds = held_none held port holds.1
 
@@ -176,7 +176,7 @@ new_knows plan inputs told net e parts = record {
 -- Nets.
 
 net_of : (plan : Plan) (inputs : Inputs) (boxes : List CalculatorTold) (net : NetView) → IsJob (record { plan = plan; inputs = inputs }) → BoxesFit plan boxes → HasParts plan inputs (λ _ node. first_holder (given_of boxes) node) net
-    → IsLeft plan.nodes (given_of boxes) (length plan.nodes) net.spare → net.begun ≡ 0 → net.wound ≡ 0 → IsNetOf (job_of plan inputs boxes) net
+    → IsLeftOver plan.nodes (given_of boxes) (length plan.nodes) net.spare → net.begun ≡ 0 → net.wound ≡ 0 → IsNetOf (job_of plan inputs boxes) net
 net_of plan inputs boxes net is fit parts left begun wound = record {
   is_job = is;
   plan = parts.plan_is;
@@ -208,7 +208,7 @@ net_of plan inputs boxes net is fit parts left begun wound = record {
       let whole = gives.gone in
       record { came = record { count = omega (arith, gone, packets); bound = omega (arith, bound, opened) }; kept = omega (arith, whole) };
   limits = record {
-    of_plan = subst (λ (p : Plan). IsOf p net.limits) (sym parts.plan_is) parts.of;
+    of_plan = subst (λ (p : Plan). AreLimitsOf p net.limits) (sym parts.plan_is) parts.of;
     queues = λ number e q edge_at queue_at.
         let at : slice_get plan.edges number ≡ Some e = subst (λ (p : Plan). slice_get p.edges number ≡ Some e) parts.plan_is edge_at in
         let new : slice_get net.limits.queues number ≡ Some (new_queue (length plan.nodes) (limit_of plan.limit) e) =
@@ -225,12 +225,12 @@ net_of plan inputs boxes net is fit parts left begun wound = record {
     nodes = ap (λ (p : Plan). length p.nodes) (sym parts.plan_is)
 
 pub stands : (plan : Plan) (inputs : Inputs) (boxes : List CalculatorTold) (net : NetView) → IsJob (record { plan = plan; inputs = inputs }) → BoxesFit plan boxes → HasParts plan inputs (λ _ node. first_holder (given_of boxes) node) net
-    → IsLeft plan.nodes (given_of boxes) (length plan.nodes) net.spare → net.begun ≡ 0 → net.wound ≡ 0 → StandsFor (job_of plan inputs boxes) net
+    → IsLeftOver plan.nodes (given_of boxes) (length plan.nodes) net.spare → net.begun ≡ 0 → net.wound ≡ 0 → StandsFor (job_of plan inputs boxes) net
 unfolding StandsFor
 stands plan inputs boxes net is fit parts left begun wound = net_of plan inputs boxes net is fit parts left begun wound
 
 pub net_made : (plan : Plan) (inputs : Inputs) (boxes : List CalculatorTold) (net : NetView) → IsJob (record { plan = plan; inputs = inputs }) → BoxesFit plan boxes → HasParts plan inputs (λ _ node. first_holder (given_of boxes) node) net
-    → IsLeft plan.nodes (given_of boxes) (length plan.nodes) net.spare → net.begun ≡ 0 → net.wound ≡ 0 → IsMade plan inputs boxes net
+    → IsLeftOver plan.nodes (given_of boxes) (length plan.nodes) net.spare → net.begun ≡ 0 → net.wound ≡ 0 → IsMade plan inputs boxes net
 net_made plan inputs boxes net is fit parts left begun wound = record {
   stands = stands plan inputs boxes net is fit parts left begun wound;
   begun = begun;
@@ -245,7 +245,7 @@ net_made plan inputs boxes net is fit parts left begun wound = record {
 pub joined_made : (plan : Plan) (inputs : Inputs) (boxes : List CalculatorTold) (before net : NetView) → IsJob (record { plan = plan; inputs = inputs }) → BoxesFit plan boxes → HasParts plan inputs (λ _ node. own_told node) before
     → net ≡ record before { engines = net.engines; spare = net.spare } → length net.engines ≡ length before.engines
     → (AtPlaces (IsEngineAt plan inputs.streams (λ _ node. own_told node)) before.engines → AtPlaces (IsEngineAt plan inputs.streams (λ _ node. first_holder (given_of boxes) node)) net.engines)
-    → IsLeft plan.nodes (given_of boxes) (length plan.nodes) net.spare → before.begun ≡ 0 → before.wound ≡ 0 → IsMade plan inputs boxes net
+    → IsLeftOver plan.nodes (given_of boxes) (length plan.nodes) net.spare → before.begun ≡ 0 → before.wound ≡ 0 → IsMade plan inputs boxes net
 joined_made plan inputs boxes before net is fit parts same count engines left begun wound = net_made plan inputs boxes net is fit (record {
   plan_is = ap (λ (n : NetView). n.plan) same ∙ parts.plan_is;
   given_is = ap (λ (n : NetView). n.given) same ∙ parts.given_is;
@@ -255,7 +255,7 @@ joined_made plan inputs boxes before net is fit parts same count engines left be
   intakes = subst (λ (is : List IntakeView). AtPlaces (IsIntakeAt plan) is) (sym (ap (λ (n : NetView). n.intakes) same)) parts.intakes;
   desk_count = ap (λ (n : NetView). length n.desks) same ∙ parts.desk_count;
   desks = subst (λ (ds : List DeskView). AtPlaces (IsDeskAt plan) ds) (sym (ap (λ (n : NetView). n.desks) same)) parts.desks;
-  of = subst (λ (l : QueueLimits). IsOf plan l) (sym (ap (λ (n : NetView). n.limits) same)) parts.of;
+  of = subst (λ (l : QueueLimits). AreLimitsOf plan l) (sym (ap (λ (n : NetView). n.limits) same)) parts.of;
   queues = ap (λ (n : NetView). n.limits.queues) same ∙ parts.queues;
   kept = ap (λ (n : NetView). n.kept) same ∙ parts.kept;
 }) left (ap (λ (n : NetView). n.begun) same ∙ begun) (ap (λ (n : NetView). n.wound) same ∙ wound)

@@ -26,7 +26,7 @@ use Rattle.mg_node.specs.Extending.{lengthened}
 use Rattle.mg_node.specs.Job.{LoggedJob}
 use Rattle.mg_node.specs.Outputs.{without_first}
 use Rattle.mg_sched.specs.StandsFor.{StandsFor, StandsForSome}
-use Rattle.mg_sched.specs.Begins.{Begins}
+use Rattle.mg_sched.specs.Begins.{BeginsNet}
 use Rattle.mg_sched.specs.Extends.{GoesOnWith, MayGoOnWith, Extends}
 use Rattle.mg_sched.specs.Trims.{is_kept, goes_of, got_by_all, Trims}
 use Rattle.mg_sched.proofs.Finding.{found}
@@ -238,7 +238,7 @@ gone_or_none [] port number each = omega arith
 gone_or_none (b ∷ outputs) zero number each = each b refl
 gone_or_none (b ∷ outputs) (suc port) number each = gone_or_none outputs port number each
 
-pub begins_keep : (before now : NetView) (stream number : ℕ) → Begins before now → HasFrom before stream number → HasFrom now stream number
+pub begins_keep : (before now : NetView) (stream number : ℕ) → BeginsNet before now → HasFrom before stream number → HasFrom now stream number
 begins_keep before now stream number b has output is =
     let plan : now.plan ≡ before.plan = ap (λ (v : NetView). v.plan) b.parts in
     let place = place_of before.plan is.producer in

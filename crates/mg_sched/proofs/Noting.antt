@@ -2,7 +2,7 @@
 use Rattle.std.proofs.Common.{◌≡◌, ℕ, zero, suc, ◌+◌, ◌<◌, List, [], ◌∷◌, length, drop, Some, slice_get, ap, sym, refl, ◌∙◌, arith}
 use Rattle.std.proofs.lemmas.List.FromFn.{length-map-range_with_len, get_or-map-range_with_len}
 use Rattle.std.proofs.lemmas.Option.{slice_get-get_or}
-use Rattle.mg_node.specs.declared.waits.Waits.{Waits}
+use Rattle.mg_node.specs.declared.pending.Pending.{Pending}
 use Rattle.mg_node.specs.Ports.{ports_in, port_queue}
 use Rattle.mg_throttle.specs.declared.queue.Queue.{Queue}
 use Rattle.mg_throttle.specs.Throttle.{QueueLimits, noted}
@@ -14,10 +14,10 @@ drop_at [] i x at = absurd cc
 drop_at (y ∷ xs) zero x at = cc
 drop_at (y ∷ xs) (suc i) x at = drop_at xs i x at
 
-abbrev length_at : Waits → ℕ → ℕ
+abbrev length_at : Pending → ℕ → ℕ
 length_at waits port = length (port_queue waits port).packets
 
-length_there : (waits : Waits) (port : ℕ) → port < ports_in waits → slice_get (lengths_of waits) port ≡ Some (length_at waits port)
+length_there : (waits : Pending) (port : ℕ) → port < ports_in waits → slice_get (lengths_of waits) port ≡ Some (length_at waits port)
 length_there waits port within =
     slice_get-get_or (lengths_of waits) port 0 (let long = length-map-range_with_len (length_at waits) 0 (ports_in waits) in omega (arith, within, long))
     ∙ ap Some (get_or-map-range_with_len (length_at waits) 0 (ports_in waits) port port 0 within (omega arith))
@@ -25,7 +25,7 @@ length_there waits port within =
 one_more : (n : ℕ) → suc n ≡ n + 1
 one_more n = omega arith
 
-pub lengths_left : (waits : Waits) (port : ℕ) → port < ports_in waits → drop port (lengths_of waits) ≡ length_at waits port ∷ drop (port + 1) (lengths_of waits)
+pub lengths_left : (waits : Pending) (port : ℕ) → port < ports_in waits → drop port (lengths_of waits) ≡ length_at waits port ∷ drop (port + 1) (lengths_of waits)
 lengths_left waits port within =
     drop_at (lengths_of waits) port (length_at waits port) (length_there waits port within) ∙ ap (λ (n : ℕ). length_at waits port ∷ drop n (lengths_of waits)) (one_more port)
 
@@ -40,11 +40,11 @@ drop_past [] (suc n) is = refl
 drop_past (x ∷ xs) zero is = absurd (omega (arith, is))
 drop_past (x ∷ xs) (suc n) is = drop_past xs n (omega (arith, is))
 
-pub none_left : (waits : Waits) → drop (ports_in waits) (lengths_of waits) ≡ []
+pub none_left : (waits : Pending) → drop (ports_in waits) (lengths_of waits) ≡ []
 none_left waits = drop_past (lengths_of waits) (ports_in waits) (length-map-range_with_len (length_at waits) 0 (ports_in waits))
 
 -- one more queue of an intake is told, and then those that are left
-pub noted_next : (before now start : QueueLimits) (waits : Waits) (first port : ℕ) → port < ports_in waits → now ≡ record before { queues = noted before.queues (first + port) (length_at waits port) }
+pub noted_next : (before now start : QueueLimits) (waits : Pending) (first port : ℕ) → port < ports_in waits → now ≡ record before { queues = noted before.queues (first + port) (length_at waits port) }
     → record before { queues = all_noted before.queues (first + port) (drop port (lengths_of waits)) } ≡ record start { queues = all_noted start.queues first (lengths_of waits) }
     → record now { queues = all_noted now.queues (first + (port + 1)) (drop (port + 1) (lengths_of waits)) } ≡ record start { queues = all_noted start.queues first (lengths_of waits) }
 noted_next before now start waits first port within is so_far =
@@ -54,14 +54,14 @@ noted_next before now start waits first port within is so_far =
     ∙ ap (λ (ns : List ℕ). record before { queues = all_noted before.queues (first + port) ns }) (sym (lengths_left waits port within))
     ∙ so_far
 
-pub noted_end : (now start : QueueLimits) (waits : Waits) (first port : ℕ) → port ≡ ports_in waits
+pub noted_end : (now start : QueueLimits) (waits : Pending) (first port : ℕ) → port ≡ ports_in waits
     → record now { queues = all_noted now.queues (first + port) (drop port (lengths_of waits)) } ≡ record start { queues = all_noted start.queues first (lengths_of waits) }
     → now ≡ record start { queues = all_noted start.queues first (lengths_of waits) }
 noted_end now start waits first port end so_far =
     ap (λ (ns : List ℕ). record now { queues = all_noted now.queues (first + port) ns }) (sym (ap (λ (k : ℕ). drop k (lengths_of waits)) end ∙ none_left waits)) ∙ so_far
 
 -- an intake with a single port
-pub noted_only : (now start : QueueLimits) (waits : Waits) (first n : ℕ) → ports_in waits ≡ 1 → n ≡ length (port_queue waits 0).packets → now ≡ record start { queues = noted start.queues first n }
+pub noted_only : (now start : QueueLimits) (waits : Pending) (first n : ℕ) → ports_in waits ≡ 1 → n ≡ length (port_queue waits 0).packets → now ≡ record start { queues = noted start.queues first n }
     → now ≡ record start { queues = all_noted start.queues first (lengths_of waits) }
 noted_only now start waits first n one long is =
     let none : drop 1 (lengths_of waits) ≡ [] = ap (λ (k : ℕ). drop k (lengths_of waits)) (sym one) ∙ none_left waits in

@@ -32,7 +32,7 @@ use Rattle.mg_node.specs.Windows.{has_ended}
 use Rattle.mg_node.proofs.Lemmas.{get_other, grown_by_itself, is_new, may_begin, put_there, unbegun_parts}
 use Rattle.mg_throttle.specs.Throttle.{QueueLimits}
 use Rattle.mg_sched.specs.Acts.{stopped_by}
-use Rattle.mg_sched.specs.Begins.{Begins}
+use Rattle.mg_sched.specs.Begins.{BeginsNet}
 use Rattle.mg_sched.specs.Places.{with_engine, with_limits}
 use Rattle.mg_sched.specs.StandsFor.{HasWorks, IsEngine, IsCell, IsJoined, KnowsLimits, IsNetOf, StandsFor, StandsForSome}
 use Rattle.mg_sched.specs.Views.{DeskView, NetView}
@@ -342,7 +342,7 @@ set_gone engines node engine now there none place g g_now at at_now output = eli
 ]
 
 begins_by : (net : NetView) (engine engine_now : EngineView) (limits : QueueLimits) (begun : ℕ) → slice_get net.engines net.begun ≡ Some engine → EngineGrows engine engine_now → ((output : ℕ) → (laid_at engine_now output).gone ≡ 0) → net.begun ≤ begun
-    → Begins net (with_opened net net.begun engine_now limits begun)
+    → BeginsNet net (with_opened net net.begun engine_now limits begun)
 begins_by net engine engine_now limits begun at grows none more = record {
   more = more;
   parts = refl;
@@ -385,10 +385,10 @@ unbegun_stands job shown net sides engine now is some h within value are grows s
     (unbegun_net job net sides engine now h within (begun_engine shown net engine is some within value) (sides_are shown net sides is are) grows stays)
 
 pub unbegun_begins : (shown net : NetView) (sides : List (Option Plain)) (engine now : EngineView) → shown ≡ net → StandsForSome net → net.begun < length net.plan.nodes → engine ≡ get_or shown.engines shown.begun engine → AreSides shown sides → EngineGrows engine now
-    → StaysUnbegun sides engine now → Begins net (with_engine shown shown.begun now)
+    → StaysUnbegun sides engine now → BeginsNet net (with_engine shown shown.begun now)
 unbegun_begins shown net sides engine now is some within value are grows stays =
     let at = begun_engine shown net engine is some within value in
-    subst (λ (v : NetView). Begins net (with_engine v v.begun now)) (sym is)
+    subst (λ (v : NetView). BeginsNet net (with_engine v v.begun now)) (sym is)
     (begins_by net engine now net.limits net.begun at grows (unbegun_whole net sides engine now some within at (sides_are shown net sides is are) stays) (omega arith))
 
 -- what it is once the queues of a node that failed are stopped
@@ -405,10 +405,10 @@ stopped_is shown net now new is some within stopped =
     s now (it.1 ∙ ap Some (put_there net.engines net.begun now it.0 it.1))
 
 pub begun_begins : (shown net : NetView) (sides : List (Option Plain)) (engine now : EngineView) (new : NetView) → shown ≡ net → StandsForSome net → net.begun < length net.plan.nodes → engine ≡ get_or shown.engines shown.begun engine → AreSides shown sides
-    → EngineGrows engine now → IsBegunThen sides engine now → Stopped shown now new → Begins net new
+    → EngineGrows engine now → IsBegunThen sides engine now → Stopped shown now new → BeginsNet net new
 begun_begins shown net sides engine now new is some within value are grows begun stopped =
     let at = begun_engine shown net engine is some within value in
-    subst (λ (v : NetView). Begins net v) (sym (stopped_is shown net now new is some within stopped))
+    subst (λ (v : NetView). BeginsNet net v) (sym (stopped_is shown net now new is some within stopped))
     (begins_by net engine now (stopped_by net.begun now net.limits) (net.begun + 1) at grows (begun_whole net sides engine now some within at (sides_are shown net sides is are) begun) (omega arith))
 
 pub begun_next : (shown net : NetView) (now : EngineView) (new : NetView) → shown ≡ net → StandsForSome net → net.begun < length net.plan.nodes → Stopped shown now new → new.begun ≡ net.begun + 1

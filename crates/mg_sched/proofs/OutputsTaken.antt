@@ -20,8 +20,8 @@ use Rattle.mg_calc.specs.Equations.{stream_of}
 use Rattle.mg_calc.proofs.Jobs.{any_state, job_known}
 use Rattle.mg_calc.proofs.Rounds.{stream_extends}
 use Rattle.mg_calc.proofs.Solutions.{solution_has_each}
-use Rattle.mg_node.specs.declared.waits.Waits.{Waits}
-use Rattle.mg_node.specs.declared.waits.Waits.TheVariants.{Sets, Loop}
+use Rattle.mg_node.specs.declared.pending.Pending.{Pending}
+use Rattle.mg_node.specs.declared.pending.Pending.TheVariants.{Sets, Loop}
 use Rattle.mg_node.specs.Views.{IntakeView}
 use Rattle.mg_node.specs.Claims.{Takes}
 use Rattle.mg_node.specs.Job.{LoggedJob, Solves, ports_of, policy_of, law_of, streams_at}
@@ -121,7 +121,7 @@ sets_grow policy ss ts e =
     let cut = length-take (length (settled_sets policy ss)) (settled_sets policy ts) in
     omega (arith, same, cut)
 
-few_claimed : (job : LoggedJob) (streams : List (StreamPrefix Plain)) (consumer claimed : ℕ) (waits : Waits) → HoldsWaits job streams consumer claimed waits → ¬ (law_of job.job.plan consumer ≡ Some Loopback)
+few_claimed : (job : LoggedJob) (streams : List (StreamPrefix Plain)) (consumer claimed : ℕ) (waits : Pending) → HoldsWaits job streams consumer claimed waits → ¬ (law_of job.job.plan consumer ≡ Some Loopback)
     → claimed ≤ length (settled_sets (policy_of job.job.plan consumer) (streams_at streams (ports_of job.job.plan consumer)))
 few_claimed job streams consumer claimed (Sets inbox) holds other =
     let h = holds.1 in

@@ -11,7 +11,7 @@ use Rattle.mg_node.specs.Shelves.{IsOut, outcome_of, shelved}
 use Rattle.mg_node.proofs.Lemmas.{grown_by_itself, performed_lawful, ran_outcome, shelved_back, shelved_lawful}
 use Rattle.mg_sched.specs.Views.{DeskView, NetView}
 use Rattle.mg_sched.specs.StandsFor.{IsNetOf, StandsFor, IsRunning}
-use Rattle.mg_sched.specs.Acts.{PerformedBy, Performs, Performed}
+use Rattle.mg_sched.specs.Acts.{PerformedBy, Performs, NodePerforms}
 use Rattle.mg_sched.proofs.Finding.{cell_at, found}
 use Rattle.mg_sched.proofs.Middles.{all_middle}
 use Rattle.mg_node.specs.Out.{ComesBack}
@@ -54,7 +54,7 @@ done_stands job node number Did desk before now within running h on q d =
 done_stands job node number Idle desk before now within running h on q d = absurd d
 done_stands job node number OutOfMemory desk before now within running h on q d = subst (λ (v : NetView). IsNetOf job v) (sym d) h
 
-pub perform_stands : (job : LoggedJob) (node number : ℕ) (effect : Effect) (before now : NetView) → node < length before.plan.nodes → IsRunning before → StandsFor job before → Performed node number effect before now → StandsFor job now
+pub perform_stands : (job : LoggedJob) (node number : ℕ) (effect : Effect) (before now : NetView) → node < length before.plan.nodes → IsRunning before → StandsFor job before → NodePerforms node number effect before now → StandsFor job now
 perform_stands job node number effect before now within running h p = elim p.performed [
   | inl none ↦ rest_stands job effect before now h none.1
   | inr some ↦ done_stands job node number effect p.desk before now within running h p.on some some.performed

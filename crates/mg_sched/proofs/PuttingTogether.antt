@@ -14,7 +14,7 @@ use Rattle.mg_node.specs.Windows.{has_ended}
 use Rattle.mg_node.proofs.Lemmas.{engine_known, few_packets, intake_ports, some_same}
 use Rattle.mg_throttle.specs.declared.queue.Queue.{Queue}
 use Rattle.mg_throttle.specs.Throttle.{QueueLimits, stopped}
-use Rattle.mg_throttle.proofs.Counts.{IsOf-stopped}
+use Rattle.mg_throttle.proofs.Counts.{AreLimitsOf-stopped}
 use Rattle.mg_sched.specs.Views.{DeskView, NetView}
 use Rattle.mg_sched.specs.Places.{first_edge, lengths_of, with_limits}
 use Rattle.mg_sched.specs.StandsFor.{HasWorks, IsCell, KnowsLimits, IsNetOf, StandsFor, IsRunning}
@@ -184,7 +184,7 @@ stopped_limits : (start : NetView) (limits : QueueLimits) (noted node : ℕ) (en
     → ToldTo noted (node + 1) start (with_limits start (if b then with_queues limits (map (stopped node) limits.queues) else limits))
 stopped_limits start limits noted node engine true there ended t = record {
   same = refl;
-  of_plan = IsOf-stopped node limits.queues limits.reached limits.feeders limits refl start.plan t.of_plan;
+  of_plan = AreLimitsOf-stopped node limits.queues limits.reached limits.feeders limits refl start.plan t.of_plan;
   waiting = λ number e q i at_e at_q less at.
       let it = mapped_at (stopped node) limits.queues number q at_q in
       ap (λ (x : Queue). x.waiting) (sym it.2) ∙ stopped_waiting node it.0 ∙ t.waiting number e it.0 i at_e it.1 less at;

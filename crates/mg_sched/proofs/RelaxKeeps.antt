@@ -4,14 +4,14 @@ use Rattle.mg_calc.specs.declared.event.Effect.{Effect}
 use Rattle.mg_node.specs.Job.{LoggedJob}
 use Rattle.mg_sched.specs.Views.{NetView}
 use Rattle.mg_sched.specs.StandsFor.{IsNetOf, StandsFor}
-use Rattle.mg_sched.specs.Acts.{Rests, Relaxed}
+use Rattle.mg_sched.specs.Acts.{Rests, LimitsRelax}
 use Rattle.mg_sched.proofs.LimitsKnow.{relaxed_knows}
 
 -- nothing happened
 pub rest_stands : (job : LoggedJob) (effect : Effect) (before now : NetView) → StandsFor job before → Rests effect before now → StandsFor job now
 rest_stands job effect before now h rests = subst (λ (v : NetView). StandsFor job v) (sym rests.same) h
 
-pub relax_stands : (job : LoggedJob) (effect : Effect) (before now : NetView) → StandsFor job before → Relaxed effect before now → StandsFor job now
+pub relax_stands : (job : LoggedJob) (effect : Effect) (before now : NetView) → StandsFor job before → LimitsRelax effect before now → StandsFor job now
 unfolding StandsFor
 relax_stands job effect before now h r = elim r [
   | inl none ↦ rest_stands job effect before now h none.1

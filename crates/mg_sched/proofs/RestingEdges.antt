@@ -13,7 +13,7 @@ use Rattle.mg_calc.specs.declared.event.Effect.TheVariants.{Did, Idle, OutOfMemo
 use Rattle.mg_calc.specs.Plan.{Feeder, graph_input}
 use Rattle.mg_node.specs.declared.delivered.Delivered.{Delivered}
 use Rattle.mg_node.specs.declared.delivered.Delivered.TheVariants.{Moved, OutOfMemory as NoRoom}
-use Rattle.mg_node.specs.declared.waits.Waits.{Waits}
+use Rattle.mg_node.specs.declared.pending.Pending.{Pending}
 use Rattle.mg_node.specs.Views.{IntakeView, EngineView}
 use Rattle.mg_node.specs.Ports.{ports_in, port_queue, with_room}
 use Rattle.mg_node.specs.Delivery.{missing, with_packets, delivered, Delivers}
@@ -67,7 +67,7 @@ none_moved packets raised e = (let by = moved_by (packets == 0) raised e in (eqb
 abbrev delivered_by : Waiting Plain → Waiting Plain → List (Stamped Plain) → ℕ → Waiting Plain
 delivered_by o q ms n = if n == length ms then raised_to (with_packets q ms) o.bound else with_packets q (take n ms)
 
-came_all : (answer : Delivered) (o : Waiting Plain) (port : ℕ) (waits now : Waits) → Idle ≡ effect_of answer → port < ports_in waits → HasGrown (port_queue waits port) o → o.gone ≤ count_of (port_queue waits port)
+came_all : (answer : Delivered) (o : Waiting Plain) (port : ℕ) (waits now : Pending) → Idle ≡ effect_of answer → port < ports_in waits → HasGrown (port_queue waits port) o → o.gone ≤ count_of (port_queue waits port)
     → Delivers answer o port 4294967295 waits now → HasAllCome o (port_queue waits port)
 came_all (NoRoom packets) o port waits now idle there grown kept d = absurd (not_short idle)
 came_all (Moved packets raised) o port waits now idle there grown kept d =
@@ -80,7 +80,7 @@ came_all (Moved packets raised) o port waits now idle there grown kept d =
     let most = grown.count in
     let low = grown.bound in
     let last : (port_queue now port).bound ≡ max q.bound o.bound =
-    ap (λ (w : Waits). (port_queue w port).bound) d.1 ∙ ap (λ (r : Waiting Plain). r.bound) (queue-there waits port (with_room (delivered o q packets) (port_queue now port).spare) there)
+    ap (λ (w : Pending). (port_queue w port).bound) d.1 ∙ ap (λ (r : Waiting Plain). r.bound) (queue-there waits port (with_room (delivered o q packets) (port_queue now port).spare) there)
     ∙ ap₂ (λ (ms : List (Stamped Plain)) (n : ℕ). (delivered_by o q ms n).bound) empty none.0 in
     let first : (with_packets q (take packets (missing o q))).bound ≡ q.bound = ap₂ (λ (ms : List (Stamped Plain)) (n : ℕ). (with_packets q (take n ms)).bound) empty none.0 in
     let same : nat_lt q.bound (max q.bound o.bound) ≡ false = ap₂ (λ (a b : ℕ). nat_lt a b) (sym first) (sym last) ∙ sym d.2 ∙ none.1 in

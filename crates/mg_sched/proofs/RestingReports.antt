@@ -23,7 +23,7 @@ use Rattle.mg_sched.specs.declared.report.StreamEnd.{StreamEnd}
 use Rattle.mg_sched.specs.Views.{NetView}
 use Rattle.mg_sched.specs.StandsFor.{StandsFor, StandsForSome, IsRunning}
 use Rattle.mg_sched.specs.AtRest.{IsAtRest}
-use Rattle.mg_sched.specs.Reports.{node_engines, input_engines, end_of, ends_of, stream_end, report_of}
+use Rattle.mg_sched.specs.Reports.{node_engines, input_engines, end_of, stream_ends_of, stream_end, report_of}
 use Rattle.mg_sched.proofs.Finding.{valid}
 use Rattle.mg_sched.proofs.PlanStreams.{number_of}
 use Rattle.mg_sched.proofs.RestingNets.{in_order, rests_solved, rests_with_counts, rests_with_faults}
@@ -91,16 +91,16 @@ ends_are streams (b ∷ bs) [] stand = absurd stand
 ends_are streams (b ∷ bs) (n ∷ ns) stand = ap₂ (λ (e : StreamEnd) (es : List StreamEnd). e ∷ es) (end_is b (stream_of streams n) stand.0) (ends_are streams bs ns stand.1)
 
 node_ends : (job : LoggedJob) (net : NetView) (solution : List (StreamPrefix Plain)) → StandsFor job net → IsRunning net → IsAtRest net → Solves job solution
-    → flat_map ends_of (node_engines net) ≡ map (end_at solution) (flat_map (λ node. node.outputs) net.plan.nodes)
+    → flat_map stream_ends_of (node_engines net) ≡ map (end_at solution) (flat_map (λ node. node.outputs) net.plan.nodes)
 unfolding StandsFor
 node_ends job net solution h running rest solves =
     let long = h.engines in
     let laid = all_laid job net solution h running solves in
     let same : laid.0 ≡ solution = rests_solved job net solution laid.0 h running rest solves laid.1 in
-    joined_same ends_of (λ (node : PlanNode). node.outputs) (end_at solution) net.engines net.plan.nodes (omega (arith, long)) (λ i engine node at there.
+    joined_same stream_ends_of (λ (node : PlanNode). node.outputs) (end_at solution) net.engines net.plan.nodes (omega (arith, long)) (λ i engine node at there.
     ends_are solution engine.outputs node.outputs (subst (λ (ss : List (StreamPrefix Plain)). StandForAll engine.outputs (streams_at ss node.outputs)) same (outputs_stand job net solution laid.0 i node engine h running laid.1 there at)))
 
-input_ends : (job : LoggedJob) (net : NetView) (solution : List (StreamPrefix Plain)) → StandsFor job net → Solves job solution → flat_map ends_of (input_engines net) ≡ map (end_at solution) net.plan.inputs
+input_ends : (job : LoggedJob) (net : NetView) (solution : List (StreamPrefix Plain)) → StandsFor job net → Solves job solution → flat_map stream_ends_of (input_engines net) ≡ map (end_at solution) net.plan.inputs
 unfolding StandsFor
 input_ends job net solution h solves =
     let some : StandsForSome net = record { job = job; stands = h } in
@@ -109,8 +109,8 @@ input_ends job net solution h solves =
     let all = h.engines in
     let cut = length-drop (length net.plan.nodes) net.engines in
     let long : length engines ≡ length inputs = omega (arith, all, cut) in
-    ap (flat_map ends_of) (sym (take_all (length inputs) engines (omega (arith, long))))
-    ∙ joined_same ends_of (λ (n : ℕ). n ∷ []) (end_at solution) engines inputs (omega (arith, long)) (λ i engine number at there.
+    ap (flat_map stream_ends_of) (sym (take_all (length inputs) engines (omega (arith, long))))
+    ∙ joined_same stream_ends_of (λ (n : ℕ). n ∷ []) (end_at solution) engines inputs (omega (arith, long)) (λ i engine number at there.
     let is : number ≡ 0 + i = (number_of 0 (length inputs) i number (ap (λ (ns : List ℕ). slice_get ns i) (sym (valid net some).inputs) ∙ there)).1 in
     let same : i ≡ number = omega (arith, is) in
     ends_are solution engine.outputs (i ∷ []) (input_has_laid job i engine solution solves (h.inputs i engine (sym (get_drop (length net.plan.nodes) net.engines i) ∙ at)))

@@ -18,7 +18,7 @@ use Rattle.mg_sched.specs.Views.{DeskView, NetView}
 use Rattle.mg_sched.specs.Places.{with_engine, with_intake, with_limits, first_edge, lengths_of}
 use Rattle.mg_sched.specs.StandsFor.{StandsForSome, IsRunning}
 use Rattle.mg_sched.specs.Acts.{IsHeldSource, with_noted, stopped_by}
-use Rattle.mg_sched.specs.Code.AtOnce.{HandsOut, ShowsTo, ShowsAt, did_nothing, with_work, IsHandedOut, ComesOn, Comes}
+use Rattle.mg_sched.specs.Code.AtOnce.{NodeHandsOut, ShowsTo, ShowsAt, did_nothing, with_work, IsHandedOut, ComesOn, Comes}
 use Rattle.mg_sched.proofs.Finding.{found, desk_there, parts_lawful}
 use Rattle.mg_sched.proofs.WorkingAtOnce.{hands_work, hands_none, on_kept, desk_room, handed_out, nothing_came, comes, took_nothing, below, marks, performs, finishes}
 
@@ -61,7 +61,7 @@ module _ (C : Type 0) (node : ℕ) (before now : NetView) (some : StandsForSome 
   desk_on = (found before.desks node (desk_there before node some there)).1
 
   -- A work is claimed.
-  hands_of : (work : WorkView) → ShowsTo {C = C} node (OnlyClaimed work) before now → HandsOut {C = C} node (Work work) before now
+  hands_of : (work : WorkView) → ShowsTo {C = C} node (OnlyClaimed work) before now → NodeHandsOut {C = C} node (Work work) before now
   hands_of work h = record { engine = h.engine; at = h.at; intake = h.intake; to = h.to; engine_now = h.engine_now; intake_now = h.intake_now; claims = h.does; now_is = h.now_is }
 
   pub claimed_below : (work : WorkView) → ShowsTo {C = C} node (OnlyClaimed work) before now → node < length now.desks
@@ -75,7 +75,7 @@ module _ (C : Type 0) (node : ℕ) (before now : NetView) (some : StandsForSome 
       let out = handed_out {C = C} node work before now desk_of some running there free (hands_of work h) desk_on in
       comes node Claimed before (with_work now node desk_of work) last there (inr (free, hands_work {C = C} node work before now desk_of (hands_of work h) desk_on)) (put desk_of out.on)
 
-  pub none_ready : HandsOut {C = C} node NotReady before now → Comes node Nothing before now
+  pub none_ready : NodeHandsOut {C = C} node NotReady before now → Comes node Nothing before now
   none_ready h = nothing_came node before now some running there (inr (free, hands_none {C = C} node NotReady Idle before now desk_of h desk_on (inl h.claims, refl)))
 
   -- the net once the set is claimed
@@ -87,7 +87,7 @@ module _ (C : Type 0) (node : ℕ) (before now : NetView) (some : StandsForSome 
     abbrev net : NetView
     net = claimed_net between intake_now
 
-    hands : HandsOut {C = C} node (Work d.work) before net
+    hands : NodeHandsOut {C = C} node (Work d.work) before net
     hands = record { engine = engine; at = at; intake = intake; to = to; engine_now = between; intake_now = intake_now; claims = d.claims; now_is = refl }
 
     abbrev out_is : IsHandedOut net node d.work

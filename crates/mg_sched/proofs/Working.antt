@@ -14,7 +14,7 @@ use Rattle.mg_throttle.specs.Throttle.{QueueLimits, stopped}
 use Rattle.mg_sched.specs.Views.{DeskView, NetView}
 use Rattle.mg_sched.specs.Places.{with_engine, with_desk, with_limits}
 use Rattle.mg_sched.specs.StandsFor.{HasWorks, StandsForSome, IsRunning}
-use Rattle.mg_sched.specs.Acts.{Performs, Performed, stopped_by, CommitsTo, CommittedAt, Committed}
+use Rattle.mg_sched.specs.Acts.{Performs, NodePerforms, stopped_by, CommitsTo, CommittedAt, NodeCommits}
 use Rattle.mg_sched.specs.Code.Desks.{TakesFrom}
 use Rattle.mg_sched.proofs.Finding.{cell_at, found, of_plan, read_at, engine_there, intake_there, desk_there, engine_read}
 use Rattle.mg_sched.proofs.Middles.{all_middle}
@@ -90,7 +90,7 @@ taken_out shown net node read taken p outcome is h running there value out outco
     subst (λ (o : OutcomeView). IsOut taken o.work) (sym outcome_is) (out h.job node (lawful_at net node read h running there (engine_read shown net node read is h there value)))
 
 pub commits_none : (shown net : NetView) (node number : ℕ) (read now : EngineView) → shown ≡ net → StandsForSome net → node < length net.plan.nodes → read ≡ get_or shown.engines node read → None ≡ shelf_at read number → now ≡ read
-    → Committed node number Idle net (with_engine shown node now)
+    → NodeCommits node number Idle net (with_engine shown node now)
 commits_none shown net node number read now is h there value none same =
     let at = engine_read shown net node read is h there value in
     record {
@@ -102,7 +102,7 @@ commits_none shown net node number read now is h there value none same =
 
 pub commits_did : (shown net : NetView) (node number : ℕ) (read taken now : EngineView) (p : PerformedView) (outcome : OutcomeView) (laid : ℕ) (after : NetView) → shown ≡ net → StandsForSome net → node < length net.plan.nodes
     → read ≡ get_or shown.engines node read → Some p ≡ shelf_at read number → Unshelves (Some p) read taken number → outcome ≡ outcome_of p → Commits outcome laid taken now
-    → ((engine : EngineView) → slice_get (set shown.engines node now) node ≡ Some engine → after ≡ with_limits (with_engine shown node now) (stopped_by node engine shown.limits)) → Committed node number Did net after
+    → ((engine : EngineView) → slice_get (set shown.engines node now) node ≡ Some engine → after ≡ with_limits (with_engine shown node now) (stopped_by node engine shown.limits)) → NodeCommits node number Did net after
 commits_did shown net node number read taken now p outcome laid after is h there value finds takes outcome_is commits ends =
     let at = engine_read shown net node read is h there value in
     let stands : slice_get shown.engines node ≡ Some read = subst (λ (v : NetView). slice_get v.engines node ≡ Some read) (sym is) at in
@@ -117,7 +117,7 @@ commits_did shown net node number read taken now p outcome laid after is h there
     record { engine = read; at = at; committed = subst (λ (o : Option PerformedView). CommittedAt node number o Did read net after) finds to }
 
 pub commits_not : (shown net : NetView) (node number : ℕ) (read taken now : EngineView) (p : PerformedView) (outcome : OutcomeView) → shown ≡ net → StandsForSome net → IsRunning net → node < length net.plan.nodes
-    → read ≡ get_or shown.engines node read → Some p ≡ shelf_at read number → Unshelves (Some p) read taken number → outcome ≡ outcome_of p → now ≡ shelved taken outcome → Committed node number OutOfMemory net (with_engine shown node now)
+    → read ≡ get_or shown.engines node read → Some p ≡ shelf_at read number → Unshelves (Some p) read taken number → outcome ≡ outcome_of p → now ≡ shelved taken outcome → NodeCommits node number OutOfMemory net (with_engine shown node now)
 commits_not shown net node number read taken now p outcome is h running there value finds takes outcome_is now_is =
     let at = engine_read shown net node read is h there value in
     let same : now ≡ read = now_is ∙ ap (shelved taken) outcome_is ∙ back_in_place h.job node read taken number p (lawful_at net node read h running there at) (sym finds) takes in
@@ -198,7 +198,7 @@ lies_again number place desk left again now work back_work t same unchanged now_
 
 -- How works are performed.
 
-pub performs_none : (shown net : NetView) (node number : ℕ) (desk now : DeskView) → shown ≡ net → slice_get net.desks node ≡ Some desk → All (λ w. w.number ≢ number) desk.works → now ≡ desk → Performed node number Idle net (with_desk shown node now)
+pub performs_none : (shown net : NetView) (node number : ℕ) (desk now : DeskView) → shown ≡ net → slice_get net.desks node ≡ Some desk → All (λ w. w.number ≢ number) desk.works → now ≡ desk → NodePerforms node number Idle net (with_desk shown node now)
 performs_none shown net node number desk now is on none same = record {
   desk = desk;
   on = on;
@@ -207,7 +207,7 @@ performs_none shown net node number desk now is on none same = record {
 
 pub performs_did : (shown net : NetView) (node number place : ℕ) (engine engine_now : EngineView) (desk left : DeskView) (work : WorkView) (p : PerformedView) (outcome : OutcomeView) → shown ≡ net
     → slice_get net.engines node ≡ Some engine → slice_get net.desks node ≡ Some desk → TakesFrom number place work desk left → IsPerformed work p → outcome ≡ outcome_of p → engine_now ≡ shelved engine outcome
-    → Performed node number Did net (with_desk (with_engine shown node engine_now) node left)
+    → NodePerforms node number Did net (with_desk (with_engine shown node engine_now) node left)
 performs_did shown net node number place engine engine_now desk left work p outcome is at on t performed outcome_is now_is =
     let performs : Performs node number Did desk net (with_desk (with_engine shown node engine_now) node left) = record {
       engine = engine;
@@ -229,7 +229,7 @@ performs_did shown net node number place engine engine_now desk left work p outc
 
 pub performs_not : (shown net : NetView) (node number place : ℕ) (desk left again now : DeskView) (work back_work : WorkView) → shown ≡ net → StandsForSome net → node < length net.plan.nodes
     → slice_get net.desks node ≡ Some desk → TakesFrom number place work desk left → again ≡ left → back_work ≡ work → now ≡ put_at place back_work again
-    → Performed node number OutOfMemory net (with_desk (with_desk shown node left) node now)
+    → NodePerforms node number OutOfMemory net (with_desk (with_desk shown node left) node now)
 performs_not shown net node number place desk left again now work back_work is h there on t same unchanged now_is =
     let engine = found net.engines node (engine_there net node h there) in
     let desks : (let v : NetView = record net { desks = set (set net.desks node left) node now } in v) ≡ with_desk net node now =

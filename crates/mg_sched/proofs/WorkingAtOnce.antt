@@ -29,7 +29,7 @@ use Rattle.mg_sched.specs.Runs.{IsRun}
 use Rattle.mg_sched.specs.Heard.{Heard, HeardSome}
 use Rattle.mg_sched.specs.Code.Desks.{TakesFrom}
 use Rattle.mg_sched.specs.Code.Left.{Steps}
-use Rattle.mg_sched.specs.Code.AtOnce.{HandsOut, took_none, with_work, IsHandedOut, steps_of, ComesOn, Comes, did_of, HearsMore}
+use Rattle.mg_sched.specs.Code.AtOnce.{NodeHandsOut, took_none, with_work, IsHandedOut, steps_of, ComesOn, Comes, did_of, HearsMore}
 use Rattle.mg_sched.proofs.Finding.{cell_at, found, desk_there, parts_lawful}
 use Rattle.mg_sched.proofs.ClaimKeeps.{room_left}
 use Rattle.mg_sched.proofs.Working.{lawful_at, marked, work_lawful, has_room, performed_out, performs_did}
@@ -51,7 +51,7 @@ intake_claimed {C} net node engine engine_now intake intake_now claimed some run
 
 -- A claim whose work lies on no desk is, with the work laid there, the claim of a net.
 
-pub hands_work : {C : Type 0} (node : ℕ) (work : WorkView) (before now : NetView) (desk : DeskView) → HandsOut {C = C} node (Work work) before now → slice_get before.desks node ≡ Some desk
+pub hands_work : {C : Type 0} (node : ℕ) (work : WorkView) (before now : NetView) (desk : DeskView) → NodeHandsOut {C = C} node (Work work) before now → slice_get before.desks node ≡ Some desk
     → ClaimsNext node Did before (with_work now node desk work)
 hands_work {C} node work before now desk h on =
     let more : DeskView = record desk { works = desk.works ++ work ∷ [] } in
@@ -70,21 +70,21 @@ hands_work {C} node work before now desk h on =
     }
 
 -- its desks are as they were
-pub desks_kept : {C : Type 0} (node : ℕ) (claimed : Claimed C) (before now : NetView) → HandsOut {C = C} node claimed before now → now.desks ≡ before.desks
+pub desks_kept : {C : Type 0} (node : ℕ) (claimed : Claimed C) (before now : NetView) → NodeHandsOut {C = C} node claimed before now → now.desks ≡ before.desks
 desks_kept {C} node claimed before now h = ap (λ (v : NetView). v.desks) h.now_is
 
-pub on_kept : {C : Type 0} (node : ℕ) (claimed : Claimed C) (before now : NetView) (desk : DeskView) → HandsOut {C = C} node claimed before now → slice_get before.desks node ≡ Some desk → slice_get now.desks node ≡ Some desk
+pub on_kept : {C : Type 0} (node : ℕ) (claimed : Claimed C) (before now : NetView) (desk : DeskView) → NodeHandsOut {C = C} node claimed before now → slice_get before.desks node ≡ Some desk → slice_get now.desks node ≡ Some desk
 on_kept {C} node claimed before now desk h on = ap (λ (ds : List DeskView). slice_get ds node) (desks_kept node claimed before now h) ∙ on
 
 -- and there is room on them for the work
-pub desk_room : {C : Type 0} (node : ℕ) (work : WorkView) (before now : NetView) (desk : DeskView) (some : StandsForSome before) → IsRunning before → node < length before.plan.nodes → HandsOut {C = C} node (Work work) before now
+pub desk_room : {C : Type 0} (node : ℕ) (work : WorkView) (before now : NetView) (desk : DeskView) (some : StandsForSome before) → IsRunning before → node < length before.plan.nodes → NodeHandsOut {C = C} node (Work work) before now
     → slice_get now.desks node ≡ Some desk → length desk.works < desk.room
 desk_room {C} node work before now desk some running there h on =
     let was : slice_get before.desks node ≡ Some desk = ap (λ (ds : List DeskView). slice_get ds node) (sym (desks_kept node (let w : Claimed C = Work work in w) before now h)) ∙ on in
     room_left some.job node work h.engine h.engine_now h.intake h.intake_now desk (cell_at some.job before node h.engine h.intake desk some.stands running there h.at h.to was) h.claims
 
 -- and so is one that hands out no work
-pub hands_none : {C : Type 0} (node : ℕ) (claimed : Claimed C) (effect : Effect) (before now : NetView) (desk : DeskView) (h : HandsOut {C = C} node claimed before now) → slice_get before.desks node ≡ Some desk
+pub hands_none : {C : Type 0} (node : ℕ) (claimed : Claimed C) (effect : Effect) (before now : NetView) (desk : DeskView) (h : NodeHandsOut {C = C} node claimed before now) → slice_get before.desks node ≡ Some desk
     → ClaimsBy effect h.engine h.engine_now h.intake h.intake_now desk desk → ClaimsNext node effect before now
 hands_none {C} node claimed effect before now desk h on claims = record {
   engine = h.engine;
@@ -121,7 +121,7 @@ took_nothing {C} claimed node net some running there engine engine_now intake in
     let idle = idle_claims claimed engine engine_now intake intake_now desk.0 none claims in
     let taken : NetView = with_intake (with_engine net node engine_now) node intake_now in
     let noted : NetView = with_noted taken (first_edge net.plan node) (lengths_of intake_now.waits) in
-    let h : HandsOut {C = C} node claimed net noted =
+    let h : NodeHandsOut {C = C} node claimed net noted =
     record { engine = engine; at = at; intake = intake; to = to; engine_now = engine_now; intake_now = intake_now; claims = claims; now_is = refl } in
     let again : noted ≡ net = claimed_none some.job node net noted some.stands running there (hands_none node claimed Idle net noted desk.0 h desk.1 idle.0) in
     let engines : set net.engines node engine_now ≡ net.engines = ap (set net.engines node) idle.1.same_engine ∙ same_put net.engines node engine at in
@@ -131,7 +131,7 @@ took_nothing {C} claimed node net some running there engine engine_now intake in
 
 -- With the work on its desk the net stands for a job, as it does after a claim.
 abbrev pub handed_out : {C : Type 0} (node : ℕ) (work : WorkView) (before now : NetView) (desk : DeskView) (some : StandsForSome before) → IsRunning before → node < length before.plan.nodes → ¬ IsHeldSource before node
-    → HandsOut {C = C} node (Work work) before now → slice_get before.desks node ≡ Some desk → IsHandedOut now node work
+    → NodeHandsOut {C = C} node (Work work) before now → slice_get before.desks node ≡ Some desk → IsHandedOut now node work
 handed_out {C} node work before now desk some running there free h on =
     let claims : Acts (Claim node) Did before (with_work now node desk work) = inr (free, hands_work node work before now desk h on) in
     record {
@@ -234,14 +234,14 @@ module _ (net : NetView) (node number : ℕ) (desk : DeskView) (work : WorkView)
         (set-set net.desks node full left ∙ ap (set net.desks node) left_is ∙ same_put net.desks node desk on)
 
     -- it is performed
-    pub performs : (p : PerformedView) (outcome : OutcomeView) (engine_now : EngineView) → IsPerformed work p → outcome ≡ outcome_of p → engine_now ≡ shelved engine outcome → acts.Performed node number Did laid (with_engine net node engine_now)
+    pub performs : (p : PerformedView) (outcome : OutcomeView) (engine_now : EngineView) → IsPerformed work p → outcome ≡ outcome_of p → engine_now ≡ shelved engine outcome → acts.NodePerforms node number Did laid (with_engine net node engine_now)
     performs p outcome engine_now performed is now_is =
-        subst (acts.Performed node number Did laid) (off_again engine_now)
+        subst (acts.NodePerforms node number Did laid) (off_again engine_now)
         (performs_did laid laid node number (length desk.works) engine engine_now full left work p outcome refl at full_on takes performed is now_is)
 
     -- and committed
     pub commits : (p : PerformedView) (engine_now : EngineView) (count : ℕ) (now : NetView) → IsPerformed work p → Commits (outcome_of p) count engine engine_now
-        → now ≡ with_limits (with_engine net node engine_now) (stopped_by node engine_now net.limits) → acts.Committed node number Did (with_engine net node (shelved engine (outcome_of p))) now
+        → now ≡ with_limits (with_engine net node engine_now) (stopped_by node engine_now net.limits) → acts.NodeCommits node number Did (with_engine net node (shelved engine (outcome_of p))) now
     commits p engine_now count now performed commit now_is =
         let shelf = shelved engine (outcome_of p) in
         let between = with_engine net node shelf in

@@ -22,7 +22,8 @@ use Rattle.mg_node.specs.Running.{IsPerformed}
 use Rattle.mg_node.specs.Shelves.{outcome_of, shelved, shelf_at, Unshelves}
 use Rattle.mg_node.specs.Commits.{Commits}
 use Rattle.mg_throttle.specs.declared.queue.Queue.{Queue}
-use Rattle.mg_throttle.specs.Throttle.{QueueLimits, producer_of, noted, relaxed, stopped, is_full, IsThrottled}
+use Rattle.mg_calc.specs.Reaching.{producer_of}
+use Rattle.mg_throttle.specs.Throttle.{QueueLimits, noted, relaxed, stopped, is_full, IsThrottled}
 use Rattle.mg_sched.specs.Views.{DeskView, NetView}
 use Rattle.mg_sched.specs.Places.{source_of, lengths_of, first_edge, with_engine, with_intake, with_desk, with_limits}
 
@@ -56,7 +57,7 @@ with_noted net number ns = with_limits net (record net.limits { queues = all_not
 -- an edge leads from a graph input that is throttled
 pub record IsHeld (net : NetView) (e : Edge) : Type 0 where
   pub input : ℕ
-  pub from : producer_of net.plan e ≡ Some (Input input)
+  pub from : producer_of net.plan e.stream ≡ Some (Input input)
   pub throttled : IsThrottled net.plan net.limits (graph_input input)
 
 -- the effect of a delivery
@@ -91,7 +92,7 @@ pub record DeliversAlong (number : ℕ) (effect : Effect) (before now : NetView)
 -- Advances.
 
 -- a node's outputs are raised as far as what waits tells
-pub record Advanced (node : ℕ) (effect : Effect) (before now : NetView) : Type 0 where
+pub record NodeAdvances (node : ℕ) (effect : Effect) (before now : NetView) : Type 0 where
   pub engine : EngineView
   pub at : slice_get before.engines node ≡ Some engine
   pub intake : IntakeView
@@ -140,8 +141,8 @@ pub record ClaimsNext (node : ℕ) (effect : Effect) (before now : NetView) : Ty
       ≡ with_noted (with_desk (with_intake (with_engine before node engine_now) node intake_now) node desk_now) (first_edge before.plan node) (lengths_of intake_now.waits)
 
 -- what the claim of a node does: nothing where it is a source that is throttled, and otherwise the node claims its next work
-abbrev pub Claimed : ℕ → Effect → NetView → NetView → Type 0
-Claimed node effect before now = (IsHeldSource before node × Rests effect before now) ⊎ (¬ IsHeldSource before node × ClaimsNext node effect before now)
+abbrev pub NodeClaims : ℕ → Effect → NetView → NetView → Type 0
+NodeClaims node effect before now = (IsHeldSource before node × Rests effect before now) ⊎ (¬ IsHeldSource before node × ClaimsNext node effect before now)
 
 -- Works.
 
@@ -165,7 +166,7 @@ pub record Performs (node number : ℕ) (effect : Effect) (desk : DeskView) (bef
   pub performed : PerformedBy effect node engine desk (front ++ back) work before now
 
 -- a node's work of this number is performed, or no such work lies on the node's desk
-pub record Performed (node number : ℕ) (effect : Effect) (before now : NetView) : Type 0 where
+pub record NodePerforms (node number : ℕ) (effect : Effect) (before now : NetView) : Type 0 where
   pub desk : DeskView
   pub on : slice_get before.desks node ≡ Some desk
   pub performed : (All (λ w. w.number ≢ number) desk.works × Rests effect before now) ⊎ Performs node number effect desk before now
@@ -197,7 +198,7 @@ CommittedAt node number None effect engine before now = Rests effect before now
 CommittedAt node number (Some p) effect engine before now = CommittedBy effect node number engine p before now
 
 -- a node's work of this number is committed, or no such work stands in the node's window as performed and not committed
-pub record Committed (node number : ℕ) (effect : Effect) (before now : NetView) : Type 0 where
+pub record NodeCommits (node number : ℕ) (effect : Effect) (before now : NetView) : Type 0 where
   pub engine : EngineView
   pub at : slice_get before.engines node ≡ Some engine
   pub committed : CommittedAt node number (shelf_at engine number) effect engine before now
@@ -207,16 +208,16 @@ pub record Committed (node number : ℕ) (effect : Effect) (before now : NetView
 abbrev pub IsAnyFull : QueueLimits → Type 0
 IsAnyFull limits = list_any is_full limits.queues ≡ true
 
-abbrev pub Relaxed : Effect → NetView → NetView → Type 0
-Relaxed effect before now =
+abbrev pub LimitsRelax : Effect → NetView → NetView → Type 0
+LimitsRelax effect before now =
     (¬ IsAnyFull before.limits × Rests effect before now)
     ⊎ (IsAnyFull before.limits × (effect ≡ Did) × (now ≡ with_limits before (record before.limits { queues = map relaxed before.limits.queues })))
 
 -- A step: what an event does to a net, by its effect.
 abbrev pub Acts : Event → Effect → NetView → NetView → Type 0
 Acts (Deliver edge) effect before now = DeliversAlong edge effect before now
-Acts (Advance node) effect before now = Advanced node effect before now
-Acts (Claim node) effect before now = Claimed node effect before now
-Acts (Perform node number) effect before now = Performed node number effect before now
-Acts (Commit node number) effect before now = Committed node number effect before now
-Acts Relax effect before now = Relaxed effect before now
+Acts (Advance node) effect before now = NodeAdvances node effect before now
+Acts (Claim node) effect before now = NodeClaims node effect before now
+Acts (Perform node number) effect before now = NodePerforms node number effect before now
+Acts (Commit node number) effect before now = NodeCommits node number effect before now
+Acts Relax effect before now = LimitsRelax effect before now

@@ -5,7 +5,7 @@ use Rattle.mg_node.specs.Outputs.{laid_at}
 use Rattle.mg_node.specs.Standing.{EngineGrows}
 use Rattle.mg_sched.specs.Views.{NetView}
 
-pub record Begins (before now : NetView) : Type 0 where
+pub record BeginsNet (before now : NetView) : Type 0 where
   pub more : before.begun ≤ now.begun
   pub parts : now ≡ record before { engines = now.engines; limits = now.limits; begun = now.begun }
   pub places : length now.engines ≡ length before.engines

@@ -14,7 +14,7 @@ use Rattle.mg_node.specs.Leaving.{NoneOut}
 use Rattle.mg_node.specs.Shelves.{shelved}
 use Rattle.mg_node.specs.Windows.{has_ended}
 use Rattle.mg_throttle.specs.declared.queue.Queue.{Queue}
-use Rattle.mg_throttle.specs.Throttle.{QueueLimits, IsOf}
+use Rattle.mg_throttle.specs.Throttle.{QueueLimits, AreLimitsOf}
 use Rattle.mg_sched.specs.Views.{DeskView, NetView}
 use Rattle.mg_sched.specs.Places.{source_of, with_limits}
 use Rattle.mg_sched.specs.StandsFor.{IsJoined, KnowsLimits, HasSpare}
@@ -84,7 +84,7 @@ pub record IsRestOf (job : LoggedJob) (plan : Plan) (engines : List EngineView) 
   pub desks : length rest.desks ≡ length plan.nodes
   pub empty : (node : ℕ) (desk : DeskView) (planned : PlanNode) → slice_get rest.desks node ≡ Some desk → slice_get plan.nodes node ≡ Some planned
       → desk ≡ record { room = planned.in_flight; works = [] }
-  pub limits : IsOf plan rest.limits
+  pub limits : AreLimitsOf plan rest.limits
   pub counts : (number : ℕ) (e : Edge) (q : Queue) (engine : EngineView) → slice_get plan.edges number ≡ Some e → slice_get rest.limits.queues number ≡ Some q
       → e.node < length plan.nodes → slice_get engines e.node ≡ Some engine → has_ended engine ≡ false → q.counts ≡ true
   pub spare : HasSpare job rest.spare

@@ -5,10 +5,11 @@ use Rattle.mg_calc.specs.declared.plan.Plan.{Plan}
 use Rattle.mg_calc.specs.declared.plan_stream.Producer.{Producer}
 use Rattle.mg_calc.specs.declared.plan_stream.Producer.TheVariants.{Input, Node}
 use Rattle.mg_calc.specs.Plan.{numbers}
-use Rattle.mg_node.specs.declared.waits.Waits.{Waits}
+use Rattle.mg_node.specs.declared.pending.Pending.{Pending}
 use Rattle.mg_node.specs.Views.{IntakeView, EngineView}
 use Rattle.mg_node.specs.Ports.{ports_in, port_queue}
-use Rattle.mg_throttle.specs.Throttle.{QueueLimits, producer_of}
+use Rattle.mg_calc.specs.Reaching.{producer_of}
+use Rattle.mg_throttle.specs.Throttle.{QueueLimits}
 use Rattle.mg_sched.specs.Views.{DeskView, NetView}
 
 -- the place of the engine that writes a stream: the engines of the graph inputs stand behind those of the nodes
@@ -18,14 +19,14 @@ place_of plan (Node node port) = node
 
 -- the place of the engine from which an edge leads
 abbrev pub source_of : Plan → Edge → Option ℕ
-source_of plan e = option_map (place_of plan) (producer_of plan e)
+source_of plan e = option_map (place_of plan) (producer_of plan e.stream)
 
 -- the number of the first edge into a node: edges are numbered by their consumers
 abbrev pub first_edge : Plan → ℕ → ℕ
 first_edge plan node = sum_by (λ n. length n.inputs) (take node plan.nodes)
 
 -- how many packets wait at each port
-abbrev pub lengths_of : Waits → List ℕ
+abbrev pub lengths_of : Pending → List ℕ
 lengths_of waits = map (λ port. length (port_queue waits port).packets) (numbers (ports_in waits))
 
 -- a net with another part at a place

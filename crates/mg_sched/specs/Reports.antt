@@ -5,7 +5,7 @@ use Rattle.mg_value.specs.Payload.{Plain}
 use Rattle.mg_value.specs.Prefix.{StreamPrefix}
 use Rattle.mg_stream.specs.Pool.{Backlog}
 use Rattle.mg_node.specs.Views.{EngineView}
-use Rattle.mg_node.specs.Outputs.{kept_in}
+use Rattle.mg_node.specs.Outputs.{packets_kept}
 use Rattle.mg_node.specs.Ports.{waiting_in}
 use Rattle.mg_sched.specs.declared.report.StreamEnd.{StreamEnd}
 use Rattle.mg_sched.specs.declared.report.Report.{Report}
@@ -13,7 +13,7 @@ use Rattle.mg_sched.specs.Views.{NetView}
 
 -- how many packets are in a net: those that engines keep, and those that wait at intakes
 abbrev pub held_in : NetView → ℕ
-held_in net = sum_by kept_in net.engines + sum_by (λ i. waiting_in i.waits) net.intakes
+held_in net = sum_by packets_kept net.engines + sum_by (λ i. waiting_in i.waits) net.intakes
 
 -- the engines of the nodes, and those of the graph inputs
 abbrev pub node_engines : NetView → List EngineView
@@ -27,15 +27,15 @@ abbrev pub end_of : Backlog Plain → StreamEnd
 end_of b = record { packets = b.gone + length b.packets; bound = b.bound }
 
 -- the streams that an engine writes, by its outputs
-abbrev pub ends_of : EngineView → List StreamEnd
-ends_of engine = map end_of engine.outputs
+abbrev pub stream_ends_of : EngineView → List StreamEnd
+stream_ends_of engine = map end_of engine.outputs
 
 -- the report: for each node how many sets were laid, calls or answers; how far each stream has come, first those of the graph inputs,
 -- and then those at the outputs of each node; and the faults in node order
 abbrev pub report_of : NetView → Report
 report_of net = record {
   sets = map (λ e. e.laid) (node_engines net);
-  streams = flat_map ends_of (input_engines net) ++ flat_map ends_of (node_engines net);
+  streams = flat_map stream_ends_of (input_engines net) ++ flat_map stream_ends_of (node_engines net);
   faults = filter_map (λ e. e.fault) (node_engines net);
 }
 

@@ -9,7 +9,7 @@ use Rattle.mg_sched.specs.Views.{NetView}
 use Rattle.mg_sched.specs.StandsFor.{StandsFor, IsRunning}
 use Rattle.mg_sched.specs.Acts.{IsEventOf, Acts}
 use Rattle.mg_sched.specs.AtRest.{IsAtRest}
-use Rattle.mg_sched.specs.Begins.{Begins}
+use Rattle.mg_sched.specs.Begins.{BeginsNet}
 use Rattle.mg_sched.specs.Made.{job_of, IsMade}
 
 -- A list of events is a run from one net to another: each in turn is an event of the net that the ones before it led to, and as a step
@@ -22,7 +22,7 @@ IsRun (event ∷ events) before now = (next : NetView) × IsEventOf before event
 pub record IsBegun (plan : Plan) (inputs : Inputs) (boxes : List CalculatorTold) (net : NetView) : Type 0 where
   pub made : NetView
   pub is_made : IsMade plan inputs boxes made
-  pub begins : Begins made net
+  pub begins : BeginsNet made net
   pub stands : StandsFor (job_of plan inputs boxes) net
   pub running : IsRunning net
 

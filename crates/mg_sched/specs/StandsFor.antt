@@ -15,7 +15,7 @@ use Rattle.mg_node.specs.Shelves.{IsOut}
 use Rattle.mg_node.specs.IntakeStanding.{HasGrown}
 use Rattle.mg_node.specs.Leading.{output_at}
 use Rattle.mg_throttle.specs.declared.queue.Queue.{Queue}
-use Rattle.mg_throttle.specs.Throttle.{IsOf}
+use Rattle.mg_throttle.specs.Throttle.{AreLimitsOf}
 use Rattle.mg_sched.specs.Views.{DeskView, NetView}
 use Rattle.mg_sched.specs.Places.{source_of}
 
@@ -57,7 +57,7 @@ pub record KnowsQueue (net : NetView) (e : Edge) (q : Queue) : Type 0 where
   pub counts : (engine : EngineView) → e.node < length net.plan.nodes → slice_get net.engines e.node ≡ Some engine → q.counts ≡ not (has_ended engine)
 
 pub record KnowsLimits (net : NetView) : Type 0 where
-  pub of_plan : IsOf net.plan net.limits
+  pub of_plan : AreLimitsOf net.plan net.limits
   pub queues : (number : ℕ) (e : Edge) (q : Queue) → slice_get net.plan.edges number ≡ Some e → slice_get net.limits.queues number ≡ Some q → KnowsQueue net e q
 
 -- Calculators.

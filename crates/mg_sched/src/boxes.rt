@@ -7,7 +7,7 @@ ghost use Rattle.mg_calc.specs.Plan.{IsValid};
 ghost use Rattle.mg_calc.specs.Told.{CalculatorTold};
 ghost use Rattle.mg_route.specs.HolderView.{HolderView, holder_view};
 ghost use Rattle.mg_node.specs.Fresh.{own_told, fresh_engine};
-ghost use Rattle.mg_sched.specs.Code.Made.{AtPlaces, IsEngineAt, IsLeft, FindEach, first_holder};
+ghost use Rattle.mg_sched.specs.Code.Made.{AtPlaces, IsEngineAt, IsLeftOver, FindEach, first_holder};
 
 use mg_calc::{Calculator, Plan};
 use mg_node::Engine;
@@ -53,7 +53,7 @@ pub(crate) fn hand_out<C: Calculator>(
     ensures count { length engines.new ≡ length engines.old }
     ensures engines { (streams : List (StreamPrefix Plain)) → AtPlaces (IsEngineAt plan.now streams (λ _ node. own_told node)) engines.old
         → AtPlaces (IsEngineAt plan.now streams (λ _ node. first_holder (map (option_map C.told) places.old) node)) engines.new }
-    ensures left { IsLeft plan.now.nodes (map (option_map C.told) places.old) (length plan.now.nodes) (map (option_map C.told) places.new) }
+    ensures left { IsLeftOver plan.now.nodes (map (option_map C.told) places.old) (length plan.now.nodes) (map (option_map C.told) places.new) }
 {
     for node in 0..plan.nodes.len() {
         let planned = &plan.nodes.as_slice()[node as usize];

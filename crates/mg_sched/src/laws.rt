@@ -29,7 +29,7 @@ ghost use Rattle.mg_sched.specs.AtRest.{IsAtRest};
 ghost use Rattle.mg_sched.specs.Sweeps.{Becomes};
 ghost use Rattle.mg_sched.specs.Taking.{collector_of, taken_out, TakesOut, settled_outputs, HasAllOutputs, LeavesNodes};
 ghost use Rattle.mg_sched.specs.WindsUp.{WindsUpNet};
-ghost use Rattle.mg_sched.specs.Begins.{Begins};
+ghost use Rattle.mg_sched.specs.Begins.{BeginsNet};
 ghost use Rattle.mg_sched.specs.Extends.{MayGoOnWith, Extends};
 ghost use Rattle.mg_sched.specs.Trims.{is_kept, Trims};
 ghost use Rattle.mg_sched.specs.Looks.{IsOutputOf, HasFrom};
@@ -191,7 +191,7 @@ pub fn nets_at_rest_for_one_job_are_alike()
 /// What can be read of a stream stays there: no step gives up anything of it, nor does the begin of nodes, nor further input, nor a trim
 /// where the stream is kept, nor what leaves the nodes as they are.
 pub fn what_is_kept_stays()
-    ensures begins { (before now : NetView) (stream number : ℕ) → Begins before now → HasFrom before stream number → HasFrom now stream number }
+    ensures begins { (before now : NetView) (stream number : ℕ) → BeginsNet before now → HasFrom before stream number → HasFrom now stream number }
     ensures steps { (before now : NetView) (stream number : ℕ) → Becomes before now → HasFrom before stream number → HasFrom now stream number }
     ensures further { (more : Inputs) (before now : NetView) (stream number : ℕ) → MayGoOnWith more before → Extends more before now → HasFrom before stream number → HasFrom now stream number }
     ensures trims { (before now : NetView) (stream number : ℕ) → StandsForSome before → Trims before now → is_kept before stream ≡ true → HasFrom before stream number → HasFrom now stream number }

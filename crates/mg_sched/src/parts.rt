@@ -4,7 +4,7 @@ ghost use Rattle.mg_value.specs.Prefix.{IsPrefix};
 ghost use Rattle.mg_calc.specs.declared.plan_node.PlanNode.{PlanNode};
 ghost use Rattle.mg_calc.specs.Plan.{IsValid};
 ghost use Rattle.mg_node.specs.Fresh.{own_told, fresh_engine};
-ghost use Rattle.mg_throttle.specs.Throttle.{IsOf, limit_of, new_queue};
+ghost use Rattle.mg_throttle.specs.Throttle.{AreLimitsOf, limit_of, new_queue};
 ghost use Rattle.mg_sched.specs.Code.Made.{AtPlaces, IsEngineAt, IsIntakeAt, IsDeskAt};
 ghost use Rattle.mg_sched.specs.Code.Tables.{AreTables};
 
@@ -176,7 +176,7 @@ pub(crate) fn cells_of<C: Calculator>(
 /// The limits of a plan's queues, and its tables.
 pub(crate) fn rules_of(alloc: Global, plan: &Plan) -> Result<Rules, AllocError>
     requires valid { IsValid plan.now }
-    ensures of { IfOk result (λ r. IsOf plan.now r.limits) }
+    ensures of { IfOk result (λ r. AreLimitsOf plan.now r.limits) }
     ensures queues { IfOk result (λ r. r.limits.queues ≡ map (new_queue (length plan.now.nodes) (limit_of plan.now.limit)) plan.now.edges) }
     ensures tables { IfOk result (λ r. AreTables plan.now r.first_edges.items r.own_feeders.items) }
     ensures got { IfOk result (λ r. vec_len r.got ≡ length plan.now.streams) }

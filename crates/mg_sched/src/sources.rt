@@ -1,7 +1,7 @@
 //! Where the stream of an edge comes from.
 
 ghost use Rattle.std.specs.Prelude.{◌≡◌, ◌<◌, length, Some};
-ghost use Rattle.mg_throttle.specs.Throttle.{producer_of};
+ghost use Rattle.mg_calc.specs.Reaching.{producer_of};
 ghost use Rattle.mg_sched.specs.Places.{source_of};
 
 use mg_calc::{Edge, Plan, Producer};
@@ -9,7 +9,7 @@ use mg_calc::{Edge, Plan, Producer};
 /// Who writes the stream of an edge.
 pub(crate) fn producer_of(plan: &Plan, edge: Edge) -> Producer
     requires { edge.stream < length plan.now.streams }
-    ensures { producer_of plan.now edge ≡ Some result }
+    ensures { producer_of plan.now edge.stream ≡ Some result }
 {
     plan.streams.as_slice()[edge.stream as usize].producer
 }

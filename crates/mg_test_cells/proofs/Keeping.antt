@@ -5,7 +5,7 @@ use Rattle.std.proofs.lemmas.List.Elements.{All-from_recursion, recursion_from_A
 use Rattle.mg_value.specs.Payload.{Plain}
 use Rattle.mg_value.specs.Prefix.{StreamPrefix}
 use Rattle.mg_stream.specs.Pool.{Backlog, empty_backlog}
-use Rattle.mg_node.specs.declared.waits.Waits.{Waits}
+use Rattle.mg_node.specs.declared.pending.Pending.{Pending}
 use Rattle.mg_node.specs.Views.{EngineView}
 use Rattle.mg_node.specs.Advances.{advanced, advance_bound, raised_output}
 use Rattle.mg_node.specs.Outputs.{kept_whole}
@@ -27,7 +27,7 @@ all_raised_gone bound [] = refl
 all_raised_gone bound (b ∷ bs) = ap (λ (n : ℕ). n ∷ map (λ (c : Backlog Plain). c.gone) (map (raised_output bound) bs)) (raised_gone bound b) ∙ ap (λ (ns : List ℕ). b.gone ∷ ns) (all_raised_gone bound bs)
 
 -- an advance
-pub advanced_gone : (engine engine_now : EngineView) (waits : Waits) → engine_now ≡ advanced engine waits → gone_of engine_now ≡ gone_of engine
+pub advanced_gone : (engine engine_now : EngineView) (waits : Pending) → engine_now ≡ advanced engine waits → gone_of engine_now ≡ gone_of engine
 advanced_gone engine engine_now waits is = ap gone_of is ∙ all_raised_gone (advance_bound engine waits) engine.outputs
 
 -- what is kept whole

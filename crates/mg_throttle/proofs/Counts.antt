@@ -8,7 +8,7 @@ use Rattle.std.proofs.lemmas.List.Sums.{sum_by-set}
 use Rattle.std.specs.Prelude.{count_by}
 use Rattle.mg_calc.specs.declared.plan.Plan.{Plan}
 use Rattle.mg_throttle.specs.declared.queue.Queue.{Queue}
-use Rattle.mg_throttle.specs.Throttle.{QueueLimits, IsOf, is_full, stopped, relaxed, noted, is_reached}
+use Rattle.mg_throttle.specs.Throttle.{QueueLimits, AreLimitsOf, is_full, stopped, relaxed, noted, is_reached}
 use Rattle.mg_throttle.specs.Code.Rows.{part}
 use Rattle.mg_throttle.specs.Code.Kept.{presses, AreCounted, IsKept}
 use Rattle.mg_throttle.proofs.Queues.{count_none}
@@ -93,10 +93,10 @@ View-noted queues rows count old i packets q is_old within read =
     (ap (λ qs. limits_with qs rows count) (noted-set queues i packets q within read))
 
 -- other queues of the same nodes, of which those of the collector don't count, are of the same plan
-IsOf-kept : (plan : Plan) (queues more : List Queue) (rows : List (List Bool)) (count : ℕ) → IsOf plan (limits_with queues rows count)
+AreLimitsOf-kept : (plan : Plan) (queues more : List Queue) (rows : List (List Bool)) (count : ℕ) → AreLimitsOf plan (limits_with queues rows count)
     → map (λ q. q.node) more ≡ map (λ q. q.node) queues → All (λ q. q.node ≡ length plan.nodes → q.counts ≡ false) more
-    → IsOf plan (limits_with more rows count)
-IsOf-kept plan queues more rows count of same none = record {
+    → AreLimitsOf plan (limits_with more rows count)
+AreLimitsOf-kept plan queues more rows count of same none = record {
   queues = same ∙ of.queues;
   collector = none;
   marked_nodes = of.marked_nodes;
@@ -105,20 +105,20 @@ IsOf-kept plan queues more rows count of same none = record {
 }
 
 -- the same of what contracts see
-pub IsOf-noted : (queues : List Queue) (rows : List (List Bool)) (count : ℕ) (old : QueueLimits) (i packets : ℕ) (q : Queue) → limits_with queues rows count ≡ old
-    → i < length queues → q ≡ get_or queues i q → (plan : Plan) → IsOf plan old → IsOf plan (limits_with (slice_set queues i (with_packets q packets)) rows count)
-IsOf-noted queues rows count old i packets q is_old within read plan of_old =
-    let of : IsOf plan (limits_with queues rows count) = subst (IsOf plan) (sym is_old) of_old in
+pub AreLimitsOf-noted : (queues : List Queue) (rows : List (List Bool)) (count : ℕ) (old : QueueLimits) (i packets : ℕ) (q : Queue) → limits_with queues rows count ≡ old
+    → i < length queues → q ≡ get_or queues i q → (plan : Plan) → AreLimitsOf plan old → AreLimitsOf plan (limits_with (slice_set queues i (with_packets q packets)) rows count)
+AreLimitsOf-noted queues rows count old i packets q is_old within read plan of_old =
+    let of : AreLimitsOf plan (limits_with queues rows count) = subst (AreLimitsOf plan) (sym is_old) of_old in
     let named : (λ (x : Queue). x.node) (with_packets q packets) ≡ (get_or queues i q).node = ap (λ x. x.node) read in
-    IsOf-kept plan queues (slice_set queues i (with_packets q packets)) rows count of
+    AreLimitsOf-kept plan queues (slice_set queues i (with_packets q packets)) rows count of
     (map-set_same (λ x. x.node) queues i (with_packets q packets) q named)
     (All-set (λ x. x.node ≡ length plan.nodes → x.counts ≡ false) queues i (with_packets q packets)
     (subst (λ x. x.node ≡ length plan.nodes → x.counts ≡ false) (sym read) (of.collector i q within)) of.collector)
 
-IsOf-map : (f : Queue → Queue) (same_node : (q : Queue) → (f q).node ≡ q.node) (quiet : (q : Queue) → q.counts ≡ false → (f q).counts ≡ false)
-    (queues : List Queue) (rows : List (List Bool)) (count : ℕ) (plan : Plan) → IsOf plan (limits_with queues rows count) → IsOf plan (limits_with (map f queues) rows count)
-IsOf-map f same_node quiet queues rows count plan of =
-    IsOf-kept plan queues (map f queues) rows count of
+AreLimitsOf-map : (f : Queue → Queue) (same_node : (q : Queue) → (f q).node ≡ q.node) (quiet : (q : Queue) → q.counts ≡ false → (f q).counts ≡ false)
+    (queues : List Queue) (rows : List (List Bool)) (count : ℕ) (plan : Plan) → AreLimitsOf plan (limits_with queues rows count) → AreLimitsOf plan (limits_with (map f queues) rows count)
+AreLimitsOf-map f same_node quiet queues rows count plan of =
+    AreLimitsOf-kept plan queues (map f queues) rows count of
     (nodes_of queues)
     (All-map (λ x. x.node ≡ length plan.nodes → x.counts ≡ false) f queues
     (All-weaker (λ x. x.node ≡ length plan.nodes → x.counts ≡ false) (λ x. (f x).node ≡ length plan.nodes → (f x).counts ≡ false)
@@ -224,15 +224,15 @@ IsKept-relaxed queues rows counts new n kept is_new is_n =
     (All-map (λ q. presses rows f q ≡ false) relaxed queues (λ k d within. and_left (is_full (relaxed (get_or queues k d))) (is_reached rows f (relaxed (get_or queues k d)).node)
     (not_full_relaxed (get_or queues k d))))))
 
-pub IsOf-relaxed : (queues : List Queue) (rows : List (List Bool)) (count : ℕ) (old : QueueLimits) → limits_with queues rows count ≡ old
-    → (plan : Plan) → IsOf plan old → IsOf plan (limits_with (map relaxed queues) rows count)
-IsOf-relaxed queues rows count old is_old plan of =
-    IsOf-map relaxed node_relaxed (λ q quiet. counts_relaxed q ∙ quiet) queues rows count plan (subst (IsOf plan) (sym is_old) of)
+pub AreLimitsOf-relaxed : (queues : List Queue) (rows : List (List Bool)) (count : ℕ) (old : QueueLimits) → limits_with queues rows count ≡ old
+    → (plan : Plan) → AreLimitsOf plan old → AreLimitsOf plan (limits_with (map relaxed queues) rows count)
+AreLimitsOf-relaxed queues rows count old is_old plan of =
+    AreLimitsOf-map relaxed node_relaxed (λ q quiet. counts_relaxed q ∙ quiet) queues rows count plan (subst (AreLimitsOf plan) (sym is_old) of)
 
-pub IsOf-stopped : (node : ℕ) (queues : List Queue) (rows : List (List Bool)) (count : ℕ) (old : QueueLimits) → limits_with queues rows count ≡ old
-    → (plan : Plan) → IsOf plan old → IsOf plan (limits_with (map (stopped node) queues) rows count)
-IsOf-stopped node queues rows count old is_old plan of =
-    IsOf-map (stopped node) (node_stopped node) (quiet_stopped node) queues rows count plan (subst (IsOf plan) (sym is_old) of)
+pub AreLimitsOf-stopped : (node : ℕ) (queues : List Queue) (rows : List (List Bool)) (count : ℕ) (old : QueueLimits) → limits_with queues rows count ≡ old
+    → (plan : Plan) → AreLimitsOf plan old → AreLimitsOf plan (limits_with (map (stopped node) queues) rows count)
+AreLimitsOf-stopped node queues rows count old is_old plan of =
+    AreLimitsOf-map (stopped node) (node_stopped node) (quiet_stopped node) queues rows count plan (subst (AreLimitsOf plan) (sym is_old) of)
 
 -- what is lent whole comes back whole
 pub whole : {X : Type 0} (n : ℕ) (new old : List X) → length new ≡ n → take n (new ++ drop (length new) old) ≡ new

@@ -15,7 +15,8 @@ use Rattle.mg_calc.specs.declared.plan_stream.Producer.{Producer}
 use Rattle.mg_calc.specs.declared.plan_stream.Producer.TheVariants.{Input, Node}
 use Rattle.mg_calc.specs.declared.edge.Edge.{Edge}
 use Rattle.mg_calc.specs.Plan.{IsValid, Feeder, graph_input, source_node, feeders, sources, numbers, writer_of, writing_node, StandsBefore, LeadsForward}
-use Rattle.mg_throttle.specs.Throttle.{Reaches, itself, reads, goes_on, producer_of, is_reached}
+use Rattle.mg_calc.specs.Reaching.{producer_of}
+use Rattle.mg_throttle.specs.Throttle.{FeederReaches, itself, reads, goes_on, is_reached}
 use Rattle.mg_throttle.specs.Code.Rows.{is_marked}
 use Rattle.mg_throttle.specs.Code.Reach.{brings, stream_brings, enters, Gathers, IsReachedBy, IsOwn, IsDone, MarksSources}
 use Rattle.mg_throttle.proofs.Edges.{input_in, node_in}
@@ -129,7 +130,7 @@ stream_brings-node plan rows s stream node port row f at is within read =
 
 -- ---- what enters a node
 -- the producer of an edge's stream, and the node that writes it
-producer_read : (plan : Plan) (e : Edge) (stream : PlanStream) → slice_get plan.streams e.stream ≡ Some stream → producer_of plan e ≡ Some stream.producer
+producer_read : (plan : Plan) (e : Edge) (stream : PlanStream) → slice_get plan.streams e.stream ≡ Some stream → producer_of plan e.stream ≡ Some stream.producer
 producer_read plan e stream at = rw at refl
 
 writer_read : (plan : Plan) (e : Edge) (stream : PlanStream) (node port : ℕ) → slice_get plan.streams e.stream ≡ Some stream → stream.producer ≡ Node node port
@@ -140,7 +141,7 @@ no_producer : (p : Producer) → None ≡ Some p → ⊥
 no_producer p e = cc
 
 -- a stream with a producer is there
-stream_of : (plan : Plan) (e : Edge) (producer : Producer) → producer_of plan e ≡ Some producer
+stream_of : (plan : Plan) (e : Edge) (producer : Producer) → producer_of plan e.stream ≡ Some producer
     → (stream : PlanStream) × (slice_get plan.streams e.stream ≡ Some stream) × (stream.producer ≡ producer)
 stream_of plan e producer is = go (slice_get plan.streams e.stream) refl is
   where
@@ -216,10 +217,10 @@ done_at plan valid rows k done e writer port stream there forward at is within h
 -- what enters by an edge reaches the node
 by_edge : (plan : Plan) → IsValid plan → (rows : List (List Bool)) (k f : ℕ) (feeder : Feeder) (e : Edge) → IsDone plan rows k → k < length plan.order
     → get_or plan.order k 0 ≡ e.node → slice_get (feeders plan) f ≡ Some feeder → Contains plan.edges e → e.back ≡ false
-    → stream_brings rows f (slice_get plan.streams e.stream) ≡ true → Reaches plan feeder e.node
+    → stream_brings rows f (slice_get plan.streams e.stream) ≡ true → FeederReaches plan feeder e.node
 by_edge plan valid rows k f feeder e done within here at there forward brought = go (slice_get plan.streams e.stream) refl brought
   where
-    by_producer : (stream : PlanStream) (p : Producer) → slice_get plan.streams e.stream ≡ Some stream → stream.producer ≡ p → brings rows f p ≡ true → Reaches plan feeder e.node
+    by_producer : (stream : PlanStream) (p : Producer) → slice_get plan.streams e.stream ≡ Some stream → stream.producer ≡ p → brings rows f p ≡ true → FeederReaches plan feeder e.node
     by_producer stream (Input input) found is marked =
         let same : f ≡ input = eqb-true f input marked in
         let small : input < length plan.inputs = input_in plan valid e.stream stream input found is in
@@ -229,7 +230,7 @@ by_edge plan valid rows k f feeder e done within here at there forward brought =
         goes_on e writer there forward (writer_read plan e stream writer port found is)
         ((done_at plan valid rows k done e writer port stream there forward found is within here f feeder at).0 marked)
 
-    go : (o : Option PlanStream) → slice_get plan.streams e.stream ≡ o → stream_brings rows f o ≡ true → Reaches plan feeder e.node
+    go : (o : Option PlanStream) → slice_get plan.streams e.stream ≡ o → stream_brings rows f o ≡ true → FeederReaches plan feeder e.node
     go None found marked = absurd (false≢true marked)
     go (Some stream) found marked = by_producer stream stream.producer found refl marked
 
@@ -239,7 +240,7 @@ passed : (plan : Plan) (rows : List (List Bool)) (f : ℕ) (e : Edge) → e.back
 passed plan rows f e forward brought = rw (eq-eqb e.node e.node refl, forward) brought
 
 -- a feeder that reaches a node is itself the node, or enters it
-reached_then : (plan : Plan) → IsValid plan → (rows : List (List Bool)) (k f : ℕ) (feeder : Feeder) (n : ℕ) → Reaches plan feeder n → IsDone plan rows k → k < length plan.order
+reached_then : (plan : Plan) → IsValid plan → (rows : List (List Bool)) (k f : ℕ) (feeder : Feeder) (n : ℕ) → FeederReaches plan feeder n → IsDone plan rows k → k < length plan.order
     → get_or plan.order k 0 ≡ n → slice_get (feeders plan) f ≡ Some feeder
     → (feeder ≡ source_node n) ⊎ (list_any (enters plan rows n f) plan.edges ≡ true)
 reached_then plan valid rows k f feeder n (itself m is) done within here at = inl is
@@ -257,12 +258,12 @@ reached_then plan valid rows k f feeder n (goes_on e writer there forward is_wri
 
 -- what enters a node reaches it
 entered_by : (plan : Plan) → IsValid plan → (rows : List (List Bool)) (k f node : ℕ) (feeder : Feeder) → IsDone plan rows k → k < length plan.order
-    → get_or plan.order k 0 ≡ node → slice_get (feeders plan) f ≡ Some feeder → Any (λ e. enters plan rows node f e ≡ true) plan.edges → Reaches plan feeder node
+    → get_or plan.order k 0 ≡ node → slice_get (feeders plan) f ≡ Some feeder → Any (λ e. enters plan rows node f e ≡ true) plan.edges → FeederReaches plan feeder node
 entered_by plan valid rows k f node feeder done within here at (j, e, inside, read, passes) =
     let parts = both_true (eqb e.node node) (not e.back && stream_brings rows f (slice_get plan.streams e.stream)) passes in
     let more = both_true (not e.back) (stream_brings rows f (slice_get plan.streams e.stream)) parts.1 in
     let same : e.node ≡ node = eqb-true e.node node parts.0 in
-    subst (Reaches plan feeder) same (by_edge plan valid rows k f feeder e done within (here ∙ sym same) at (j, inside, read) (not_true e.back more.0) more.1)
+    subst (FeederReaches plan feeder) same (by_edge plan valid rows k f feeder e done within (here ∙ sym same) at (j, inside, read) (not_true e.back more.0) more.1)
 
 -- a row that is replaced
 replaced_same : (rows : List (List Bool)) (node f : ℕ) (row : List Bool) → node < length rows → is_reached (slice_set rows node row) f node ≡ is_marked row f

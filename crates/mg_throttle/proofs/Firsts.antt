@@ -7,7 +7,7 @@ use Rattle.mg_calc.specs.declared.plan.Plan.{Plan}
 use Rattle.mg_calc.specs.declared.edge.Edge.{Edge}
 use Rattle.mg_calc.specs.Plan.{Feeder, feeders}
 use Rattle.mg_throttle.specs.declared.queue.Queue.{Queue}
-use Rattle.mg_throttle.specs.Throttle.{QueueLimits, IsOf, IsThrottled, Reaches, reached_at}
+use Rattle.mg_throttle.specs.Throttle.{QueueLimits, AreLimitsOf, IsThrottled, FeederReaches, reached_at}
 use Rattle.mg_throttle.specs.Code.Rows.{bit_in, is_marked, is_uncounted, NoneFrom, IsFirstFrom}
 use Rattle.mg_throttle.specs.Code.Kept.{IsKept}
 use Rattle.mg_throttle.proofs.RowMarks.{bit_in-zero, bit_in-low, bit_in-high}
@@ -89,14 +89,14 @@ row_len queues rows counts lent node row kept within read is =
     ap length is ∙ sym (kept.marks node [] within) ∙ sym (ap length (read ∙ get_or_default rows node row [] within))
 
 module _ (queues : List Queue) (rows : List (List Bool)) (counts : List ℕ) (count node : ℕ) (row : List Bool) (kept : IsKept queues rows counts) (within : node < length rows)
-    (read : row ≡ get_or rows node row) (plan : Plan) (of : IsOf plan (limits_with queues rows count)) where
+    (read : row ≡ get_or rows node row) (plan : Plan) (of : AreLimitsOf plan (limits_with queues rows count)) where
   counted : (f : ℕ) → f < length counts → (feeder : Feeder) → slice_get (feeders plan) f ≡ Some feeder
       → (eqb (get_or counts f 0) 0 ≡ false) ↔ IsThrottled plan (limits_with queues rows count) feeder
   counted f fits feeder at = throttled_by_count queues rows counts count f (get_or counts f 0) kept fits (get_or_default counts f 0 (get_or counts f 0) fits) plan feeder of at
 
   -- one that is found
   pub found_feeder : (from f : ℕ) (feeder : Feeder) → IsFirstFrom (is_uncounted (is_marked row) counts) from (length counts) f → slice_get (feeders plan) f ≡ Some feeder
-      → Reaches plan feeder node × ¬ IsThrottled plan (limits_with queues rows count) feeder
+      → FeederReaches plan feeder node × ¬ IsThrottled plan (limits_with queues rows count) feeder
   found_feeder from f feeder first at =
       let parts = both_true (is_marked row f) (eqb (get_or counts f 0) 0) first.passes in
       let nodes = of.marked_nodes in (
@@ -106,7 +106,7 @@ module _ (queues : List Queue) (rows : List (List Bool)) (counts : List ℕ) (co
 
   -- one that is passed over
   pub missed_feeder : (from end f : ℕ) (feeder : Feeder) → NoneFrom (is_uncounted (is_marked row) counts) from end → (f < length counts → f < end) → slice_get (feeders plan) f ≡ Some feeder
-      → from ≤ f → Reaches plan feeder node → IsThrottled plan (limits_with queues rows count) feeder
+      → from ≤ f → FeederReaches plan feeder node → IsThrottled plan (limits_with queues rows count) feeder
   missed_feeder from end f feeder none inside at low reaches =
       let nodes = of.marked_nodes in
       let marked : is_marked row f ≡ true = row_read rows node row f within read ∙ (of.reached node f feeder (omega (arith, within, nodes)) at).1 reaches in
@@ -118,12 +118,12 @@ module _ (queues : List Queue) (rows : List (List Bool)) (counts : List ℕ) (co
 
 -- who is let go where a queue is noted reaches the consumer
 pub let_go_reaches : (queues : List Queue) (rows : List (List Bool)) (count : ℕ) (old : QueueLimits) (i packets : ℕ) (q : Queue) → limits_with queues rows count ≡ old
-    → (plan : Plan) (f : Feeder) (e : Edge) → IsOf plan old → slice_get plan.edges i ≡ Some e → IsThrottled plan old f
-    → ¬ IsThrottled plan (limits_with (slice_set queues i (with_packets q packets)) rows count) f → Reaches plan f e.node
+    → (plan : Plan) (f : Feeder) (e : Edge) → AreLimitsOf plan old → slice_get plan.edges i ≡ Some e → IsThrottled plan old f
+    → ¬ IsThrottled plan (limits_with (slice_set queues i (with_packets q packets)) rows count) f → FeederReaches plan f e.node
 let_go_reaches queues rows count old i packets q is plan f e of at throttled free =
-    of_queues (subst (IsOf plan) (sym is) of) (subst (λ (t : QueueLimits). IsThrottled plan t f) (sym is) throttled)
+    of_queues (subst (AreLimitsOf plan) (sym is) of) (subst (λ (t : QueueLimits). IsThrottled plan t f) (sym is) throttled)
   where
-    of_queues : IsOf plan (limits_with queues rows count) → IsThrottled plan (limits_with queues rows count) f → Reaches plan f e.node
+    of_queues : AreLimitsOf plan (limits_with queues rows count) → IsThrottled plan (limits_with queues rows count) f → FeederReaches plan f e.node
     of_queues of (k, p, within, here, (full, reaches)) = elim (cases_eq k i) [
       | inl same ↦
           (let edges = of.queues in
@@ -131,7 +131,7 @@ let_go_reaches queues rows count old i packets q is plan f e of at throttled fre
           let left : get_or (map (λ (x : Queue). x.node) queues) k 0 ≡ p.node = get_or-map (λ (x : Queue). x.node) queues k p 0 within ∙ ap (λ (x : Queue). x.node) here in
           let right : get_or (map (λ (x : Edge). x.node) plan.edges) k 0 ≡ e.node = get_or-map (λ (x : Edge). x.node) plan.edges k e 0 (omega (arith, within, long))
           ∙ ap (λ (x : Edge). x.node) (ap (λ (n : ℕ). get_or plan.edges n e) same ∙ get_or_from_slice_get plan.edges i e e at) in
-          subst (Reaches plan f) (sym left ∙ ap (λ (ns : List ℕ). get_or ns k 0) edges ∙ right) reaches)
+          subst (FeederReaches plan f) (sym left ∙ ap (λ (ns : List ℕ). get_or ns k 0) edges ∙ right) reaches)
       | inr other ↦ absurd (free (
         k,
         p,

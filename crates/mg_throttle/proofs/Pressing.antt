@@ -10,7 +10,7 @@ use Rattle.mg_calc.specs.declared.plan.Plan.{Plan}
 use Rattle.mg_calc.specs.declared.edge.Edge.{Edge}
 use Rattle.mg_calc.specs.Plan.{IsValid, Feeder, feeders}
 use Rattle.mg_throttle.specs.declared.queue.Queue.{Queue}
-use Rattle.mg_throttle.specs.Throttle.{IsOf, IsThrottled, is_full, is_at, limit_of, new_queue, stopped, is_reached, reached_at}
+use Rattle.mg_throttle.specs.Throttle.{AreLimitsOf, IsThrottled, is_full, is_limit_reached, limit_of, new_queue, stopped, is_reached, reached_at}
 use Rattle.mg_throttle.specs.Code.Rows.{part, is_marked, Changes}
 use Rattle.mg_throttle.specs.Code.Reach.{HasRows, IsReachedBy}
 use Rattle.mg_throttle.specs.Code.Kept.{presses, is_full_at, IsKept}
@@ -44,7 +44,7 @@ node_within : (queues : List Queue) (rows : List (List Bool)) (counts : List ℕ
     → q ≡ get_or queues i q → is_full q ≢ is_full (with_packets q packets) → q.node < length rows
 node_within queues rows counts i q packets kept within read apart = elim (cases_Bool q.counts) [
   | inl on ↦ subst (λ x. x.counts ≡ true → x.node < length rows) (sym read) (kept.nodes i q within) on
-  | inr off ↦ absurd (apart (and_left q.counts (is_at q.limit q.waiting) off ∙ sym (and_left q.counts (is_at q.limit packets) off)))
+  | inr off ↦ absurd (apart (and_left q.counts (is_limit_reached q.limit q.waiting) off ∙ sym (and_left q.counts (is_limit_reached q.limit packets) off)))
 ]
 
 pub IsKept-changed : (queues : List Queue) (rows : List (List Bool)) (counts lent new : List ℕ) (i : ℕ) (q : Queue) (packets more less : ℕ) (was is : Bool) (row : List Bool)
@@ -194,12 +194,12 @@ both_true false b e = absurd (false≢true e)
 
 -- a feeder is throttled exactly where its count isn't 0
 pub throttled_by_count : (queues : List Queue) (rows : List (List Bool)) (counts : List ℕ) (count f : ℕ) (x : ℕ) → IsKept queues rows counts → f < length counts → x ≡ get_or counts f x
-    → (plan : Plan) (feeder : Feeder) → IsOf plan (limits_with queues rows count) → slice_get (feeders plan) f ≡ Some feeder
+    → (plan : Plan) (feeder : Feeder) → AreLimitsOf plan (limits_with queues rows count) → slice_get (feeders plan) f ≡ Some feeder
     → (eqb x 0 ≡ false) ↔ IsThrottled plan (limits_with queues rows count) feeder
 throttled_by_count queues rows counts count f x kept fits read plan feeder of at =
     let is_count : x ≡ count_by (presses rows f) queues = read ∙ get_or_default counts f x 0 fits ∙ kept.counted f fits in
     let node_in : (k : ℕ) (q : Queue) → k < length queues → get_or queues k q ≡ q → is_full q ≡ true → q.node < length plan.nodes = λ k q within here full.
-    let on : q.counts ≡ true = (both_true q.counts (is_at q.limit q.waiting) full).0 in
+    let on : q.counts ≡ true = (both_true q.counts (is_limit_reached q.limit q.waiting) full).0 in
     let low : q.node < length rows = subst (λ y. y.counts ≡ true → y.node < length rows) here (kept.nodes k q within) on in
     let e = of.marked_nodes in omega arith in (
       λ some. elim (any_or_none (presses rows f) queues) [
@@ -218,7 +218,7 @@ throttled_by_count queues rows counts count f x kept fits read plan feeder of at
 
 -- ---- at first
 -- a limit is at least 1
-limit_above : (z : ℤ) → is_at (limit_of z) 0 ≡ false
+limit_above : (z : ℤ) → is_limit_reached (limit_of z) 0 ≡ false
 limit_above (negsuc n) = refl
 limit_above (pos n) = elim (cases_eq n 0) [
   | inl zero_limit ↦ ap (λ b. leb (cond b 100 n) 0) (eq-eqb n 0 zero_limit) ∙ lt-leb 100 0 (omega arith)
@@ -230,7 +230,7 @@ none_full nodes edges queues limit z is_limit is_new =
     let f : Edge → Queue = new_queue nodes limit in
     subst (All (λ q. is_full q ≡ false)) (sym is_new)
     (All-map (λ q. is_full q ≡ false) f edges
-    (λ k d within. and_right (ltb (get_or edges k d).node nodes) (is_at limit 0) (ap (λ l. is_at l 0) is_limit ∙ limit_above z)))
+    (λ k d within. and_right (ltb (get_or edges k d).node nodes) (is_limit_reached limit 0) (ap (λ l. is_limit_reached l 0) is_limit ∙ limit_above z)))
 
 pub IsKept-fresh : (plan : Plan) → IsValid plan → (queues : List Queue) (rows : List (List Bool)) (counts : List ℕ) (limit : Option ℕ) (z : ℤ) (n : ℕ)
     → limit ≡ limit_of z → length plan.edges < 2 ^ 32 → queues ≡ map (new_queue (length plan.nodes) limit) plan.edges → HasRows plan rows → counts ≡ replicate n 0
@@ -254,13 +254,13 @@ IsKept-fresh plan valid queues rows counts limit z n is_limit few is_new shape i
       counted = λ g inside. ap (λ xs. get_or xs g 0) is_counts ∙ get_or-replicate n g 0 0 (omega arith)
           ∙ sym (count_none (presses rows g) (map f plan.edges)
           (All-map (λ q. presses rows g q ≡ false) f plan.edges (λ k d within. and_left (is_full (f (get_or plan.edges k d))) (is_reached rows g (get_or plan.edges k d).node)
-          (and_right (ltb (get_or plan.edges k d).node (length plan.nodes)) (is_at limit 0) (ap (λ l. is_at l 0) is_limit ∙ limit_above z)))));
+          (and_right (ltb (get_or plan.edges k d).node (length plan.nodes)) (is_limit_reached limit 0) (ap (λ l. is_limit_reached l 0) is_limit ∙ limit_above z)))));
     }
 
-pub IsOf-fresh : (plan : Plan) (queues : List Queue) (rows : List (List Bool)) (count : ℕ) (limit : Option ℕ)
+pub AreLimitsOf-fresh : (plan : Plan) (queues : List Queue) (rows : List (List Bool)) (count : ℕ) (limit : Option ℕ)
     → queues ≡ map (new_queue (length plan.nodes) limit) plan.edges → HasRows plan rows → count ≡ length (feeders plan)
-    → ((n : ℕ) → n < length plan.nodes → IsReachedBy plan rows n) → IsOf plan (limits_with queues rows count)
-IsOf-fresh plan queues rows count limit is_new shape is_count reached =
+    → ((n : ℕ) → n < length plan.nodes → IsReachedBy plan rows n) → AreLimitsOf plan (limits_with queues rows count)
+AreLimitsOf-fresh plan queues rows count limit is_new shape is_count reached =
     let f : Edge → Queue = new_queue (length plan.nodes) limit in
     rw is_new record {
       queues = nodes_of plan.edges;

@@ -4,7 +4,7 @@ ghost use Rattle.std.specs.List.Sorted.{IsPartitionPoint};
 ghost use Rattle.mg_calc.specs.declared.plan.Plan.{Plan as PlanRecord};
 ghost use Rattle.mg_calc.specs.declared.edge.Edge.{Edge as EdgeRecord};
 ghost use Rattle.mg_calc.specs.Plan.{IsValid, Feeder, feeders, HasEachOnce};
-ghost use Rattle.mg_throttle.specs.Throttle.{limit_of, new_queue, noted, is_full, relaxed, stopped, IsOf, IsThrottled, Reaches};
+ghost use Rattle.mg_throttle.specs.Throttle.{limit_of, new_queue, noted, is_full, relaxed, stopped, AreLimitsOf, IsThrottled, FeederReaches};
 ghost use Rattle.mg_throttle.specs.Code.Kept.{AreByNode, AreListed, is_full_at};
 
 use crate::queue::Queue;
@@ -149,7 +149,7 @@ impl Limits {
     /// Returns the limits of a plan, whose queues are empty and all have this limit. A limit of 0 is 100, and a negative one is none.
     pub fn new(alloc: Global, plan: &Plan, limit: i32) -> Result<Limits, AllocError>
         requires { IsValid plan.now }
-        ensures of { IfOk result (λ t. IsOf plan.now t) }
+        ensures of { IfOk result (λ t. AreLimitsOf plan.now t) }
         ensures queues { IfOk result (λ t. t.queues ≡ map (new_queue (length plan.now.nodes) (limit_of limit)) plan.now.edges) }
     {
         let sources = sources(alloc, plan.nodes.as_slice())?;
@@ -174,11 +174,11 @@ impl Limits {
         requires edge { edge < length self.old.queues }
         requires packets { packets + 1 < 2 ^ 64 }
         ensures noted { self.new ≡ record self.old { queues = noted self.old.queues edge packets } }
-        ensures of { (plan : PlanRecord) → IsOf plan self.old → IsOf plan self.new }
+        ensures of { (plan : PlanRecord) → AreLimitsOf plan self.old → AreLimitsOf plan self.new }
 
         // A feeder that isn't throttled any more reaches the edge's consumer.
-        ensures let_go { (plan : PlanRecord) (f : Feeder) (e : EdgeRecord) → IsOf plan self.old → slice_get plan.edges edge ≡ Some e
-            → IsThrottled plan self.old f → ¬ IsThrottled plan self.new f → Reaches plan f e.node }
+        ensures let_go { (plan : PlanRecord) (f : Feeder) (e : EdgeRecord) → AreLimitsOf plan self.old → slice_get plan.edges edge ≡ Some e
+            → IsThrottled plan self.old f → ¬ IsThrottled plan self.new f → FeederReaches plan f e.node }
     {
         let queue = self.queues[edge as usize];
         let noted = Queue {
@@ -199,7 +199,7 @@ impl Limits {
     pub fn stop(&mut self, node: u32)
         requires { node < length self.old.reached }
         ensures stopped { self.new ≡ record self.old { queues = map (stopped node) self.old.queues } }
-        ensures of { (plan : PlanRecord) → IsOf plan self.old → IsOf plan self.new }
+        ensures of { (plan : PlanRecord) → AreLimitsOf plan self.old → AreLimitsOf plan self.new }
     {
         let full = stop_queues(&mut self.queues, node);
         if full > 0 {
@@ -210,7 +210,7 @@ impl Limits {
     /// Whether a feeder isn't throttled.
     pub fn may_feed(&self, feeder: u32) -> bool
         requires { feeder < self.now.feeders }
-        ensures { (plan : PlanRecord) (f : Feeder) → IsOf plan self.now → slice_get (feeders plan) feeder ≡ Some f
+        ensures { (plan : PlanRecord) (f : Feeder) → AreLimitsOf plan self.now → slice_get (feeders plan) feeder ≡ Some f
             → (result ≡ false) ↔ IsThrottled plan self.now f }
     {
         self.counts[feeder as usize] == 0
@@ -222,12 +222,12 @@ impl Limits {
     pub fn next_feeder(&self, node: u32, from: usize) -> Option<usize>
         requires { node < length self.now.reached }
         ensures place { IfSome result (λ number. (from ≤ number) × (number < self.now.feeders)) }
-        ensures found { IfSome result (λ number. (plan : PlanRecord) (f : Feeder) → IsOf plan self.now → slice_get (feeders plan) number ≡ Some f
-            → Reaches plan f node × ¬ IsThrottled plan self.now f) }
-        ensures first { IfSome result (λ number. (plan : PlanRecord) (before : ℕ) (f : Feeder) → IsOf plan self.now → slice_get (feeders plan) before ≡ Some f
-            → from ≤ before → before < number → Reaches plan f node → IsThrottled plan self.now f) }
-        ensures none { IfNone result ((plan : PlanRecord) (number : ℕ) (f : Feeder) → IsOf plan self.now → slice_get (feeders plan) number ≡ Some f
-            → from ≤ number → Reaches plan f node → IsThrottled plan self.now f) }
+        ensures found { IfSome result (λ number. (plan : PlanRecord) (f : Feeder) → AreLimitsOf plan self.now → slice_get (feeders plan) number ≡ Some f
+            → FeederReaches plan f node × ¬ IsThrottled plan self.now f) }
+        ensures first { IfSome result (λ number. (plan : PlanRecord) (before : ℕ) (f : Feeder) → AreLimitsOf plan self.now → slice_get (feeders plan) before ≡ Some f
+            → from ≤ before → before < number → FeederReaches plan f node → IsThrottled plan self.now f) }
+        ensures none { IfNone result ((plan : PlanRecord) (number : ℕ) (f : Feeder) → AreLimitsOf plan self.now → slice_get (feeders plan) number ≡ Some f
+            → from ≤ number → FeederReaches plan f node → IsThrottled plan self.now f) }
     {
         self.rows[node as usize].uncounted(&self.counts, from)
     }
@@ -238,7 +238,7 @@ impl Limits {
         ensures any { result ≡ list_any is_full self.old.queues }
         ensures relaxed { self.new ≡ record self.old { queues = map relaxed self.old.queues } }
         ensures none { result ≡ false → self.new ≡ self.old }
-        ensures of { (plan : PlanRecord) → IsOf plan self.old → IsOf plan self.new }
+        ensures of { (plan : PlanRecord) → AreLimitsOf plan self.old → AreLimitsOf plan self.new }
     {
         let any = relax_listed(&mut self.queues, &mut self.listed);
         self.counts.fill(0);

@@ -15,7 +15,7 @@ use Rattle.mg_feed.specs.Value.{plain_of}
 use Rattle.mg_feed.specs.Accepted.{State, fresh, given_by, stepped, stepped_at}
 use Rattle.mg_feed.specs.Given.{ended_streams}
 use Rattle.mg_feed.proofs.Values.{plain_of-json}
-use Rattle.mg_trace.specs.Job.{handed_in, said, side_lines, stream_lines, all_stream_lines, input_names, job_data, job_lines, end_word}
+use Rattle.mg_trace.specs.Job.{side_handed_in, said, side_lines, stream_lines, all_stream_lines, input_names, job_data, job_lines, end_word}
 use Rattle.mg_trace.specs.Told.{IsTellable, IsFound, HasNames, IsToldStream, IsTold}
 use Rattle.mg_trace.proofs.Saying.{with_data, AreLines, AreLines-append, lines_are_data, fold-append, side_is_line, stream_is_lines, stream_says, Says, says_both, left_of}
 
@@ -138,7 +138,7 @@ slot_is_told [] place all = tt
 slot_is_told (s ∷ given) zero all = all 0 s (omega arith)
 slot_is_told (s ∷ given) (suc place) all = slot_is_told given place (λ k d lt. all (suc k) d (omega arith))
 
-pub handed_is_told : (given : List (Option Plain)) (value : PlainSideValue) → All (λ side. IfSome side IsTellable) given → IfSome (handed_in given value) IsTellable
+pub handed_is_told : (given : List (Option Plain)) (value : PlainSideValue) → All (λ side. IfSome side IsTellable) given → IfSome (side_handed_in given value) IsTellable
 handed_is_told given (given_at place) all = slot_is_told given place all
 handed_is_told given (fixed value) all = tt
 
@@ -149,8 +149,8 @@ said_is_line name (Some value) utf8 told = (side_is_line name value utf8 told, t
 sides_are_lines : (plan : Plan) (given : List (Option Plain)) (sides : List PlainSide) → AreFound plan sides → All (λ side. IfSome side IsTellable) given → AreLines (side_lines given sides)
 sides_are_lines plan given [] found told = tt
 sides_are_lines plan given (side ∷ sides) found told =
-    AreLines-append (said side.name (handed_in given side.value)) (side_lines given sides)
-    (said_is_line side.name (handed_in given side.value) found.0.0 (handed_is_told given side.value told)) (sides_are_lines plan given sides found.1 told)
+    AreLines-append (said side.name (side_handed_in given side.value)) (side_lines given sides)
+    (said_is_line side.name (side_handed_in given side.value) found.0.0 (handed_is_told given side.value told)) (sides_are_lines plan given sides found.1 told)
 
 -- what some side packets hand in, those before them being there
 abbrev HandAll : Plan → List PlainSide → Type 0
@@ -159,7 +159,7 @@ HandAll plan sides = (given : State) (first slots : List (Option Plain)) → pla
 
 side_hands : (plan : Plan) (given : State) (first slots : List (Option Plain)) (name : List ℕ) (value : PlainSideValue) (sides : List PlainSide) → IsFound plan name value
     → cons_option (handed_place value) (places sides) ≡ range_with_len (length first) (length slots) → given.sides ≡ first ++ replicate (length slots) None → HandAll plan sides
-    → Hands (inputs_of plan) given (said name (handed_in (first ++ slots) value) ++ side_lines (first ++ slots) sides) (first ++ slots)
+    → Hands (inputs_of plan) given (said name (side_handed_in (first ++ slots) value) ++ side_lines (first ++ slots) sides) (first ++ slots)
 side_hands plan given first slots name (fixed value) sides found in_order is rest = rest given first slots in_order is
 side_hands plan given first [] name (given_at place) sides found in_order is rest = absurd (omega (arith, ap length in_order))
 side_hands plan given first (slot ∷ slots) name (given_at place) sides found in_order is rest =
@@ -168,7 +168,7 @@ side_hands plan given first (slot ∷ slots) name (given_at place) sides found i
     let more = first ++ slot ∷ [] in
     let next_place : length first + 1 ≡ length more = omega (arith, length-append first (slot ∷ [])) in
     let here : unwrap_or (slice_get (first ++ slot ∷ slots) place) None ≡ slot = ap (λ k. unwrap_or (slice_get (first ++ slot ∷ slots) k) None) at ∙ slot_there first slots slot in
-    hands_both (inputs_of plan) given (said name (handed_in (first ++ slot ∷ slots) (given_at place))) (side_lines (first ++ slot ∷ slots) sides) _ _
+    hands_both (inputs_of plan) given (said name (side_handed_in (first ++ slot ∷ slots) (given_at place))) (side_lines (first ++ slot ∷ slots) sides) _ _
     (subst (λ s. Hands (inputs_of plan) given (said name s) (first ++ slot ∷ replicate (length slots) None)) (sym here)
     (said_hands (inputs_of plan) given name first (replicate (length slots) None) slot (found ∙ ap Some at) is))
     (λ next e.

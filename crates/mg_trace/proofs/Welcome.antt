@@ -27,7 +27,7 @@ use Rattle.mg_feed.specs.declared.standing.Standing.{Standing}
 use Rattle.mg_feed.specs.declared.line_fault.LineFault.TheVariants.{UnknownStream, BadTimestamp, Closed}
 use Rattle.mg_feed.proofs.Values.{plain_of-json}
 use Rattle.mg_trace.specs.Readable.{IsReadable}
-use Rattle.mg_trace.specs.Job.{handed_in, said, side_lines, bound_after, end_lines, stream_lines, all_stream_lines, input_names, job_data, job_lines}
+use Rattle.mg_trace.specs.Job.{side_handed_in, said, side_lines, bound_after, end_lines, stream_lines, all_stream_lines, input_names, job_data, job_lines}
 use Rattle.mg_trace.specs.Told.{IsTellable, IsFound, IsToldBound, IsToldStream, IsTold, FitsInput}
 use Rattle.mg_trace.proofs.ReadBack.{value_back}
 use Rattle.mg_trace.proofs.Saying.{with_data, IsLineOf, AreLines, line_is_data, packet_says, of_packets, packets_say, appended_are, left_of, stream_says, time_back}
@@ -270,7 +270,7 @@ WelcomeAll plan sides = (given : State) (first slots : List (Option Plain)) → 
 side_welcome : (plan : Plan) (given : State) (first slots : List (Option Plain)) (name : List ℕ) (value : PlainSideValue) (sides : List PlainSide) → IsFound plan name value
     → cons_option (handed_place value) (places sides) ≡ range_with_len (length first) (length slots) → given.sides ≡ first ++ replicate (length slots) None → given.named ≡ false
     → All (λ side. IfSome side IsTellable) (first ++ slots) → WelcomeAll plan sides
-    → AreWelcome (inputs_of plan) given (said name (handed_in (first ++ slots) value) ++ side_lines (first ++ slots) sides)
+    → AreWelcome (inputs_of plan) given (said name (side_handed_in (first ++ slots) value) ++ side_lines (first ++ slots) sides)
 side_welcome plan given first slots name (fixed value) sides found in_order is unnamed told rest = rest given first slots in_order is unnamed told
 side_welcome plan given first [] name (given_at place) sides found in_order is unnamed told rest = absurd (omega (arith, ap length in_order))
 side_welcome plan given first (slot ∷ slots) name (given_at place) sides found in_order is unnamed told rest =
@@ -279,7 +279,7 @@ side_welcome plan given first (slot ∷ slots) name (given_at place) sides found
     let more = first ++ slot ∷ [] in
     let next_place : length first + 1 ≡ length more = omega (arith, length-append first (slot ∷ [])) in
     let here : unwrap_or (slice_get (first ++ slot ∷ slots) place) None ≡ slot = ap (λ k. unwrap_or (slice_get (first ++ slot ∷ slots) k) None) at ∙ slot_there first slots slot in
-    let line = said name (handed_in (first ++ slot ∷ slots) (given_at place)) in
+    let line = said name (side_handed_in (first ++ slot ∷ slots) (given_at place)) in
     let next = fold (with_data (inputs_of plan)) given line in
     let hands = subst (λ s. Hands (inputs_of plan) given (said name s) (first ++ slot ∷ replicate (length slots) None)) (sym here)
     (said_hands (inputs_of plan) given name first (replicate (length slots) None) slot (found ∙ ap Some at) is) in

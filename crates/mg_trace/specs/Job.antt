@@ -28,9 +28,9 @@ abbrev pub close_data : List ℕ → Data
 close_data name = object (member (codes "close") (boolean true) (member (codes "stream") (string name) no_members))
 
 -- the side packet that was handed in, if this is one and it was
-abbrev pub handed_in : List (Option Plain) → PlainSideValue → Option Plain
-handed_in given (given_at place) = unwrap_or (slice_get given place) None
-handed_in given (fixed value) = None
+abbrev pub side_handed_in : List (Option Plain) → PlainSideValue → Option Plain
+side_handed_in given (given_at place) = unwrap_or (slice_get given place) None
+side_handed_in given (fixed value) = None
 
 -- what is said of a side packet: its value, where it was handed in
 abbrev pub said : List ℕ → Option Plain → List Data
@@ -39,7 +39,7 @@ said name (Some value) = side_data name value ∷ []
 
 -- what is said of all side packets, in the plan's order
 abbrev pub side_lines : List (Option Plain) → List PlainSide → List Data
-side_lines given sides = flat_map (λ side. said side.name (handed_in given side.value)) sides
+side_lines given sides = flat_map (λ side. said side.name (side_handed_in given side.value)) sides
 
 -- the bound that packets alone leave: what may follow the last of them, and PreStream where there is none
 abbrev pub bound_after : List (Stamped Plain) → ℕ

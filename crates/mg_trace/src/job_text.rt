@@ -4,7 +4,7 @@ ghost use Rattle.serde_json.specs.Written.{has_float};
 ghost use Rattle.mg_calc.specs.Given.{given};
 ghost use Rattle.mg_feed.specs.Lines.{fed_lines};
 ghost use Rattle.mg_feed.specs.Output.{packet_data};
-ghost use Rattle.mg_trace.specs.Job.{handed_in, said, side_lines, bound_after, end_lines, stream_lines, all_stream_lines, input_names, end_word, job_text};
+ghost use Rattle.mg_trace.specs.Job.{side_handed_in, said, side_lines, bound_after, end_lines, stream_lines, all_stream_lines, input_names, end_word, job_text};
 ghost use Rattle.mg_trace.specs.Code.{data_text};
 
 use crate::line_values::{bound_value, close_value, side_value};
@@ -73,7 +73,7 @@ fn push_sides(text: &mut Vec<u8>, sides: &SideList, given: &GivenList) -> Result
 
 // Puts the line of a side packet at the end of a text, where it was handed in.
 fn push_side(text: &mut Vec<u8>, side: &Side, given: &GivenList) -> Result<(), AllocError>
-    ensures { OnOk result (text.new.items ≡ text.old.items ++ data_text (said side.now.name (handed_in given.now side.now.value))) }
+    ensures { OnOk result (text.new.items ≡ text.old.items ++ data_text (said side.now.name (side_handed_in given.now side.now.value))) }
 {
     match side.value {
         SideValue::Given(place) => push_given(text, &side.name, given.get(place)),

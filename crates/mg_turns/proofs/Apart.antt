@@ -7,7 +7,7 @@ use Rattle.atomic_table.specs.Table.{opening, Allows, Splits, Joins, Final, Seen
 use Rattle.mg_turns.specs.Parts.{PartView, FrameView, Follows}
 use Rattle.mg_turns.specs.Rule.{Ready, first_view, has_turn, word_of, Ruled, each_eighth, parts_alone, RuledApart}
 use Rattle.mg_turns.specs.Sights.{kept_after, handed, joined}
-use Rattle.mg_turns.specs.Code.Plays.{Sat, HasTurn, Returns, Kind, missing, tried_at, tried, looked_at, looked, spent_view}
+use Rattle.mg_turns.specs.Code.Plays.{Sat, HasTurn, Returns, GivesTurnBack, with_miss, tried_at, tried, looked_at, looked, spent_view}
 use Rattle.mg_turns.specs.declared.view.View.{View}
 use Rattle.mg_turns.proofs.Keeps.{starts, tries, looks, gives_at}
 use Rattle.mg_turns.proofs.Ends.{Settled, settled, splits, joins}
@@ -85,7 +85,7 @@ looks_apart key n id m i inside alive =
     subst (λ (word : ℕ). Allows (RuledApart key) n id m (8 * i) (λ y. y) (looked_at word m)) (sym (eighth_word i))
     (allows_apart key n id m i (λ y. y) (looked_at i m) inside (looks key n id m i inside alive))
 
-pub gives_apart : (key : FrameView) (n id : ℕ) (m : Sat) (w : View) (i new : ℕ) (p : PartView) → i < n → new ≡ word_of m.0.key i p → HasTurn m.0 i p → Returns m.0 i p w → Kind m.0 i p w → Follows m.0.key i p → m.1 ≡ (i, Some p) ∷ rest m.1
+pub gives_apart : (key : FrameView) (n id : ℕ) (m : Sat) (w : View) (i new : ℕ) (p : PartView) → i < n → new ≡ word_of m.0.key i p → HasTurn m.0 i p → Returns m.0 i p w → GivesTurnBack m.0 i p w → Follows m.0.key i p → m.1 ≡ (i, Some p) ∷ rest m.1
     → Allows (RuledApart key) n id m (8 * i) (λ _. new) (λ _ m'. m' ≡ (w, rest m.1))
 gives_apart key n id m w i new p inside word has-turn returns kind follows e =
     allows_apart key n id m i (λ _. new) (λ _ m'. m' ≡ (w, rest m.1)) inside (gives_at key n id m w i new p inside word has-turn returns kind follows e)
@@ -108,9 +108,9 @@ tried_word word m r n = subst (λ (x : ℕ). tried_at x m r n) (eighth_word word
 pub looked_word : (word : ℕ) (m : Sat) (r : ℕ) (n : Sat) → looked (step 0 (8 * word) 0 0 maybe.none) m r n → looked_at word m r n
 looked_word word m r n = subst (λ (x : ℕ). looked_at x m r n) (eighth_word word)
 
-what_by : (word : ℕ) (m n : Sat) (r : ℕ) (odd : Bool) → (r % 2 == 1) ≡ odd → looked_at word m r n → MatchBool odd (n ≡ (missing m.0 word, m.1)) (n ≡ m)
+what_by : (word : ℕ) (m n : Sat) (r : ℕ) (odd : Bool) → (r % 2 == 1) ≡ odd → looked_at word m r n → MatchBool odd (n ≡ (with_miss m.0 word, m.1)) (n ≡ m)
 what_by word m n r true is h = h.1 (eqb-true (r % 2) 1 is)
 what_by word m n r false is h = (let ne = eqb-false (r % 2) 1 is in h.0 (omega (arith, ne)))
 
-pub what_was_seen : (word : ℕ) (m n : Sat) (r : ℕ) → looked_at word m r n → MatchBool (r % 2 == 1) (n ≡ (missing m.0 word, m.1)) (n ≡ m)
+pub what_was_seen : (word : ℕ) (m n : Sat) (r : ℕ) → looked_at word m r n → MatchBool (r % 2 == 1) (n ≡ (with_miss m.0 word, m.1)) (n ≡ m)
 what_was_seen word m n r h = what_by word m n r (r % 2 == 1) refl h

@@ -21,9 +21,9 @@ use Rattle.mg_node.specs.Leading.{output_at, Leads}
 use Rattle.mg_node.proofs.Knowing.{intake_ports}
 use Rattle.mg_node.proofs.Making.{some_same}
 use Rattle.mg_node.proofs.Leads.{leads_port, leads_one}
-use Rattle.mg_turns.specs.Parts.{PartView, FrameView, at, nodes_in, owner_in, IsSource, an_engine, an_intake, PartGrows, Grown, Fits, FitsSome, gone_by, gone_in, first_by, first_in, count_by, Follows, source_at, JoinedParts, EdgesFit}
+use Rattle.mg_turns.specs.Parts.{PartView, FrameView, at, nodes_in, owner_in, IsEngineWord, an_engine, an_intake, PartGrows, Grown, Fits, FitsSome, gone_by, gone_in, first_by, first_in, arrived_by, Follows, source_at, JoinedParts, EdgesFit}
 use Rattle.mg_turns.specs.Turns.{Turn}
-use Rattle.mg_turns.specs.Code.Plays.{Sat, turn, turning, missing, gave, Like, Taken, GivesPlainly, GivesBrought}
+use Rattle.mg_turns.specs.Code.Plays.{Sat, turn_of_word, turning, with_miss, gave, Like, HoldsTurn, GivesPlainly, GivesBrought}
 use Rattle.mg_turns.proofs.Grows.{part_same, like_self, joins_self}
 use Rattle.mg_turns.proofs.Ends.{nil}
 use Rattle.mg_turns.proofs.Claims.{gones, engine_of_part, engine_kind, intake_of_part, intake_kind, lawful_at, lawful_i, intake_follows_on}
@@ -39,7 +39,7 @@ pub record EdgeParts (key : FrameView) (k : ℕ) (e : Edge) (p q : PartView) (g 
   pub engine_is : p.engine ≡ Some g
   pub intake_is : q.intake ≡ Some i
 
-pub source_of : (key : FrameView) (k : ℕ) (e : Edge) (p q : PartView) (g : EngineView) (i : IntakeView) → EdgeParts key k e p q g i → IsSource key (source_at key.plan e)
+pub source_of : (key : FrameView) (k : ℕ) (e : Edge) (p q : PartView) (g : EngineView) (i : IntakeView) → EdgeParts key k e p q g i → IsEngineWord key (source_at key.plan e)
 source_of key k e p q g i c = c.edges.sources k e c.there
 
 pub consumer_of : (key : FrameView) (k : ℕ) (e : Edge) (p q : PartView) (g : EngineView) (i : IntakeView) → EdgeParts key k e p q g i → e.node ≤ nodes_in key
@@ -54,7 +54,7 @@ gone_get [] (suc k) = refl
 gone_get (b ∷ bs) zero = refl
 gone_get (b ∷ bs) (suc k) = gone_get bs k
 
-count_grows : (a b : Option IntakeView) (i : IntakeView) (port : ℕ) → Grown IntakeGrows a b → b ≡ Some i → count_by a port ≤ count_of (port_queue i.waits port)
+count_grows : (a b : Option IntakeView) (i : IntakeView) (port : ℕ) → Grown IntakeGrows a b → b ≡ Some i → arrived_by a port ≤ count_of (port_queue i.waits port)
 count_grows None b i port g is = omega arith
 count_grows (Some x) None i port g is = absurd g
 count_grows (Some x) (Some y) i port g is =
@@ -135,17 +135,17 @@ bring_facts key k e p q g i j most result c exists moved claimed grows keeps =
 
 -- what the seat has at each place of a delivery: it took the turn of the engine, and then that of the intake
 module _ (m n₁ n₂ : Sat) (key : FrameView) (k source word : ℕ) (e : Edge) (p q : PartView) (key-is : m.0.key ≡ key) (idle : length m.0.turns ≡ 0) (edges : EdgesFit key) (there : slice_get key.plan.edges k ≡ Some e) (source-is : source ≡ source_at key.plan e) (word-is : word ≡ 2 * e.node)
-    (one : Taken m source p n₁) where
+    (one : HoldsTurn m source p n₁) where
   first_key : n₁.0.key ≡ key
   first_key = ap (λ (s : Sat). s.0.key) one.0 ∙ key-is
 
-  pub after_miss : n₂ ≡ (missing n₁.0 word, n₁.1) → GivesPlainly n₂ source p
-  after_miss miss = subst (λ (s : Sat). GivesPlainly s source p) (sym (miss ∙ ap (λ (s : Sat). (missing s.0 word, s.1)) one.0))
-      (turn m.0.key source p, m.0.turns, record { slot = refl; turns = refl; word_is = refl; grows = part_same p; follows = one.1.follows }, like_self p, joins_self p)
+  pub after_miss : n₂ ≡ (with_miss n₁.0 word, n₁.1) → GivesPlainly n₂ source p
+  after_miss miss = subst (λ (s : Sat). GivesPlainly s source p) (sym (miss ∙ ap (λ (s : Sat). (with_miss s.0 word, s.1)) one.0))
+      (turn_of_word m.0.key source p, m.0.turns, record { slot = refl; turns = refl; word_is = refl; grows = part_same p; follows = one.1.follows }, like_self p, joins_self p)
 
-  module _ (two : Taken n₁ word q n₂) where
-    both : n₂ ≡ (turning m.0 (turn m.0.key word q ∷ turn m.0.key source p ∷ m.0.turns), (word, None) ∷ (source, None) ∷ m.1)
-    both = two.0 ∙ ap (λ (s : Sat). (turning s.0 (turn s.0.key word q ∷ s.0.turns), (word, None) ∷ s.1)) one.0
+  module _ (two : HoldsTurn n₁ word q n₂) where
+    both : n₂ ≡ (turning m.0 (turn_of_word m.0.key word q ∷ turn_of_word m.0.key source p ∷ m.0.turns), (word, None) ∷ (source, None) ∷ m.1)
+    both = two.0 ∙ ap (λ (s : Sat). (turning s.0 (turn_of_word s.0.key word q ∷ s.0.turns), (word, None) ∷ s.1)) one.0
 
     pub ends : (g : EngineView) (i : IntakeView) → p.engine ≡ Some g → q.intake ≡ Some i → EdgeParts key k e p q g i
     ends g i is is' = record {
@@ -153,7 +153,7 @@ module _ (m n₁ n₂ : Sat) (key : FrameView) (k source word : ℕ) (e : Edge) 
       there = there;
       engine = subst (λ (w : ℕ). Follows key w p) source-is (subst (λ (f : FrameView). Follows f source p) key-is one.1.follows);
       intake = subst (λ (w : ℕ). Follows key w q) word-is (subst (λ (f : FrameView). Follows f word q) first_key two.1.follows);
-      joined = two.1.joined k 0 e (turn m.0.key source p) (ap (λ (f : FrameView). slice_get f.plan.edges k) first_key ∙ there) word-is
+      joined = two.1.joined k 0 e (turn_of_word m.0.key source p) (ap (λ (f : FrameView). slice_get f.plan.edges k) first_key ∙ there) word-is
           (ap (λ (s : Sat). get_elem? s.0.turns 0) one.0) (source-is ∙ ap (λ (f : FrameView). source_at f.plan e) (sym first_key));
       engine_is = is;
       intake_is = is';
@@ -165,11 +165,11 @@ module _ (m n₁ n₂ : Sat) (key : FrameView) (k source word : ℕ) (e : Edge) 
       e = e;
       there = ap (λ (x : FrameView). slice_get x.plan.edges k) key-is ∙ there;
       node = word-is;
-      t = turn m.0.key word q;
-      u = turn m.0.key source p;
+      t = turn_of_word m.0.key word q;
+      u = turn_of_word m.0.key source p;
       gives = record {
         slot = refl;
-        turns = ap (λ (l : List Turn). turn m.0.key word q ∷ turn m.0.key source p ∷ l) (nil m.0.turns idle);
+        turns = ap (λ (l : List Turn). turn_of_word m.0.key word q ∷ turn_of_word m.0.key source p ∷ l) (nil m.0.turns idle);
         word_is = refl;
         grows = f.grows;
         follows = subst (λ (x : FrameView). Follows x word (an_intake j)) (sym key-is) (subst (λ (w : ℕ). Follows key w (an_intake j)) (sym word-is) f.follows);
@@ -187,4 +187,4 @@ module _ (m n₁ n₂ : Sat) (key : FrameView) (k source word : ℕ) (e : Edge) 
         let o = edges.sources k e there in
         let p-is : p ≡ an_engine g = engine_kind key source o.owner p g follows (ap (owner_in key) source-is ∙ o.is) is in
         subst (λ (x : PartView). GivesPlainly n₃ source x) p-is (subst (λ (s : Sat). GivesPlainly s source p) (sym (after ∙ ap (λ (s : Sat). (gave s.0 word q', rest s.1)) both))
-        (turn m.0.key source p, m.0.turns, record { slot = refl; turns = refl; word_is = refl; grows = part_same p; follows = one.1.follows }, like_self p, joins_self p))
+        (turn_of_word m.0.key source p, m.0.turns, record { slot = refl; turns = refl; word_is = refl; grows = part_same p; follows = one.1.follows }, like_self p, joins_self p))

@@ -13,8 +13,8 @@ use Rattle.mg_stream.proofs.Laid.{other_like}
 use Rattle.mg_loopback.specs.Loopback.{Held}
 use Rattle.mg_node.specs.declared.delivered.Delivered.{Delivered}
 use Rattle.mg_node.specs.declared.delivered.Delivered.TheVariants.{Moved, OutOfMemory}
-use Rattle.mg_node.specs.declared.waits.Waits.{Waits}
-use Rattle.mg_node.specs.declared.waits.Waits.TheVariants.{Sets, Loop}
+use Rattle.mg_node.specs.declared.pending.Pending.{Pending}
+use Rattle.mg_node.specs.declared.pending.Pending.TheVariants.{Sets, Loop}
 use Rattle.mg_node.specs.Ports.{ports_in, port_queue, with_port, with_room}
 use Rattle.mg_node.specs.Delivery.{missing, with_packets, delivered, Delivers, AreOfOne}
 use Rattle.mg_node.specs.IntakeStanding.{HasGrown}
@@ -73,17 +73,17 @@ delivered_within o q n one grown = by_test (n == length (missing o q))
 room_within : (o q now : Waiting Plain) (spare : ℕ) → now ≡ with_room q spare → HasGrown q o → HasGrown now o
 room_within o q now spare is grown = subst (λ (r : Waiting Plain). HasGrown r o) (sym is) (record { count = grown.count; bound = grown.bound })
 
-pub arrives_within : (result : Delivered) (o : Waiting Plain) (port most : ℕ) (before now : Waits) → AreOfOne o (port_queue before port) → port < ports_in before → HasGrown (port_queue before port) o → Delivers result o port most before now
+pub arrives_within : (result : Delivered) (o : Waiting Plain) (port most : ℕ) (before now : Pending) → AreOfOne o (port_queue before port) → port < ports_in before → HasGrown (port_queue before port) o → Delivers result o port most before now
     → HasGrown (port_queue now port) o
 arrives_within (Moved packets raised) o port most before now one there grown d =
     let q = port_queue before port in
     let spare = (port_queue now port).spare in
-    room_within o (delivered o q packets) (port_queue now port) spare (ap (λ (w : Waits). port_queue w port) d.1 ∙ queue-there before port (with_room (delivered o q packets) spare) there) (delivered_within o q packets one grown)
+    room_within o (delivered o q packets) (port_queue now port) spare (ap (λ (w : Pending). port_queue w port) d.1 ∙ queue-there before port (with_room (delivered o q packets) spare) there) (delivered_within o q packets one grown)
 arrives_within (OutOfMemory packets) o port most before now one there grown d =
     let q = port_queue before port in
     let spare = (port_queue now port).spare in
     let last = with_packets q (take packets (missing o q)) in
-    room_within o last (port_queue now port) spare (ap (λ (w : Waits). port_queue w port) d.1 ∙ queue-there before port (with_room last spare) there) (first_within o q packets one grown)
+    room_within o last (port_queue now port) spare (ap (λ (w : Pending). port_queue w port) d.1 ∙ queue-there before port (with_room last spare) there) (first_within o q packets one grown)
 
 delivered_count : (o q : Waiting Plain) (n : ℕ) → n ≤ length (missing o q) → count_of (delivered o q n) ≡ count_of q + n
 delivered_count o q n few = by_test (n == length (missing o q)) refl
@@ -93,19 +93,19 @@ delivered_count o q n few = by_test (n == length (missing o q)) refl
     by_test false e = omega (arith, packets_count q (take n (missing o q)), length-take n (missing o q), few)
 
 -- the number of packets that came to a port rises by the number that the delivery tells
-pub arrives_count : (result : Delivered) (o : Waiting Plain) (port most : ℕ) (before now : Waits) → port < ports_in before → Delivers result o port most before now
+pub arrives_count : (result : Delivered) (o : Waiting Plain) (port most : ℕ) (before now : Pending) → port < ports_in before → Delivers result o port most before now
     → count_of (port_queue now port) ≡ count_of (port_queue before port) + packets_in result
 arrives_count (Moved packets raised) o port most before now there d =
     let q = port_queue before port in
     let spare = (port_queue now port).spare in
-    let is : port_queue now port ≡ with_room (delivered o q packets) spare = ap (λ (w : Waits). port_queue w port) d.1 ∙ queue-there before port (with_room (delivered o q packets) spare) there in
+    let is : port_queue now port ≡ with_room (delivered o q packets) spare = ap (λ (w : Pending). port_queue w port) d.1 ∙ queue-there before port (with_room (delivered o q packets) spare) there in
     let least = d.0 in
     ap count_of is ∙ delivered_count o q packets (omega (arith, least))
 arrives_count (OutOfMemory packets) o port most before now there d =
     let q = port_queue before port in
     let spare = (port_queue now port).spare in
     let last = with_packets q (take packets (missing o q)) in
-    let is : port_queue now port ≡ with_room last spare = ap (λ (w : Waits). port_queue w port) d.1 ∙ queue-there before port (with_room last spare) there in
+    let is : port_queue now port ≡ with_room last spare = ap (λ (w : Pending). port_queue w port) d.1 ∙ queue-there before port (with_room last spare) there in
     let least = d.0 in
     ap count_of is ∙ omega (arith, packets_count q (take packets (missing o q)), length-take packets (missing o q), least)
 
@@ -118,7 +118,7 @@ held_other held false false q both none = absurd (none refl refl)
 held_other held true false q both none = record { gone = refl; packets = refl; bound = refl }
 held_other held false true q both none = record { gone = refl; packets = refl; bound = refl }
 
-port_other : (w : Waits) (port other : ℕ) (q : Waiting Plain) → other ≢ port → port < ports_in w → other < ports_in w → IsLike (port_queue (with_port w port q) other) (port_queue w other)
+port_other : (w : Pending) (port other : ℕ) (q : Waiting Plain) → other ≢ port → port < ports_in w → other < ports_in w → IsLike (port_queue (with_port w port q) other) (port_queue w other)
 port_other (Sets inbox) port other q differs there within = other_like inbox.pool port other q differs
 port_other (Loop held) port other q differs there within =
     held_other held (port == 0) (other == 0) q
@@ -130,11 +130,11 @@ port_other (Loop held) port other q differs there within =
     only_one (suc m) zero less low first second = absurd (second refl)
     only_one (suc m) (suc n) less low first second = omega (arith, less, low)
 
-pub others_like : (result : Delivered) (o : Waiting Plain) (port most : ℕ) (before now : Waits) (other : ℕ) → other ≢ port → port < ports_in before → other < ports_in before → Delivers result o port most before now
+pub others_like : (result : Delivered) (o : Waiting Plain) (port most : ℕ) (before now : Pending) (other : ℕ) → other ≢ port → port < ports_in before → other < ports_in before → Delivers result o port most before now
     → IsLike (port_queue now other) (port_queue before other)
 others_like (Moved packets raised) o port most before now other differs there within d =
     let q = with_room (delivered o (port_queue before port) packets) (port_queue now port).spare in
-    subst (λ (w : Waits). IsLike (port_queue w other) (port_queue before other)) (sym d.1) (port_other before port other q differs there within)
+    subst (λ (w : Pending). IsLike (port_queue w other) (port_queue before other)) (sym d.1) (port_other before port other q differs there within)
 others_like (OutOfMemory packets) o port most before now other differs there within d =
     let q = with_room (with_packets (port_queue before port) (take packets (missing o (port_queue before port)))) (port_queue now port).spare in
-    subst (λ (w : Waits). IsLike (port_queue w other) (port_queue before other)) (sym d.1) (port_other before port other q differs there within)
+    subst (λ (w : Pending). IsLike (port_queue w other) (port_queue before other)) (sym d.1) (port_other before port other q differs there within)

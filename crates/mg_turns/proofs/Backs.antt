@@ -13,7 +13,7 @@ use Rattle.mg_node.proofs.StaysOut.{committed_back, shelved_back}
 use Rattle.mg_turns.specs.Parts.{PartView, FrameView, at, nodes_in, an_engine, PartGrows, Fits, FitsSome, Follows, IsMissingAt}
 use Rattle.mg_turns.specs.Turns.{Turn}
 use Rattle.mg_turns.specs.Sights.{Finds, left_one}
-use Rattle.mg_turns.specs.Code.Plays.{Sat, turn, Back, Taken, GivesPlainly, GivesLaid, laid_view}
+use Rattle.mg_turns.specs.Code.Plays.{Sat, turn_of_word, Back, HoldsTurn, GivesPlainly, GivesLaid, laid_view}
 use Rattle.mg_turns.specs.Calls.{HasOutcome, HasCommitted}
 use Rattle.mg_turns.proofs.Grows.{part_same, like_self, joins_self}
 use Rattle.mg_turns.proofs.Ends.{nil}
@@ -58,7 +58,7 @@ named_out e w x node number phase o = record {
 }
 
 module _ (m n₁ : Sat) (key : FrameView) (n : ℕ) (p : PartView) (e : EngineView) (work : WorkView) (key-is : m.0.key ≡ key) (idle : length m.0.turns ≡ 0) (within : n < nodes_in key)
-    (one : Taken m (2 * n + 1) p n₁) (is : p.engine ≡ Some e) (has : HasOutcome m.0.work work) (node-is : work.node ≡ n) where
+    (one : HoldsTurn m (2 * n + 1) p n₁) (is : p.engine ≡ Some e) (has : HasOutcome m.0.work work) (node-is : work.node ≡ n) where
   found_follows : Follows key (2 * n + 1) p
   found_follows = subst (λ (k : FrameView). Follows k (2 * n + 1) p) key-is one.1.follows
 
@@ -77,10 +77,10 @@ module _ (m n₁ : Sat) (key : FrameView) (n : ℕ) (p : PartView) (e : EngineVi
       subst (λ (s : Sat). GivesLaid s (2 * n + 1) (an_engine f)) (sym one.0) (record {
         w = has.it;
         node = ap (λ (x : ℕ). 2 * x + 1) (sym (has.node ∙ node-is));
-        t = turn m.0.key (2 * n + 1) p;
+        t = turn_of_word m.0.key (2 * n + 1) p;
         gives = record {
           slot = refl;
-          turns = ap (λ (l : List Turn). turn m.0.key (2 * n + 1) p ∷ l) (nil m.0.turns idle);
+          turns = ap (λ (l : List Turn). turn_of_word m.0.key (2 * n + 1) p ∷ l) (nil m.0.turns idle);
           word_is = refl;
           grows = g.0;
           follows = subst (λ (k : FrameView). Follows k (2 * n + 1) (an_engine f)) (sym key-is) g.1;
@@ -96,7 +96,7 @@ module _ (m n₁ : Sat) (key : FrameView) (n : ℕ) (p : PartView) (e : EngineVi
   same_back f same =
       let p-is : p ≡ an_engine f = engine_kind key (2 * n + 1) (of_node n) p e found_follows (engine_at (nodes_in key) n within) is ∙ ap an_engine (sym same) in
       subst (λ (x : PartView). GivesPlainly n₁ (2 * n + 1) x) p-is (subst (λ (s : Sat). GivesPlainly s (2 * n + 1) p) (sym one.0)
-      (turn m.0.key (2 * n + 1) p, m.0.turns, record { slot = refl; turns = refl; word_is = refl; grows = part_same p; follows = one.1.follows }, like_self p, joins_self p))
+      (turn_of_word m.0.key (2 * n + 1) p, m.0.turns, record { slot = refl; turns = refl; word_is = refl; grows = part_same p; follows = one.1.follows }, like_self p, joins_self p))
 
   -- a work is committed
   pub committed_by : (outcome : OutcomeView) (laid : ℕ) (f : EngineView) → outcome.work ≡ work → Commits outcome laid e f → (n₂ : Sat) → n₂ ≡ (laid_view n₁.0 (2 * n + 1) (an_engine f), rest n₁.1) → HasCommitted laid outcome m.0 n₂.0

@@ -17,7 +17,7 @@ use Rattle.mg_turns.specs.Rule.{Sights, doubled, word_of}
 use Rattle.mg_turns.specs.Sights.{Finds, left_two}
 use Rattle.mg_turns.specs.Calls.{HasBrought}
 use Rattle.mg_turns.specs.Code.Counts.{packets_in}
-use Rattle.mg_turns.specs.Code.Plays.{Sat, turn, turning, gave, GivesPlainly, GivesBrought, TakenPair}
+use Rattle.mg_turns.specs.Code.Plays.{Sat, turn_of_word, turning, gave, GivesPlainly, GivesBrought, TakenPair}
 use Rattle.mg_turns.proofs.Words.{intake_at, source_apart}
 use Rattle.mg_turns.proofs.Claims.{has_engine, has_intake, engine_kind, intake_kind}
 use Rattle.mg_turns.proofs.Cells.{pair_intake}
@@ -89,7 +89,7 @@ module _ (m n : Sat) (key : FrameView) (k : ℕ) (e : Edge) (source : ℕ) (p q 
           let found : Finds m.0 source (an_engine g) = subst (λ (x : PartView). Finds m.0 source x) p-is (record { follows = t.1.1.follows; sights = t.1.1.sights }) in
           let twice : n₄.0 ≡ left_two m.0 source (an_engine g) (2 * e.node) (an_intake j) m.0.work =
           ap (λ (x : Sat). x.0) back' ∙ (ap (λ (x : Sat). gave x.0 source (an_engine g)) back ∙ (ap (λ (x : Sat). gave (gave x.0 (2 * e.node) (an_intake j)) source (an_engine g)) t.2.0
-          ∙ ap (λ (x : Sat). gave (gave (turning x.0 (turn x.0.key (2 * e.node) q ∷ x.0.turns)) (2 * e.node) (an_intake j)) source (an_engine g)) t.1.0)) in
+          ∙ ap (λ (x : Sat). gave (gave (turning x.0 (turn_of_word x.0.key (2 * e.node) q ∷ x.0.turns)) (2 * e.node) (an_intake j)) source (an_engine g)) t.1.0)) in
           record {
             engine = g;
             intake = i;

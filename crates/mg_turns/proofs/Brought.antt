@@ -7,7 +7,7 @@ use Rattle.mg_stream.specs.Queue.{Waiting, count_of, raised_to}
 use Rattle.mg_calc.specs.declared.edge.Edge.{Edge}
 use Rattle.mg_node.specs.declared.delivered.Delivered.{Delivered}
 use Rattle.mg_node.specs.declared.delivered.Delivered.TheVariants.{Moved, OutOfMemory}
-use Rattle.mg_node.specs.declared.waits.Waits.{Waits}
+use Rattle.mg_node.specs.declared.pending.Pending.{Pending}
 use Rattle.mg_node.specs.Views.{IntakeView, EngineView}
 use Rattle.mg_node.specs.Ports.{ports_in, port_queue, with_room}
 use Rattle.mg_node.specs.Outputs.{laid_at}
@@ -16,7 +16,7 @@ use Rattle.mg_node.specs.Delivery.{missing, with_packets, delivered, Delivers}
 use Rattle.mg_node.specs.IntakeStanding.{HasGrown}
 use Rattle.mg_node.proofs.PortSteps.{queue-there}
 use Rattle.mg_node.proofs.Leads.{leads_port}
-use Rattle.mg_turns.specs.Parts.{FrameView, an_engine, an_intake, count_in, Follows, FitsSome, source_at, EdgesFit}
+use Rattle.mg_turns.specs.Parts.{FrameView, an_engine, an_intake, arrived_in, Follows, FitsSome, source_at, EdgesFit}
 use Rattle.mg_turns.specs.Sights.{sight, left_two}
 use Rattle.mg_turns.specs.Standings.{bound_in, laid_in, laid_bound_in, known_came, known_bound, known_laid, known_laid_bound}
 use Rattle.mg_turns.specs.Calls.{HasBrought, TriesAppend}
@@ -36,11 +36,11 @@ use Rattle.mg_turns.proofs.Standings.{most_below, last_counts, second_counts, tw
 bound_there : (o q : Waiting Plain) (n : ℕ) → n ≡ length (missing o q) → o.bound ≤ (delivered o q n).bound
 bound_there o q n all = subst (λ (b : Bool). o.bound ≤ (if b then raised_to (with_packets q (missing o q)) o.bound else with_packets q (take n (missing o q))).bound) (sym (eq-eqb n (length (missing o q)) all)) (le-max_right (with_packets q (missing o q)).bound o.bound)
 
-port_now : (n : ℕ) (raised : Bool) (o : Waiting Plain) (port : ℕ) (before now : Waits) → port < ports_in before → Delivers (Moved n raised) o port 256 before now
+port_now : (n : ℕ) (raised : Bool) (o : Waiting Plain) (port : ℕ) (before now : Pending) → port < ports_in before → Delivers (Moved n raised) o port 256 before now
     → port_queue now port ≡ with_room (delivered o (port_queue before port) n) (port_queue now port).spare
-port_now n raised o port before now there d = ap (λ (w : Waits). port_queue w port) d.1 ∙ queue-there before port (with_room (delivered o (port_queue before port) n) (port_queue now port).spare) there
+port_now n raised o port before now there d = ap (λ (w : Pending). port_queue w port) d.1 ∙ queue-there before port (with_room (delivered o (port_queue before port) n) (port_queue now port).spare) there
 
-enough_by : (n : ℕ) (raised : Bool) (o : Waiting Plain) (port : ℕ) (before now : Waits) → port < ports_in before → o.gone ≤ count_of (port_queue before port) → Delivers (Moved n raised) o port 256 before now
+enough_by : (n : ℕ) (raised : Bool) (o : Waiting Plain) (port : ℕ) (before now : Pending) → port < ports_in before → o.gone ≤ count_of (port_queue before port) → Delivers (Moved n raised) o port 256 before now
     → (count_of o ≤ count_of (port_queue now port)) ⊎ (count_of (port_queue before port) + 256 ≤ count_of (port_queue now port))
 enough_by n raised o port before now there held d =
     let q = port_queue before port in
@@ -52,7 +52,7 @@ enough_by n raised o port before now there held d =
       | inr many ↦ inr (omega (arith, least, came, many))
     ]
 
-bound_by : (n : ℕ) (raised : Bool) (o : Waiting Plain) (port : ℕ) (before now : Waits) → port < ports_in before → o.gone ≤ count_of (port_queue before port) → Delivers (Moved n raised) o port 256 before now
+bound_by : (n : ℕ) (raised : Bool) (o : Waiting Plain) (port : ℕ) (before now : Pending) → port < ports_in before → o.gone ≤ count_of (port_queue before port) → Delivers (Moved n raised) o port 256 before now
     → count_of o ≤ count_of (port_queue now port) → o.bound ≤ (port_queue now port).bound
 bound_by n raised o port before now there held d all =
     let q = port_queue before port in
@@ -95,10 +95,10 @@ module _ (key : FrameView) (k : ℕ) (e : Edge) (v : View) (exists : FitsSome ke
     Left = left_two v (source_at key.plan e) (an_engine h.engine) (2 * e.node) (an_intake h.intake_now) v.work
 
     came_before : known_came v e.node e.port ≤ count_of (port_queue h.intake.waits e.port)
-    came_before = most_below (λ p. count_in p e.port) (came_rises e.port) (2 * e.node) (an_intake h.intake) v.seen h.intake_found.sights
+    came_before = most_below (λ p. arrived_in p e.port) (came_rises e.port) (2 * e.node) (an_intake h.intake) v.seen h.intake_found.sights
 
     came_now : count_of (port_queue h.intake_now.waits e.port) ≤ known_came Left e.node e.port
-    came_now = second_counts (λ p. count_in p e.port) (2 * e.node) (sight (source_at key.plan e) (an_engine h.engine)) (an_intake h.intake_now) v.seen
+    came_now = second_counts (λ p. arrived_in p e.port) (2 * e.node) (sight (source_at key.plan e) (an_engine h.engine)) (an_intake h.intake_now) v.seen
 
     has_come : HasCome (packets_in result) e v Left
     has_come = omega (arith, came_before, came_now, arrived)
@@ -107,7 +107,7 @@ module _ (key : FrameView) (k : ℕ) (e : Edge) (v : View) (exists : FitsSome ke
     apart same = absurd (ends_apart key k e (source_at key.plan e) edges there refl same)
 
     came_most : known_came Left e.node e.port ≤ count_of (port_queue h.intake_now.waits e.port)
-    came_most = two_below (λ p. count_in p e.port) (2 * e.node) (sight (source_at key.plan e) (an_engine h.engine)) (sight (2 * e.node) (an_intake h.intake_now)) v.seen (count_of (port_queue h.intake_now.waits e.port))
+    came_most = two_below (λ p. arrived_in p e.port) (2 * e.node) (sight (source_at key.plan e) (an_engine h.engine)) (sight (2 * e.node) (an_intake h.intake_now)) v.seen (count_of (port_queue h.intake_now.waits e.port))
         (λ same. apart same) (λ _. omega arith) (omega (arith, came_before, arrived))
 
     laid_now : count_of (output_at h.engine e) ≤ known_laid Left (source_at key.plan e) (output_of key e)

@@ -13,7 +13,7 @@ use Rattle.mg_turns.specs.Parts.{PartView, FrameView, nodes_in, an_engine, an_in
 use Rattle.mg_turns.specs.Turns.{Turn, Sight}
 use Rattle.mg_turns.specs.Rule.{Sights, has_turn, word_of}
 use Rattle.mg_turns.specs.Sights.{Finds, has_after, cell_left}
-use Rattle.mg_turns.specs.Code.Plays.{Sat, turn, turning, missing, gave, claimed_view, Taken, TakenPair, MissedPair, GivesPlainly, GivesClaim, CellWords, cell_given, left, noted}
+use Rattle.mg_turns.specs.Code.Plays.{Sat, turn_of_word, turning, with_miss, gave, claimed_view, HoldsTurn, TakenPair, MissedPair, GivesPlainly, GivesClaim, CellWords, cell_given, left, with_note}
 use Rattle.mg_turns.specs.Code.Cells.{TakesCell}
 use Rattle.mg_turns.proofs.Words.{engine_at}
 use Rattle.mg_turns.proofs.Grows.{part_same, like_self, joins_self}
@@ -22,36 +22,36 @@ use Rattle.mg_turns.proofs.Ends.{nil, has_none}
 use Rattle.mg_turns.proofs.Claims.{CellParts, ClaimFacts, engine_kind, intake_kind, before}
 use Rattle.mg_turns.proofs.Tallies.{cell_words}
 
-pub finds : (m n : Sat) (word : ℕ) (p : PartView) → Taken m word p n → Finds m.0 word p
+pub finds : (m n : Sat) (word : ℕ) (p : PartView) → HoldsTurn m word p n → Finds m.0 word p
 finds m n word p t = record { follows = t.1.follows; sights = t.1.sights }
 
 -- the first of two turns is taken
-module _ (m n₁ : Sat) (first : ℕ) (p : PartView) (one : Taken m first p n₁) where
+module _ (m n₁ : Sat) (first : ℕ) (p : PartView) (one : HoldsTurn m first p n₁) where
   pub none_then : (second : ℕ) → first ≢ second → length m.0.turns ≡ 0 → has_turn second n₁.0 ≡ 0
   none_then second apart idle = subst (λ (s : Sat). has_turn second s.0 ≡ 0) (sym one.0)
-      (omega (arith, is_of_no second (turn m.0.key first p) apart, has_none second m.0 idle))
+      (omega (arith, is_of_no second (turn_of_word m.0.key first p) apart, has_none second m.0 idle))
 
-  module _ (n₂ : Sat) (second : ℕ) (miss : n₂ ≡ (missing n₁.0 second, n₁.1)) where
-    missed_then : n₂ ≡ (missing (turning m.0 (turn m.0.key first p ∷ m.0.turns)) second, (first, None) ∷ m.1)
-    missed_then = miss ∙ ap (λ (s : Sat). (missing s.0 second, s.1)) one.0
+  module _ (n₂ : Sat) (second : ℕ) (miss : n₂ ≡ (with_miss n₁.0 second, n₁.1)) where
+    missed_then : n₂ ≡ (with_miss (turning m.0 (turn_of_word m.0.key first p ∷ m.0.turns)) second, (first, None) ∷ m.1)
+    missed_then = miss ∙ ap (λ (s : Sat). (with_miss s.0 second, s.1)) one.0
 
     pub after_miss : GivesPlainly n₂ first p
     after_miss = subst (λ (s : Sat). GivesPlainly s first p) (sym missed_then)
-        (turn m.0.key first p, m.0.turns, record { slot = refl; turns = refl; word_is = refl; grows = part_same p; follows = one.1.follows }, like_self p, joins_self p)
+        (turn_of_word m.0.key first p, m.0.turns, record { slot = refl; turns = refl; word_is = refl; grows = part_same p; follows = one.1.follows }, like_self p, joins_self p)
 
     pub word_after_miss : (word : ℕ) → word ≡ word_of m.0.key first p → word ≡ word_of n₂.0.key first p
     word_after_miss word is = is ∙ ap (λ (s : Sat). word_of s.0.key first p) (sym missed_then)
 
     pub gave_after_miss : (n₃ : Sat) → n₃ ≡ (gave n₂.0 first p, rest n₂.1) → MissedPair m first second second n₃
     gave_after_miss n₃ back =
-        let is : n₃ ≡ (gave (missing (turning m.0 (turn m.0.key first p ∷ m.0.turns)) second) first p, m.1) = back ∙ ap (λ (s : Sat). (gave s.0 first p, rest s.1)) missed_then in
+        let is : n₃ ≡ (gave (with_miss (turning m.0 (turn_of_word m.0.key first p ∷ m.0.turns)) second) first p, m.1) = back ∙ ap (λ (s : Sat). (gave s.0 first p, rest s.1)) missed_then in
         (inr (refl, p, finds m n₁ first p one, ap (λ (s : Sat). s.0) is), ap (λ (s : Sat). s.1) is)
 
 -- the intake is back, and the engine is given back with its new note
 pub engine_again : (n n₃ : Sat) (node : ℕ) (k f : PartView) (has : Option WorkView) → GivesClaim n node k f has → rest n.1 ≡ (2 * node + 1, None) ∷ rest (rest n.1) → Follows n.0.key (2 * node + 1) f
     → n₃ ≡ (claimed_view n.0 node k f has, rest n.1) → GivesPlainly n₃ (2 * node + 1) f
 engine_again n n₃ node k f has g slots follows back = subst (λ (s : Sat). GivesPlainly s (2 * node + 1) f) (sym back)
-    (record { word = g.u.word; tally = g.u.tally; note = f }, [], record { slot = slots; turns = ap (λ (l : List Turn). noted f (left l)) g.gives.turns; word_is = g.node; grows = part_same f; follows = follows }, like_self f, joins_self f)
+    (record { word = g.u.word; tally = g.u.tally; note = f }, [], record { slot = slots; turns = ap (λ (l : List Turn). with_note f (left l)) g.gives.turns; word_is = g.node; grows = part_same f; follows = follows }, like_self f, joins_self f)
 
 -- what is out are an engine and an intake
 pub pair_engine : (m n : Sat) (key : FrameView) (node : ℕ) (p q : PartView) (r s : ℕ) → m.0.key ≡ key → node < nodes_in key → TakenPair m (2 * node + 1) p r (2 * node) q s n → Follows key (2 * node + 1) p
@@ -70,7 +70,7 @@ takes_cell m n key node p q r s e laid i key-is within t is is' laid-is =
     let q-is : q ≡ an_intake i = intake_kind key node q i intake (before within) is' in
     let back = ap (λ (x : Sat). x.0.key) one.0 in
     let sights : Sights (2 * node) q m.0.seen = subst (λ (x : List Sight). Sights (2 * node) q x) (ap (λ (x : Sat). x.0.seen) one.0) two.1.sights in
-    let agree : AgreeParts p q = two.1.agree node 0 (turn m.0.key (2 * node + 1) p) refl (subst (λ (k : FrameView). node < nodes_in k) (sym (back ∙ key-is)) within) (ap (λ (x : Sat). get_elem? x.0.turns 0) one.0) refl in
+    let agree : AgreeParts p q = two.1.agree node 0 (turn_of_word m.0.key (2 * node + 1) p) refl (subst (λ (k : FrameView). node < nodes_in k) (sym (back ∙ key-is)) within) (ap (λ (x : Sat). get_elem? x.0.turns 0) one.0) refl in
     record {
       found = record {
         engine_found = subst (λ (x : PartView). Finds m.0 (2 * node + 1) x) p-is (record { follows = one.1.follows; sights = one.1.sights });
@@ -80,9 +80,9 @@ takes_cell m n key node p q r s e laid i key-is within t is is' laid-is =
       within = within;
       engine = subst (λ (x : PartView). Follows key (2 * node + 1) x) p-is engine;
       intake = subst (λ (x : PartView). Follows key (2 * node) x) q-is intake;
-      then = two.0 ∙ (ap (λ (x : Sat). (turning x.0 (turn x.0.key (2 * node) q ∷ x.0.turns), (2 * node, None) ∷ x.1)) one.0
-          ∙ (ap (λ (x : PartView). (turning m.0 (turn m.0.key (2 * node) q ∷ turn m.0.key (2 * node + 1) x ∷ m.0.turns), (2 * node, None) ∷ (2 * node + 1, None) ∷ m.1)) p-is
-          ∙ ap (λ (x : PartView). (turning m.0 (turn m.0.key (2 * node) x ∷ turn m.0.key (2 * node + 1) (an_engine e) ∷ m.0.turns), (2 * node, None) ∷ (2 * node + 1, None) ∷ m.1)) q-is));
+      then = two.0 ∙ (ap (λ (x : Sat). (turning x.0 (turn_of_word x.0.key (2 * node) q ∷ x.0.turns), (2 * node, None) ∷ x.1)) one.0
+          ∙ (ap (λ (x : PartView). (turning m.0 (turn_of_word m.0.key (2 * node) q ∷ turn_of_word m.0.key (2 * node + 1) x ∷ m.0.turns), (2 * node, None) ∷ (2 * node + 1, None) ∷ m.1)) p-is
+          ∙ ap (λ (x : PartView). (turning m.0 (turn_of_word m.0.key (2 * node) x ∷ turn_of_word m.0.key (2 * node + 1) (an_engine e) ∷ m.0.turns), (2 * node, None) ∷ (2 * node + 1, None) ∷ m.1)) q-is));
       engine_word_is = t.3 ∙ ap (word_of m.0.key (2 * node + 1)) p-is;
       intake_word_is = t.4 ∙ ap (word_of m.0.key (2 * node)) q-is;
       laid_is = laid-is;
@@ -102,7 +102,7 @@ module _ (key : FrameView) (m : Sat) (node : ℕ) (e : EngineView) (engine_word 
 
   -- the seat, and what it may give back
   abbrev Then : Sat
-  Then = (turning m.0 (turn m.0.key (2 * node) (an_intake i) ∷ turn m.0.key (2 * node + 1) (an_engine e) ∷ m.0.turns), (2 * node, None) ∷ (2 * node + 1, None) ∷ m.1)
+  Then = (turning m.0 (turn_of_word m.0.key (2 * node) (an_intake i) ∷ turn_of_word m.0.key (2 * node + 1) (an_engine e) ∷ m.0.turns), (2 * node, None) ∷ (2 * node + 1, None) ∷ m.1)
 
   module _ {X : Type 0} (r : Claimed X) (f : EngineView) (k : IntakeView) (facts : ClaimFacts key node (an_engine e) (an_intake i) (an_engine f) (an_intake k) m.0.work (has_after r m.0.work)) where
     pub cell_follows : Follows n.0.key (2 * node + 1) (an_engine f)
@@ -110,11 +110,11 @@ module _ (key : FrameView) (m : Sat) (node : ℕ) (e : EngineView) (engine_word 
 
     pub cell_back : GivesClaim n node (an_intake k) (an_engine f) (has_after r n.0.work)
     cell_back = subst (λ (s : Sat). GivesClaim s node (an_intake k) (an_engine f) (has_after r s.0.work)) (sym t.then) (record {
-      t = turn m.0.key (2 * node) (an_intake i);
-      u = turn m.0.key (2 * node + 1) (an_engine e);
+      t = turn_of_word m.0.key (2 * node) (an_intake i);
+      u = turn_of_word m.0.key (2 * node + 1) (an_engine e);
       gives = record {
         slot = refl;
-        turns = ap (λ (l : List Turn). turn m.0.key (2 * node) (an_intake i) ∷ turn m.0.key (2 * node + 1) (an_engine e) ∷ l) (nil m.0.turns idle);
+        turns = ap (λ (l : List Turn). turn_of_word m.0.key (2 * node) (an_intake i) ∷ turn_of_word m.0.key (2 * node + 1) (an_engine e) ∷ l) (nil m.0.turns idle);
         word_is = refl;
         grows = facts.grows;
         follows = subst (λ (x : FrameView). Follows x (2 * node) (an_intake k)) (sym key-is) facts.follows_i;

@@ -18,7 +18,7 @@ use Rattle.mg_node.specs.Lawful.{of_node, LawfulEngine, is_close}
 use Rattle.mg_node.specs.Windows.{has_ended, ready_of}
 use Rattle.mg_node.specs.Shelves.{IsOut, back, shelved}
 use Rattle.mg_node.specs.Claims.{AreSame, Hands, TakesUnrun, Claims}
-use Rattle.mg_node.specs.Commits.{counted, Front, with_ready, front_laid, answer_laid, has_stopped, committed_entry, window_with, front_of, fault_at, Commits}
+use Rattle.mg_node.specs.Commits.{calls_in_phase, Front, with_ready, front_laid, answer_laid, has_stopped, committed_entry, window_with, front_of, fault_at, Commits}
 use Rattle.mg_node.proofs.FrontSteps.{front_stays}
 use Rattle.mg_node.proofs.EngineFronts.{is_some_map, committed_whole}
 use Rattle.mg_node.proofs.Frames.{get_other, put_there}
@@ -72,7 +72,7 @@ ready_committed entry p ready = elim (cases_Bool entry.committed) [
   | inr not ↦ absurd (none-some p (sym (ap (λ (b : Bool). ready_of (record entry { committed = b })) not) ∙ ready))
 ]
 
-one_work : (phase : Phase) → (phase ≡ Open → ⊥) → counted phase + one (is_close phase) ≡ 1
+one_work : (phase : Phase) → (phase ≡ Open → ⊥) → calls_in_phase phase + one (is_close phase) ≡ 1
 one_work Open works = absurd (works refl)
 one_work (Call n) works = refl
 one_work (Process at) works = refl
@@ -116,7 +116,7 @@ counts_by : (offset : Option ℤ) (entry : EntryView) (entries : List EntryView)
 counts_by offset entry entries front None later is works ready goes = ap front_count (first_by offset entry entries front None goes ready)
 counts_by offset entry entries front (Some p) later is works ready goes =
     let next = next_front offset entry entries p front in
-    let rest : front_count (front_laid offset entries next) ≡ front.laid + counted entry.phase + one (is_close entry.phase) + count_committed entries = later next refl in
+    let rest : front_count (front_laid offset entries next) ≡ front.laid + calls_in_phase entry.phase + one (is_close entry.phase) + count_committed entries = later next refl in
     let step : front_count (front_laid offset (entry ∷ entries) front) ≡ front_count (front_laid offset entries next) = ap front_count (first_by offset entry entries front (Some p) goes ready) in
     let work = one_work entry.phase works in
     let here : one entry.committed ≡ 1 = ap one (ready_committed entry p ready) in
@@ -163,7 +163,7 @@ past_by offset entry entries front x p k (Some q) later at ready works first goe
       | inr further ↦ (
           let work = one_work entry.phase works in
           let none : one (is_close entry.phase) ≡ 0 = ap one further in
-          let laid : front.laid + counted entry.phase ≡ front.laid + 1 = omega (arith, work, none) in
+          let laid : front.laid + calls_in_phase entry.phase ≡ front.laid + 1 = omega (arith, work, none) in
           subst (λ (f : Front). IsPast f (front.laid + k)) (sym is) (further_past offset entry entries next x front.laid k later at laid))
     ]
 

@@ -11,11 +11,11 @@ use Rattle.mg_node.specs.Ports.{ports_in, port_queue}
 use Rattle.mg_turns.specs.Parts.{PartView, FrameView, an_intake, Follows, FitsSome, EdgesFit}
 use Rattle.mg_turns.specs.Sights.{Finds}
 use Rattle.mg_turns.specs.Calls.{HasCounted}
-use Rattle.mg_turns.specs.Code.Plays.{Sat, turn, gave, GivesPlainly, Taken}
+use Rattle.mg_turns.specs.Code.Plays.{Sat, turn_of_word, gave, GivesPlainly, HoldsTurn}
 use Rattle.mg_turns.proofs.Grows.{part_same, like_self, joins_self}
 use Rattle.mg_turns.proofs.Claims.{has_intake, intake_kind, lawful_i}
 
-module _ (m n : Sat) (key : FrameView) (k : ℕ) (e : Edge) (q : PartView) (key-is : m.0.key ≡ key) (edges : EdgesFit key) (there : slice_get key.plan.edges k ≡ Some e) (one : Taken m (2 * e.node) q n) where
+module _ (m n : Sat) (key : FrameView) (k : ℕ) (e : Edge) (q : PartView) (key-is : m.0.key ≡ key) (edges : EdgesFit key) (there : slice_get key.plan.edges k ≡ Some e) (one : HoldsTurn m (2 * e.node) q n) where
   follows : Follows key (2 * e.node) q
   follows = subst (λ (x : FrameView). Follows x (2 * e.node) q) key-is one.1.follows
 
@@ -35,7 +35,7 @@ module _ (m n : Sat) (key : FrameView) (k : ℕ) (e : Edge) (q : PartView) (key-
     pub looked_at : GivesPlainly n (2 * e.node) (an_intake i)
     looked_at =
         subst (λ (x : PartView). GivesPlainly n (2 * e.node) x) kind (subst (λ (s : Sat). GivesPlainly s (2 * e.node) q) (sym one.0)
-        (turn m.0.key (2 * e.node) q, m.0.turns, record { slot = refl; turns = refl; word_is = refl; grows = part_same q; follows = one.1.follows }, like_self q, joins_self q))
+        (turn_of_word m.0.key (2 * e.node) q, m.0.turns, record { slot = refl; turns = refl; word_is = refl; grows = part_same q; follows = one.1.follows }, like_self q, joins_self q))
 
     pub has_counted : (waiting : ℕ) → waiting ≡ length (port_queue i.waits e.port).packets → (n₂ : Sat) → n₂ ≡ (gave n.0 (2 * e.node) (an_intake i), rest n.1) → HasCounted waiting e m.0 n₂.0
     has_counted waiting counted n₂ after = record {

@@ -12,7 +12,7 @@ use Rattle.mg_node.specs.Views.{WorkView}
 use Rattle.mg_turns.specs.Parts.{PartView, FrameView, blank_part, at, nodes_in, Follows, AgreeParts, IsMissingIn, source_at, JoinedParts, EdgesFit}
 use Rattle.mg_calc.specs.declared.edge.Edge.{Edge}
 use Rattle.mg_turns.specs.Turns.{Turn}
-use Rattle.mg_turns.specs.Rule.{total, Sights, is_of, has_turn, InSlot, Noted, Shown, WorksApart, Orderly, Linked, Ruled}
+use Rattle.mg_turns.specs.Rule.{total, Sights, is_turn_of, has_turn, InSlot, Noted, Shown, WorksApart, Orderly, Linked, Ruled}
 use Rattle.mg_turns.specs.Ends.{with_parts, Unshared}
 use Rattle.mg_turns.proofs.Links.{SameWorks, same_part, linked_by, set_at, set_past}
 use Rattle.mg_turns.proofs.Grows.{like_self, joins_self, sights_both}
@@ -81,7 +81,7 @@ replaced key s ro vs turns whole works each = let o : Orderly key s = ro.0 in (
 fine : (key : FrameView) (s : St) (ro : Ruled key s) (j : ℕ) (v : View) → get_elem? s.views j ≡ some v → Fine key s v
 fine key s ro j v e = let o : Orderly key s = ro.0 in let l : Linked key s.homes s.views = ro.1 in (o.keyed j v e, (λ z. (o.spent j v e z, l.idle j v e z)), (λ k t at-k. (j, k, v, e, at-k)), λ r b h. h j v e)
 
-none_of : (i : ℕ) (l : List Turn) → length l ≡ 0 → total (is_of i) l ≡ 0
+none_of : (i : ℕ) (l : List Turn) → length l ≡ 0 → total (is_turn_of i) l ≡ 0
 none_of i [] h = refl
 none_of i (x ∷ xs) h = absurd (omega arith)
 

@@ -4,7 +4,7 @@ use Rattle.atomic_table.specs.Table.{rest}
 use Rattle.mg_node.specs.Views.{WorkView}
 use Rattle.mg_turns.specs.Parts.{PartView, JoinedParts}
 use Rattle.mg_turns.specs.Turns.{Turn}
-use Rattle.mg_turns.specs.Code.Plays.{Sat, left, Like, Joins, Back, Alike, HasTurn, Returns, Kind, note_or, noted, gave, claimed_view, laid_view, Gives, GivesPlainly, GivesClaim, GivesLaid, GivesBrought, Took, Taken}
+use Rattle.mg_turns.specs.Code.Plays.{Sat, left, Like, Joins, Back, Alike, HasTurn, Returns, GivesTurnBack, note_or, with_note, gave, claimed_view, laid_view, MayGiveBack, GivesPlainly, GivesClaim, GivesLaid, GivesBrought, Took, HoldsTurn}
 use Rattle.mg_turns.specs.declared.view.View.{View}
 use Rattle.mg_turns.proofs.Keeps.{alike_same}
 use Rattle.mg_turns.proofs.Links.{part_or}
@@ -13,13 +13,13 @@ abbrev pub head_or : PartView → List (ℕ × Option PartView) → PartView
 head_or p [] = p
 head_or p (x ∷ xs) = part_or p x.1
 
-pub has_turn_of : (m : Sat) (word : ℕ) (p : PartView) (t : Turn) (ts : List Turn) → Gives m word p t ts → HasTurn m.0 word p
+pub has_turn_of : (m : Sat) (word : ℕ) (p : PartView) (t : Turn) (ts : List Turn) → MayGiveBack m word p t ts → HasTurn m.0 word p
 has_turn_of m word p t ts g = (t, ts, g.turns, g.word_is, g.grows)
 
 abbrev Ok : Sat → ℕ → PartView → View → Type 0
-Ok m word p w = Returns m.0 word p w × Kind m.0 word p w
+Ok m word p w = Returns m.0 word p w × GivesTurnBack m.0 word p w
 
-note_is : (m : Sat) (word : ℕ) (p : PartView) (t : Turn) (ts : List Turn) → Gives m word p t ts → note_or p m.0.turns ≡ t.note
+note_is : (m : Sat) (word : ℕ) (p : PartView) (t : Turn) (ts : List Turn) → MayGiveBack m word p t ts → note_or p m.0.turns ≡ t.note
 note_is m word p t ts g = ap (note_or p) g.turns
 
 pub plain_ok : (m : Sat) (word : ℕ) (p : PartView) → GivesPlainly m word p → Ok m word p (gave m.0 word p)
@@ -32,15 +32,15 @@ pub claim_ok : (m : Sat) (n : ℕ) (p f : PartView) (has : Option WorkView) → 
 claim_ok m n p f has g =
     let u : Turn = g.u in let v : View = m.0 in
     let less : left v.turns ≡ u ∷ [] = ap left g.gives.turns in
-    let fits : Alike (noted f (u ∷ [])) (u ∷ []) = (refl, refl, g.grew, tt) in (
-      (subst (λ (l : List Turn). Alike (noted f l) l) (sym less) fits, refl, refl, refl),
+    let fits : Alike (with_note f (u ∷ [])) (u ∷ []) = (refl, refl, g.grew, tt) in (
+      (subst (λ (l : List Turn). Alike (with_note f l) l) (sym less) fits, refl, refl, refl),
       inr (inr (inl (record {
         n = n;
         within = g.within;
         node = refl;
         t = record { word = u.word; tally = u.tally; note = f };
         u = u;
-        now = ap (noted f) less;
+        now = ap (with_note f) less;
         before = less;
         at_u = g.node;
         at_t = g.node;
@@ -93,6 +93,6 @@ brought_ok m word p g =
 took_is : (m n : Sat) (i r : ℕ) (p : PartView) (t : Took m i r n) → n.1 ≡ (i, Some p) ∷ rest n.1 → t.0 ≡ p
 took_is m n i r p t out = ap (head_or t.0) (sym (ap (λ (s : Sat). s.1) t.1) ∙ out)
 
-pub taken_of : (m n o : Sat) (i r : ℕ) (p : PartView) → Took m i r n → n.1 ≡ (i, Some p) ∷ rest n.1 → o ≡ (n.0, (i, None) ∷ rest n.1) → Taken m i p o
+pub taken_of : (m n o : Sat) (i r : ℕ) (p : PartView) → Took m i r n → n.1 ≡ (i, Some p) ∷ rest n.1 → o ≡ (n.0, (i, None) ∷ rest n.1) → HoldsTurn m i p o
 taken_of m n o i r p t out e = let same = took_is m n i r p t out in
-    subst (λ (q : PartView). Taken m i q o) same (e ∙ ap (λ (s : Sat). (s.0, (i, None) ∷ rest s.1)) t.1, t.2)
+    subst (λ (q : PartView). HoldsTurn m i q o) same (e ∙ ap (λ (s : Sat). (s.0, (i, None) ∷ rest s.1)) t.1, t.2)

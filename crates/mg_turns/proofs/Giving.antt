@@ -7,7 +7,7 @@ use Rattle.mg_node.specs.Job.{LoggedJob}
 use Rattle.mg_node.specs.Lawful.{of_node, LawfulEngine, LawfulIntake, Agree, AreCell}
 use Rattle.mg_node.specs.declared.claimed.Claimed.{Claimed}
 use Rattle.mg_node.specs.declared.claimed.Claimed.TheVariants.{Ended}
-use Rattle.mg_node.specs.declared.waits.Waits.{Waits}
+use Rattle.mg_node.specs.declared.pending.Pending.{Pending}
 use Rattle.mg_node.specs.Standing.{EngineGrows}
 use Rattle.mg_node.specs.IntakeStanding.{Stays, IntakeGrows}
 use Rattle.mg_node.specs.Ports.{port_queue}
@@ -34,7 +34,7 @@ raised_gone bound [] = refl
 raised_gone None (b ∷ bs) = ap (λ (l : List ℕ). b.gone ∷ l) (raised_gone None bs)
 raised_gone (Some x) (b ∷ bs) = ap (λ (l : List ℕ). b.gone ∷ l) (raised_gone (Some x) bs)
 
-raised_outs : (n : ℕ) (e : EngineView) (waits : Waits) (had : Option WorkView) → Outs n (an_engine e) (an_engine (advanced e waits)) had had
+raised_outs : (n : ℕ) (e : EngineView) (waits : Pending) (had : Option WorkView) → Outs n (an_engine e) (an_engine (advanced e waits)) had had
 raised_outs n e waits had = inl (
   refl,
   (λ x o.

@@ -15,8 +15,8 @@ use Rattle.atomic_table.proofs.Lists.{at_snoc, at_set, set_here, set_else}
 use Rattle.mg_node.specs.Views.{WorkView}
 use Rattle.mg_turns.specs.Parts.{PartView, FrameView, at, nodes_in, owner_in, tally_of, PartGrows, IsKind, Follows, AgreeParts, IsMissingIn, source_at, JoinedParts}
 use Rattle.mg_turns.specs.Turns.{Turn, Sight}
-use Rattle.mg_turns.specs.Rule.{total, view, doubled, word_of, Sights, Lies, is_of, has_turn, first_view, InSlot, Noted, Shown, Ready, Orderly, Linked, Ruled}
-use Rattle.mg_turns.specs.Code.Plays.{Sat, turning, missing, left, HasTurn, Returns, Alike, Plainly, Lays, Claims, Brings, Kind, turn, tried_at, looked_at}
+use Rattle.mg_turns.specs.Rule.{total, view, doubled, word_of, Sights, Lies, is_turn_of, has_turn, first_view, InSlot, Noted, Shown, Ready, Orderly, Linked, Ruled}
+use Rattle.mg_turns.specs.Code.Plays.{Sat, turning, with_miss, left, HasTurn, Returns, Alike, Plainly, Lays, ClaimsInTurn, BringsInTurn, GivesTurnBack, turn_of_word, tried_at, looked_at}
 use Rattle.mg_turns.proofs.Sums.{total-set, term_le, terms_le}
 use Rattle.mg_turns.proofs.Words.{nothing_past, no_word_of}
 use Rattle.mg_turns.proofs.Grows.{part_same, sights_further}
@@ -88,7 +88,7 @@ starts key ws xs words slots ready = let long : length xs ≡ length key.parts =
     within = λ j v w e has. absurd (no_first key j v w e has);
     out = λ j v w p e has sp. absurd (no_first key j v w e has);
     apart = λ j k v u w x ne e f has has' same. absurd (no_first key j v w e has);
-    complete = λ n k p less sp missing. absurd (ready.none n k less (subst (λ (x : PartView). IsMissingIn x k) (begin (2 * n + 1) p sp) missing));
+    complete = λ n k p less sp with_miss. absurd (ready.none n k less (subst (λ (x : PartView). IsMissingIn x k) (begin (2 * n + 1) p sp) with_miss));
     idle = λ j v e _. ap (λ (x : View). x.work) (sym (only (first_view key) j v e));
   },
 )
@@ -212,7 +212,7 @@ looks key n id m i inside alive s ro long me _ =
     let near : i < length s.homes = omega arith in
     dite (ℕ_discrete (get_or s.words i 0 % 2) 0)
     (λ even. (m.0, keeps, tt, unmoved key s ro i id m.0.misses m.0.missed m.0 near alive me, (λ _. refl, λ odd. absurd (omega arith))))
-    (λ ne. (missing m.0 i, keeps, tt, unmoved key s ro i id (m.0.misses + 1) (Some i) m.0 near alive me, (λ even. absurd (ne even), λ _. refl)))
+    (λ ne. (with_miss m.0 i, keeps, tt, unmoved key s ro i id (m.0.misses + 1) (Some i) m.0 near alive me, (λ even. absurd (ne even), λ _. refl)))
 
 pub tries : (key : FrameView) (n id : ℕ) (m : Sat) (i : ℕ) → i < n → 0 < m.0.portion → has_turn i m.0 ≡ 0 → Allows (Ruled key) n id m i (λ y. bit_or y 1) (tried_at i m)
 tries key n id m i inside alive free s ro long me _ =
@@ -225,7 +225,7 @@ tries key n id m i inside alive free s ro long me _ =
     (λ even.
     let lies = o.free i near even in
     let p : PartView = lies.0 in
-    let t : Turn = turn m.0.key i p in
+    let t : Turn = turn_of_word m.0.key i p in
     let w : View = turning m.0 (t ∷ m.0.turns) in
     let hs : List (maybe.Option (Option PartView)) = set s.homes i none in
     let all = o.turns i near in
@@ -270,19 +270,19 @@ tries key n id m i inside alive free s ro long me _ =
     ))
     (λ ne.
     let odd : x % 2 ≡ 1 = omega arith in (
-      missing m.0 i,
+      with_miss m.0 i,
       keeps,
       tt,
-      subst (λ (y : ℕ). Ruled key (record { words = set s.words i y; homes = s.homes; views = set s.views id (missing m.0 i) })) (sym (or_odd x odd))
+      subst (λ (y : ℕ). Ruled key (record { words = set s.words i y; homes = s.homes; views = set s.views id (with_miss m.0 i) })) (sym (or_odd x odd))
           (unmoved key s ro i id (m.0.misses + 1) (Some i) m.0 near alive me),
       (λ even. absurd (ne even), λ _. refl),
     ))
 
-alike_has : (ts us : List Turn) (r : ℕ) → Alike ts us → total (is_of r) ts ≡ total (is_of r) us
+alike_has : (ts us : List Turn) (r : ℕ) → Alike ts us → total (is_turn_of r) ts ≡ total (is_turn_of r) us
 alike_has [] [] r a = refl
 alike_has [] (u ∷ us) r a = absurd a
 alike_has (t ∷ ts) [] r a = absurd a
-alike_has (t ∷ ts) (u ∷ us) r a = let e : is_of r t ≡ is_of r u = ap {B = ℕ} (λ (x : ℕ). cond (eqb x r) 1 0) a.0 in omega (arith, e, alike_has ts us r a.3)
+alike_has (t ∷ ts) (u ∷ us) r a = let e : is_turn_of r t ≡ is_turn_of r u = ap {B = ℕ} (λ (x : ℕ). cond (eqb x r) 1 0) a.0 in omega (arith, e, alike_has ts us r a.3)
 
 alike_at : (ts us : List Turn) → Alike ts us → (k : ℕ) (t : Turn) → get_elem? ts k ≡ some t → (u : Turn) × (get_elem? us k ≡ some u) × (t.word ≡ u.word) × (t.tally ≡ u.tally) × PartGrows u.note t.note
 alike_at [] us a k t e = absurd (some-ne-none t (sym e))
@@ -298,7 +298,7 @@ alike_same (t ∷ ts) = (refl, refl, part_same t.note, alike_same ts)
 less_else : (v w : View) (i : ℕ) (p : PartView) (r : ℕ) → w.seen ≡ record { word = i; part = p } ∷ v.seen → r ≢ i → Less w v r
 less_else v w i p r e ne q h = subst (λ (l : List Sight). Sights r q l) (sym e) ((λ z. absurd (ne (sym z))), h)
 
-pub gives : (key : FrameView) (n id : ℕ) (v w : View) (i new : ℕ) (p : PartView) (more : List (ℕ × Option PartView)) → i < n → new ≡ word_of v.key i p → HasTurn v i p → Returns v i p w → Kind v i p w → Follows v.key i p
+pub gives : (key : FrameView) (n id : ℕ) (v w : View) (i new : ℕ) (p : PartView) (more : List (ℕ × Option PartView)) → i < n → new ≡ word_of v.key i p → HasTurn v i p → Returns v i p w → GivesTurnBack v i p w → Follows v.key i p
     → Allows (Ruled key) n id (v, (i, Some p) ∷ more) i (λ _. new) (λ _ m. m ≡ (w, more))
 gives key n id v w i new p more inside word has-turn returns kind follows s ro long me _ =
     let o : Orderly key s = ro.0 in let l : Linked key s.homes s.views = ro.1 in let wide = o.wide in
@@ -310,7 +310,7 @@ gives key n id v w i new p more inside word has-turn returns kind follows s ro l
     let yes = is_of_yes i t is in
     let alive : 0 < v.portion = dite (ℕ_discrete v.portion 0) (λ z. absurd (omega (arith, o.spent id v me z, ap length mine))) (λ nz. omega arith) in
     let key-is : v.key ≡ key = o.keyed id v me alive in
-    let had : (r : ℕ) → has_turn r v ≡ is_of r t + has_turn r w = λ r. ap (total (is_of r)) mine ∙ omega (arith, alike_has w.turns (left v.turns) r returns.0, ap (λ (c : List Turn). total (is_of r) (left c)) mine) in
+    let had : (r : ℕ) → has_turn r v ≡ is_turn_of r t + has_turn r w = λ r. ap (total (is_turn_of r)) mine ∙ omega (arith, alike_has w.turns (left v.turns) r returns.0, ap (λ (c : List Turn). total (is_turn_of r) (left c)) mine) in
     let none-left : has_turn i w ≡ 0 = omega (arith, had i) in
     let hs : List (maybe.Option (Option PartView)) = set s.homes i (some (Some p)) in
     let was : (k : ℕ) (u : View) → get_elem? s.views k ≡ some u → Sights i p u.seen = λ k u e.
@@ -347,11 +347,11 @@ gives key n id v w i new p more inside word has-turn returns kind follows s ro l
         o',
         ⊎_elim
             (λ (a : Plainly v i p w). links_plain key s o l id i new v w t has-turn.1 p me near mine is key-is alive' a)
-            (λ (b : Lays v i p w ⊎ (Claims v i p w ⊎ Brings v i p w)). ⊎_elim
+            (λ (b : Lays v i p w ⊎ (ClaimsInTurn v i p w ⊎ BringsInTurn v i p w)). ⊎_elim
             (λ (a : Lays v i p w). links_lay key s o l id i new v w t has-turn.1 p me near mine is key-is alive' o' even (omega arith) (omega arith) a)
-            (λ (d : Claims v i p w ⊎ Brings v i p w). ⊎_elim
-            (λ (a : Claims v i p w). links_claim key s o l id i new v w t has-turn.1 p me near mine is key-is alive' o' even (omega arith) (omega arith) a)
-            (λ (a : Brings v i p w). links_bring key s o l id i new v w t has-turn.1 p me near mine is key-is alive' o' even (omega arith) (omega arith) a)
+            (λ (d : ClaimsInTurn v i p w ⊎ BringsInTurn v i p w). ⊎_elim
+            (λ (a : ClaimsInTurn v i p w). links_claim key s o l id i new v w t has-turn.1 p me near mine is key-is alive' o' even (omega arith) (omega arith) a)
+            (λ (a : BringsInTurn v i p w). links_bring key s o l id i new v w t has-turn.1 p me near mine is key-is alive' o' even (omega arith) (omega arith) a)
             d)
             b)
             kind,
@@ -359,7 +359,7 @@ gives key n id v w i new p more inside word has-turn returns kind follows s ro l
       refl,
     )
 
-pub gives_at : (key : FrameView) (n id : ℕ) (m : Sat) (w : View) (i new : ℕ) (p : PartView) → i < n → new ≡ word_of m.0.key i p → HasTurn m.0 i p → Returns m.0 i p w → Kind m.0 i p w → Follows m.0.key i p → m.1 ≡ (i, Some p) ∷ rest m.1
+pub gives_at : (key : FrameView) (n id : ℕ) (m : Sat) (w : View) (i new : ℕ) (p : PartView) → i < n → new ≡ word_of m.0.key i p → HasTurn m.0 i p → Returns m.0 i p w → GivesTurnBack m.0 i p w → Follows m.0.key i p → m.1 ≡ (i, Some p) ∷ rest m.1
     → Allows (Ruled key) n id m i (λ _. new) (λ _ m'. m' ≡ (w, rest m.1))
 gives_at key n id m w i new p inside word has-turn returns kind follows e =
     subst (λ (l : List (ℕ × Option PartView)). Allows (Ruled key) n id (m.0, l) i (λ _. new) (λ _ m'. m' ≡ (w, rest l))) (sym e) (gives key n id m.0 w i new p (rest m.1) inside word has-turn returns kind follows)

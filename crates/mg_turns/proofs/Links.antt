@@ -11,8 +11,8 @@ use Rattle.mg_node.specs.Views.{WorkView}
 use Rattle.mg_turns.specs.Parts.{PartView, FrameView, nodes_in, AgreeParts, IsOutIn, IsMissingIn, source_at, JoinedParts}
 use Rattle.mg_calc.specs.declared.edge.Edge.{Edge}
 use Rattle.mg_turns.specs.Turns.{Turn}
-use Rattle.mg_turns.specs.Rule.{is_of, has_turn, Homes, InSlot, Noted, Shown, HasWork, Linked, Orderly}
-use Rattle.mg_turns.specs.Code.Plays.{Like, Joins, Back, Goes, left, note_or, Plainly, Lays, Claims, Brings}
+use Rattle.mg_turns.specs.Rule.{is_turn_of, has_turn, Homes, InSlot, Noted, Shown, HasWork, Linked, Orderly}
+use Rattle.mg_turns.specs.Code.Plays.{Like, Joins, Back, Goes, left, note_or, Plainly, Lays, ClaimsInTurn, BringsInTurn}
 use Rattle.mg_turns.specs.declared.view.View.{View}
 use Rattle.mg_turns.proofs.Sums.{term_le, terms_le}
 use Rattle.mg_turns.proofs.Grows.{like_self, joins_self}
@@ -51,14 +51,14 @@ edge_or e (Some x) = x
 some_edge : (e x : Edge) → Some e ≡ Some x → e ≡ x
 some_edge e x is = ap (edge_or e) is
 
-pub is_of_yes : (i : ℕ) (t : Turn) → t.word ≡ i → is_of i t ≡ 1
+pub is_of_yes : (i : ℕ) (t : Turn) → t.word ≡ i → is_turn_of i t ≡ 1
 is_of_yes i t e = ap (λ b. cond b 1 0) (eq-eqb t.word i e)
 
-pub is_of_no : (i : ℕ) (t : Turn) → t.word ≢ i → is_of i t ≡ 0
+pub is_of_no : (i : ℕ) (t : Turn) → t.word ≢ i → is_turn_of i t ≡ 0
 is_of_no i t n = ap (λ b. cond b 1 0) (ne_eqb t.word i n)
 
 pub has : (i k : ℕ) (v : View) (t : Turn) → get_elem? v.turns k ≡ some t → t.word ≡ i → 0 < has_turn i v
-has i k v t at e = omega (arith, is_of_yes i t e, term_le (is_of i) v.turns k t at)
+has i k v t at e = omega (arith, is_of_yes i t e, term_le (is_turn_of i) v.turns k t at)
 
 -- what is shown after a step of the seat j was shown before
 pub carried : (R : PartView → PartView → Type 0) → ((d : PartView) → R d d) → (homes homes' : Homes) (views : List View) (j : ℕ) (w : View) (r : ℕ)
@@ -116,7 +116,7 @@ shown_held key s o i j k v t d near me at-k is shown =
     let at-x : get_elem? v.turns x.1 ≡ some x.3 = ap (λ (y : View). get_elem? y.turns x.1) (sym same) ∙ x.5 in
     dite (ℕ_discrete x.1 k)
     (λ e. x.7 ∙ ap (λ (y : Turn). y.note) (some-injective x.3 t (sym at-x ∙ (ap (λ (y : ℕ). get_elem? v.turns y) e ∙ at-k))))
-    (λ ne. absurd (omega (arith, terms_le (is_of i) v.turns k x.1 t x.3 ne at-k at-x, is_of_yes i t is, is_of_yes i x.3 x.6))))
+    (λ ne. absurd (omega (arith, terms_le (is_turn_of i) v.turns k x.1 t x.3 ne at-k at-x, is_of_yes i t is, is_of_yes i x.3 x.6))))
     (λ ne. absurd (omega (arith, terms_le (has_turn i) s.views j x.0 v x.2 ne me x.4, has i x.1 x.2 x.3 x.5 x.6))))
     shown
 
@@ -317,7 +317,7 @@ module _ (key : FrameView) (s : St) (o : Orderly key s) (l : Linked key s.homes 
           idle = idle_after key s.homes s.views l j w alive;
         }
 
-    pub links_claim : Claims v i p w → Linked key Then Views
+    pub links_claim : ClaimsInTurn v i p w → Linked key Then Views
     links_claim c =
         let n : ℕ = c.n in let d₀ : PartView = t.note in let a : Turn = c.t in let u : Turn = c.u in let few = o.few in
         let less : n < nodes_in key = subst (λ (f : FrameView). n < nodes_in f) key-is c.within in
@@ -435,7 +435,7 @@ module _ (key : FrameView) (s : St) (o : Orderly key s) (l : Linked key s.homes 
         })
         c.outs
 
-    pub links_bring : Brings v i p w → Linked key Then Views
+    pub links_bring : BringsInTurn v i p w → Linked key Then Views
     links_bring c =
         let d₀ : PartView = t.note in let u : Turn = c.u in
         let ts-is : ts ≡ u ∷ [] = sym (ap left turns) ∙ c.before in

@@ -17,7 +17,7 @@ use Rattle.mg_node.specs.Out.{IsMissing, ComesBack}
 use Rattle.mg_node.proofs.StaysOut.{committed_back, shelved_back}
 use Rattle.mg_turns.specs.Parts.{PartView, FrameView, at, an_engine, an_intake, FitsSome, IsOutIn, IsMissingAt, IsMissingIn}
 use Rattle.mg_turns.specs.Code.Running.{Returned, CellSteps, IsDone, IsPutBack, SomeRound}
-use Rattle.mg_turns.specs.Rounds.{Rounds, Stops}
+use Rattle.mg_turns.specs.Rounds.{CellRounds, Stops}
 use Rattle.mg_turns.specs.Sights.{has_after}
 use Rattle.std.proofs.lemmas.Option.{none-some}
 use Rattle.mg_turns.proofs.Grows.{intake_further}
@@ -161,7 +161,7 @@ done_round X w e f g i k claims d = (d.1, inl (record { work = w; claimed = f; p
 pub back_stops : (X : Type 0) (w : WorkView) (e f g : EngineView) (i k : IntakeView) → Claims {C = X} (Work w) e f i k → IsPutBack w f g → Stops e g i k
 back_stops X w e f g i k claims d = inr (record { work = w; claimed = f; outcome = d.0; claims = claims; of = d.1; shelves = d.2 })
 
-pub one_more_round : (n a : ℕ) (e m f : EngineView) (i l k : IntakeView) → Rounds n a e m i l → SomeRound m f l k → (laid : ℕ) × Rounds (n + 1) laid e f i k
+pub one_more_round : (n a : ℕ) (e m f : EngineView) (i l k : IntakeView) → CellRounds n a e m i l → SomeRound m f l k → (laid : ℕ) × CellRounds (n + 1) laid e f i k
 one_more_round n a e m f i l k before more =
     let same : suc n ≡ n + 1 = omega arith in
-    (a + more.0, subst (λ (x : ℕ). Rounds x (a + more.0) e f i k) same (a, more.0, m, l, refl, before, more.1))
+    (a + more.0, subst (λ (x : ℕ). CellRounds x (a + more.0) e f i k) same (a, more.0, m, l, refl, before, more.1))

@@ -5,11 +5,11 @@ use Rattle.std.proofs.Math.Nat.{le-max_left, le-max_right, max-le}
 use Rattle.mg_node.specs.Views.{IntakeView, EngineView}
 use Rattle.mg_node.specs.Standing.{EngineGrows}
 use Rattle.mg_node.specs.IntakeStanding.{IntakeGrows}
-use Rattle.mg_turns.specs.Parts.{PartView, Grown, PartGrows, count_in, count_by}
+use Rattle.mg_turns.specs.Parts.{PartView, Grown, PartGrows, arrived_in, arrived_by}
 use Rattle.mg_turns.specs.Turns.{Sight}
 use Rattle.mg_turns.specs.Rule.{Sights}
 use Rattle.mg_turns.specs.Sights.{sight}
-use Rattle.mg_turns.specs.Standings.{bound_by, laid_by, laid_in, laid_bound_by, laid_bound_in, sets_by, sets_in, most_seen}
+use Rattle.mg_turns.specs.Standings.{bound_by, packets_laid_by, laid_in, laid_bound_by, laid_bound_in, sets_laid_by, sets_in, most_seen}
 
 -- a number that only grows
 abbrev pub Rises : (PartView → ℕ) → Type 0
@@ -65,13 +65,13 @@ two_below number word x y xs m a b c = max-le (chosen x.word word (number x.part
 
 -- Which numbers grow.
 
-came_by : (a b : Option IntakeView) (port : ℕ) → Grown IntakeGrows a b → count_by a port ≤ count_by b port
+came_by : (a b : Option IntakeView) (port : ℕ) → Grown IntakeGrows a b → arrived_by a port ≤ arrived_by b port
 came_by None None port g = omega arith
 came_by None (Some y) port g = absurd g
 came_by (Some x) None port g = absurd g
 came_by (Some x) (Some y) port g = (g.ports port).count
 
-pub came_rises : (port : ℕ) → Rises (λ p. count_in p port)
+pub came_rises : (port : ℕ) → Rises (λ p. arrived_in p port)
 came_rises port p q g = came_by p.intake q.intake port g.intake
 
 bounds_by : (a b : Option IntakeView) (port : ℕ) → Grown IntakeGrows a b → bound_by a port ≤ bound_by b port
@@ -80,7 +80,7 @@ bounds_by None (Some y) port g = absurd g
 bounds_by (Some x) None port g = absurd g
 bounds_by (Some x) (Some y) port g = (g.ports port).bound
 
-laids_by : (a b : Option EngineView) (output : ℕ) → Grown EngineGrows a b → laid_by a output ≤ laid_by b output
+laids_by : (a b : Option EngineView) (output : ℕ) → Grown EngineGrows a b → packets_laid_by a output ≤ packets_laid_by b output
 laids_by None None output g = omega arith
 laids_by None (Some y) output g = absurd g
 laids_by (Some x) None output g = absurd g
@@ -98,7 +98,7 @@ laid_bounds_by (Some x) (Some y) output g = (g.outputs output).bound
 pub laid_bound_rises : (output : ℕ) → Rises (λ p. laid_bound_in p output)
 laid_bound_rises output p q g = laid_bounds_by p.engine q.engine output g.engine
 
-all_sets_by : (a b : Option EngineView) → Grown EngineGrows a b → sets_by a ≤ sets_by b
+all_sets_by : (a b : Option EngineView) → Grown EngineGrows a b → sets_laid_by a ≤ sets_laid_by b
 all_sets_by None None g = omega arith
 all_sets_by None (Some y) g = absurd g
 all_sets_by (Some x) None g = absurd g

@@ -4,7 +4,7 @@ use mathlib.Core.Logic.{dite}
 use native.Mathlib.Decide.{ℕ_discrete}
 use Rattle.mg_node.specs.Views.{IntakeView, EngineView}
 use Rattle.mg_stream.specs.Queue.{count_of}
-use Rattle.mg_node.specs.declared.waits.Waits.{Waits}
+use Rattle.mg_node.specs.declared.pending.Pending.{Pending}
 use Rattle.mg_node.specs.Ports.{port_queue}
 use Rattle.mg_node.specs.IntakeStanding.{Stays, IntakeGrows}
 use Rattle.mg_node.specs.Standing.{EngineGrows}
@@ -13,20 +13,20 @@ use Rattle.mg_turns.specs.Rule.{doubled, word_of}
 use Rattle.mg_turns.specs.Code.Plays.{CellWords}
 
 -- where each port counts the same number of packets, so do all together
-pub came_same : (v w : Waits) (n : ℕ) → ((port : ℕ) → count_of (port_queue w port) ≡ count_of (port_queue v port)) → came_to w n ≡ came_to v n
+pub came_same : (v w : Pending) (n : ℕ) → ((port : ℕ) → count_of (port_queue w port) ≡ count_of (port_queue v port)) → came_to w n ≡ came_to v n
 came_same v w zero same = refl
 came_same v w (suc n) same = omega (arith, came_same v w n same, same n)
 
-came_less : (v w : Waits) (n : ℕ) → ((port : ℕ) → count_of (port_queue v port) ≤ count_of (port_queue w port)) → came_to v n ≤ came_to w n
+came_less : (v w : Pending) (n : ℕ) → ((port : ℕ) → count_of (port_queue v port) ≤ count_of (port_queue w port)) → came_to v n ≤ came_to w n
 came_less v w zero less = omega arith
 came_less v w (suc n) less = omega (arith, came_less v w n less, less n)
 
 -- more came to one port, and none to the others
-came_none : (v w : Waits) (port n : ℕ) → n ≤ port → ((other : ℕ) → other < n → count_of (port_queue w other) ≡ count_of (port_queue v other)) → came_to w n ≡ came_to v n
+came_none : (v w : Pending) (port n : ℕ) → n ≤ port → ((other : ℕ) → other < n → count_of (port_queue w other) ≡ count_of (port_queue v other)) → came_to w n ≡ came_to v n
 came_none v w port zero less same = refl
 came_none v w port (suc n) less same = omega (arith, came_none v w port n (omega (arith, less)) (λ o h. same o (omega (arith, h))), same n (omega arith))
 
-pub came_more : (v w : Waits) (port more n : ℕ) → port < n → count_of (port_queue w port) ≡ count_of (port_queue v port) + more
+pub came_more : (v w : Pending) (port more n : ℕ) → port < n → count_of (port_queue w port) ≡ count_of (port_queue v port) + more
     → ((other : ℕ) → other ≢ port → other < n → count_of (port_queue w other) ≡ count_of (port_queue v other)) → came_to w n ≡ came_to v n + more
 came_more v w port more zero less here same = absurd (omega (arith, less))
 came_more v w port more (suc n) less here same = dite (ℕ_discrete port n)

@@ -20,8 +20,8 @@ use Rattle.mg_loopback.proofs.Standing.{all_told}
 use Rattle.mg_node.specs.Views.{IntakeView, OutcomeView, EngineView}
 use Rattle.mg_node.specs.declared.role.Role.{Role}
 use Rattle.mg_node.specs.declared.role.Role.TheVariants.{Source}
-use Rattle.mg_node.specs.declared.waits.Waits.{Waits}
-use Rattle.mg_node.specs.declared.waits.Waits.TheVariants.{Sets as WaitingSets, Loop as WaitingLoop}
+use Rattle.mg_node.specs.declared.pending.Pending.{Pending}
+use Rattle.mg_node.specs.declared.pending.Pending.TheVariants.{Sets as WaitingSets, Loop as WaitingLoop}
 use Rattle.mg_node.specs.declared.claimed.Claimed.{Claimed}
 use Rattle.mg_node.specs.declared.claimed.Claimed.TheVariants.{Work, Answered, NotReady, InFlightFull, Draining, Ended, OutOfMemory}
 use Rattle.mg_node.specs.Job.{LoggedJob}
@@ -75,14 +75,14 @@ all_gone k q s stands gone none =
     let few = stands.gone in
     omega (arith, w, length-drop q.gone s.packets, gone, few)
 
-still_by : (k : ℕ) (w : Waits) → IsNext w NotYet → AllTells NotYet k w
+still_by : (k : ℕ) (w : Pending) → IsNext w NotYet → AllTells NotYet k w
 still_by k (WaitingSets inbox) h = λ came stands. sets_still inbox.policy k (queues_of inbox.pool) came stands h.0 h.1
 still_by k (WaitingLoop held) h = λ main loop stands. (
   sym (all_told k held main loop stands h.0),
   (λ all end. h.1 (none_waits k held.main main stands.at_main stands.gone all, stands.at_main.bound ∙ end)),
 )
 
-end_by : (k : ℕ) (w : Waits) → IsNext w AtEnd → AllTells AtEnd k w
+end_by : (k : ℕ) (w : Pending) → IsNext w AtEnd → AllTells AtEnd k w
 end_by k (WaitingSets inbox) h = λ came stands. sets_end inbox.policy k (queues_of inbox.pool) came stands h
 end_by k (WaitingLoop held) h = λ main loop stands. (all_gone k held.main main stands.at_main stands.gone h.0, sym stands.at_main.bound ∙ h.1)
 

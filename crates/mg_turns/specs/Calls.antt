@@ -17,7 +17,7 @@ use Rattle.mg_node.specs.IntakeStanding.{HasGrown}
 use Rattle.mg_node.specs.Ports.{port_queue}
 use Rattle.mg_turns.specs.Parts.{FrameView, an_engine, an_intake, source_at}
 use Rattle.mg_turns.specs.Sights.{Finds, FindsCell, Missed, MissedOne, left_one, left_two, cell_left, has_after}
-use Rattle.mg_turns.specs.Rounds.{Rounds, Stops}
+use Rattle.mg_turns.specs.Rounds.{CellRounds, Stops}
 use Rattle.mg_turns.specs.Told.{committed_in, RunEnds}
 use Rattle.mg_turns.specs.declared.view.View.{View}
 use Rattle.mg_turns.specs.declared.shared.SharedNet.{SharedNet}
@@ -75,7 +75,7 @@ TriesRaise (Done result) node v w = HasRaised result node v w
 TriesRaise (Busy word) node v w = Missed (2 * node + 1) (2 * node) word v w
 
 -- a call has made `done` rounds on the cell that it found, at most `most`; where these are fewer, no further work could be done
-pub record HasRun (done most node : ℕ) (v w : View) : Type 0 where
+pub record HasMadeRounds (done most node : ℕ) (v w : View) : Type 0 where
   pub engine : EngineView
   pub engine_then : EngineView
   pub engine_now : EngineView
@@ -84,7 +84,7 @@ pub record HasRun (done most node : ℕ) (v w : View) : Type 0 where
   pub intake_now : IntakeView
   pub laid : ℕ
   pub found : FindsCell v node engine intake
-  pub rounds : Rounds done laid engine engine_then intake intake_then
+  pub rounds : CellRounds done laid engine engine_then intake intake_then
   pub within : done ≤ most
   pub end : ((done ≡ most) × (engine_now ≡ engine_then) × (intake_now ≡ intake_then)) ⊎ ((done < most) × Stops engine_then engine_now intake_then intake_now)
   pub committed : committed_in engine_now ≡ committed_in engine + done
@@ -93,7 +93,7 @@ pub record HasRun (done most node : ℕ) (v w : View) : Type 0 where
 
 -- what a call says that tries to work at a node: it has made rounds, or a turn was missed
 abbrev pub TriesRun : Tried ℕ → ℕ → ℕ → View → View → Type 0
-TriesRun (Done done) most node v w = HasRun done most node v w
+TriesRun (Done done) most node v w = HasMadeRounds done most node v w
 TriesRun (Busy word) most node v w = Missed (2 * node + 1) (2 * node) word v w
 
 -- a call has delivered along an edge, from the engine to the intake that it found

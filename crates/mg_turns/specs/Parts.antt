@@ -13,7 +13,7 @@ use Rattle.mg_node.specs.Views.{IntakeView, WorkView, EntryView, EngineView}
 use Rattle.mg_node.specs.Codes.{intake_code, engine_code}
 use Rattle.mg_node.specs.Job.{LoggedJob, ports_of}
 use Rattle.mg_node.specs.Lawful.{Owner, of_node, of_input, LawfulEngine, LawfulIntake, Agree}
-use Rattle.mg_node.specs.declared.waits.Waits.{Waits}
+use Rattle.mg_node.specs.declared.pending.Pending.{Pending}
 use Rattle.mg_turns.specs.Words.{Whose, intake_of, engine_of, word_at, whose}
 use Rattle.mg_node.specs.IntakeStanding.{HasGrown, IntakeGrows}
 use Rattle.mg_node.specs.Ports.{port_queue}
@@ -57,7 +57,7 @@ abbrev pub owner_in : FrameView → ℕ → Whose
 owner_in key word = whose (nodes_in key) word
 
 -- how many packets came to an intake on its first n ports; those that are gone are counted
-abbrev pub came_to : Waits → ℕ → ℕ
+abbrev pub came_to : Pending → ℕ → ℕ
 came_to waits zero = 0
 came_to waits (suc n) = came_to waits n + count_of (port_queue waits n)
 
@@ -140,13 +140,13 @@ abbrev pub first_in : PartView → ℕ
 first_in p = first_by p.engine
 
 -- how many packets came to a port of an intake
-abbrev pub count_by : Option IntakeView → ℕ → ℕ
-count_by None port = 0
-count_by (Some i) port = count_of (port_queue i.waits port)
+abbrev pub arrived_by : Option IntakeView → ℕ → ℕ
+arrived_by None port = 0
+arrived_by (Some i) port = count_of (port_queue i.waits port)
 
 -- how many packets came to a port of a part, where it is an intake
-abbrev pub count_in : PartView → ℕ → ℕ
-count_in p port = count_by p.intake port
+abbrev pub arrived_in : PartView → ℕ → ℕ
+arrived_in p port = arrived_by p.intake port
 
 -- how many sets were claimed of an intake, or packets of MAIN answered
 abbrev pub claimed_by : Option IntakeView → ℕ
@@ -194,7 +194,7 @@ abbrev pub source_at : Plan → Edge → ℕ
 source_at plan e = word_at (length plan.nodes) (engine_of (writer_by (option_map (λ s. s.producer) (slice_get plan.streams e.stream))))
 
 -- a word is that of an engine, of a node or a graph input of the frame
-pub record IsSource (key : FrameView) (word : ℕ) : Type 0 where
+pub record IsEngineWord (key : FrameView) (word : ℕ) : Type 0 where
   pub owner : Owner
   pub is : owner_in key word ≡ engine_of owner
   pub within : word < length key.parts
@@ -206,9 +206,9 @@ JoinedParts p e q = (g : EngineView) (i : IntakeView) → p.engine ≡ Some g �
 -- what the rule wants of the plan: edges lead from engines to intakes, and no two to one port; and an engine still keeps the first
 -- packet that a port hasn't got
 pub record EdgesFit (key : FrameView) : Type 0 where
-  pub sources : (k : ℕ) (e : Edge) → slice_get key.plan.edges k ≡ Some e → IsSource key (source_at key.plan e)
+  pub sources : (k : ℕ) (e : Edge) → slice_get key.plan.edges k ≡ Some e → IsEngineWord key (source_at key.plan e)
   pub consumers : (k : ℕ) (e : Edge) → slice_get key.plan.edges k ≡ Some e → e.node ≤ nodes_in key
   pub ports : (k : ℕ) (e : Edge) → slice_get key.plan.edges k ≡ Some e → slice_get (ports_of key.plan e.node) e.port ≡ Some e.stream
   pub leaves : (k : ℕ) (e : Edge) → slice_get key.plan.edges k ≡ Some e → (first_in (at key (source_at key.plan e)) ≤ e.stream) × (e.stream < first_in (at key (source_at key.plan e)) + length (gone_in (at key (source_at key.plan e))))
-  pub kept : (k : ℕ) (e : Edge) → slice_get key.plan.edges k ≡ Some e → slice_index (gone_in (at key (source_at key.plan e))) (e.stream - first_in (at key (source_at key.plan e))) ≤ count_in (at key (2 * e.node)) e.port
+  pub kept : (k : ℕ) (e : Edge) → slice_get key.plan.edges k ≡ Some e → slice_index (gone_in (at key (source_at key.plan e))) (e.stream - first_in (at key (source_at key.plan e))) ≤ arrived_in (at key (2 * e.node)) e.port
   pub apart : (k l : ℕ) (e x : Edge) → k ≢ l → slice_get key.plan.edges k ≡ Some e → slice_get key.plan.edges l ≡ Some x → e.node ≡ x.node → e.port ≢ x.port

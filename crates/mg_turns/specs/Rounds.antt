@@ -22,10 +22,10 @@ Round laid engine now intake intake_now =
     Works laid engine now intake intake_now ⊎ ((laid ≡ 1) × Claims {C = Unit {0}} Answered engine now intake intake_now)
 
 -- a number of rounds one after the other, by which `laid` sets, calls or answers are laid together
-abbrev pub Rounds : ℕ → ℕ → EngineView → EngineView → IntakeView → IntakeView → Type 0
-Rounds zero laid engine now intake intake_now = (laid ≡ 0) × (now ≡ engine) × (intake_now ≡ intake)
-Rounds (suc n) laid engine now intake intake_now =
-    (before : ℕ) × (more : ℕ) × (e : EngineView) × (i : IntakeView) × (laid ≡ before + more) × Rounds n before engine e intake i × Round more e now i intake_now
+abbrev pub CellRounds : ℕ → ℕ → EngineView → EngineView → IntakeView → IntakeView → Type 0
+CellRounds zero laid engine now intake intake_now = (laid ≡ 0) × (now ≡ engine) × (intake_now ≡ intake)
+CellRounds (suc n) laid engine now intake intake_now =
+    (before : ℕ) × (more : ℕ) × (e : EngineView) × (i : IntakeView) × (laid ≡ before + more) × CellRounds n before engine e intake i × Round more e now i intake_now
 
 -- an outcome of a work: the work wasn't run, or it was performed
 abbrev pub IsOutcomeOf : WorkView → OutcomeView → Type 0

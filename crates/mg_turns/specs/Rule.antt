@@ -34,12 +34,12 @@ Sights i p [] = Unit {0}
 Sights i p (x ∷ xs) = (x.word ≡ i → PartGrows x.part p) × Sights i p xs
 
 -- 1 where a turn is that of a word, and otherwise 0
-abbrev pub is_of : ℕ → Turn → ℕ
-is_of i t = cond (t.word == i) 1 0
+abbrev pub is_turn_of : ℕ → Turn → ℕ
+is_turn_of i t = cond (t.word == i) 1 0
 
 -- how many turns of a word a view has
 abbrev pub has_turn : ℕ → View → ℕ
-has_turn i v = total (is_of i) v.turns
+has_turn i v = total (is_turn_of i) v.turns
 
 -- the view of the seat that has a net when it is shared: it has the whole portion
 abbrev pub first_view : FrameView → View

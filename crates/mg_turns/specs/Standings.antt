@@ -4,7 +4,7 @@ use Rattle.mg_stream.specs.Queue.{count_of}
 use Rattle.mg_node.specs.Views.{IntakeView, EngineView}
 use Rattle.mg_node.specs.Ports.{port_queue}
 use Rattle.mg_node.specs.Outputs.{laid_at}
-use Rattle.mg_turns.specs.Parts.{PartView, count_in}
+use Rattle.mg_turns.specs.Parts.{PartView, arrived_in}
 use Rattle.mg_turns.specs.Turns.{Sight}
 use Rattle.mg_turns.specs.declared.view.View.{View}
 
@@ -18,13 +18,13 @@ abbrev pub bound_in : PartView → ℕ → ℕ
 bound_in p port = bound_by p.intake port
 
 -- how many packets an engine laid at an output, and 0 without an engine
-abbrev pub laid_by : Option EngineView → ℕ → ℕ
-laid_by None output = 0
-laid_by (Some e) output = count_of (laid_at e output)
+abbrev pub packets_laid_by : Option EngineView → ℕ → ℕ
+packets_laid_by None output = 0
+packets_laid_by (Some e) output = count_of (laid_at e output)
 
 -- how many packets a part laid at an output
 abbrev pub laid_in : PartView → ℕ → ℕ
-laid_in p output = laid_by p.engine output
+laid_in p output = packets_laid_by p.engine output
 
 -- the bound of an engine's output, and 0 without an engine
 abbrev pub laid_bound_by : Option EngineView → ℕ → ℕ
@@ -36,13 +36,13 @@ abbrev pub laid_bound_in : PartView → ℕ → ℕ
 laid_bound_in p output = laid_bound_by p.engine output
 
 -- how many sets, calls or answers an engine laid, and 0 without an engine
-abbrev pub sets_by : Option EngineView → ℕ
-sets_by None = 0
-sets_by (Some e) = e.laid
+abbrev pub sets_laid_by : Option EngineView → ℕ
+sets_laid_by None = 0
+sets_laid_by (Some e) = e.laid
 
 -- how many sets, calls or answers a part laid
 abbrev pub sets_in : PartView → ℕ
-sets_in p = sets_by p.engine
+sets_in p = sets_laid_by p.engine
 
 -- the greatest value of a number over a seat's sights of a word, and 0 where it has none
 abbrev pub most_seen : (PartView → ℕ) → ℕ → List Sight → ℕ
@@ -51,7 +51,7 @@ most_seen number word (x ∷ xs) = max (cond (x.word == word) (number x.part) 0)
 
 -- how many packets came to a port, as far as a seat knows
 abbrev pub known_came : View → ℕ → ℕ → ℕ
-known_came v consumer port = most_seen (λ p. count_in p port) (2 * consumer) v.seen
+known_came v consumer port = most_seen (λ p. arrived_in p port) (2 * consumer) v.seen
 
 -- the bound of a port, as far as a seat knows
 abbrev pub known_bound : View → ℕ → ℕ → ℕ

@@ -13,8 +13,8 @@ use Rattle.mg_calc.specs.declared.edge.Edge.{Edge}
 use Rattle.mg_node.specs.Views.{IntakeView, EntryView, OutcomeView, EngineView}
 use Rattle.mg_node.specs.declared.role.Role.{Role}
 use Rattle.mg_node.specs.declared.role.Role.TheVariants.{Source}
-use Rattle.mg_node.specs.declared.waits.Waits.{Waits}
-use Rattle.mg_node.specs.declared.waits.Waits.TheVariants.{Sets as WaitingSets, Loop as WaitingLoop}
+use Rattle.mg_node.specs.declared.pending.Pending.{Pending}
+use Rattle.mg_node.specs.declared.pending.Pending.TheVariants.{Sets as WaitingSets, Loop as WaitingLoop}
 use Rattle.mg_node.specs.declared.delivered.Delivered.{Delivered}
 use Rattle.mg_node.specs.declared.delivered.Delivered.TheVariants.{Moved, OutOfMemory as NoMemory}
 use Rattle.mg_node.specs.declared.claimed.Claimed.{Claimed}
@@ -70,8 +70,8 @@ pub record LeftCell (node : ℕ) (v w : View) (Says : EngineView → IntakeView 
   pub says : Says engine intake
 
 -- the bound of each output is known to be as high as what waits allows
-abbrev pub IsRaised : ℕ → View → EngineView → IntakeView → Type 0
-IsRaised node w e i = (output : ℕ) → output < length e.outputs → IfSome (advance_bound e i.waits) (λ b. b ≤ known_laid_bound w (2 * node + 1) output)
+abbrev pub AreRaised : ℕ → View → EngineView → IntakeView → Type 0
+AreRaised node w e i = (output : ℕ) → output < length e.outputs → IfSome (advance_bound e i.waits) (λ b. b ≤ known_laid_bound w (2 * node + 1) output)
 
 -- the known bound of some output of a node rose
 pub record SomeRose (node : ℕ) (v w : View) : Type 0 where
@@ -80,7 +80,7 @@ pub record SomeRose (node : ℕ) (v w : View) : Type 0 where
 
 -- what the answer of a call that raises outputs tells
 abbrev pub RaiseTells : Tried Bool → ℕ → View → View → Type 0
-RaiseTells (Done moved) node v w = LeftCell node v w (IsRaised node w) × (moved ≡ true → SomeRose node v w)
+RaiseTells (Done moved) node v w = LeftCell node v w (AreRaised node w) × (moved ≡ true → SomeRose node v w)
 RaiseTells (Busy word) node v w = ⊤
 
 -- what prefixes of MAIN and LOOP tell where the first k packets of MAIN are answered: there is a next answer; or none comes any more; or
@@ -91,7 +91,7 @@ RepliesTell AtEnd k main loop = (length main.packets ≡ k) × (main.bound ≡ d
 RepliesTell NotYet k main loop = (length (replies main loop) ≡ k) × ((length main.packets ≡ k) → main.bound ≢ done)
 
 -- what all that came to an intake tells where the first k sets or answers are claimed, with the packets that are gone with these
-abbrev pub AllTells : Readiness → ℕ → Waits → Type 0
+abbrev pub AllTells : Readiness → ℕ → Pending → Type 0
 AllTells readiness k (WaitingSets inbox) = (came : List (StreamPrefix Plain)) → StandAfter inbox.policy k (queues_of inbox.pool) came → TellsOf inbox.policy k came readiness
 AllTells readiness k (WaitingLoop held) = (main loop : StreamPrefix Plain) → StandsAfter k held main loop → RepliesTell readiness k main loop
 

@@ -6,7 +6,7 @@ ghost use Rattle.mg_node.specs.Shelves.{IsOut, shelved};
 ghost use Rattle.mg_node.specs.Commits.{SomeJobHasEngine};
 ghost use Rattle.mg_turns.specs.Rounds.{Stops};
 ghost use Rattle.mg_turns.specs.Told.{committed_in, RunEnds};
-ghost use Rattle.mg_turns.specs.Code.Running.{Returned, CellSteps, IsCommitted, IsDone, IsPutBack, SomeRound, Ran, NoneCommitted};
+ghost use Rattle.mg_turns.specs.Code.Running.{Returned, CellSteps, IsCommitted, IsDone, IsPutBack, SomeRound, RanRounds, NoneCommitted};
 
 use mg_calc::Calculator;
 use mg_edge::Gate;
@@ -86,7 +86,7 @@ pub(crate) fn run_sets<C: Calculator, G: Gate>(
 ) -> u32
     requires { AreCell engine.old intake.old }
     ensures steps { CellSteps engine.old engine.new intake.old intake.new }
-    ensures ran { Ran result most engine.old engine.new intake.old intake.new }
+    ensures ran { RanRounds result most engine.old engine.new intake.old intake.new }
     ensures counts { committed_in engine.new ≡ committed_in engine.old + result }
     ensures ends { result < most → RunEnds engine.new intake.new }
 {

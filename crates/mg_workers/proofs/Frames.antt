@@ -26,7 +26,7 @@ use Rattle.mg_sched.proofs.PlanEdges.{edge_stream, all_at}
 use Rattle.mg_sched.proofs.PlanStreams.{WrittenBy, producer_there}
 use Rattle.mg_sched.proofs.Finding.{found}
 use Rattle.mg_turns.specs.Words.{Whose, intake_of, engine_of, word_at}
-use Rattle.mg_turns.specs.Parts.{PartView, FrameView, blank_part, at, owner_in, an_engine, an_intake, IsKind, LawfulPart, Fits, FitsSome, first_in, gone_in, count_in, AgreeParts, IsMissingIn, writer_by, source_at, JoinedParts, EdgesFit}
+use Rattle.mg_turns.specs.Parts.{PartView, FrameView, blank_part, at, owner_in, an_engine, an_intake, IsKind, LawfulPart, Fits, FitsSome, first_in, gone_in, arrived_in, AgreeParts, IsMissingIn, writer_by, source_at, JoinedParts, EdgesFit}
 use Rattle.mg_turns.specs.Rule.{Ready}
 use Rattle.mg_turns.proofs.Words.{intake_at, engine_at, input_at}
 use Rattle.mg_turns.proofs.Appends.{gone_get}
@@ -141,9 +141,9 @@ module _ (job : LoggedJob) (ps : PartsView) (h : ArePartsOf job ps) where
     leaves = subst (λ (p : PartView). (first_in p ≤ e.stream) × (e.stream < first_in p + length (gone_in p))) (sym source_there.3)
         (place.leaves.from, (let b = place.leaves.below in omega (arith, b, length-map place.engine.outputs (λ (b : Backlog Plain). b.gone))))
 
-    kept : slice_index (gone_in (at key (source_at ps.plan e))) (e.stream - first_in (at key (source_at ps.plan e))) ≤ count_in (at key (2 * e.node)) e.port
-    kept = subst (λ (p : PartView). slice_index (gone_in p) (e.stream - first_in p) ≤ count_in (at key (2 * e.node)) e.port) (sym source_there.3)
-        (subst (λ (q : PartView). slice_index (gone_in (an_engine place.engine)) (e.stream - place.engine.first) ≤ count_in q e.port) (sym consumer_there)
+    kept : slice_index (gone_in (at key (source_at ps.plan e))) (e.stream - first_in (at key (source_at ps.plan e))) ≤ arrived_in (at key (2 * e.node)) e.port
+    kept = subst (λ (p : PartView). slice_index (gone_in p) (e.stream - first_in p) ≤ arrived_in (at key (2 * e.node)) e.port) (sym source_there.3)
+        (subst (λ (q : PartView). slice_index (gone_in (an_engine place.engine)) (e.stream - place.engine.first) ≤ arrived_in q e.port) (sym consumer_there)
         (let low = joint.kept in omega (arith, low, gone_get place.engine.outputs (e.stream - place.engine.first))))
 
     joined : JoinedParts (at key (source_at ps.plan e)) e (at key (2 * e.node))

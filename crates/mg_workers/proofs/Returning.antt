@@ -25,7 +25,7 @@ use Rattle.mg_sched.proofs.Finding.{found}
 use Rattle.mg_sched.proofs.NothingGone.{gones, HadGone, has_from}
 use Rattle.mg_sched.proofs.WoundNets.{order_of}
 use Rattle.mg_turns.specs.Words.{Whose, intake_of, engine_of}
-use Rattle.mg_turns.specs.Parts.{PartView, FrameView, blank_part, at, nodes_in, owner_in, an_engine, an_intake, LawfulPart, Grown, gone_in, first_in, count_by, claimed_by, source_at}
+use Rattle.mg_turns.specs.Parts.{PartView, FrameView, blank_part, at, nodes_in, owner_in, an_engine, an_intake, LawfulPart, Grown, gone_in, first_in, arrived_by, claimed_by, source_at}
 use Rattle.mg_turns.specs.Ends.{Unshared}
 use Rattle.mg_turns.specs.declared.view.View.{View}
 use Rattle.mg_turns.proofs.Words.{intake_at, engine_at, input_at}
@@ -50,7 +50,7 @@ going_before before now grows going = elim (cases_Bool (has_ended before)) [
 ]
 
 -- a port counts no fewer packets afterwards
-count_grows : (a : Option IntakeView) (i : IntakeView) (port : ℕ) → Grown IntakeGrows a (Some i) → count_by a port ≤ count_of (port_queue i.waits port)
+count_grows : (a : Option IntakeView) (i : IntakeView) (port : ℕ) → Grown IntakeGrows a (Some i) → arrived_by a port ≤ count_of (port_queue i.waits port)
 count_grows None i port g = omega arith
 count_grows (Some x) i port g = (g.ports port).count
 

@@ -11,7 +11,7 @@ use Rattle.mg_turns.specs.Words.{Whose, intake_of, engine_of, whose}
 use Rattle.mg_turns.specs.Parts.{PartView, blank_part, an_engine, an_intake, IsKind}
 use Rattle.mg_turns.proofs.Words.{intake_at, engine_at, input_at}
 use Rattle.mg_workers.specs.Woven.{woven}
-use Rattle.mg_workers.specs.Code.Weaving.{engines_in, intakes_in, AreKinds, IsOf}
+use Rattle.mg_workers.specs.Code.Weaving.{engines_in, intakes_in, AreKinds, IsWovenFrom}
 
 -- Words.
 
@@ -70,7 +70,7 @@ pub no_intake : (parts : List PartView) (e : EngineView) → intakes_in (parts +
 no_intake parts e = filter_map-append (λ (p : PartView). p.intake) parts (an_engine e ∷ []) ∙ append-nil (intakes_in parts)
 
 intake_more : (n : ℕ) (es : List EngineView) (is : List IntakeView) (parts : List PartView) (engines : List EngineView) (intakes : List IntakeView) (i : IntakeView) (m : ℕ) → whose n (length parts) ≡ intake_of m
-    → IsOf n es is parts engines (intakes ++ i ∷ []) → IsOf n es is (parts ++ an_intake i ∷ []) engines intakes
+    → IsWovenFrom n es is parts engines (intakes ++ i ∷ []) → IsWovenFrom n es is (parts ++ an_intake i ∷ []) engines intakes
 intake_more n es is parts engines intakes i m of h = record {
   engines_are = ap (λ (xs : List EngineView). xs ++ reverse engines) (no_engine parts i) ∙ h.engines_are;
   intakes_are = with_intake parts intakes i ∙ h.intakes_are;
@@ -78,7 +78,7 @@ intake_more n es is parts engines intakes i m of h = record {
 }
 
 engine_more : (n : ℕ) (es : List EngineView) (is : List IntakeView) (parts : List PartView) (engines : List EngineView) (intakes : List IntakeView) (e : EngineView) (o : Owner) → whose n (length parts) ≡ engine_of o
-    → IsOf n es is parts (engines ++ e ∷ []) intakes → IsOf n es is (parts ++ an_engine e ∷ []) engines intakes
+    → IsWovenFrom n es is parts (engines ++ e ∷ []) intakes → IsWovenFrom n es is (parts ++ an_engine e ∷ []) engines intakes
 engine_more n es is parts engines intakes e o of h = record {
   engines_are = with_engine parts engines e ∙ h.engines_are;
   intakes_are = ap (λ (xs : List IntakeView). xs ++ reverse intakes) (no_intake parts e) ∙ h.intakes_are;
@@ -86,7 +86,7 @@ engine_more n es is parts engines intakes e o of h = record {
 }
 
 intake_fewer : (n : ℕ) (es : List EngineView) (is : List IntakeView) (parts : List PartView) (engines : List EngineView) (intakes : List IntakeView) (i : IntakeView)
-    → IsOf n es is (parts ++ an_intake i ∷ []) engines intakes → IsOf n es is parts engines (intakes ++ i ∷ [])
+    → IsWovenFrom n es is (parts ++ an_intake i ∷ []) engines intakes → IsWovenFrom n es is parts engines (intakes ++ i ∷ [])
 intake_fewer n es is parts engines intakes i h = record {
   engines_are = ap (λ (xs : List EngineView). xs ++ reverse engines) (sym (no_engine parts i)) ∙ h.engines_are;
   intakes_are = sym (with_intake parts intakes i) ∙ h.intakes_are;
@@ -94,7 +94,7 @@ intake_fewer n es is parts engines intakes i h = record {
 }
 
 engine_fewer : (n : ℕ) (es : List EngineView) (is : List IntakeView) (parts : List PartView) (engines : List EngineView) (intakes : List IntakeView) (e : EngineView)
-    → IsOf n es is (parts ++ an_engine e ∷ []) engines intakes → IsOf n es is parts (engines ++ e ∷ []) intakes
+    → IsWovenFrom n es is (parts ++ an_engine e ∷ []) engines intakes → IsWovenFrom n es is parts (engines ++ e ∷ []) intakes
 engine_fewer n es is parts engines intakes e h = record {
   engines_are = sym (with_engine parts engines e) ∙ h.engines_are;
   intakes_are = ap (λ (xs : List IntakeView). xs ++ reverse intakes) (sym (no_intake parts e)) ∙ h.intakes_are;
@@ -103,14 +103,14 @@ engine_fewer n es is parts engines intakes e h = record {
 
 -- the same steps, told by the values that the code has before and after
 pub put_intake_is : (n : ℕ) (es : List EngineView) (is : List IntakeView) (parts now : List PartView) (engines : List EngineView) (old new : List IntakeView) (m : ℕ) → whose n (length parts) ≡ intake_of m
-    → (i : IntakeView) × (old ≡ new ++ i ∷ []) × (now ≡ parts ++ an_intake i ∷ []) → IsOf n es is parts engines old → IsOf n es is now engines new
+    → (i : IntakeView) × (old ≡ new ++ i ∷ []) × (now ≡ parts ++ an_intake i ∷ []) → IsWovenFrom n es is parts engines old → IsWovenFrom n es is now engines new
 put_intake_is n es is parts now engines old new m of put h =
-    subst (λ (ps : List PartView). IsOf n es is ps engines new) (sym put.2) (intake_more n es is parts engines new put.0 m of (subst (IsOf n es is parts engines) put.1 h))
+    subst (λ (ps : List PartView). IsWovenFrom n es is ps engines new) (sym put.2) (intake_more n es is parts engines new put.0 m of (subst (IsWovenFrom n es is parts engines) put.1 h))
 
 pub put_engine_is : (n : ℕ) (es : List EngineView) (is : List IntakeView) (parts now : List PartView) (old new : List EngineView) (intakes : List IntakeView) (o : Owner) → whose n (length parts) ≡ engine_of o
-    → (e : EngineView) × (old ≡ new ++ e ∷ []) × (now ≡ parts ++ an_engine e ∷ []) → IsOf n es is parts old intakes → IsOf n es is now new intakes
+    → (e : EngineView) × (old ≡ new ++ e ∷ []) × (now ≡ parts ++ an_engine e ∷ []) → IsWovenFrom n es is parts old intakes → IsWovenFrom n es is now new intakes
 put_engine_is n es is parts now old new intakes o of put h =
-    subst (λ (ps : List PartView). IsOf n es is ps new intakes) (sym put.2) (engine_more n es is parts new intakes put.0 o of (subst (λ (es' : List EngineView). IsOf n es is parts es' intakes) put.1 h))
+    subst (λ (ps : List PartView). IsWovenFrom n es is ps new intakes) (sym put.2) (engine_more n es is parts new intakes put.0 o of (subst (λ (es' : List EngineView). IsWovenFrom n es is parts es' intakes) put.1 h))
 
 -- All.
 
@@ -172,47 +172,47 @@ is_woven n parts kinds long = woven_of n parts (in_place n parts kinds long) lon
 -- The last part goes back into its list.
 
 pub engine_back : (n : ℕ) (es : List EngineView) (is : List IntakeView) (parts ps : List PartView) (engines : List EngineView) (intakes : List IntakeView) (p : PartView) (o : Owner) → parts ≡ ps ++ p ∷ [] → whose n (length ps) ≡ engine_of o
-    → IsOf n es is parts engines intakes → (e : EngineView) × (p ≡ an_engine e) × IsOf n es is ps (engines ++ e ∷ []) intakes
+    → IsWovenFrom n es is parts engines intakes → (e : EngineView) × (p ≡ an_engine e) × IsWovenFrom n es is ps (engines ++ e ∷ []) intakes
 engine_back n es is parts ps engines intakes p o last of h =
-    let h' = subst (λ (xs : List PartView). IsOf n es is xs engines intakes) last h in
+    let h' = subst (λ (xs : List PartView). IsWovenFrom n es is xs engines intakes) last h in
     let kind : IsKind (engine_of o) p = subst (λ (w : Whose). IsKind w p) of (kind_last n ps p h'.kinds) in
-    (kind.0, kind.1, engine_fewer n es is ps engines intakes kind.0 (subst (λ (q : PartView). IsOf n es is (ps ++ q ∷ []) engines intakes) kind.1 h'))
+    (kind.0, kind.1, engine_fewer n es is ps engines intakes kind.0 (subst (λ (q : PartView). IsWovenFrom n es is (ps ++ q ∷ []) engines intakes) kind.1 h'))
 
 pub intake_back : (n : ℕ) (es : List EngineView) (is : List IntakeView) (parts ps : List PartView) (engines : List EngineView) (intakes : List IntakeView) (p : PartView) (m : ℕ) → parts ≡ ps ++ p ∷ [] → whose n (length ps) ≡ intake_of m
-    → IsOf n es is parts engines intakes → (i : IntakeView) × (p ≡ an_intake i) × IsOf n es is ps engines (intakes ++ i ∷ [])
+    → IsWovenFrom n es is parts engines intakes → (i : IntakeView) × (p ≡ an_intake i) × IsWovenFrom n es is ps engines (intakes ++ i ∷ [])
 intake_back n es is parts ps engines intakes p m last of h =
-    let h' = subst (λ (xs : List PartView). IsOf n es is xs engines intakes) last h in
+    let h' = subst (λ (xs : List PartView). IsWovenFrom n es is xs engines intakes) last h in
     let kind : IsKind (intake_of m) p = subst (λ (w : Whose). IsKind w p) of (kind_last n ps p h'.kinds) in
-    (kind.0, kind.1, intake_fewer n es is ps engines intakes kind.0 (subst (λ (q : PartView). IsOf n es is (ps ++ q ∷ []) engines intakes) kind.1 h'))
+    (kind.0, kind.1, intake_fewer n es is ps engines intakes kind.0 (subst (λ (q : PartView). IsWovenFrom n es is (ps ++ q ∷ []) engines intakes) kind.1 h'))
 
 -- the steps back, told by the values that the code has before and after
 pub engine_back_is : (n : ℕ) (es : List EngineView) (is : List IntakeView) (parts ps : List PartView) (engines now : List EngineView) (intakes : List IntakeView) (p : PartView) (value : EngineView) (o : Owner) → parts ≡ ps ++ p ∷ [] → whose n (length ps) ≡ engine_of o
-    → p.engine ≡ Some value → now ≡ engines ++ value ∷ [] → IsOf n es is parts engines intakes → IsOf n es is ps now intakes
+    → p.engine ≡ Some value → now ≡ engines ++ value ∷ [] → IsWovenFrom n es is parts engines intakes → IsWovenFrom n es is ps now intakes
 engine_back_is n es is parts ps engines now intakes p value o last of taken put h =
     let b = engine_back n es is parts ps engines intakes p o last of h in
     let same : b.0 ≡ value = some_same p.engine b.0 value (ap (λ (q : PartView). q.engine) b.1) taken in
-    subst (λ (xs : List EngineView). IsOf n es is ps xs intakes) (ap (λ (e : EngineView). engines ++ e ∷ []) same ∙ sym put) b.2
+    subst (λ (xs : List EngineView). IsWovenFrom n es is ps xs intakes) (ap (λ (e : EngineView). engines ++ e ∷ []) same ∙ sym put) b.2
 
 pub intake_back_is : (n : ℕ) (es : List EngineView) (is : List IntakeView) (parts ps : List PartView) (engines : List EngineView) (intakes now : List IntakeView) (p : PartView) (value : IntakeView) (m : ℕ) → parts ≡ ps ++ p ∷ [] → whose n (length ps) ≡ intake_of m
-    → p.intake ≡ Some value → now ≡ intakes ++ value ∷ [] → IsOf n es is parts engines intakes → IsOf n es is ps engines now
+    → p.intake ≡ Some value → now ≡ intakes ++ value ∷ [] → IsWovenFrom n es is parts engines intakes → IsWovenFrom n es is ps engines now
 intake_back_is n es is parts ps engines intakes now p value m last of taken put h =
     let b = intake_back n es is parts ps engines intakes p m last of h in
     let same : b.0 ≡ value = some_same p.intake b.0 value (ap (λ (q : PartView). q.intake) b.1) taken in
-    subst (λ (xs : List IntakeView). IsOf n es is ps engines xs) (ap (λ (i : IntakeView). intakes ++ i ∷ []) same ∙ sym put) b.2
+    subst (λ (xs : List IntakeView). IsWovenFrom n es is ps engines xs) (ap (λ (i : IntakeView). intakes ++ i ∷ []) same ∙ sym put) b.2
 
 -- a list holds no more engines, or intakes, than the net has
-pub few_engines : (n : ℕ) (es : List EngineView) (is : List IntakeView) (parts : List PartView) (engines : List EngineView) (intakes : List IntakeView) → IsOf n es is parts engines intakes → length engines ≤ length es
+pub few_engines : (n : ℕ) (es : List EngineView) (is : List IntakeView) (parts : List PartView) (engines : List EngineView) (intakes : List IntakeView) → IsWovenFrom n es is parts engines intakes → length engines ≤ length es
 few_engines n es is parts engines intakes h =
     let all = ap (λ (xs : List EngineView). length xs) h.engines_are in
     omega (arith, all, length-append (engines_in parts) (reverse engines), length-reverse engines)
 
-pub few_intakes : (n : ℕ) (es : List EngineView) (is : List IntakeView) (parts : List PartView) (engines : List EngineView) (intakes : List IntakeView) → IsOf n es is parts engines intakes → length intakes ≤ length is
+pub few_intakes : (n : ℕ) (es : List EngineView) (is : List IntakeView) (parts : List PartView) (engines : List EngineView) (intakes : List IntakeView) → IsWovenFrom n es is parts engines intakes → length intakes ≤ length is
 few_intakes n es is parts engines intakes h =
     let all = ap (λ (xs : List IntakeView). length xs) h.intakes_are in
     omega (arith, all, length-append (intakes_in parts) (reverse intakes), length-reverse intakes)
 
 -- with nothing left in the lists the parts are all
-pub all_woven : (n : ℕ) (es : List EngineView) (is : List IntakeView) (parts : List PartView) (engines : List EngineView) (intakes : List IntakeView) → 2 * n < length parts → engines ≡ [] → intakes ≡ [] → IsOf n es is parts engines intakes → parts ≡ woven n es is
+pub all_woven : (n : ℕ) (es : List EngineView) (is : List IntakeView) (parts : List PartView) (engines : List EngineView) (intakes : List IntakeView) → 2 * n < length parts → engines ≡ [] → intakes ≡ [] → IsWovenFrom n es is parts engines intakes → parts ≡ woven n es is
 all_woven n es is parts engines intakes long no_engines no_intakes h =
     let w = is_woven n parts h.kinds long in
     let e : engines_in parts ≡ es = sym (append-nil (engines_in parts)) ∙ ap (λ (xs : List EngineView). engines_in parts ++ reverse xs) (sym no_engines) ∙ h.engines_are in
@@ -221,26 +221,26 @@ all_woven n es is parts engines intakes long no_engines no_intakes h =
 
 -- a list has room for the engine, or the intake, that goes back into it
 pub engine_room : (n : ℕ) (es : List EngineView) (is : List IntakeView) (parts ps : List PartView) (engines : List EngineView) (intakes : List IntakeView) (p : PartView) (o : Owner) → parts ≡ ps ++ p ∷ [] → whose n (length ps) ≡ engine_of o
-    → IsOf n es is parts engines intakes → length engines + 1 ≤ length es
+    → IsWovenFrom n es is parts engines intakes → length engines + 1 ≤ length es
 engine_room n es is parts ps engines intakes p o last of h =
     let b = engine_back n es is parts ps engines intakes p o last of h in
     omega (arith, few_engines n es is ps (engines ++ b.0 ∷ []) intakes b.2, length-append engines (b.0 ∷ []))
 
 pub intake_room : (n : ℕ) (es : List EngineView) (is : List IntakeView) (parts ps : List PartView) (engines : List EngineView) (intakes : List IntakeView) (p : PartView) (m : ℕ) → parts ≡ ps ++ p ∷ [] → whose n (length ps) ≡ intake_of m
-    → IsOf n es is parts engines intakes → length intakes + 1 ≤ length is
+    → IsWovenFrom n es is parts engines intakes → length intakes + 1 ≤ length is
 intake_room n es is parts ps engines intakes p m last of h =
     let b = intake_back n es is parts ps engines intakes p m last of h in
     omega (arith, few_intakes n es is ps engines (intakes ++ b.0 ∷ []) b.2, length-append intakes (b.0 ∷ []))
 
 -- the parts that are left are those of all that lie in the lists
-pub all_back : (n : ℕ) (parts : List PartView) (es : List EngineView) (is : List IntakeView) → AreKinds n parts → IsOf n (engines_in parts ++ reverse es) (intakes_in parts ++ reverse is) parts es is
+pub all_back : (n : ℕ) (parts : List PartView) (es : List EngineView) (is : List IntakeView) → AreKinds n parts → IsWovenFrom n (engines_in parts ++ reverse es) (intakes_in parts ++ reverse is) parts es is
 all_back n parts es is kinds = record { engines_are = refl; intakes_are = refl; kinds = kinds }
 
 -- what holds of the parts and the lists, told by other values that are equal
 pub stays_of : (n : ℕ) (es : List EngineView) (is : List IntakeView) (parts now : List PartView) (engines old : List EngineView) (intakes left : List IntakeView) → now ≡ parts → old ≡ engines → left ≡ intakes
-    → IsOf n es is parts engines intakes → IsOf n es is now old left
+    → IsWovenFrom n es is parts engines intakes → IsWovenFrom n es is now old left
 stays_of n es is parts now engines old intakes left p e i h =
-    subst (λ (xs : List PartView). IsOf n es is xs old left) (sym p) (subst (λ (xs : List EngineView). IsOf n es is parts xs left) (sym e) (subst (λ (xs : List IntakeView). IsOf n es is parts engines xs) (sym i) h))
+    subst (λ (xs : List PartView). IsWovenFrom n es is xs old left) (sym p) (subst (λ (xs : List EngineView). IsWovenFrom n es is parts xs left) (sym e) (subst (λ (xs : List IntakeView). IsWovenFrom n es is parts engines xs) (sym i) h))
 
 turned_twice : {X : Type 0} (xs : List X) → reverse (reverse xs) ≡ xs
 turned_twice [] = refl
@@ -248,7 +248,7 @@ turned_twice {X = X} (x ∷ xs) = ap (λ (ys : List X). reverse ys) (reverse-app
 
 -- what holds of lists that were turned round, told of the lists themselves
 pub turned_of : (n : ℕ) (es old_engines : List EngineView) (is old_intakes : List IntakeView) (parts : List PartView) (engines : List EngineView) (intakes : List IntakeView) → old_engines ≡ reverse es → old_intakes ≡ reverse is
-    → IsOf n (reverse old_engines) (reverse old_intakes) parts engines intakes → IsOf n es is parts engines intakes
+    → IsWovenFrom n (reverse old_engines) (reverse old_intakes) parts engines intakes → IsWovenFrom n es is parts engines intakes
 turned_of n es old_engines is old_intakes parts engines intakes e i h =
-    subst (λ (xs : List EngineView). IsOf n xs is parts engines intakes) (ap (λ (xs : List EngineView). reverse xs) e ∙ turned_twice es)
-    (subst (λ (xs : List IntakeView). IsOf n (reverse old_engines) xs parts engines intakes) (ap (λ (xs : List IntakeView). reverse xs) i ∙ turned_twice is) h)
+    subst (λ (xs : List EngineView). IsWovenFrom n xs is parts engines intakes) (ap (λ (xs : List EngineView). reverse xs) e ∙ turned_twice es)
+    (subst (λ (xs : List IntakeView). IsWovenFrom n (reverse old_engines) xs parts engines intakes) (ap (λ (xs : List IntakeView). reverse xs) i ∙ turned_twice is) h)

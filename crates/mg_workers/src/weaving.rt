@@ -2,7 +2,7 @@
 ghost use Rattle.std.specs.Prelude.{◌≡◌, ◌+◌, ◌*◌, ◌<◌, ◌≤◌, ◌++◌, ◌∷◌, ℕ, true, false, List, [], IfSome, IfNone, length, reverse, vec_len, vec_capacity};
 ghost use Rattle.mg_node.specs.Views.{IntakeView, EngineView};
 ghost use Rattle.mg_workers.specs.Woven.{woven};
-ghost use Rattle.mg_workers.specs.Code.Weaving.{IsOf};
+ghost use Rattle.mg_workers.specs.Code.Weaving.{IsWovenFrom};
 
 use mg_calc::Calculator;
 use mg_node::{Engine, Intake};
@@ -36,7 +36,7 @@ fn weave_nodes<C: Calculator>(
 ) -> bool
     requires counts { (nodes ≤ vec_len engines.old) × (nodes ≤ vec_len intakes.old) }
     requires room { (parts.old.items ≡ []) × (2 * nodes ≤ vec_capacity parts.old) }
-    ensures of { IsOf nodes (reverse engines.old.items) (reverse intakes.old.items) parts.new.items engines.new.items intakes.new.items }
+    ensures of { IsWovenFrom nodes (reverse engines.old.items) (reverse intakes.old.items) parts.new.items engines.new.items intakes.new.items }
     ensures counts { result ≡ true → (length parts.new.items ≡ 2 * nodes) × (length engines.new.items + nodes ≡ length engines.old.items) × (length intakes.new.items + nodes ≡ length intakes.old.items) }
     ensures room { (vec_capacity engines.new ≡ vec_capacity engines.old) × (vec_capacity intakes.new ≡ vec_capacity intakes.old) × (vec_capacity parts.new ≡ vec_capacity parts.old) }
 {
@@ -60,8 +60,8 @@ fn weave_inputs<C: Calculator>(
     parts: &mut Vec<Part<C>>,
 ) -> bool
     requires room { vec_len parts.old + vec_len engines.old ≤ vec_capacity parts.old }
-    ensures of { (nodes : ℕ) (es : List EngineView) (is intakes : List IntakeView) → 2 * nodes < length parts.old.items → IsOf nodes es is parts.old.items engines.old.items intakes
-        → IsOf nodes es is parts.new.items engines.new.items intakes }
+    ensures of { (nodes : ℕ) (es : List EngineView) (is intakes : List IntakeView) → 2 * nodes < length parts.old.items → IsWovenFrom nodes es is parts.old.items engines.old.items intakes
+        → IsWovenFrom nodes es is parts.new.items engines.new.items intakes }
     ensures all { result ≡ true → engines.new.items ≡ [] }
     ensures more { length parts.old.items ≤ length parts.new.items }
     ensures room { (vec_capacity engines.new ≡ vec_capacity engines.old) × (vec_capacity parts.new ≡ vec_capacity parts.old) }
@@ -83,7 +83,7 @@ pub(crate) fn weave<C: Calculator>(
 ) -> bool
     requires counts { (nodes ≤ vec_len engines.old) × (vec_len intakes.old ≡ nodes + 1) }
     requires room { (parts.old.items ≡ []) × (vec_len engines.old + vec_len intakes.old ≤ vec_capacity parts.old) }
-    ensures of { IsOf nodes engines.old.items intakes.old.items parts.new.items engines.new.items intakes.new.items }
+    ensures of { IsWovenFrom nodes engines.old.items intakes.old.items parts.new.items engines.new.items intakes.new.items }
     ensures woven { result ≡ true → (parts.new.items ≡ woven nodes engines.old.items intakes.old.items) × (engines.new.items ≡ []) × (intakes.new.items ≡ []) }
     ensures room { (vec_capacity engines.new ≡ vec_capacity engines.old) × (vec_capacity intakes.new ≡ vec_capacity intakes.old) }
 {

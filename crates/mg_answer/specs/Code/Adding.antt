@@ -2,7 +2,7 @@
 use Rattle.std.specs.Prelude.{ℕ, ◌+◌, ◌*◌, ◌≤◌, pos, neg_ℤ, ◌+ℤ◌, ◌≤ℤ◌, List, [], ◌∷◌, ◌++◌, Option, None, Some, unwrap_or}
 use Rattle.mg_value.specs.Payload.{Plain}
 use Rattle.mg_value.specs.Prefix.{Stamped}
-use Rattle.mg_answer.specs.Summary.{number_in, total_line}
+use Rattle.mg_answer.specs.Summary.{addend, total_line}
 use Rattle.mg_answer.specs.declared.total.Total.{Total}
 
 -- the totals of an output with one more packet, or as they were where there is none
@@ -12,7 +12,7 @@ with_place total (Some p) = record {
   packets = total.packets + 1;
   first = Some (unwrap_or total.first p.at);
   last = Some p.at;
-  sum = total.sum +ℤ number_in p.value;
+  sum = total.sum +ℤ addend p.value;
 }
 
 -- the totals of outputs with one more set

@@ -4,14 +4,14 @@ use Rattle.mg_edge.specs.Edge.{SinkTold}
 use Rattle.mg_value.specs.Payload.{Plain}
 use Rattle.mg_value.specs.Prefix.{StreamPrefix}
 use Rattle.mg_calc.specs.Equations.{Job, IsSolution}
-use Rattle.mg_answer.specs.Text.{output_of}
+use Rattle.mg_answer.specs.Text.{output_text_of}
 use Rattle.mg_answer.specs.Devices.{Device, Untouched, TookFront}
 
 -- the output took a front of the text of a job's solution
 pub record WroteFront (job : Job) (output : Device SinkTold) : Type 0 where
   pub streams : List (StreamPrefix Plain)
   pub solution : IsSolution job streams
-  pub front : TookFront output (output_of job.plan streams)
+  pub front : TookFront output (output_text_of job.plan streams)
 
 -- memory ran out before anything was written, or once a front of the text was
 abbrev pub WroteSome : Job → Device SinkTold → Type 0

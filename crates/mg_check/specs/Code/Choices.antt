@@ -2,7 +2,7 @@
 use Rattle.std.specs.Prelude.{ℕ, ◌≡◌, List, Option, length, map, find, option_map}
 use Rattle.mg_config.specs.Config.{NodeView, node_view}
 use Rattle.mg_calc.specs.declared.shape.OuterShape.{OuterShape}
-use Rattle.mg_check.specs.Choosing.{Chosen, chosen, outers_named, wanted, is_short}
+use Rattle.mg_check.specs.Choosing.{Chosen, chosen_nodes, outers_named, wanted, is_short}
 use Rattle.mg_check.specs.Code.Groups.{kept}
 use Rattle.mg_check.specs.declared.choosing.Choice.{Choice}
 use Rattle.mg_check.specs.declared.choosing.Choices.{Choices}
@@ -30,7 +30,7 @@ choices_view choices = map choice_view choices
 
 -- The choices are those of the nodes, with the calculators of this stock, and they count how many nodes want each.
 pub record AreChosen (choices : Choices) (stock : Groups) (nodes : List NodeView) : Type 0 where
-  pub list : (outers : List OuterShape) → IsStock stock outers → choices_view choices.list.items ≡ chosen outers nodes
+  pub list : (outers : List OuterShape) → IsStock stock outers → choices_view choices.list.items ≡ chosen_nodes outers nodes
   pub wanted : IsWanted choices.wanted nodes
 
 -- the refusal of a node for whose calculator there are too few

@@ -2,7 +2,7 @@
 use Rattle.std.specs.Prelude.{ℕ, List, [], ◌∷◌, false, not, ◌&&◌, ◌||◌, Option, None, Some, if◌then◌else◌, slice_get, slice_set, map, zip}
 use Rattle.mg_value.specs.declared.kind.Kind.{Kind}
 use Rattle.mg_calc.specs.declared.edge.Edge.{Edge}
-use Rattle.mg_check.specs.Meeting.{Reading, is_any, is_kind, met_kind, clashes}
+use Rattle.mg_check.specs.Meeting.{PortReading, is_any, is_kind, met_kind, clashes}
 use Rattle.mg_check.specs.declared.met.Met.{Met}
 
 -- what is known of a stream by the port that writes it
@@ -25,12 +25,12 @@ abbrev pub meet_at : List Met → ℕ → Kind → List Met
 meet_at mets stream kind = meet_by mets stream kind (slice_get mets stream)
 
 -- what is known of all streams after all these ports
-abbrev pub meet_all : List Met → List Reading → List Met
+abbrev pub meet_all : List Met → List PortReading → List Met
 meet_all mets [] = mets
 meet_all mets (r ∷ rs) = meet_all (meet_at mets r.stream r.kind) rs
 
 -- the ports that read streams, by the edges into them and their kinds
-abbrev pub readings_of : List Edge → List Kind → List Reading
+abbrev pub readings_of : List Edge → List Kind → List PortReading
 readings_of edges kinds = map (λ e. record { stream = e.0.stream; kind = e.1 }) (zip edges kinds)
 
 -- what is known of a stream at which these kinds met

@@ -5,7 +5,7 @@ use Rattle.mg_config.specs.Config.{GraphView}
 use Rattle.mg_check.specs.Drafts.{DraftView}
 use Rattle.mg_calc.specs.Plan.{numbers}
 use Rattle.mg_subgraph.specs.Refusals.{port_names}
-use Rattle.mg_check.specs.Names.{number_in}
+use Rattle.mg_check.specs.Names.{number_among}
 use Rattle.mg_check.specs.Planning.{plan_streams, plan_sides}
 use Rattle.mg_check.specs.Joining.{two_producers, no_producer, side_missing, kind_clash, back_edge_misplaced, cycle, too_many, edges, writers, order, stream_meetings, stream_names, side_names}
 use Rattle.mg_check.specs.Code.Meets.{met_of}
@@ -51,4 +51,4 @@ pub record AreShown (shown : Shown) (graph : GraphView) (ds : List DraftView) : 
   pub as_streams : shown.streams ≡ plan_streams graph ds
   pub as_sides : shown.sides ≡ plan_sides graph ds
   pub as_inputs : shown.inputs ≡ numbers (length graph.inputs)
-  pub as_outputs : shown.outputs ≡ map (number_in (stream_names graph ds)) (port_names graph.outputs)
+  pub as_outputs : shown.outputs ≡ map (number_among (stream_names graph ds)) (port_names graph.outputs)

@@ -38,8 +38,8 @@ pub record HasReleased (readers old new : List ℕ) : Type 0 where
   pub told : (n : ℕ) → n < length old → slice_index new n + count_by (λ m. m == n) readers ≡ slice_index old n
 
 -- whether a node isn't taken and waits for none
-abbrev pub is_free : List Bool → List ℕ → ℕ → Bool
-is_free taken waiting n = not (is_marked taken n) && slice_index waiting n == 0
+abbrev pub may_be_taken : List Bool → List ℕ → ℕ → Bool
+may_be_taken taken waiting n = not (is_marked taken n) && slice_index waiting n == 0
 
 -- The set has exactly those numbers below a bound that pass a test.
 pub record HasPassing (bound : ℕ) (passes : ℕ → Bool) (set : BTreeSet ℕ) : Type 0 where
@@ -51,4 +51,4 @@ pub record HasPassing (bound : ℕ) (passes : ℕ → Bool) (set : BTreeSet ℕ)
 pub record IsAfter (count : ℕ) (links : List Link) (order : List ℕ) (taken : List Bool) (waiting : List ℕ) (ready : BTreeSet ℕ) : Type 0 where
   pub marks : HasMarks count order taken
   pub waits : HasWaits count links (is_among order) waiting
-  pub free : HasPassing count (is_free taken waiting) ready
+  pub free : HasPassing count (may_be_taken taken waiting) ready

@@ -10,8 +10,8 @@ abbrev pub IsAnyOf : Levels → Option LevelSeat → Type 0
 IsAnyOf levels seat = IfSome seat (λ s. IsSeatOf levels s)
 
 -- where there is a seat, at least so much of the portion is left to it
-abbrev pub IsLeft : ℕ → Option LevelSeat → Type 0
-IsLeft portion seat = IfSome seat (λ s. portion ≤ portion_of s)
+abbrev pub LeavesPortion : ℕ → Option LevelSeat → Type 0
+LeavesPortion portion seat = IfSome seat (λ s. portion ≤ portion_of s)
 
 -- a worker's place is at these levels: its seat is, and the node that it keeps is one of theirs
 pub record IsPlaceAt (levels : Levels) (place : Place) : Type 0 where
@@ -20,4 +20,4 @@ pub record IsPlaceAt (levels : Levels) (place : Place) : Type 0 where
 
 -- where a place has a seat, at least so much of the portion is left to it
 abbrev pub HasPortion : ℕ → Place → Type 0
-HasPortion portion place = IsLeft portion place.seat
+HasPortion portion place = LeavesPortion portion place.seat

@@ -37,7 +37,7 @@ pub record AreToolsOf {X : Type 0} (net : SharedNet X) (tools : Tools) : Type 0 
   pub sources : HasSources tools
 
 -- a worker has a seat of a net and a place at its levels, and it has no work
-pub record IsAtWork {X : Type 0} {g : Ghosts X} (net : SharedNet X) (tools : Tools) (seat : NetSeat X g) (place : Place) : Type 0 where
+pub record IsWithoutWork {X : Type 0} {g : Ghosts X} (net : SharedNet X) (tools : Tools) (seat : NetSeat X g) (place : Place) : Type 0 where
   pub shared : IsShared net seat
   pub fits : AreToolsOf net tools
   pub placed : IsPlaceAt tools.levels place

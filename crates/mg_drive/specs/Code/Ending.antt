@@ -12,7 +12,7 @@ use Rattle.mg_calc.specs.Equations.{Job, IsSolution}
 use Rattle.mg_feed.specs.declared.feed_end.FeedEnd.{FeedEnd}
 use Rattle.mg_feed.specs.declared.feed_end.BatchEnd.{BatchEnd}
 use Rattle.mg_feed.specs.declared.feed_end.BatchEnd.TheVariants.{End}
-use Rattle.mg_answer.specs.Answer.{Form, output_in}
+use Rattle.mg_answer.specs.Answer.{OutputForm, output_in}
 use Rattle.mg_answer.specs.Devices.{Device, device, RunDevices}
 use Rattle.mg_answer.specs.Put.{TextView, HasPut}
 use Rattle.mg_answer.specs.declared.outcomes.Outcomes.{Outcomes}
@@ -26,11 +26,11 @@ use Rattle.mg_sched.specs.Reports.{report_of}
 use Rattle.mg_sched.specs.declared.report.StreamEnd as nets
 use Rattle.mg_drive.specs.Batches.{IsMore, logged}
 use Rattle.mg_drive.specs.Leaves.{HadCallsOf}
-pub use Rattle.mg_drive.specs.OneRun.{CameBack, WasNothing}
-use Rattle.mg_drive.specs.Code.Running.{Giving, Reading, Telling, Start, job_with, IsToldSome, FrontIn}
+pub use Rattle.mg_drive.specs.OneRun.{CalculatorsCameBack, WasNothing}
+use Rattle.mg_drive.specs.Code.Running.{Giving, ReadingOn, TellingSets, Start, job_with, IsToldSome, FrontIn}
 
 -- the whole text by which a job's solution is told in a form was put
-abbrev pub IsWhole : Form → SinkTold → SinkTold → Job → TextView → Type 0
+abbrev pub IsWhole : OutputForm → SinkTold → SinkTold → Job → TextView → Type 0
 IsWhole form first sink job text = (streams : List (StreamPrefix Plain)) → IsSolution job streams → HasPut first sink text (output_in form job.plan streams)
 
 -- how far a stream of a net has come, in the form that mg_answer takes
@@ -47,7 +47,7 @@ pub record TellsNet (net : NetView) (outcomes : Outcomes) : Type 0 where
 -- Calculators.
 
 -- the calculator of a node comes back with all the calls that its node has in a solution
-pub record ComesBack (job : LoggedJob) (streams : List (StreamPrefix Plain)) (node : PlanNode) (place : ℕ) (net : NetView) : Type 0 where
+pub record CalculatorComesBack (job : LoggedJob) (streams : List (StreamPrefix Plain)) (node : PlanNode) (place : ℕ) (net : NetView) : Type 0 where
   pub told : CalculatorTold
   pub there : slice_get (given_back net) place ≡ Some told
   pub had : HadCalls job streams node told
@@ -57,7 +57,7 @@ pub record HadAllOf (job : LoggedJob) (net : NetView) : Type 0 where
   pub streams : List (StreamPrefix Plain)
   pub solution : IsSolution job.job streams
   pub each : (number place : ℕ) (node : PlanNode) → slice_get job.job.plan.nodes number ≡ Some node → node.box_number ≡ Some place → IsOuter node.law
-      → ComesBack job streams node place net
+      → CalculatorComesBack job streams node place net
 
 -- a net stood for some job with these calculators, and may have been wound up since
 pub record StoodWith (boxes : List CalculatorTold) (net : NetView) : Type 0 where
@@ -69,14 +69,14 @@ pub record StoodWith (boxes : List CalculatorTold) (net : NetView) : Type 0 wher
 
 -- the type of `Batches::wrote`: what is written at the end of a run over batches
 abbrev pub Writing : Type 0 → Type 1
-Writing B = B → Form → Bool → Job → FeedEnd → Status → Device SinkTold → Device SinkTold → Type 0
+Writing B = B → OutputForm → Bool → Job → FeedEnd → Status → Device SinkTold → Device SinkTold → Type 0
 
 -- the devices of a run, where the input told `source` at the beginning of the run
 abbrev pub since : SourceTold → RunDevices → RunDevices
 since source devices = record devices { input = device source devices.input.now }
 
 -- A net was run: the answer of the job of all that was given was written, and its nodes' calculators had their calls.
-pub record HasEnded {B : Type 0} (gives : Giving B) (writes : Writing B) (form : Form) (report : Bool) (start : Start B) (status : Status) (source : SourceTold) (sink : SinkTold) (notes : Device SinkTold) (net : NetView) : Type 0 where
+pub record HasEnded {B : Type 0} (gives : Giving B) (writes : Writing B) (form : OutputForm) (report : Bool) (start : Start B) (status : Status) (source : SourceTold) (sink : SinkTold) (notes : Device SinkTold) (net : NetView) : Type 0 where
   pub batches : B
   pub end : FeedEnd
   pub inputs : Inputs
@@ -86,7 +86,7 @@ pub record HasEnded {B : Type 0} (gives : Giving B) (writes : Writing B) (form :
   pub stood : StoodFor (job_with start inputs) net
 
 -- A run is over: the answer of the job of all that was given was written, and the calculators that were handed in had their calls.
-pub record HasRun {B : Type 0} (gives : Giving B) (writes : Writing B) (form : Form) (report : Bool) (began : B) (plan : Plan) (status : Status) (devices : RunDevices) (boxes : Device (List CalculatorTold)) : Type 0 where
+pub record HasRunBatches {B : Type 0} (gives : Giving B) (writes : Writing B) (form : OutputForm) (report : Bool) (began : B) (plan : Plan) (status : Status) (devices : RunDevices) (boxes : Device (List CalculatorTold)) : Type 0 where
   pub batches : B
   pub end : FeedEnd
   pub inputs : Inputs
@@ -95,7 +95,7 @@ pub record HasRun {B : Type 0} (gives : Giving B) (writes : Writing B) (form : F
   pub had : HadCallsOf (record { plan = plan; inputs = inputs }) boxes
 
 -- Memory ran out in a run once there was a net.
-pub record WasShort {B T : Type 0} (gives : Giving B) (reads_on : Reading B) (has_told : Telling T) (form : Form) (began : B) (plan : Plan) (devices : RunDevices) (boxes : Device (List CalculatorTold)) : Type 0 where
+pub record WasShort {B T : Type 0} (gives : Giving B) (reads_on : ReadingOn B) (has_told : TellingSets T) (form : OutputForm) (began : B) (plan : Plan) (devices : RunDevices) (boxes : Device (List CalculatorTold)) : Type 0 where
   pub batches : B
   pub end : BatchEnd
   pub at : SourceTold
@@ -117,10 +117,10 @@ pub record HasGiven {B : Type 0} (gives : Giving B) (began : B) (plan : Plan) (i
   pub given : gives began batches plan input.before input.now end inputs
 
 -- What was read where memory ran out before there was a net: nothing, or what the first call of `next` reads, or the first batch.
-abbrev pub ReadFirst : {B : Type 0} → Giving B → Reading B → B → Plan → Device SourceTold → Type 0
+abbrev pub ReadFirst : {B : Type 0} → Giving B → ReadingOn B → B → Plan → Device SourceTold → Type 0
 ReadFirst gives reads_on began plan input = (input.now ≡ input.before) ⊎ (reads_on began plan input.before input.before input.now ⊎ HasGiven gives began plan input)
 
 -- a run over batches ended since memory ran out, before there was a net or later
-abbrev pub RanShort : {B T : Type 0} → Giving B → Reading B → Telling T → Form → B → Plan → RunDevices → Device (List CalculatorTold) → Type 0
-RanShort gives reads_on has_told form began plan devices boxes =
+abbrev pub RanOutOfMemory : {B T : Type 0} → Giving B → ReadingOn B → TellingSets T → OutputForm → B → Plan → RunDevices → Device (List CalculatorTold) → Type 0
+RanOutOfMemory gives reads_on has_told form began plan devices boxes =
     (ReadFirst gives reads_on began plan devices.input × WasNothing devices.output boxes) ⊎ WasShort gives reads_on has_told form began plan devices boxes

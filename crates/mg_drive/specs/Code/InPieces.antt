@@ -15,9 +15,9 @@ abbrev pub made_inputs : GraphInputs → ℕ → Bool → Inputs
 made_inputs graph number ended = record { streams = ended_streams ended (generated_streams graph.kinds number); sides = generated_sides (length graph.sides); ended = ended }
 
 -- how a piece ends: the input has ended with it, or there is more behind it
-abbrev pub end_of : Bool → BatchEnd
-end_of true = End Ended
-end_of false = More
+abbrev pub piece_end : Bool → BatchEnd
+piece_end true = End Ended
+piece_end false = More
 
 -- a number of packets are to be made for a plan, and none is made yet
 pub record AreToCome (plan : Plan) (number : ℕ) (m : Making) : Type 0 where
@@ -29,7 +29,7 @@ pub record AreToCome (plan : Plan) (number : ℕ) (m : Making) : Type 0 where
 pub record WereMade (plan : Plan) (number : ℕ) (m : Making) (end : BatchEnd) (inputs : Inputs) : Type 0 where
   pub handed_on : HasHandedOn (inputs_of plan) number m
   pub few : number < 2 ^ 32
-  pub end_is : end ≡ end_of (m.made == number)
+  pub end_is : end ≡ piece_end (m.made == number)
   pub inputs_are : inputs ≡ made_inputs (inputs_of plan) m.made (m.made == number)
 
 -- Packets came piece by piece, and how many packets a piece has (`most`) hasn't changed since the first. Each earlier entry is what some

@@ -8,7 +8,7 @@ use Rattle.mg_feed.specs.Graph.{GraphInputs, inputs_of}
 use Rattle.mg_feed.specs.Accepted.{given_by, most_lines}
 use Rattle.mg_feed.specs.Given.{ended_streams}
 use Rattle.mg_feed.specs.View.{View}
-use Rattle.mg_feed.specs.Stands.{Stands, nothing_taken, packets_of}
+use Rattle.mg_feed.specs.Stands.{HasAccepted, nothing_taken, packets_of}
 use Rattle.mg_feed.specs.Fed.{Fed}
 use Rattle.mg_feed.specs.Came.{Came}
 use Rattle.mg_feed.specs.Ran.{MetEnd, Spends, Unfailed, FailedBy}
@@ -55,7 +55,7 @@ pub record HasBatch (plan : Plan) (first : SourceTold) (end : BatchEnd) (inputs 
   pub is_read : IsRead plan first end source fed (past ++ came) (lines ++ more)
   pub view : View
   pub graph : view.graph ≡ inputs_of plan
-  pub stands : Stands (lines ++ more) (packets_of (given_by (inputs_of plan) lines).streams) view
+  pub stands : HasAccepted (lines ++ more) (packets_of (given_by (inputs_of plan) lines).streams) view
   pub streams : inputs.streams ≡ ended_streams (has_ended end) view.given.streams
   pub sides : inputs.sides ≡ view.given.sides
   pub ended : inputs.ended ≡ has_ended end
@@ -80,7 +80,7 @@ ReadsOn fed plan first at now = (past : List ℕ) (lines : List (List ℕ)) → 
 -- A feed that is new for a plan.
 pub record IsNew (fed : Fed) (plan : Plan) : Type 0 where
   pub graph : fed.view.graph ≡ inputs_of plan
-  pub stands : Stands [] (nothing_taken (inputs_of plan)) fed.view
+  pub stands : HasAccepted [] (nothing_taken (inputs_of plan)) fed.view
   pub unread : fed.read ≡ record { kept = []; ended = false }
 
 -- A feed read batches, and these inputs are all that the lines that it accepted gave.

@@ -17,7 +17,7 @@ use Rattle.mg_live.specs.SoFar.{SoFar, HaveCome}
 use Rattle.mg_feed.specs.declared.feed_end.FeedEnd.{FeedEnd}
 use Rattle.mg_feed.specs.declared.feed_end.BatchEnd.{BatchEnd}
 use Rattle.mg_feed.specs.declared.feed_end.BatchEnd.TheVariants.{More, End}
-use Rattle.mg_answer.specs.Answer.{Form, output_in}
+use Rattle.mg_answer.specs.Answer.{OutputForm, output_in}
 use Rattle.mg_answer.specs.Devices.{Device}
 use Rattle.mg_answer.specs.Outcomes.{told_answer, told_failed}
 use Rattle.mg_answer.specs.Wrote.{WroteBy}
@@ -141,7 +141,7 @@ batches_left (Some end) left = 0
 
 -- The answer of a solution of the core was written, with notes by the plan's numbers and the lines of the logs, which are those of whatever
 -- the free nodes may have taken by what is kept of them.
-pub record LiveWrote (whole : Plan) (frees : List FreeNode) (takers : List Taker) (form : Form) (report : Bool) (job : Job) (end : FeedEnd) (status : Status) (output notes : Device SinkTold) : Type 0 where
+pub record LiveWrote (whole : Plan) (frees : List FreeNode) (takers : List Taker) (form : OutputForm) (report : Bool) (job : Job) (end : FeedEnd) (status : Status) (output notes : Device SinkTold) : Type 0 where
   pub streams : List (StreamPrefix Plain)
   pub solution : IsSolution job streams
   pub live : Outcomes

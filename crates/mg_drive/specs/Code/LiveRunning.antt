@@ -12,20 +12,20 @@ use Rattle.mg_free.specs.Rounds.{Taken, core_job}
 use Rattle.mg_live.specs.SoFar.{SoFar}
 use Rattle.mg_feed.specs.declared.feed_end.FeedEnd.{FeedEnd}
 use Rattle.mg_feed.specs.declared.feed_end.BatchEnd.TheVariants.{End}
-use Rattle.mg_answer.specs.Answer.{Form}
+use Rattle.mg_answer.specs.Answer.{OutputForm}
 use Rattle.mg_answer.specs.Devices.{Device, RunDevices}
 use Rattle.mg_answer.specs.declared.status.Status.{Status}
 use Rattle.mg_drive.specs.Leaves.{KeepsAFront}
 use Rattle.mg_drive.specs.OneLive.{OneLive}
 use Rattle.mg_drive.specs.OneRun.{AllHad, WasNothing}
 use Rattle.mg_drive.specs.Batches.{Giving, Coming, Due, MayRead, IsMore}
-use Rattle.mg_drive.specs.Code.Running.{Reading, Telling, IsToldSome, FrontIn}
+use Rattle.mg_drive.specs.Code.Running.{ReadingOn, TellingSets, IsToldSome, FrontIn}
 use Rattle.mg_drive.specs.Code.Ending.{ReadFirst}
 use Rattle.mg_drive.specs.Code.Live.{end_by}
 
 -- All batches were given and run: `base` is what they gave together, and `earlier` has what they had given by the end of each earlier
 -- batch.
-pub record HasRunLive {B : Type 0} (gives : Giving B) (came : Coming B) (form : Form) (report : Bool) (began : B) (whole : Plan) (status : Status) (devices : RunDevices) (boxes : Device (List CalculatorTold)) : Type 0 where
+pub record HasRunLive {B : Type 0} (gives : Giving B) (came : Coming B) (form : OutputForm) (report : Bool) (began : B) (whole : Plan) (status : Status) (devices : RunDevices) (boxes : Device (List CalculatorTold)) : Type 0 where
   pub batches : B
   pub end : FeedEnd
   pub base : Inputs
@@ -38,12 +38,12 @@ pub record HasRunLive {B : Type 0} (gives : Giving B) (came : Coming B) (form : 
   pub run : OneLive form report whole first later end status devices.output devices.notes boxes
 
 -- what a further call of batches reads, where one may come
-abbrev pub ReadsWhere : {B : Type 0} → (B → Plan → Type 0) → Due B → Reading B → Reading B
+abbrev pub ReadsWhere : {B : Type 0} → (B → Plan → Type 0) → Due B → ReadingOn B → ReadingOn B
 ReadsWhere is_fresh is_due reads_on batches plan first at now = MayRead is_fresh is_due batches plan → reads_on batches plan first at now
 
 -- Memory ran out once there was a net of the core: after a batch of the plan had come, with which the input may have ended, or while more
 -- was read behind it.
-pub record CoreShort {B T : Type 0} (came : Coming B) (reads_on : Reading B) (has_told : Telling T) (form : Form) (began : B) (whole : Plan) (devices : RunDevices) (boxes : Device (List CalculatorTold)) : Type 0 where
+pub record CoreShort {B T : Type 0} (came : Coming B) (reads_on : ReadingOn B) (has_told : TellingSets T) (form : OutputForm) (began : B) (whole : Plan) (devices : RunDevices) (boxes : Device (List CalculatorTold)) : Type 0 where
   pub batches : B
   pub ended : Option FeedEnd
   pub at : SourceTold
@@ -61,12 +61,12 @@ pub record CoreShort {B T : Type 0} (came : Coming B) (reads_on : Reading B) (ha
   pub had : AllHad (split_of whole).core (KeepsAFront (core_job (split_of whole) base takens) streams) boxes
 
 -- a run of a core over batches of its plan ended since memory ran out, before there was a net or later
-abbrev pub HasRunLiveShort : {B T : Type 0} → Giving B → Coming B → Reading B → Telling T → Form → B → Plan → RunDevices → Device (List CalculatorTold) → Type 0
+abbrev pub HasRunLiveShort : {B T : Type 0} → Giving B → Coming B → ReadingOn B → TellingSets T → OutputForm → B → Plan → RunDevices → Device (List CalculatorTold) → Type 0
 HasRunLiveShort gives came reads_on has_told form began whole devices boxes =
     (ReadFirst gives reads_on began whole devices.input × WasNothing devices.output boxes) ⊎ CoreShort came reads_on has_told form began whole devices boxes
 
 -- the further inputs are these, with `count` streams of which nothing is known behind their streams
-pub record IsOpened (inputs more : Inputs) (count : ℕ) : Type 0 where
+pub record IsWidened (inputs more : Inputs) (count : ℕ) : Type 0 where
   pub streams : more.streams ≡ inputs.streams ++ replicate count empty_prefix
   pub sides : more.sides ≡ inputs.sides
   pub ended : more.ended ≡ inputs.ended

@@ -11,7 +11,7 @@ use Rattle.mg_calc.specs.Told.{CalculatorTold}
 use Rattle.mg_feed.specs.declared.feed_end.FeedEnd.{FeedEnd}
 use Rattle.mg_feed.specs.declared.feed_end.BatchEnd.{BatchEnd}
 use Rattle.mg_feed.specs.declared.feed_end.BatchEnd.TheVariants.{More, End}
-use Rattle.mg_answer.specs.Answer.{Form, output_in}
+use Rattle.mg_answer.specs.Answer.{OutputForm, output_in}
 use Rattle.mg_answer.specs.Devices.{device, TookFront}
 use Rattle.mg_node.specs.Job.{LoggedJob, Solves}
 use Rattle.mg_node.specs.Batches.{Grows}
@@ -24,12 +24,12 @@ pub use Rattle.mg_drive.specs.Batches.{Giving, Due}
 use Rattle.mg_drive.specs.Batches.{IsMore, logged, SomeGiven}
 
 -- the type of `Batches::reads_on`: what a further call of batches reads
-abbrev pub Reading : Type 0 → Type 1
-Reading B = B → Plan → SourceTold → SourceTold → SourceTold → Type 0
+abbrev pub ReadingOn : Type 0 → Type 1
+ReadingOn B = B → Plan → SourceTold → SourceTold → SourceTold → Type 0
 
--- the type of `Telling::has_told`: which sets were told
-abbrev pub Telling : Type 0 → Type 1
-Telling T = T → Plan → SinkTold → SinkTold → List (TimedSet Plain) → Type 0
+-- the type of `TellingSets::has_told`: which sets were told
+abbrev pub TellingSets : Type 0 → Type 1
+TellingSets T = T → Plan → SinkTold → SinkTold → List (TimedSet Plain) → Type 0
 
 -- how a run began: its plan, the calculators that were handed in, what the input and the output told, and where its batches
 -- come from
@@ -45,31 +45,31 @@ abbrev pub job_with : {B : Type 0} → Start B → Inputs → LoggedJob
 job_with start inputs = logged start.plan inputs start.boxes
 
 -- the first `taken` sets of a job's solution were told
-pub record IsTold {T : Type 0} (has_told : Telling T) (job : Job) (first sink : SinkTold) (taken : ℕ) (telling : T) : Type 0 where
+pub record IsTold {T : Type 0} (has_told : TellingSets T) (job : Job) (first sink : SinkTold) (taken : ℕ) (telling : T) : Type 0 where
   pub told : (streams : List (StreamPrefix Plain)) → IsSolution job streams → has_told telling job.plan first sink (take taken (settled_outputs job.plan streams))
 
 -- some first sets of a job's solution were told, whatever has become of what tells them
-pub record IsToldSome {T : Type 0} (has_told : Telling T) (job : Job) (first sink : SinkTold) : Type 0 where
+pub record IsToldSome {T : Type 0} (has_told : TellingSets T) (job : Job) (first sink : SinkTold) : Type 0 where
   pub telling : T
   pub taken : ℕ
   pub is_told : IsTold has_told job first sink taken telling
 
 -- a net stands for some job, and those sets of the job's solution were told that were taken out of the net
-pub record IsSomeTold {T : Type 0} (has_told : Telling T) (sink : SinkTold) (net : NetView) (telling : T) : Type 0 where
+pub record IsSomeTold {T : Type 0} (has_told : TellingSets T) (sink : SinkTold) (net : NetView) (telling : T) : Type 0 where
   pub job : LoggedJob
   pub first : SinkTold
   pub stands : StandsFor job net
   pub is_told : IsTold has_told job.job first sink (taken_out net) telling
 
 -- A run over batches is under way: its net stands for the job of what they gave, and the last of them ended in this way.
-pub record IsUnderWay {B T : Type 0} (gives : Giving B) (has_told : Telling T) (start : Start B) (end : BatchEnd) (source : SourceTold) (sink : SinkTold) (batches : B) (telling : T) (net : NetView) : Type 0 where
+pub record IsUnderWay {B T : Type 0} (gives : Giving B) (has_told : TellingSets T) (start : Start B) (end : BatchEnd) (source : SourceTold) (sink : SinkTold) (batches : B) (telling : T) (net : NetView) : Type 0 where
   pub inputs : Inputs
   pub given : gives start.batches batches start.plan start.source source end inputs
   pub stands : StandsFor (job_with start inputs) net
   pub is_told : IsTold has_told (job_with start inputs).job start.sink sink (taken_out net) telling
 
 -- some run of a plan is under way with these batches and this net
-pub record IsSomeRun {B T : Type 0} (gives : Giving B) (has_told : Telling T) (plan : Plan) (end : BatchEnd) (source : SourceTold) (sink : SinkTold) (batches : B) (telling : T) (net : NetView) : Type 0 where
+pub record IsSomeRun {B T : Type 0} (gives : Giving B) (has_told : TellingSets T) (plan : Plan) (end : BatchEnd) (source : SourceTold) (sink : SinkTold) (batches : B) (telling : T) (net : NetView) : Type 0 where
   pub start : Start B
   pub plan_is : start.plan ≡ plan
   pub under_way : IsUnderWay gives has_told start end source sink batches telling net
@@ -106,17 +106,17 @@ pub record SomeRestedOf {B : Type 0} (gives : Giving B) (plan : Plan) (end : Fee
   pub plan_is : given.plan ≡ plan
 
 -- A run is over: its input has ended, its net has come to rest with that, and all sets were told.
-pub record IsOver {B T : Type 0} (gives : Giving B) (has_told : Telling T) (start : Start B) (end : FeedEnd) (source : SourceTold) (sink : SinkTold) (batches : B) (telling : T) (net : NetView) : Type 0 where
+pub record RunIsOver {B T : Type 0} (gives : Giving B) (has_told : TellingSets T) (start : Start B) (end : FeedEnd) (source : SourceTold) (sink : SinkTold) (batches : B) (telling : T) (net : NetView) : Type 0 where
   pub under_way : IsUnderWay gives has_told start (End end) source sink batches telling net
   pub has_rested : HasRested (job_with start under_way.inputs) net
   pub all : IsAllTaken (job_with start under_way.inputs) net
 
 -- a front of the text by which a job's solution is told in a form was taken
-abbrev pub FrontIn : Form → SinkTold → SinkTold → Job → Type 0
+abbrev pub FrontIn : OutputForm → SinkTold → SinkTold → Job → Type 0
 FrontIn form first sink job = (streams : List (StreamPrefix Plain)) → IsSolution job streams → TookFront (device first sink) (output_in form job.plan streams)
 
 -- Memory ran out in a run: after a batch had come, or while more was read behind it.
-pub record IsShort {B T : Type 0} (gives : Giving B) (reads_on : Reading B) (has_told : Telling T) (form : Form) (start : Start B) (source : SourceTold) (sink : SinkTold) (net : NetView) : Type 0 where
+pub record IsShort {B T : Type 0} (gives : Giving B) (reads_on : ReadingOn B) (has_told : TellingSets T) (form : OutputForm) (start : Start B) (source : SourceTold) (sink : SinkTold) (net : NetView) : Type 0 where
   pub batches : B
   pub end : BatchEnd
   pub at : SourceTold

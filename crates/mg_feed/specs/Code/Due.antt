@@ -31,9 +31,9 @@ AllRoom n ss [] = ⊤
 AllRoom n ss (d ∷ ds) = HasRoom n ss d.place × AllRoom n ss ds
 
 -- the streams after each packet was put at the end of its stream
-abbrev pub laid : List Due → List (StreamPrefix Plain) → List (StreamPrefix Plain)
-laid [] ss = ss
-laid (d ∷ ds) ss = laid ds (stepped_at d.place (λ s. appended s d.packet) ss)
+abbrev pub with_due : List Due → List (StreamPrefix Plain) → List (StreamPrefix Plain)
+with_due [] ss = ss
+with_due (d ∷ ds) ss = with_due ds (stepped_at d.place (λ s. appended s d.packet) ss)
 
 -- the packets are those that a line's named values make at a time
 abbrev pub AreDue : GraphInputs → Option ℕ → List Named → List Due → Type 0

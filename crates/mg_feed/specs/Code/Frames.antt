@@ -6,8 +6,8 @@ use Rattle.json.specs.Json.{value}
 use Rattle.serde_json.specs.Read.{number_of, of_json, converted}
 
 -- the number that a text writes
-abbrev pub numbered : List ℕ → Option json.Data
-numbered s = option_map json.number (number_of s)
+abbrev pub number_written : List ℕ → Option json.Data
+number_written s = option_map json.number (number_of s)
 
 -- the value that one token is by itself
 abbrev pub scalar_of : Token → Option json.Data
@@ -17,7 +17,7 @@ scalar_of begin_array = None
 scalar_of end_array = None
 scalar_of (key s) = None
 scalar_of (string s) = Some (json.string s)
-scalar_of (number s) = numbered s
+scalar_of (number s) = number_written s
 scalar_of (boolean b) = Some (json.boolean b)
 scalar_of null = Some json.null
 scalar_of bad = None
@@ -34,11 +34,11 @@ frame_tokens name time rest =
 -- the tokens are a whole packet line of the usual form, with this name, this timestamp and this value
 abbrev pub IsFrame : List Token → List ℕ → json.Data → json.Data → Type 0
 IsFrame ts name time v =
-    (s : List ℕ) × (rest : List Token) × (ts ≡ frame_tokens name s rest) × (numbered s ≡ Some time) × (value_at rest ≡ Some (v, end_object ∷ []))
+    (s : List ℕ) × (rest : List Token) × (ts ≡ frame_tokens name s rest) × (number_written s ≡ Some time) × (value_at rest ≡ Some (v, end_object ∷ []))
 
 -- the tokens `old` are this key, a number of this value, and the tokens `new`
 abbrev pub NumberAt : List ℕ → List Token → json.Data → List Token → Type 0
-NumberAt name old value new = (s : List ℕ) × (old ≡ key name ∷ number s ∷ new) × (numbered s ≡ Some value)
+NumberAt name old value new = (s : List ℕ) × (old ≡ key name ∷ number s ∷ new) × (number_written s ≡ Some value)
 
 -- the tokens `old` are this key, this value, and the tokens `new`
 abbrev pub ValueAt : List ℕ → List Token → json.Data → List Token → Type 0

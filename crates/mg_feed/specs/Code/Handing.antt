@@ -50,11 +50,11 @@ Finds (At end) left before now old new = MovesOn before now old new × EndsLine 
 Finds (Stop next) left before now old new = StopsLater next before now old new
 
 -- the line whose line feed was found is handed out, or is too long
-abbrev pub Takes : NextLine → List ℕ → Reading → Reading → Type 0
-Takes Line line old new = (old.kept ≡ line ++ 10 ∷ new.kept) × NoFeed line × (new.ended ≡ old.ended) × (length line ≤ longest_line)
-Takes TooLong line old new = (new ≡ old) × ((long : List ℕ) × (rest : List ℕ) × (old.kept ≡ long ++ 10 ∷ rest) × NoFeed long × (longest_line < length long))
-Takes Ended line old new = ⊥
-Takes Failed line old new = ⊥
+abbrev pub HandsOutLine : NextLine → List ℕ → Reading → Reading → Type 0
+HandsOutLine Line line old new = (old.kept ≡ line ++ 10 ∷ new.kept) × NoFeed line × (new.ended ≡ old.ended) × (length line ≤ longest_line)
+HandsOutLine TooLong line old new = (new ≡ old) × ((long : List ℕ) × (rest : List ℕ) × (old.kept ≡ long ++ 10 ∷ rest) × NoFeed long × (longest_line < length long))
+HandsOutLine Ended line old new = ⊥
+HandsOutLine Failed line old new = ⊥
 
 -- how many lines are handed out after this answer: the number of the line, or as many as before
 abbrev pub counted_by : NextLine → ℕ → ℕ → ℕ

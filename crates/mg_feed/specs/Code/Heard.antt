@@ -1,7 +1,7 @@
 -- What a function that takes a line leaves.
 use Rattle.std.specs.Prelude.{◌≡◌, ◌≢◌, Option, None, Some, Result, Ok, Err}
 use Rattle.mg_feed.specs.Accepted.{State}
-use Rattle.mg_feed.specs.View.{View, with_given, with_next}
+use Rattle.mg_feed.specs.View.{View, with_given, with_counted_line}
 use Rattle.mg_feed.specs.declared.line_fault.LineFault.{LineFault}
 use Rattle.mg_feed.specs.declared.line_fault.LineFault.TheVariants.{OutOfMemory}
 
@@ -14,5 +14,5 @@ Heard old new (Err fault) refusal given = (fault ≢ OutOfMemory → refusal ≡
 -- Where a whole line is good, the view has what is given then and counts the line. Where it isn't, the answer is the reason, or want of
 -- memory, and the view is as it was.
 abbrev pub Took : {X : Type 0} → View → View → Result X LineFault → Option LineFault → State → Type 0
-Took old new (Ok x) refusal given = (refusal ≡ None) × (new ≡ with_next old given)
+Took old new (Ok x) refusal given = (refusal ≡ None) × (new ≡ with_counted_line old given)
 Took old new (Err fault) refusal given = (fault ≢ OutOfMemory → refusal ≡ Some fault) × (new ≡ old)

@@ -6,7 +6,7 @@ use Rattle.mg_edge.specs.Edge.{SourceTold}
 use Rattle.mg_edge.specs.Runs.{Gave}
 use Rattle.mg_feed.specs.Lines.{NoFeed}
 use Rattle.mg_feed.specs.Accepted.{with_line, line_refusal, names_stream, longest_line, most_lines}
-use Rattle.mg_feed.specs.View.{before_seen, with_next}
+use Rattle.mg_feed.specs.View.{before_seen, with_counted_line}
 use Rattle.mg_feed.specs.Fed.{Fed}
 use Rattle.mg_feed.specs.Once.{longest_block}
 use Rattle.mg_feed.specs.Came.{Came}
@@ -29,7 +29,7 @@ pub record TookLine (named : Bool) (old new : Fed) : Type 0 where
   pub names : named ≡ names_stream line
   pub ended : new.read.ended ≡ old.read.ended
   pub good : line_refusal (before_seen old.view) line ≡ None
-  pub view : new.view ≡ with_next old.view (with_line old.view.graph old.view.given line)
+  pub view : new.view ≡ with_counted_line old.view (with_line old.view.graph old.view.given line)
 
 -- The kept bytes begin with a line that isn't good, for this reason.
 pub record NextLine (fault : LineFault) (old : Fed) : Type 0 where
@@ -70,8 +70,8 @@ abbrev pub heaviest : ℕ
 heaviest = most_lines * (longest_line + 2) + longest_line + longest_block + 1
 
 -- what the end of the reading says of all that came
-abbrev pub Ends : FeedEnd → Fed → Type 0
-Ends end f = (first : List (List ℕ)) (past : List ℕ) (lines : List (List ℕ)) (gone : List (List (Stamped Plain)))
+abbrev pub EndsReading : FeedEnd → Fed → Type 0
+EndsReading end f = (first : List (List ℕ)) (past : List ℕ) (lines : List (List ℕ)) (gone : List (List (Stamped Plain)))
     → Came first past lines gone f → EndsAs end f.view.graph first past lines f.read.ended
 
 -- The reading stops with this end, and the feed is as it was.
@@ -82,7 +82,7 @@ pub record Stopped (end : FeedEnd) (before now : SourceTold) (old new : Fed) : T
   pub spent : Spends (late old.read.ended) 1 before.left now.left before.reads now.reads
   pub failed : FailedBy end before now
   pub cause : HasCause end
-  pub ends : Ends end new
+  pub ends : EndsReading end new
 
 -- how the reading stops at a line that isn't good, after so many lines
 abbrev pub StopsBy : LineFault → ℕ → FeedEnd → Type 0

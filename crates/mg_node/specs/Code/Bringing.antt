@@ -2,12 +2,12 @@
 use Rattle.std.specs.Prelude.{◌≡◌, ℕ, ◌<◌, ◌≤◌, take, drop, length, Result, Ok, Err, min}
 use Rattle.mg_value.specs.Payload.{Plain}
 use Rattle.mg_stream.specs.Queue.{Waiting}
-use Rattle.mg_node.specs.declared.waits.Waits.{Waits}
+use Rattle.mg_node.specs.declared.pending.Pending.{Pending}
 use Rattle.mg_node.specs.Ports.{ports_in, port_queue, with_port, with_room}
 use Rattle.mg_node.specs.Delivery.{missing, with_packets, AreOfOne}
 
 -- n packets of an output that a port hadn't got have come to it, and the bound not yet
-pub record Brought (output : Waiting Plain) (port n : ℕ) (before now : Waits) : Type 0 where
+pub record Brought (output : Waiting Plain) (port n : ℕ) (before now : Pending) : Type 0 where
   pub there : port < ports_in now
   pub of_one : AreOfOne output (port_queue now port)
   pub within : n ≤ length (missing output (port_queue before port))
@@ -15,6 +15,6 @@ pub record Brought (output : Waiting Plain) (port n : ℕ) (before now : Waits) 
   pub left : missing output (port_queue now port) ≡ drop n (missing output (port_queue before port))
 
 -- as many packets have come as the port hadn't got, and at most `most`; or fewer, where memory is short
-abbrev pub BroughtAll : Result ℕ ℕ → Waiting Plain → ℕ → ℕ → Waits → Waits → Type 0
+abbrev pub BroughtAll : Result ℕ ℕ → Waiting Plain → ℕ → ℕ → Pending → Pending → Type 0
 BroughtAll (Ok n) output port most before now = Brought output port n before now × (n ≡ min most (length (missing output (port_queue before port))))
 BroughtAll (Err n) output port most before now = Brought output port n before now × (n < min most (length (missing output (port_queue before port))))

@@ -8,7 +8,7 @@ use Rattle.mg_calc.specs.declared.node_fault.Phase.{Phase}
 use Rattle.mg_node.specs.declared.fronts.FrontEnd.{FrontEnd}
 use Rattle.mg_node.specs.Views.{BenchView, PerformedView, EntryView, EngineView}
 use Rattle.mg_node.specs.Lawful.{StandForAll, is_close}
-use Rattle.mg_node.specs.Commits.{raised_before, counted, Front, with_ready, front_laid, front_of, fault_at, HasFront}
+use Rattle.mg_node.specs.Commits.{raised_before, calls_in_phase, Front, with_ready, front_laid, front_of, fault_at, HasFront}
 use Rattle.mg_node.specs.Windows.{ready_of}
 use Rattle.mg_node.specs.Code.QueueLaying.{Stand, room_at, packets_by, IsLaid}
 
@@ -24,11 +24,11 @@ HasRoom queues entries = (output : ℕ) → output < length queues → needed ou
 -- how many sets or calls the entries of a window have
 abbrev pub counted_in : List EntryView → ℕ
 counted_in [] = 0
-counted_in (entry ∷ entries) = counted entry.phase + counted_in entries
+counted_in (entry ∷ entries) = calls_in_phase entry.phase + counted_in entries
 
 -- what laying an entry of a phase comes to
-abbrev pub end_of : ℕ → Phase → Option Cause → FrontEnd
-end_of node phase cause = record { laid = counted phase; closed = is_close phase; fault = option_map (λ c. record { node = node; phase = phase; cause = c }) cause }
+abbrev pub front_end_of : ℕ → Phase → Option Cause → FrontEnd
+front_end_of node phase cause = record { laid = calls_in_phase phase; closed = is_close phase; fault = option_map (λ c. record { node = node; phase = phase; cause = c }) cause }
 
 -- the first entry of a window, which is ready, is laid, and its bench is idle
 pub record IsFirstLaid (offset : Option ℤ) (node : ℕ) (before now : List (Waiting Plain)) (window window_now : List EntryView) (idle idle_now : List BenchView) (end : FrontEnd) : Type 0 where
@@ -39,7 +39,7 @@ pub record IsFirstLaid (offset : Option ℤ) (node : ℕ) (before now : List (Wa
   pub idle_is : idle_now ≡ idle ++ performed.work.bench ∷ []
   pub cause : Option Cause
   pub laid : IsLaid offset entry.phase (raised_before offset entry.phase) performed.answer before now cause
-  pub end_is : end ≡ end_of node entry.phase cause
+  pub end_is : end ≡ front_end_of node entry.phase cause
 
 -- a front before it is laid, of a node that goes on
 abbrev pub start_of : List (StreamPrefix Plain) → ℕ → List EntryView → List BenchView → Front

@@ -36,13 +36,13 @@ MayAllCome q [] = ⊤
 MayAllCome q (p ∷ ps) = MayCome q p.at × (0 < q.spare) × MayAllCome (appended q p) ps
 
 -- a queue raised to a bound, if there is one
-abbrev pub raised_by : Option ℕ → Waiting Plain → Waiting Plain
-raised_by None q = q
-raised_by (Some bound) q = raised_to q bound
+abbrev pub perhaps_raised : Option ℕ → Waiting Plain → Waiting Plain
+perhaps_raised None q = q
+perhaps_raised (Some bound) q = raised_to q bound
 
 -- a queue with what is emitted at its output
 abbrev pub with_part : Waiting Plain → Laid → Waiting Plain
-with_part q laid = raised_by laid.bound (all_appended q laid.packets)
+with_part q laid = perhaps_raised laid.bound (all_appended q laid.packets)
 
 -- an emission may be laid: the packets of each part may come, and there is room for them
 abbrev pub MayBeLaid : List (Waiting Plain) → List Laid → Type 0

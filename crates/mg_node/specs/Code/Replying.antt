@@ -8,13 +8,13 @@ use Rattle.mg_stream.specs.Pool.{backlog_of}
 use Rattle.mg_loopback.specs.Loopback.{Held, next_reply, replied}
 use Rattle.mg_node.specs.declared.replied.Replied.{Replied}
 use Rattle.mg_node.specs.declared.replied.Replied.TheVariants.{Laid, NotYet, OutOfMemory}
-use Rattle.mg_node.specs.declared.waits.Waits.{Waits}
-use Rattle.mg_node.specs.declared.waits.Waits.TheVariants.{Loop}
+use Rattle.mg_node.specs.declared.pending.Pending.{Pending}
+use Rattle.mg_node.specs.declared.pending.Pending.TheVariants.{Loop}
 use Rattle.mg_node.specs.Views.{IntakeView}
-use Rattle.mg_node.specs.Claims.{behind}
+use Rattle.mg_node.specs.Claims.{with_reply}
 
 -- the packet of a loopback's next answer, if there is one, may come at the output
-abbrev pub MayLay : Waiting Plain → Waits → Type 0
+abbrev pub MayLay : Waiting Plain → Pending → Type 0
 MayLay output waits = (held : Held Plain) (r : Reply Plain) (p : Stamped Plain) → waits ≡ Loop held → next_reply held ≡ Some r → packet_of r ≡ Some p → MayCome output p.at
 
 -- the next answer is laid at the output, and gone from the intake
@@ -23,7 +23,7 @@ pub record LaysReply (output output_now : Waiting Plain) (intake intake_now : In
   pub waits : intake.waits ≡ Loop held
   pub reply : Reply Plain
   pub next : next_reply held ≡ Some reply
-  pub laid : backlog_of output_now ≡ behind (packet_of reply) (backlog_of output)
+  pub laid : backlog_of output_now ≡ with_reply (packet_of reply) (backlog_of output)
   pub intake_is : intake_now ≡ record { claimed = intake.claimed + 1; waits = Loop (replied held) }
 
 -- the next answer can't be told, and nothing has changed

@@ -15,14 +15,14 @@ use Rattle.mg_node.specs.Had.{HadClose}
 use Rattle.mg_sched.specs.Made.{job_of}
 use Rattle.mg_sched.specs.GivesBack.{given_back, StoodFor}
 use Rattle.mg_sched.specs.StandsFor.{StandsFor}
-use Rattle.mg_answer.specs.Text.{output_of}
+use Rattle.mg_answer.specs.Text.{output_text_of}
 use Rattle.mg_answer.specs.Devices.{Device, device, RunDevices, Untouched, TookFront}
 use Rattle.mg_answer.specs.declared.status.Status.{Status}
 use Rattle.mg_drive.specs.Leaves.{HadFronts}
 use Rattle.mg_drive.specs.Code.Ending.{HadAllOf}
 use Rattle.mg_replay.specs.Replay.{WasRead}
 use Rattle.mg_replay.specs.Replayed.{job_over, WroteEnd, HadEnd}
-use Rattle.mg_replay.specs.Reading.{HasOpened}
+use Rattle.mg_replay.specs.Reading.{BeginsWithJob}
 use Rattle.mg_replay.specs.declared.trace_end.TraceEnd.{TraceEnd}
 use Rattle.mg_replay.specs.declared.trace_end.TraceEnd.TheVariants.{Accepted, Refused, Failed}
 
@@ -67,12 +67,12 @@ pub record NetReplayed (report : Bool) (plan : Plan) (inputs : Inputs) (boxes : 
 abbrev pub TookOf : Plan → Inputs → List CalculatorTold → RunDevices → Type 0
 TookOf plan inputs boxes devices =
     Untouched devices.output ⊎ (WasRead plan boxes devices.input (Some inputs) Accepted
-    × ((streams : List (StreamPrefix Plain)) → IsSolution (job_over plan inputs) streams → TookFront devices.output (output_of plan streams)))
+    × ((streams : List (StreamPrefix Plain)) → IsSolution (job_over plan inputs) streams → TookFront devices.output (output_text_of plan streams)))
 
 -- Memory ran out while a recorded run was made again on this net.
 pub record NetShort (plan : Plan) (inputs : Inputs) (boxes : List CalculatorTold) (devices : RunDevices) (net : NetView) : Type 0 where
   pub took : TookOf plan inputs boxes devices
-  pub opened : HasOpened plan devices.input inputs
+  pub opened : BeginsWithJob plan devices.input inputs
   pub stood : StoodFor (job_of plan inputs boxes) net
 
 -- A recorded run of a job was made again, with what is due at its end and with the calls that the calculators had.
@@ -85,5 +85,5 @@ pub record JobReplayed (report : Bool) (plan : Plan) (inputs : Inputs) (status :
 -- Memory ran out while a recorded run of a job was made again.
 pub record JobShort (plan : Plan) (inputs : Inputs) (devices : RunDevices) (boxes : Device (List CalculatorTold)) : Type 0 where
   pub took : TookOf plan inputs boxes.before devices
-  pub opened : HasOpened plan devices.input inputs
+  pub opened : BeginsWithJob plan devices.input inputs
   pub fronts : HadFronts (job_over plan inputs) boxes

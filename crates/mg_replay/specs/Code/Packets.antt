@@ -4,7 +4,7 @@ use Rattle.std.specs.Str.{bytes_eq}
 use Rattle.mg_value.specs.Payload.{Plain}
 use Rattle.mg_value.specs.Prefix.{Stamped}
 use Rattle.mg_feed.specs.View.{View}
-use Rattle.mg_feed.specs.Stands.{Stands}
+use Rattle.mg_feed.specs.Stands.{HasAccepted}
 use Rattle.mg_replay.specs.Opening.{packet_refusal}
 use Rattle.mg_replay.specs.declared.trace_end.TraceFault.{TraceFault}
 
@@ -13,6 +13,6 @@ abbrev pub ends_so : List ℕ → Option Bool
 ends_so line = if bytes_eq line (codes "ended") then Some true else (if bytes_eq line (codes "frozen") then Some false else None)
 
 -- a line was taken as a packet line behind others, or it is refused
-abbrev pub Takes : Option TraceFault → List ℕ → View → View → Type 0
-Takes None line old new = (lines : List (List ℕ)) (gone : List (List (Stamped Plain))) → Stands lines gone old → (packet_refusal old.graph lines line ≡ None) × Stands (lines ++ line ∷ []) gone new × (new.graph ≡ old.graph)
-Takes (Some fault) line old new = (lines : List (List ℕ)) (gone : List (List (Stamped Plain))) → Stands lines gone old → packet_refusal old.graph lines line ≡ Some fault
+abbrev pub TakesPackets : Option TraceFault → List ℕ → View → View → Type 0
+TakesPackets None line old new = (lines : List (List ℕ)) (gone : List (List (Stamped Plain))) → HasAccepted lines gone old → (packet_refusal old.graph lines line ≡ None) × HasAccepted (lines ++ line ∷ []) gone new × (new.graph ≡ old.graph)
+TakesPackets (Some fault) line old new = (lines : List (List ℕ)) (gone : List (List (Stamped Plain))) → HasAccepted lines gone old → packet_refusal old.graph lines line ≡ Some fault

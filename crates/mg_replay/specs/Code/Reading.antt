@@ -24,7 +24,7 @@ use Rattle.mg_sched.specs.Acts.{Acts}
 use Rattle.mg_sched.specs.AtRest.{IsAtRest, MayGoOn}
 use Rattle.mg_answer.specs.Devices.{device}
 use Rattle.mg_replay.specs.Opening.{is_end_word, ArePackets, inputs_with}
-use Rattle.mg_replay.specs.Code.Packets.{Takes}
+use Rattle.mg_replay.specs.Code.Packets.{TakesPackets}
 use Rattle.mg_replay.specs.declared.trace_end.TraceFault.{TraceFault}
 use Rattle.mg_replay.specs.declared.trace_end.TraceFault.TheVariants.{BadEvent, IdleEvent, NotAtRest, NoEnd, AfterEnd}
 use Rattle.mg_replay.specs.Replay.{IsIdleEvent, WasRead}
@@ -50,16 +50,16 @@ StopsBy Failed lines long stop = stop ≡ Some (Failed_at lines)
 
 -- what a line that doesn't end the packet lines came to
 abbrev pub TakesOther : Option Opened → List ℕ → ℕ → View → View → Type 0
-TakesOther None line number old new = Takes None line old new
+TakesOther None line number old new = TakesPackets None line old new
 TakesOther (Some (Job ended)) line number old new = ⊥
-TakesOther (Some (Stopped end)) line number old new = (cause : TraceFault) × (end ≡ Refused number cause) × Takes (Some cause) line old new
+TakesOther (Some (Stopped end)) line number old new = (cause : TraceFault) × (end ≡ Refused number cause) × TakesPackets (Some cause) line old new
 
 -- what a line that was handed out came to: it was taken as a packet line; or it ends the packet lines, and the feed is as it was; or
 -- it isn't good, and the reading stops
 abbrev pub TakesLine : Option Opened → List ℕ → ℕ → View → View → Type 0
-TakesLine None line number old new = (is_end_word line ≡ false) × Takes None line old new
+TakesLine None line number old new = (is_end_word line ≡ false) × TakesPackets None line old new
 TakesLine (Some (Job ended)) line number old new = (line ≡ end_word ended) × (new ≡ old)
-TakesLine (Some (Stopped end)) line number old new = (is_end_word line ≡ false) × ((cause : TraceFault) × (end ≡ Refused number cause) × Takes (Some cause) line old new)
+TakesLine (Some (Stopped end)) line number old new = (is_end_word line ≡ false) × ((cause : TraceFault) × (end ≡ Refused number cause) × TakesPackets (Some cause) line old new)
 
 -- one line more of a job was read: it is a packet line, or the job's lines ended with it, or the reading stopped
 abbrev pub OpensOn : Option Opened → Plan → SourceTold → SourceTold → Reading → ℕ → View → View → Type 0
@@ -67,7 +67,7 @@ OpensOn None plan first now read number old view = IsOpening plan first now read
 OpensOn (Some opened) plan first now read number old view = Opens opened plan first now read number view
 
 -- The lines of a job were read, which has these inputs.
-pub record HasInputs (plan : Plan) (inputs : Inputs) (first now : SourceTold) (read : Reading) (number : ℕ) : Type 0 where
+pub record HasReadInputs (plan : Plan) (inputs : Inputs) (first now : SourceTold) (read : Reading) (number : ℕ) : Type 0 where
   pub given : List (List ℕ)
   pub reading : IsReading first now read number (given ++ end_word inputs.ended ∷ [])
   pub packets : ArePackets (inputs_of plan) [] given

@@ -21,7 +21,7 @@ use Rattle.mg_sched.specs.StandsFor.{StandsForSome, IsRunning}
 
 -- a node's engine claims from its intake, and the limits hear how many packets wait now at each of its ports; what is handed out lies on no
 -- desk
-pub record HandsOut {C : Type 0} (node : ℕ) (claimed : Claimed C) (before now : NetView) : Type 0 where
+pub record NodeHandsOut {C : Type 0} (node : ℕ) (claimed : Claimed C) (before now : NetView) : Type 0 where
   pub engine : EngineView
   pub at : slice_get before.engines node ≡ Some engine
   pub intake : IntakeView
@@ -51,7 +51,7 @@ pub record ShowsTo {C : Type 0} (node : ℕ) (done : AtOnce C) (before now : Net
 -- an engine tries to show a node's next set: nothing changes, or a claim finds that none is ready, or the set is claimed and shown
 abbrev pub ShowsAt : {C : Type 0} → ℕ → AtOnce C → NetView → NetView → Type 0
 ShowsAt node Other before now = now ≡ before
-ShowsAt {C} node NoSet before now = HandsOut {C = C} node NotReady before now
+ShowsAt {C} node NoSet before now = NodeHandsOut {C = C} node NotReady before now
 ShowsAt {C} node done before now = ShowsTo {C = C} node done before now
 
 -- a claim took nothing

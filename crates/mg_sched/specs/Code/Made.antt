@@ -14,7 +14,7 @@ use Rattle.mg_node.specs.Lawful.{LawfulIntake}
 use Rattle.mg_node.specs.Intakes.{IsFresh}
 use Rattle.mg_node.specs.Fresh.{own_told, fresh_engine}
 use Rattle.mg_node.specs.Outputs.{input_engine}
-use Rattle.mg_throttle.specs.Throttle.{IsOf, limit_of, new_queue}
+use Rattle.mg_throttle.specs.Throttle.{AreLimitsOf, limit_of, new_queue}
 use Rattle.mg_sched.specs.Views.{DeskView, NetView}
 
 -- what holds of each element of a list, by its place
@@ -41,7 +41,7 @@ pub record HasTaken (nodes : List PlanNode) (count number : ℕ) : Type 0 where
 
 -- the places of what was handed in, once the first `count` nodes have taken theirs: these places are empty, and all others have what they
 -- had
-pub record IsLeft (nodes : List PlanNode) (given : List (Option CalculatorTold)) (count : ℕ) (now : List (Option CalculatorTold)) : Type 0 where
+pub record IsLeftOver (nodes : List PlanNode) (given : List (Option CalculatorTold)) (count : ℕ) (now : List (Option CalculatorTold)) : Type 0 where
   pub places : length now ≡ length given
   pub taken : (number : ℕ) → slice_get now number ≡ Some None → HasTaken nodes count number
   pub others : (number : ℕ) (told : CalculatorTold) → slice_get now number ≡ Some (Some told) → (slice_get given number ≡ Some (Some told)) × ¬ HasTaken nodes count number
@@ -77,6 +77,6 @@ pub record HasParts (plan : Plan) (inputs : Inputs) (told : ℕ → PlanNode →
   pub intakes : AtPlaces (IsIntakeAt plan) net.intakes
   pub desk_count : length net.desks ≡ length plan.nodes
   pub desks : AtPlaces (IsDeskAt plan) net.desks
-  pub of : IsOf plan net.limits
+  pub of : AreLimitsOf plan net.limits
   pub queues : net.limits.queues ≡ map (new_queue (length plan.nodes) (limit_of plan.limit)) plan.edges
   pub kept : net.kept ≡ replicate (length plan.streams) false

@@ -5,7 +5,7 @@ use Rattle.mg_node.specs.Views.{IntakeView, EngineView}
 use Rattle.mg_node.specs.Ports.{port_queue}
 use Rattle.mg_node.specs.Windows.{has_ended}
 use Rattle.mg_throttle.specs.declared.queue.Queue.{Queue}
-use Rattle.mg_throttle.specs.Throttle.{IsOf}
+use Rattle.mg_throttle.specs.Throttle.{AreLimitsOf}
 use Rattle.mg_sched.specs.Views.{DeskView, NetView}
 use Rattle.mg_sched.specs.Places.{with_engine, with_desk, with_limits}
 use Rattle.mg_sched.specs.ComesApart.{all_shelved}
@@ -22,7 +22,7 @@ pub record PutsBackAt (node : ℕ) (before now : NetView) : Type 0 where
 -- node that goes on was stopped
 pub record ToldTo (noted stopped : ℕ) (start now : NetView) : Type 0 where
   pub same : now ≡ with_limits start now.limits
-  pub of_plan : IsOf start.plan now.limits
+  pub of_plan : AreLimitsOf start.plan now.limits
   pub waiting : (number : ℕ) (e : Edge) (q : Queue) (intake : IntakeView) → slice_get start.plan.edges number ≡ Some e → slice_get now.limits.queues number ≡ Some q → e.node < noted
       → slice_get start.intakes e.node ≡ Some intake → q.waiting ≡ length (port_queue intake.waits e.port).packets
   pub counts : (number : ℕ) (e : Edge) (q : Queue) (engine : EngineView) → slice_get start.plan.edges number ≡ Some e → slice_get now.limits.queues number ≡ Some q → e.node < stopped → e.node < length start.plan.nodes

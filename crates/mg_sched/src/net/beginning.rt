@@ -4,7 +4,7 @@ ghost use Rattle.mg_calc.specs.declared.plan_node.PlanNode.{PlanNode};
 ghost use Rattle.mg_calc.specs.Plan.{node_sides};
 ghost use Rattle.mg_node.specs.Job.{LoggedJob};
 ghost use Rattle.mg_sched.specs.StandsFor.{StandsFor, StandsForSome, IsRunning};
-ghost use Rattle.mg_sched.specs.Begins.{Begins};
+ghost use Rattle.mg_sched.specs.Begins.{BeginsNet};
 
 use super::Net;
 use mg_calc::{Calculator, GivenList, Plan, node_sides};
@@ -29,7 +29,7 @@ impl<C: Calculator> Net<C> {
     pub fn begin(&mut self) -> Result<(), AllocError>
         requires stands { StandsForSome self.old }
         ensures running { OnOk result (IsRunning self.new) }
-        ensures begins { Begins self.old self.new }
+        ensures begins { BeginsNet self.old self.new }
         ensures stands { (job : LoggedJob) → StandsFor job self.old → StandsFor job self.new }
     {
         while self.begun < self.plan.nodes.len() {
@@ -42,7 +42,7 @@ impl<C: Calculator> Net<C> {
     fn begin_next(&mut self) -> Result<(), AllocError>
         requires there { self.old.begun < length self.old.plan.nodes }
         requires stands { StandsForSome self.old }
-        ensures begins { Begins self.old self.new }
+        ensures begins { BeginsNet self.old self.new }
         ensures next { OnOk result (self.new.begun ≡ self.old.begun + 1) }
         ensures stands { (job : LoggedJob) → StandsFor job self.old → StandsFor job self.new }
     {

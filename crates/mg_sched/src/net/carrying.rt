@@ -1,10 +1,10 @@
 //! How packets and bounds go from engines to intakes, and outputs are raised.
 ghost use Rattle.std.specs.Prelude.{◌≡◌, ◌<◌, length, slice_get, Some, true, false, if◌then◌else◌};
-ghost use Rattle.mg_throttle.specs.Throttle.{producer_of};
+ghost use Rattle.mg_calc.specs.Reaching.{producer_of};
 ghost use Rattle.mg_calc.specs.declared.event.Effect as Effect;
 ghost use Rattle.mg_sched.specs.Places.{source_of};
 ghost use Rattle.mg_sched.specs.StandsFor.{StandsForSome, IsRunning};
-ghost use Rattle.mg_sched.specs.Acts.{effect_of, IsHeld, Brings, DeliversAlong, Advanced, Relaxed};
+ghost use Rattle.mg_sched.specs.Acts.{effect_of, IsHeld, Brings, DeliversAlong, NodeAdvances, LimitsRelax};
 
 use super::Net;
 use crate::sources::{producer_of, source_of};
@@ -63,7 +63,7 @@ impl<C: Calculator> Net<C> {
     // Who writes the stream of an edge.
     fn producer_of(&self, edge: Edge) -> Producer
         requires { edge.stream < length self.now.plan.streams }
-        ensures { producer_of self.now.plan edge ≡ Some result }
+        ensures { producer_of self.now.plan edge.stream ≡ Some result }
     {
         producer_of(&self.plan, edge)
     }
@@ -97,7 +97,7 @@ impl<C: Calculator> Net<C> {
         requires there { node < length self.old.plan.nodes }
         requires stands { StandsForSome self.old }
         requires running { IsRunning self.old }
-        ensures { Advanced node result self.old self.new }
+        ensures { NodeAdvances node result self.old self.new }
     {
         self.known = false;
         let place = node as usize;
@@ -107,7 +107,7 @@ impl<C: Calculator> Net<C> {
 
     /// Relaxes the limits of full queues, if there is one.
     pub(super) fn relax(&mut self) -> Effect
-        ensures { Relaxed result self.old self.new }
+        ensures { LimitsRelax result self.old self.new }
     {
         done_if(self.limits.relax())
     }

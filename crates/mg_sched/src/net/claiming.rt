@@ -2,13 +2,13 @@
 ghost use Rattle.std.specs.Prelude.{◌≡◌, ◌<◌, ◌≤◌, ◌+◌, ◌^◌, ℕ, length, slice_get, Some, true, false};
 ghost use Rattle.mg_sched.specs.StandsFor.{StandsForSome, IsRunning};
 ghost use Rattle.mg_sched.specs.Views.{DeskView};
-ghost use Rattle.mg_sched.specs.Code.AtOnce.{HandsOut, took_none, with_work};
+ghost use Rattle.mg_sched.specs.Code.AtOnce.{NodeHandsOut, took_none, with_work};
 ghost use Rattle.mg_node.specs.Ports.{ports_in, port_queue};
 ghost use Rattle.mg_sched.specs.Places.{lengths_of, first_edge};
 ghost use Rattle.mg_calc.specs.declared.plan_node.PlanNode.{PlanNode};
 ghost use Rattle.mg_node.specs.Views.{IntakeView};
 ghost use Rattle.mg_sched.specs.Code.Tables.{IsFeederOf};
-ghost use Rattle.mg_sched.specs.Acts.{IsHeldSource, Claimed as ClaimedAt, ClaimsNext, all_noted, with_noted};
+ghost use Rattle.mg_sched.specs.Acts.{IsHeldSource, NodeClaims as ClaimedAt, ClaimsNext, all_noted, with_noted};
 
 use super::Net;
 use mg_calc::{Calculator, Effect};
@@ -128,7 +128,7 @@ impl<C: Calculator> Net<C> {
         requires there { node < length self.old.plan.nodes }
         requires stands { StandsForSome self.old }
         requires running { IsRunning self.old }
-        ensures { HandsOut node result self.old self.new }
+        ensures { NodeHandsOut node result self.old self.new }
     {
         self.known = false;
         let place = node as usize;

@@ -2,9 +2,9 @@
 ghost use Rattle.std.specs.Prelude.{◌≡◌, ◌<◌, ◌-◌, ◌^◌, ◌++◌, length, map, min, sum_by, slice_index_or, IfOk, OnOk};
 ghost use Rattle.std.specs.List.{flat_map, filter_map};
 ghost use Rattle.mg_stream.specs.Pool.{empty_backlog};
-ghost use Rattle.mg_node.specs.Outputs.{kept_in};
+ghost use Rattle.mg_node.specs.Outputs.{packets_kept};
 ghost use Rattle.mg_node.specs.Ports.{waiting_in};
-ghost use Rattle.mg_sched.specs.Reports.{held_in, node_engines, input_engines, end_of, ends_of, report_of};
+ghost use Rattle.mg_sched.specs.Reports.{held_in, node_engines, input_engines, end_of, stream_ends_of, report_of};
 
 use super::Net;
 use crate::report::{CountList, Report, StreamEnd, StreamEndList};
@@ -15,7 +15,7 @@ use std::alloc::{AllocError, Global};
 
 // How many packets engines keep.
 fn kept_by<C: Calculator>(engines: &[Engine<C>]) -> u64
-    ensures { result ≡ min (sum_by kept_in engines.now) (2 ^ 64 - 1) }
+    ensures { result ≡ min (sum_by packets_kept engines.now) (2 ^ 64 - 1) }
 {
     let mut held: u64 = 0;
     for engine in engines {
@@ -75,7 +75,7 @@ fn end_at<C: Calculator>(engine: &Engine<C>, output: u32) -> StreamEnd
 
 // Appends how far the streams of an engine have come.
 fn tell_ends<C: Calculator>(ends: &mut Vec<StreamEnd>, engine: &Engine<C>) -> Result<(), AllocError>
-    ensures { OnOk result (ends.new.items ≡ ends.old.items ++ ends_of engine.now) }
+    ensures { OnOk result (ends.new.items ≡ ends.old.items ++ stream_ends_of engine.now) }
 {
     for output in 0..engine.outputs() {
         ends.push(end_at(engine, output))?;
@@ -88,7 +88,7 @@ fn tell_all<C: Calculator>(
     ends: &mut Vec<StreamEnd>,
     engines: &[Engine<C>],
 ) -> Result<(), AllocError>
-    ensures { OnOk result (ends.new.items ≡ ends.old.items ++ flat_map ends_of engines.now) }
+    ensures { OnOk result (ends.new.items ≡ ends.old.items ++ flat_map stream_ends_of engines.now) }
 {
     for engine in engines {
         tell_ends(ends, engine)?;
@@ -102,7 +102,7 @@ fn streams_of<C: Calculator>(
     inputs: &[Engine<C>],
     nodes: &[Engine<C>],
 ) -> Result<StreamEndList, AllocError>
-    ensures { IfOk result (λ l. l ≡ flat_map ends_of inputs.now ++ flat_map ends_of nodes.now) }
+    ensures { IfOk result (λ l. l ≡ flat_map stream_ends_of inputs.now ++ flat_map stream_ends_of nodes.now) }
 {
     let mut ends = Vec::new(alloc);
     tell_all(&mut ends, inputs)?;

@@ -3,7 +3,7 @@ ghost use Rattle.std.specs.Prelude.{◌≡◌, ◌<◌, length, slice_get, Some}
 ghost use Rattle.mg_node.specs.Views.{EngineView};
 ghost use Rattle.mg_sched.specs.StandsFor.{StandsForSome, IsRunning};
 ghost use Rattle.mg_sched.specs.Places.{with_limits};
-ghost use Rattle.mg_sched.specs.Acts.{Performed, Committed, stopped_by};
+ghost use Rattle.mg_sched.specs.Acts.{NodePerforms, NodeCommits, stopped_by};
 
 use super::Net;
 use mg_calc::{Calculator, Effect};
@@ -17,7 +17,7 @@ impl<C: Calculator> Net<C> {
         requires there { node < length self.old.plan.nodes }
         requires stands { StandsForSome self.old }
         requires running { IsRunning self.old }
-        ensures { Performed node number result self.old self.new }
+        ensures { NodePerforms node number result self.old self.new }
     {
         self.known = false;
         let place = node as usize;
@@ -41,7 +41,7 @@ impl<C: Calculator> Net<C> {
         requires there { node < length self.old.plan.nodes }
         requires stands { StandsForSome self.old }
         requires running { IsRunning self.old }
-        ensures { Committed node number result self.old self.new }
+        ensures { NodeCommits node number result self.old self.new }
     {
         self.known = false;
         let engine = &mut self.engines[node as usize];

@@ -9,7 +9,7 @@ use Rattle.mg_calc.specs.declared.plan_stream.Producer.{Producer}
 use Rattle.mg_calc.specs.declared.plan_stream.Producer.TheVariants.{Input, Node}
 use Rattle.mg_calc.specs.Plan.{Feeder, source_node, feeders}
 use Rattle.mg_throttle.specs.Code.Rows.{is_marked}
-use Rattle.mg_throttle.specs.Throttle.{is_reached, Reaches}
+use Rattle.mg_throttle.specs.Throttle.{is_reached, FeederReaches}
 
 -- the numbers of the nodes without inputs
 abbrev pub sources_among : List PlanNode → List ℕ
@@ -67,7 +67,7 @@ pub record Gathers (plan : Plan) (rows : List (List Bool)) (node : ℕ) (row : L
 -- the marks of a node are the feeders that reach it
 abbrev pub IsReachedBy : Plan → List (List Bool) → ℕ → Type 0
 IsReachedBy plan rows node =
-    (f : ℕ) (feeder : Feeder) → slice_get (feeders plan) f ≡ Some feeder → (is_reached rows f node ≡ true) ↔ Reaches plan feeder node
+    (f : ℕ) (feeder : Feeder) → slice_get (feeders plan) f ≡ Some feeder → (is_reached rows f node ≡ true) ↔ FeederReaches plan feeder node
 
 -- a node has no mark yet but that of itself, where it is a source
 abbrev pub IsOwn : Plan → List (List Bool) → ℕ → Type 0

@@ -4,7 +4,7 @@ use Rattle.mg_node.specs.Views.{IntakeView, EngineView}
 use Rattle.mg_turns.specs.Parts.{FrameView, an_engine, an_intake, nodes_in, Follows}
 use Rattle.mg_turns.specs.Rule.{word_of}
 use Rattle.mg_turns.specs.Sights.{FindsCell}
-use Rattle.mg_turns.specs.Code.Plays.{Sat, turn, turning}
+use Rattle.mg_turns.specs.Code.Plays.{Sat, turn_of_word, turning}
 
 -- a seat took the turns of a node's engine and intake, and their parts out of their slots
 pub record TakesCell (key : FrameView) (m : Sat) (node : ℕ) (e : EngineView) (engine_word laid : ℕ) (i : IntakeView) (intake_word : ℕ) (n : Sat) : Type 0 where
@@ -12,7 +12,7 @@ pub record TakesCell (key : FrameView) (m : Sat) (node : ℕ) (e : EngineView) (
   pub within : node < nodes_in key
   pub engine : Follows key (2 * node + 1) (an_engine e)
   pub intake : Follows key (2 * node) (an_intake i)
-  pub then : n ≡ (turning m.0 (turn m.0.key (2 * node) (an_intake i) ∷ turn m.0.key (2 * node + 1) (an_engine e) ∷ m.0.turns), (2 * node, None) ∷ (2 * node + 1, None) ∷ m.1)
+  pub then : n ≡ (turning m.0 (turn_of_word m.0.key (2 * node) (an_intake i) ∷ turn_of_word m.0.key (2 * node + 1) (an_engine e) ∷ m.0.turns), (2 * node, None) ∷ (2 * node + 1, None) ∷ m.1)
   pub engine_word_is : engine_word ≡ word_of m.0.key (2 * node + 1) (an_engine e)
   pub intake_word_is : intake_word ≡ word_of m.0.key (2 * node) (an_intake i)
   pub laid_is : laid ≡ e.laid

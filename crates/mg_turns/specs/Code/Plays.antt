@@ -29,12 +29,12 @@ left [] = []
 left (t ∷ ts) = ts
 
 -- the view with one more miss, which names this word
-abbrev pub missing : View → ℕ → View
-missing v word = view v.key v.portion (v.misses + 1) v.splits (Some word) v.turns v.work v.seen
+abbrev pub with_miss : View → ℕ → View
+with_miss v word = view v.key v.portion (v.misses + 1) v.splits (Some word) v.turns v.work v.seen
 
 -- the turn of a word, of which the seat notes this part
-abbrev pub turn : FrameView → ℕ → PartView → Turn
-turn key word p = record { word = word; tally = word_of key word p / 2; note = p }
+abbrev pub turn_of_word : FrameView → ℕ → PartView → Turn
+turn_of_word key word p = record { word = word; tally = word_of key word p / 2; note = p }
 
 -- what is known of a part whose turn is taken: it is what became of the one that was shared, and no less than what the seat saw; it agrees
 -- with the engine whose turn the seat has, the seat's work is out of it, and no more came to it along an edge than is laid there
@@ -47,11 +47,11 @@ pub record Found (word : ℕ) (p : PartView) (v : View) : Type 0 where
 
 -- a seat took the turn of a free word, and its slot with the part
 abbrev pub Took : Sat → ℕ → ℕ → Sat → Type 0
-Took m word r n = (p : PartView) × (n ≡ (turning m.0 (turn m.0.key word p ∷ m.0.turns), (word, Some p) ∷ m.1)) × Found word p m.0 × (r ≡ word_of m.0.key word p)
+Took m word r n = (p : PartView) × (n ≡ (turning m.0 (turn_of_word m.0.key word p ∷ m.0.turns), (word, Some p) ∷ m.1)) × Found word p m.0 × (r ≡ word_of m.0.key word p)
 
 -- a step on a word: the turn of a free word is taken, and a held word is missed
 abbrev pub tried_at : ℕ → Sat → ℕ → Sat → Type 0
-tried_at word m r n = (r % 2 ≡ 0 → Took m word r n) × (r % 2 ≡ 1 → n ≡ (missing m.0 word, m.1))
+tried_at word m r n = (r % 2 ≡ 0 → Took m word r n) × (r % 2 ≡ 1 → n ≡ (with_miss m.0 word, m.1))
 
 -- a step that tries to take the turn of the word at its place; the words stand eight apart
 abbrev pub tried : Play
@@ -59,7 +59,7 @@ tried st = tried_at (st.word / 8)
 
 -- a look at a word: nothing changes at a free word, and a held word is missed
 abbrev pub looked_at : ℕ → Sat → ℕ → Sat → Type 0
-looked_at word m r n = (r % 2 ≡ 0 → n ≡ m) × (r % 2 ≡ 1 → n ≡ (missing m.0 word, m.1))
+looked_at word m r n = (r % 2 ≡ 0 → n ≡ m) × (r % 2 ≡ 1 → n ≡ (with_miss m.0 word, m.1))
 
 -- a step that looks at the word at its place
 abbrev pub looked : Play
@@ -127,7 +127,7 @@ Outs n q p had has = ((has ≡ had) × ((x : WorkView) → IsOutIn q x → IsOut
     ⊎ ((x : WorkView) × (had ≡ None) × (has ≡ Some x) × (x.node ≡ n) × Goes q p x)
 
 -- the turn of a node's intake is given back, and the seat, which has the turn of the node's engine, notes what became of that
-pub record Claims (v : View) (word : ℕ) (p : PartView) (w : View) : Type 0 where
+pub record ClaimsInTurn (v : View) (word : ℕ) (p : PartView) (w : View) : Type 0 where
   pub n : ℕ
   pub within : n < nodes_in v.key
   pub node : word ≡ 2 * n
@@ -144,7 +144,7 @@ pub record Claims (v : View) (word : ℕ) (p : PartView) (w : View) : Type 0 whe
 
 -- the turn of the intake to which an edge leads is given back, and more came along the edge, but no more than was laid at the engine, whose
 -- turn the seat has; the other ports have what they had
-pub record Brings (v : View) (word : ℕ) (p : PartView) (w : View) : Type 0 where
+pub record BringsInTurn (v : View) (word : ℕ) (p : PartView) (w : View) : Type 0 where
   pub k : ℕ
   pub e : Edge
   pub there : slice_get v.key.plan.edges k ≡ Some e
@@ -160,8 +160,8 @@ pub record Brings (v : View) (word : ℕ) (p : PartView) (w : View) : Type 0 whe
 
 -- how a turn is given back: with a part of which nothing was claimed or laid, with an engine to which a work came back, with an intake of
 -- whose node something was claimed, or with an intake to which an edge brought more
-abbrev pub Kind : View → ℕ → PartView → View → Type 0
-Kind v word p w = Plainly v word p w ⊎ (Lays v word p w ⊎ (Claims v word p w ⊎ Brings v word p w))
+abbrev pub GivesTurnBack : View → ℕ → PartView → View → Type 0
+GivesTurnBack v word p w = Plainly v word p w ⊎ (Lays v word p w ⊎ (ClaimsInTurn v word p w ⊎ BringsInTurn v word p w))
 
 -- the sights of a view with one more, of a word's part
 abbrev pub saw : View → ℕ → PartView → List Sight
@@ -188,11 +188,11 @@ abbrev pub Idle : Sat → Type 0
 Idle m = (0 < m.0.portion) × (length m.0.turns ≡ 0) × (length m.1 ≡ 0)
 
 -- the seat has the turn of the word, and its part p is out of the slot
-abbrev pub Taken : Sat → ℕ → PartView → Sat → Type 0
-Taken m word p n = (n ≡ (turning m.0 (turn m.0.key word p ∷ m.0.turns), (word, None) ∷ m.1)) × Found word p m.0
+abbrev pub HoldsTurn : Sat → ℕ → PartView → Sat → Type 0
+HoldsTurn m word p n = (n ≡ (turning m.0 (turn_of_word m.0.key word p ∷ m.0.turns), (word, None) ∷ m.1)) × Found word p m.0
 
 -- the seat took the turn t last, and may give it back with the part p
-pub record Gives (m : Sat) (word : ℕ) (p : PartView) (t : Turn) (ts : List Turn) : Type 0 where
+pub record MayGiveBack (m : Sat) (word : ℕ) (p : PartView) (t : Turn) (ts : List Turn) : Type 0 where
   pub slot : m.1 ≡ (word, None) ∷ rest m.1
   pub turns : m.0.turns ≡ t ∷ ts
   pub word_is : t.word ≡ word
@@ -201,13 +201,13 @@ pub record Gives (m : Sat) (word : ℕ) (p : PartView) (t : Turn) (ts : List Tur
 
 -- a seat may give back a part of which nothing was claimed or laid
 abbrev pub GivesPlainly : Sat → ℕ → PartView → Type 0
-GivesPlainly m word p = (t : Turn) × (ts : List Turn) × Gives m word p t ts × Like t.note p × Joins t.note p
+GivesPlainly m word p = (t : Turn) × (ts : List Turn) × MayGiveBack m word p t ts × Like t.note p × Joins t.note p
 
 -- a seat may give back the intake of node n, whose engine became f; the seat has this work then
 pub record GivesClaim (m : Sat) (n : ℕ) (p f : PartView) (has : Option WorkView) : Type 0 where
   pub t : Turn
   pub u : Turn
-  pub gives : Gives m (2 * n) p t (u ∷ [])
+  pub gives : MayGiveBack m (2 * n) p t (u ∷ [])
   pub within : n < nodes_in m.0.key
   pub node : u.word ≡ 2 * n + 1
   pub grew : PartGrows u.note f
@@ -224,7 +224,7 @@ pub record GivesBrought (m : Sat) (word : ℕ) (p : PartView) : Type 0 where
   pub node : word ≡ 2 * e.node
   pub t : Turn
   pub u : Turn
-  pub gives : Gives m word p t (u ∷ [])
+  pub gives : MayGiveBack m word p t (u ∷ [])
   pub at_u : u.word ≡ source_at m.0.key.plan e
   pub like : Like t.note p
   pub joined : JoinedParts u.note e p
@@ -235,20 +235,20 @@ pub record GivesLaid (m : Sat) (word : ℕ) (p : PartView) : Type 0 where
   pub w : WorkView
   pub node : word ≡ 2 * w.node + 1
   pub t : Turn
-  pub gives : Gives m word p t []
+  pub gives : MayGiveBack m word p t []
   pub within : w.node < nodes_in m.0.key
   pub had : m.0.work ≡ Some w
   pub back : Back t.note p w
   pub joins : Joins t.note p
 
 -- some turns with another note in the first one
-abbrev pub noted : PartView → List Turn → List Turn
-noted f [] = []
-noted f (t ∷ ts) = record { word = t.word; tally = t.tally; note = f } ∷ ts
+abbrev pub with_note : PartView → List Turn → List Turn
+with_note f [] = []
+with_note f (t ∷ ts) = record { word = t.word; tally = t.tally; note = f } ∷ ts
 
 -- the view of a seat that gave back a node's intake p after a claim, and noted what became of the engine
 abbrev pub claimed_view : View → ℕ → PartView → PartView → Option WorkView → View
-claimed_view v n p f has = view v.key v.portion v.misses v.splits v.missed (noted f (left v.turns)) has (saw v (2 * n) p)
+claimed_view v n p f has = view v.key v.portion v.misses v.splits v.missed (with_note f (left v.turns)) has (saw v (2 * n) p)
 
 -- the view of a seat that gave back an engine with its work
 abbrev pub laid_view : View → ℕ → PartView → View
@@ -256,7 +256,7 @@ laid_view v word p = view v.key v.portion v.misses v.splits v.missed (left v.tur
 
 -- a seat took two turns, whose words were r and s
 abbrev pub TakenPair : Sat → ℕ → PartView → ℕ → ℕ → PartView → ℕ → Sat → Type 0
-TakenPair m first p r second q s n = (o : Sat) × Taken m first p o × Taken o second q n × (r ≡ word_of m.0.key first p) × (s ≡ word_of m.0.key second q)
+TakenPair m first p r second q s n = (o : Sat) × HoldsTurn m first p o × HoldsTurn o second q n × (r ≡ word_of m.0.key first p) × (s ≡ word_of m.0.key second q)
 
 -- a seat missed one of two turns, and keeps neither
 abbrev pub MissedPair : Sat → ℕ → ℕ → ℕ → Sat → Type 0

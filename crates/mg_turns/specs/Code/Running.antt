@@ -12,7 +12,7 @@ use Rattle.mg_node.specs.Ports.{port_queue}
 use Rattle.mg_node.specs.Shelves.{IsOut, shelved, outcome_of}
 use Rattle.mg_node.specs.Running.{IsPerformed}
 use Rattle.mg_node.specs.Commits.{Commits}
-use Rattle.mg_turns.specs.Rounds.{Round, Rounds, IsOutcomeOf, Stops}
+use Rattle.mg_turns.specs.Rounds.{Round, CellRounds, IsOutcomeOf, Stops}
 use Rattle.mg_turns.specs.Parts.{IsMissingAt}
 use Rattle.mg_turns.specs.Told.{committed_in, StandsBack}
 
@@ -58,8 +58,8 @@ abbrev pub SomeRound : EngineView → EngineView → IntakeView → IntakeView �
 SomeRound e f i k = (laid : ℕ) × Round laid e f i k
 
 -- `done` rounds were made, at most `most`. Where these are fewer, no further one could be made, for one of the reasons of `Stops`.
-abbrev pub Ran : ℕ → ℕ → EngineView → EngineView → IntakeView → IntakeView → Type 0
-Ran done most e f i k = (m : EngineView) × (l : IntakeView) × (laid : ℕ) × Rounds done laid e m i l × (done ≤ most)
+abbrev pub RanRounds : ℕ → ℕ → EngineView → EngineView → IntakeView → IntakeView → Type 0
+RanRounds done most e f i k = (m : EngineView) × (l : IntakeView) × (laid : ℕ) × CellRounds done laid e m i l × (done ≤ most)
     × (((done ≡ most) × (f ≡ m) × (k ≡ l)) ⊎ ((done < most) × Stops m f l k))
 
 -- an outcome was committed

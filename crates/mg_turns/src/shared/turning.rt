@@ -4,7 +4,7 @@ ghost use Rattle.atomic_table.specs.Table.{rest};
 ghost use Rattle.mg_turns.specs.Parts.{Follows, an_engine, an_intake};
 ghost use Rattle.mg_turns.specs.Rule.{word_of, has_turn};
 ghost use Rattle.mg_turns.specs.Sights.{has_after};
-ghost use Rattle.mg_turns.specs.Code.Plays.{Took, Holds, HasTurn, Returns, Kind, Taken, GivesPlainly, GivesClaim, GivesLaid, GivesBrought, gave, claimed_view, laid_view, missing, TakenPair, MissedPair, CellWords, cell_given};
+ghost use Rattle.mg_turns.specs.Code.Plays.{Took, Holds, HasTurn, Returns, GivesTurnBack, HoldsTurn, GivesPlainly, GivesClaim, GivesLaid, GivesBrought, gave, claimed_view, laid_view, with_miss, TakenPair, MissedPair, CellWords, cell_given};
 
 use super::SharedNet;
 use crate::Part;
@@ -27,7 +27,7 @@ impl<C: Calculator> SharedNet<C> {
     fn is_held(&self, seat: &mut Seat<C>, word: u32) -> bool
         requires { (seat.old.table_id ≡ self.now.table.shared.table_id) × (word < self.now.size) × (0 < seat.old.me.0.portion) }
         ensures id { seat.new.table_id ≡ seat.old.table_id }
-        ensures held { MatchBool result (seat.new.me ≡ (missing seat.old.me.0 word, seat.old.me.1)) (seat.new.me ≡ seat.old.me) }
+        ensures held { MatchBool result (seat.new.me ≡ (with_miss seat.old.me.0 word, seat.old.me.1)) (seat.new.me ≡ seat.old.me) }
     {
         let found = self.table.shared.load::<Look>(seat, place(word));
         found % 2 == 1
@@ -38,7 +38,7 @@ impl<C: Calculator> SharedNet<C> {
         requires { (seat.old.table_id ≡ self.now.table.shared.table_id) × (word < self.now.size) × (0 < seat.old.me.0.portion) × (has_turn word seat.old.me.0 ≡ 0) }
         ensures id { seat.new.table_id ≡ seat.old.table_id }
         ensures taken { result % 2 ≡ 0 → Took seat.old.me word result seat.new.me }
-        ensures missed { result % 2 ≡ 1 → seat.new.me ≡ (missing seat.old.me.0 word, seat.old.me.1) }
+        ensures missed { result % 2 ≡ 1 → seat.new.me ≡ (with_miss seat.old.me.0 word, seat.old.me.1) }
     {
         let found = self.table.shared.fetch_or::<Try>(seat, place(word), 1);
         found
@@ -62,7 +62,7 @@ impl<C: Calculator> SharedNet<C> {
     pub(super) fn take(&self, seat: &mut Seat<C>, word: u32) -> Option<Held<C>>
         requires { (seat.old.table_id ≡ self.now.table.shared.table_id) × (word < self.now.size) × (0 < seat.old.me.0.portion) × (has_turn word seat.old.me.0 ≡ 0) }
         ensures id { seat.new.table_id ≡ seat.old.table_id }
-        ensures taken { MatchOption result (seat.new.me ≡ (missing seat.old.me.0 word, seat.old.me.1)) (λ h. Taken seat.old.me word h.part seat.new.me) }
+        ensures taken { MatchOption result (seat.new.me ≡ (with_miss seat.old.me.0 word, seat.old.me.1)) (λ h. HoldsTurn seat.old.me word h.part seat.new.me) }
         ensures word { IfSome result (λ h. h.word ≡ word_of seat.old.me.0.key word h.part) }
     {
         let found = self.try_turn(seat, word);
@@ -124,7 +124,7 @@ impl<C: Calculator> SharedNet<C> {
         requires word { held.word ≡ word_of seat.old.me.0.key word held.part }
         requires turn { HasTurn seat.old.me.0 word held.part }
         requires part { Follows seat.old.me.0.key word held.part }
-        requires after { Returns seat.old.me.0 word held.part N.after × Kind seat.old.me.0 word held.part N.after }
+        requires after { Returns seat.old.me.0 word held.part N.after × GivesTurnBack seat.old.me.0 word held.part N.after }
         ensures id { seat.new.table_id ≡ seat.old.table_id }
         ensures after { seat.new.me ≡ (N.after, rest seat.old.me.1) }
     {
@@ -180,7 +180,7 @@ impl<C: Calculator> SharedNet<C> {
         requires word { held.word ≡ word_of seat.old.me.0.key (2 * node) held.part }
         requires turn { HasTurn seat.old.me.0 (2 * node) held.part }
         requires part { Follows seat.old.me.0.key (2 * node) held.part }
-        requires after { Returns seat.old.me.0 (2 * node) held.part N.after × Kind seat.old.me.0 (2 * node) held.part N.after }
+        requires after { Returns seat.old.me.0 (2 * node) held.part N.after × GivesTurnBack seat.old.me.0 (2 * node) held.part N.after }
         ensures id { seat.new.table_id ≡ seat.old.table_id }
         ensures after { seat.new.me ≡ (N.after, rest seat.old.me.1) }
     {

@@ -1,6 +1,6 @@
 use Rattle.std.proofs.Common.{map}
 use Rattle.mg_config.specs.Config.{node_view}
-use Rattle.mg_check.specs.Choosing.{chosen}
+use Rattle.mg_check.specs.Choosing.{chosen_nodes}
 use Rattle.mg_check.specs.Code.Choices.{choices_view}
 use Rattle.mg_check.proofs.ChoiceSteps.{chosen_put}
 use Rattle.mg_check.proofs.Grouped.{wanted_more}
@@ -15,7 +15,7 @@ loop-place-preserved c =
     record {
       list = λ outers stock.
           chosen_put outers nodes place node c.args.stock.now c.loop-place.wanted bytes c.get.result.now c.get-in-loop-place.result.now c.kind_for-kind.result
-          (choices_view c.loop-place.list.items) (choices_view c.push_choice.new.list.items) (chosen outers (map node_view nodes))
+          (choices_view c.loop-place.list.items) (choices_view c.push_choice.new.list.items) (chosen_nodes outers (map node_view nodes))
           c.loop-place-test.true c.index-nodes-place.is c.as_bytes-name.ensures.bytes c.get.ensures c.get-in-loop-place.ensures c.kind_for-kind.ensures c.in_ok-push_choice.ensures
           stock c.loop-place.invariant.wanted (c.loop-place.invariant.list outers stock);
       wanted =

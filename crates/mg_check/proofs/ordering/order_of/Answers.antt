@@ -1,6 +1,6 @@
 use Rattle.std.proofs.Common.{◌≡◌, ◌<◌, ◌≤◌, ℕ, ◌+◌, ◌-◌, [], ◌∷◌, ◌++◌, take, drop, true, slice_set, ◌∙◌, ap, sym, subst, All, length, slice_index, count_by, eqb, arith}
 use Rattle.mg_check.specs.Order.{order_of, taken_on}
-use Rattle.mg_check.specs.Code.Taking.{IsAfter, HasPassing, HasReleased, is_free, readers_of}
+use Rattle.mg_check.specs.Code.Taking.{IsAfter, HasPassing, HasReleased, may_be_taken, readers_of}
 use Rattle.mg_check.proofs.OrderingLinks.{readers_below, readers_wait}
 use Rattle.mg_check.proofs.OrderingNext.{ready_new, ready_row, next_is_least, next_is_none, empty_list, IsAfter-taken, taken_on-some, taken_on-none, taken_on-all, whole}
 use Rattle.mg_check.proofs.ordering.order_of.Goals as goal
@@ -44,8 +44,8 @@ loop-preserved c =
     let released = subst (λ xs. HasReleased xs t.waiting.items c.release.new.waiting) row
     (subst (λ ws. HasReleased c.as_slice-row.result.now ws c.release.new.waiting) c.deref_mut.ensures.value c.in_ok-release.ensures.waiting) in
     let len : length c.deref_mut.result.now ≡ count = ap length c.deref_mut.ensures.value ∙ after.waits.len in
-    let free = subst (λ n. HasPassing n (is_free (slice_set t.taken.items m true) c.release.new.waiting) c.release.new.ready) len
-    (subst (λ ms. HasPassing (length c.deref_mut.result.now) (is_free ms c.release.new.waiting) c.release.new.ready) c.deref.ensures.value c.in_ok-release.ensures.ready) in
+    let free = subst (λ n. HasPassing n (may_be_taken (slice_set t.taken.items m true) c.release.new.waiting) c.release.new.ready) len
+    (subst (λ ms. HasPassing (length c.deref_mut.result.now) (may_be_taken ms c.release.new.waiting) c.release.new.ready) c.deref.ensures.value c.in_ok-release.ensures.ready) in
     let pushed = c.in_ok-push.ensures.items in
     record {
       same = ap (λ xs. taken_on (count - (c.loop.counter + 1)) count c.args.links.now xs) pushed

@@ -1,5 +1,5 @@
 use Rattle.std.proofs.Common.{◌+◌, sym, subst, take, arith}
-use Rattle.mg_check.specs.Code.Taking.{HasPassing, HasReleased, is_free}
+use Rattle.mg_check.specs.Code.Taking.{HasPassing, HasReleased, may_be_taken}
 use Rattle.mg_check.proofs.OrderingLinks.{HasReleased-waits, HasReleased-more}
 use Rattle.mg_check.proofs.waiting.release.Goals as goal
 
@@ -15,5 +15,5 @@ loop-node-preserved c =
     c.loop-node.invariant.released in
     record {
       released = subst (HasReleased (take (c.loop-node.node-index + 1) c.args.readers.now) c.args.waiting.now) (sym c.release_one.ensures.waiting) more;
-      free = subst (λ n. HasPassing n (is_free c.args.taken.now c.release_one.new.waiting) c.release_one.new.ready) (omega (arith, c.release_one.auto.waiting)) c.in_ok-release_one.ensures.ready;
+      free = subst (λ n. HasPassing n (may_be_taken c.args.taken.now c.release_one.new.waiting) c.release_one.new.ready) (omega (arith, c.release_one.auto.waiting)) c.in_ok-release_one.ensures.ready;
     }

@@ -3,7 +3,7 @@ use Rattle.mg_calc.specs.Told.{CalculatorTold}
 use Rattle.mg_words.specs.Command.{command}
 use Rattle.mg_run.specs.Boxes.{outers_told, MayBeHandedIn}
 use Rattle.mg_run.specs.Task.{task}
-use Rattle.mg_run.specs.Code.Job.{job_view, CanBeDone, IsDue}
+use Rattle.mg_run.specs.Code.Action.{action_view, CanBeDone, IsDue}
 use Rattle.mg_run.specs.Devices.{device}
 use Rattle.mg_run.proofs.Calling.{called-did, called-short}
 use Rattle.mg_run.proofs.Duty.{due_among}
@@ -12,7 +12,7 @@ use Rattle.mg_run.proofs.call.do_command.Goals as goal
 
 pub do_job-requires-clause-can : goal.do_job-requires-clause-can
 do_job-requires-clause-can g c κs within =
-    subst (λ (boxes : List CalculatorTold). CanBeDone (outers_told boxes) (job_view c.in-Ok.job)) (ap (map g.C.Calculator.told) c.as_slice.ensures.value) c.in-Ok.ensures.can
+    subst (λ (boxes : List CalculatorTold). CanBeDone (outers_told boxes) (action_view c.in-Ok.action)) (ap (map g.C.Calculator.told) c.as_slice.ensures.value) c.in-Ok.ensures.can
 
 pub do_job-requires-clause-lawful : goal.do_job-requires-clause-lawful
 do_job-requires-clause-lawful g c κs within =
@@ -22,18 +22,18 @@ pub returns-in-Ok-clause-called : goal.returns-in-Ok-clause-called
 returns-in-Ok-clause-called g c =
     let asked = command c.args.ordered.now.order c.args.ordered.now.files.now in
     let boxes = map g.C.Calculator.told c.args.boxes.now.items in
-    let store = device (g.T.Store.told c.args.store.now) (g.T.Store.told c.due_job.new.store) in
-    let due : IsDue (task asked (outers_told boxes)) store (job_view c.in-Ok.job) =
-    due_among asked (map g.C.Calculator.told c.as_slice.result.now) boxes store (job_view c.in-Ok.job) (ap (map g.C.Calculator.told) c.as_slice.ensures.value) c.in-Ok.ensures.due in
-    called-did (job_view c.in-Ok.job) c.do_job.result (task asked (outers_told boxes)) due.contents _ due.loaded due.due (c.do_job.ensures.did store)
+    let store = device (g.T.Store.told c.args.store.now) (g.T.Store.told c.due_action.new.store) in
+    let due : IsDue (task asked (outers_told boxes)) store (action_view c.in-Ok.action) =
+    due_among asked (map g.C.Calculator.told c.as_slice.result.now) boxes store (action_view c.in-Ok.action) (ap (map g.C.Calculator.told) c.as_slice.ensures.value) c.in-Ok.ensures.due in
+    called-did (action_view c.in-Ok.action) c.do_action.result (task asked (outers_told boxes)) due.contents _ due.loaded due.due (c.do_action.ensures.did store)
 
 pub returns-in-Ok-clause-unread : goal.returns-in-Ok-clause-unread
 returns-in-Ok-clause-unread g c =
-    unread-by (task (command c.args.ordered.now.order c.args.ordered.now.files.now) (outers_told (map g.C.Calculator.told c.as_slice.result.now))) c.in-Ok.ensures.due.contents (job_view c.in-Ok.job)
-    (device (g.S.Source.told c.args.devices.now.input.now) (g.S.Source.told c.do_job.new.devices.input.now)) c.in-Ok.ensures.due.due c.do_job.ensures.unread
+    unread-by (task (command c.args.ordered.now.order c.args.ordered.now.files.now) (outers_told (map g.C.Calculator.told c.as_slice.result.now))) c.in-Ok.ensures.due.contents (action_view c.in-Ok.action)
+    (device (g.S.Source.told c.args.devices.now.input.now) (g.S.Source.told c.do_action.new.devices.input.now)) c.in-Ok.ensures.due.due c.do_action.ensures.unread
 
 pub returns-in-Err-OutOfMemory-clause-called : goal.returns-in-Err-OutOfMemory-clause-called
 returns-in-Err-OutOfMemory-clause-called g c =
     called-short (task (command c.args.ordered.now.order c.args.ordered.now.files.now) (outers_told (map g.C.Calculator.told c.args.boxes.now.items))) c.note_out_of_memory.result
-    (device (g.T.Store.told c.args.store.now) (g.T.Store.told c.due_job.new.store)) (g.S.Source.told c.args.devices.now.input.now) (g.K.Sink.told c.args.devices.now.output.now)
+    (device (g.T.Store.told c.args.store.now) (g.T.Store.told c.due_action.new.store)) (g.S.Source.told c.args.devices.now.input.now) (g.K.Sink.told c.args.devices.now.output.now)
     (device (g.E.Sink.told c.args.devices.now.notes.now) (g.E.Sink.told c.note_out_of_memory.new.notes)) (map g.C.Calculator.told c.args.boxes.now.items) c.note_out_of_memory.ensures.status c.note_out_of_memory.ensures.noted

@@ -2,12 +2,12 @@ use Rattle.std.proofs.Common.{subst, map}
 use Rattle.mg_run.specs.Boxes.{outers_told}
 use Rattle.mg_words.specs.Words.{Asked, asked_of}
 use Rattle.mg_run.specs.Devices.{told_at}
-use Rattle.mg_run.specs.Call.{Came}
+use Rattle.mg_run.specs.Call.{CallEnded}
 use Rattle.mg_run.proofs.Coming.{came-nothing, unread-nothing}
 use Rattle.mg_run.proofs.call.do_words.Goals as goal
 
 pub returns-in-Ok-clause-came : goal.returns-in-Ok-clause-came
-returns-in-Ok-clause-came g c = subst (λ (asked : Asked). Came (outers_told (map g.C.Calculator.told c.args.boxes.now.items)) asked c.do_asked.result
+returns-in-Ok-clause-came g c = subst (λ (asked : Asked). CallEnded (outers_told (map g.C.Calculator.told c.args.boxes.now.items)) asked c.do_asked.result
     (told_at g.T.Store.told g.S.Source.told g.K.Sink.told g.E.Sink.told g.C.Calculator.told c.args.store.now c.do_asked.new.store c.args.devices.now c.do_asked.new.devices c.args.boxes.now c.do_asked.new.boxes)) c.in-Ok.ensures c.do_asked.ensures.came
 
 pub returns-in-Err-clause-came : goal.returns-in-Err-clause-came

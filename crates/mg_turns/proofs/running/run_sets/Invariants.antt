@@ -1,6 +1,6 @@
 use Rattle.std.proofs.Common.{ℕ, ◌≡◌, ◌+◌}
 use Rattle.mg_node.specs.Lawful.{AreCell}
-use Rattle.mg_turns.specs.Rounds.{Rounds}
+use Rattle.mg_turns.specs.Rounds.{CellRounds}
 use Rattle.mg_turns.specs.Told.{committed_in}
 use Rattle.mg_turns.specs.Code.Running.{CellSteps}
 use Rattle.mg_turns.proofs.running.run_sets.Given as goal
@@ -11,5 +11,5 @@ invariant-loop-done g l = record {
   steps : CellSteps l.fn.engine l.engine l.fn.intake l.intake;
   laid : ℕ;
   counts : committed_in l.engine ≡ committed_in l.fn.engine + l.done;
-  rounds : Rounds l.done laid l.fn.engine l.engine l.fn.intake l.intake;
+  rounds : CellRounds l.done laid l.fn.engine l.engine l.fn.intake l.intake;
 }

@@ -4,7 +4,7 @@ use Rattle.mg_node.specs.Views.{IntakeView}
 use Rattle.mg_turns.specs.Words.{intake_of, whose}
 use Rattle.mg_turns.specs.Parts.{PartView, an_intake}
 use Rattle.mg_turns.proofs.Words.{intake_at}
-use Rattle.mg_workers.specs.Code.Weaving.{IsOf}
+use Rattle.mg_workers.specs.Code.Weaving.{IsWovenFrom}
 use Rattle.mg_workers.proofs.Weaves.{put_intake_is, all_woven, turned_of}
 use Rattle.mg_workers.proofs.weaving.weave.Goals as goal
 
@@ -14,7 +14,7 @@ returns-clause-of g c =
     let more : c.push_reserved.new.self.items ≡ c.weave_nodes.new.parts.items ++ an_intake c.in-Some.intake.value ∷ [] = c.push_reserved.ensures.items ∙ ap (λ (p : PartView). c.weave_nodes.new.parts.items ++ p ∷ []) c.of_intake.ensures in
     let one_more = ap (λ (xs : List PartView). length xs) more ∙ length-append c.weave_nodes.new.parts.items (an_intake c.in-Some.intake.value ∷ []) in
     let word : 2 * c.args.nodes ≡ length c.weave_nodes.new.parts.items = sym counts.0 in
-    let nodes : IsOf c.args.nodes c.args.engines.now.items c.args.intakes.now.items c.weave_nodes.new.parts.items c.weave_nodes.new.engines.items c.weave_nodes.new.intakes.items =
+    let nodes : IsWovenFrom c.args.nodes c.args.engines.now.items c.args.intakes.now.items c.weave_nodes.new.parts.items c.weave_nodes.new.engines.items c.weave_nodes.new.intakes.items =
     turned_of c.args.nodes c.args.engines.now.items c.reverse.new.self.items c.args.intakes.now.items c.reverse-2.new.self.items _ _ _ c.reverse.ensures.items c.reverse-2.ensures.items c.weave_nodes.ensures.of in
     let it = put_intake_is c.args.nodes _ _ c.weave_nodes.new.parts.items c.push_reserved.new.self.items c.weave_nodes.new.engines.items c.weave_nodes.new.intakes.items c.box_last.new.items.items c.args.nodes
     (subst (λ (k : ℕ). whose c.args.nodes k ≡ intake_of c.args.nodes) word (intake_at c.args.nodes c.args.nodes (omega arith))) (c.in-Some.intake.value, c.in-Some.ensures.boxed, more) nodes in

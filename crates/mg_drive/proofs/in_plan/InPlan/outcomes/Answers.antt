@@ -6,7 +6,7 @@ use Rattle.mg_calc.specs.Equations.{stream_of}
 use Rattle.mg_calc.specs.Plan.{numbers}
 use Rattle.mg_free.specs.Core.{split_of, is_free, is_core, stream_number}
 use Rattle.mg_answer.specs.Report.{end_of}
-use Rattle.mg_drive.specs.Live.{fault_in, sets_by}
+use Rattle.mg_drive.specs.Live.{renumbered_fault, sets_by}
 use Rattle.mg_drive.proofs.LiveTells.{logs_long, frees_long, core_nodes_long, numbers_long, all_in_core}
 use Rattle.mg_drive.proofs.in_plan.InPlan.outcomes.Goals as goal
 
@@ -37,7 +37,7 @@ pub returns : goal.returns
 returns c = λ job streams takens core_is tells have.
     let plan = c.args.self.now.plan.now in
     record {
-      faults = c.in_ok-faults.ensures ∙ ap (λ (ns : List ℕ). map (fault_in ns) c.as_slice-2.result.now) (c.as_slice.ensures ∙ c.requires.numbers.nodes_are) ∙ ap (map (fault_in (split_of plan).numbers)) (c.as_slice-2.ensures ∙ tells.faults);
+      faults = c.in_ok-faults.ensures ∙ ap (λ (ns : List ℕ). map (renumbered_fault ns) c.as_slice-2.result.now) (c.as_slice.ensures ∙ c.requires.numbers.nodes_are) ∙ ap (map (renumbered_fault (split_of plan).numbers)) (c.as_slice-2.ensures ∙ tells.faults);
       sets = c.in_ok-sets.ensures takens have ∙ ap (λ (ns : List PlanNode). sets_by ns c.as_slice-4.result.now (logs_long takens)) c.as_slice-3.ensures
           ∙ ap (λ (ss : List ℕ). sets_by plan.nodes ss (logs_long takens)) (c.as_slice-4.ensures ∙ tells.sets);
       ends = c.in_ok-ends.ensures streams (c.as_slice-6.ensures.value ∙ tells.ends) ∙ ap (map (λ stream. end_of (stream_of streams stream))) (c.as_slice-5.ensures ∙ c.requires.numbers.streams_are)

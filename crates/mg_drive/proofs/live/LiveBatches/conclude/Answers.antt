@@ -7,7 +7,7 @@ use Rattle.mg_answer.specs.Answer.{output_in}
 use Rattle.mg_answer.specs.Devices.{device}
 use Rattle.mg_answer.specs.Outcomes.{told_answer, told_failed}
 use Rattle.mg_answer.specs.Wrote.{WroteBy}
-use Rattle.mg_drive.specs.Batches.{Tells}
+use Rattle.mg_drive.specs.Batches.{OutcomesFit}
 use Rattle.mg_drive.proofs.LiveEnds.{sets_long, plan_ends}
 use Rattle.mg_drive.proofs.LiveTells.{logs_long, streams_as_many, faults_below}
 use Rattle.mg_drive.proofs.live.LiveBatches.conclude.Goals as goal
@@ -20,7 +20,7 @@ outcomes-requires g c =
       numbers = l.of.numbers_are;
       free = l.of.frees_are;
       long = sym l.taken.takers_long;
-      tells = subst (λ (p : Plan). Tells p c.args.outcomes) l.of.core_is c.requires.tells;
+      tells = subst (λ (p : Plan). OutcomesFit p c.args.outcomes) l.of.core_is c.requires.tells;
     }
 
 pub conclude-requires : goal.conclude-requires
@@ -29,7 +29,7 @@ conclude-requires g c =
     let whole = c.args.self.now.whole.plan.now in
     let job : Job = record { plan = c.args.run.now.plan.now; inputs = c.requires.of.inputs } in
     let told = c.in_ok-outcomes.ensures job c.requires.of.streams l.takens l.of.core_is c.requires.of.tells l.taken in
-    let tells = subst (λ (p : Plan). Tells p c.args.outcomes) l.of.core_is c.requires.tells in
+    let tells = subst (λ (p : Plan). OutcomesFit p c.args.outcomes) l.of.core_is c.requires.tells in
     let many = plan_ends whole job c.requires.of.streams c.args.self.now.nodes.free l.takens c.in_ok-outcomes.outcomes told in
     record {
       few = omega (arith, many, tells.many, tells.few, streams_as_many whole l.of.valid);

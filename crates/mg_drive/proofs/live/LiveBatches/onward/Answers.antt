@@ -3,7 +3,7 @@ use Rattle.mg_feed.specs.declared.feed_end.BatchEnd.{BatchEnd}
 use Rattle.mg_feed.specs.declared.feed_end.BatchEnd.TheVariants.{More, End}
 use Rattle.mg_live.specs.Takes.{Did, turns_of}
 use Rattle.mg_sched.specs.Extends.{for_last}
-use Rattle.mg_drive.specs.Batches.{GoesOn}
+use Rattle.mg_drive.specs.Batches.{BatchesGoOn}
 use Rattle.mg_drive.specs.Code.Live.{LiveGives}
 use Rattle.mg_drive.proofs.LiveRounds.{same_frees_went, same_frees_rest, same_frees_there, same_frees_read, same_frees_taken, pieces_as, handed_as, stands_still, may_round, live_round, live_rests, live_read, round_there, rounds_fall, rounds_stay}
 use Rattle.mg_drive.proofs.live.LiveBatches.onward.Goals as goal
@@ -27,7 +27,7 @@ returns-then-did-clause-onward g c = λ began core first source so_far given.
     let taken = c.in_ok-did.ensures.taken still.streams l.takens still.are l.taken in
     let taken_now = same_frees_taken c.args.self.now.nodes.free c.round.new.self.free after c.round.new.self.takers.items c.in_ok-did.ensures.free taken in (
       c.in-More.is,
-      subst (λ (b : Bool). GoesOn (λ inputs. LiveGives g.B.Batches.gives g.B.Batches.came g.B.Batches.is_due began.batches (record { batches = c.args.self.now.batches; plan = began.whole.plan.now; whole = c.args.self.now.whole.plan.now; nodes = c.args.self.now.whole.nodes.now; streams = c.args.self.now.whole.streams.now; ended = c.args.self.now.end; rested = not b; frees = c.hand_on.new.self.free; takers = c.hand_on.new.self.takers.items }) core first source More inputs) core so_far (for_last (length (g.N.Driven.net c.args.net.now).plan.inputs) c.in_ok-pieces.pieces)) (sym c.if-did.true)
+      subst (λ (b : Bool). BatchesGoOn (λ inputs. LiveGives g.B.Batches.gives g.B.Batches.came g.B.Batches.is_due began.batches (record { batches = c.args.self.now.batches; plan = began.whole.plan.now; whole = c.args.self.now.whole.plan.now; nodes = c.args.self.now.whole.nodes.now; streams = c.args.self.now.whole.streams.now; ended = c.args.self.now.end; rested = not b; frees = c.hand_on.new.self.free; takers = c.hand_on.new.self.takers.items }) core first source More inputs) core so_far (for_last (length (g.N.Driven.net c.args.net.now).plan.inputs) c.in_ok-pieces.pieces)) (sym c.if-did.true)
           (same_frees_went g.B.Batches.gives g.B.Batches.came g.B.Batches.is_due began.batches (record { batches = c.args.self.now.batches; plan = began.whole.plan.now; whole = c.args.self.now.whole.plan.now; nodes = c.args.self.now.whole.nodes.now; streams = c.args.self.now.whole.streams.now; ended = c.args.self.now.end; rested = c.args.self.now.rested; frees = c.args.self.now.nodes.free; takers = c.args.self.now.nodes.takers.items }) core first source so_far (for_last (length (g.N.Driven.net c.args.net.now).plan.inputs) c.in_ok-pieces.pieces) c.hand_on.new.self.takers.items c.hand_on.new.self.free (c.in_ok-pieces.ensures.free ∙ c.in_ok-did.ensures.free)
           (live_round g.B.Batches.gives g.B.Batches.came g.B.Batches.is_due began.batches (record { batches = c.args.self.now.batches; plan = began.whole.plan.now; whole = c.args.self.now.whole.plan.now; nodes = c.args.self.now.whole.nodes.now; streams = c.args.self.now.whole.streams.now; ended = c.args.self.now.end; rested = c.args.self.now.rested; frees = c.args.self.now.nodes.free; takers = c.args.self.now.nodes.takers.items }) core first source c.args.last so_far c.in_ok-pieces.pieces (g.N.Driven.net c.args.net.now) c.hand_on.new.self.takers.items given.boxes given.stands still did
           (same_frees_taken c.round.new.self.free c.args.self.now.nodes.free after c.hand_on.new.self.takers.items (sym c.in_ok-did.ensures.free) (c.in_ok-pieces.ensures.taken after taken_now))

@@ -2,7 +2,7 @@ use Rattle.std.proofs.Common.{◌+◌, refl, ap, sym, subst}
 use Rattle.mg_feed.specs.FeedSeen.{seen, fed}
 use Rattle.mg_feed.specs.Fed.{Fed, Reading}
 use Rattle.mg_feed.specs.View.{View}
-use Rattle.mg_feed.specs.Code.Moves.{Ends}
+use Rattle.mg_feed.specs.Code.Moves.{EndsReading}
 use Rattle.mg_feed.specs.declared.line_fault.LineFault.{LineFault}
 use Rattle.mg_feed.specs.declared.feed_end.FeedEnd.TheVariants.{Refused}
 use Rattle.mg_feed.proofs.Coming.{ends-long}
@@ -20,4 +20,4 @@ returns-in-Err g c =
     let f = fed c.args.self.now in
     stopped-by c.stop_by.result f (reading (seen c.args.self.now) _) _ c.in-Err.fault f.view.lines refl c.stop_by.ensures (ap (reading (seen c.args.self.now)) c.in-Err.ensures.reading)
     (λ other. let long = c.in-Err.ensures.fault other in
-    subst (λ (x : LineFault). Ends (Refused (f.view.lines + 1) x) f) (sym long.0) (ends-long f (kept-none _ _ c.args.self.now.reader.none c.requires) long.1))
+    subst (λ (x : LineFault). EndsReading (Refused (f.view.lines + 1) x) f) (sym long.0) (ends-long f (kept-none _ _ c.args.self.now.reader.none c.requires) long.1))

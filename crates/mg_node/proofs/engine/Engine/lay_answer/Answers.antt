@@ -8,7 +8,7 @@ use Rattle.mg_calc.specs.declared.node_fault.Phase.TheVariants.{Process}
 use Rattle.mg_node.specs.Views.{EngineView}
 use Rattle.mg_node.specs.Commits.{raised_before}
 use Rattle.mg_node.specs.Code.QueueLaying.{HasRoomFor, IsLaid}
-use Rattle.mg_node.specs.Code.FrontLaying.{end_of}
+use Rattle.mg_node.specs.Code.FrontLaying.{front_end_of}
 use Rattle.mg_node.specs.Code.Showing.{LaysAnswer}
 use Rattle.mg_node.proofs.Giving.{with_outputs}
 use Rattle.mg_node.proofs.EngineFronts.{some_stand}
@@ -46,4 +46,4 @@ returns-clause-laid g c =
     (lays_answer c.args.self.now c.deref_mut-2.result.now now c.args.at c.args.answer c.lay-cause.result fault
     (ap (map backlog_of) before ∙ c.reserve_for.ensures.same ∙ ap (map backlog_of) c.deref_mut.ensures.value ∙ ap (λ (v : EngineView). v.outputs) c.self.view_is)
     (subst (λ (v : EngineView). IsLaid v.offset (Process c.args.at) (raised_before v.offset (Process c.args.at)) c.args.answer c.deref_mut-2.result.now now c.lay-cause.result) c.self.view_is c.lay-cause.ensures)
-    (c.note_fault.ensures ∙ ap (λ (v : EngineView). (end_of v.node (Process c.args.at) c.lay-cause.result).fault) c.self.view_is))
+    (c.note_fault.ensures ∙ ap (λ (v : EngineView). (front_end_of v.node (Process c.args.at) c.lay-cause.result).fault) c.self.view_is))

@@ -4,7 +4,7 @@ use Rattle.std.proofs.lemmas.List.{length-map, with_items_is}
 use Rattle.mg_calc.specs.Told.{CalculatorTold}
 use Rattle.mg_node.specs.Views.{EngineView}
 use Rattle.mg_node.specs.Fresh.{own_told}
-use Rattle.mg_sched.specs.Code.Made.{AtPlaces, IsEngineAt, IsLeft, FindEach, first_holder}
+use Rattle.mg_sched.specs.Code.Made.{AtPlaces, IsEngineAt, IsLeftOver, FindEach, first_holder}
 use Rattle.mg_sched.proofs.NewBoxes.{given_of, seen_laid, laid, all_there, find_each}
 use Rattle.mg_sched.proofs.NewNets.{joined_made}
 use Rattle.mg_sched.proofs.net.making.joined.Goals as goal
@@ -33,5 +33,5 @@ returns g c = λ inputs is parts.
     (λ all. subst (AtPlaces (IsEngineAt plan inputs.streams (λ _ node. first_holder (given_of (map g.C.Calculator.told c.args.boxes.items)) node))) (sym whole)
     (subst (λ (os : List (Option CalculatorTold)). AtPlaces (IsEngineAt plan inputs.streams (λ _ node. first_holder os node)) c.hand_out.new.engines) seen
     (c.hand_out.ensures.engines inputs.streams (subst (AtPlaces (IsEngineAt plan inputs.streams (λ _ node. own_told node))) (sym c.deref_mut-2.ensures.value) all))))
-    (subst (λ (ps : List (Option g.row.C.Denot)). IsLeft plan.nodes (given_of (map g.C.Calculator.told c.args.boxes.items)) (length plan.nodes) (map (option_map g.C.Calculator.told) ps)) (sym places)
-    (subst (λ (os : List (Option CalculatorTold)). IsLeft plan.nodes os (length plan.nodes) (map (option_map g.C.Calculator.told) c.hand_out.new.places)) seen c.hand_out.ensures.left)) refl refl
+    (subst (λ (ps : List (Option g.row.C.Denot)). IsLeftOver plan.nodes (given_of (map g.C.Calculator.told c.args.boxes.items)) (length plan.nodes) (map (option_map g.C.Calculator.told) ps)) (sym places)
+    (subst (λ (os : List (Option CalculatorTold)). IsLeftOver plan.nodes os (length plan.nodes) (map (option_map g.C.Calculator.told) c.hand_out.new.places)) seen c.hand_out.ensures.left)) refl refl

@@ -1,8 +1,8 @@
 -- With the engines that are left it comes to the same.
 use Rattle.std.proofs.Common.{◌≡◌, ◌++◌, drop}
 use Rattle.std.specs.List.{flat_map}
-use Rattle.mg_sched.specs.Reports.{ends_of}
+use Rattle.mg_sched.specs.Reports.{stream_ends_of}
 use Rattle.mg_sched.proofs.net.reporting.tell_all.Given as goal
 
 abbrev pub invariant-loop-engine : goal.invariant-loop-engine
-invariant-loop-engine g l = l.ends.items ++ flat_map ends_of (drop l.engine-index l.engines) ≡ l.initial.ends.items ++ flat_map ends_of l.engines
+invariant-loop-engine g l = l.ends.items ++ flat_map stream_ends_of (drop l.engine-index l.engines) ≡ l.initial.ends.items ++ flat_map stream_ends_of l.engines

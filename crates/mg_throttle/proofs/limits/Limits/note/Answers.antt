@@ -1,5 +1,5 @@
 use Rattle.std.proofs.Common.{ap, length, arith}
-use Rattle.mg_throttle.proofs.Counts.{whole, View-noted, IsOf-noted}
+use Rattle.mg_throttle.proofs.Counts.{whole, View-noted, AreLimitsOf-noted}
 use Rattle.mg_throttle.proofs.Listing.{listed_noted, listed_same}
 use Rattle.mg_throttle.proofs.Firsts.{let_go_reaches}
 use Rattle.mg_throttle.proofs.Pressing.{IsKept-changed, IsKept-unchanged, still_full}
@@ -35,7 +35,7 @@ returns-then-was-is-clause-noted c =
 pub returns-then-was-is-clause-of : goal.returns-then-was-is-clause-of
 returns-then-was-is-clause-of c =
     let same = ap (λ t. length t.queues) c.self.view_is in
-    IsOf-noted c.self.inside.queues.items c.self.inside.rows.items _ _ c.args.edge c.args.packets c.index.result.now c.self.view_is (omega arith) c.index.ensures
+    AreLimitsOf-noted c.self.inside.queues.items c.self.inside.rows.items _ _ c.args.edge c.args.packets c.index.result.now c.self.view_is (omega arith) c.index.ensures
 
 pub returns-else-was-is-clause-noted : goal.returns-else-was-is-clause-noted
 returns-else-was-is-clause-noted c =
@@ -45,7 +45,7 @@ returns-else-was-is-clause-noted c =
 pub returns-else-was-is-clause-of : goal.returns-else-was-is-clause-of
 returns-else-was-is-clause-of c =
     let same = ap (λ t. length t.queues) c.self.view_is in
-    IsOf-noted c.self.inside.queues.items c.self.inside.rows.items _ _ c.args.edge c.args.packets c.index.result.now c.self.view_is (omega arith) c.index.ensures
+    AreLimitsOf-noted c.self.inside.queues.items c.self.inside.rows.items _ _ c.args.edge c.args.packets c.index.result.now c.self.view_is (omega arith) c.index.ensures
 
 pub returns-then-was-is-clause-let_go : goal.returns-then-was-is-clause-let_go
 returns-then-was-is-clause-let_go c = let_go_reaches c.self.inside.queues.items c.self.inside.rows.items _ _ c.args.edge c.args.packets c.index.result.now c.self.view_is

@@ -1,9 +1,9 @@
 use Rattle.std.proofs.Common.{List, ◌∙◌, ap, sym, subst, map, arith}
 use Rattle.std.specs.List.{list_any}
 use Rattle.mg_throttle.specs.declared.queue.Queue.{Queue}
-use Rattle.mg_throttle.specs.Throttle.{QueueLimits, is_full, relaxed, IsOf}
+use Rattle.mg_throttle.specs.Throttle.{QueueLimits, is_full, relaxed, AreLimitsOf}
 use Rattle.mg_throttle.specs.Code.Kept.{IsKept, AreListed}
-use Rattle.mg_throttle.proofs.Counts.{whole, IsKept-relaxed, IsOf-relaxed, limits_with}
+use Rattle.mg_throttle.proofs.Counts.{whole, IsKept-relaxed, AreLimitsOf-relaxed, limits_with}
 use Rattle.mg_throttle.proofs.Listing.{listed_relaxed, none_relaxed}
 use Rattle.mg_throttle.proofs.limits.Limits.relax.Goals as goal
 
@@ -24,9 +24,9 @@ pub returns-clause-of : goal.returns-clause-of
 returns-clause-of c plan of =
     let again = whole c.self.inside.queues.len c.relax_listed-any.new.queues c.self.inside.queues.items (omega arith) in
     let new = c.relax_listed-any.ensures.relaxed ∙ ap (map relaxed) c.deref_mut.ensures.value in
-    subst (λ qs. IsOf plan (limits_with qs c.self.inside.rows.items c.fill.new.self.len)) (sym (again ∙ new))
-    (subst (λ n. IsOf plan (limits_with (map relaxed c.self.inside.queues.items) c.self.inside.rows.items n)) (sym c.fill.ensures.len)
-    (IsOf-relaxed c.self.inside.queues.items c.self.inside.rows.items _ _ c.self.view_is plan of))
+    subst (λ qs. AreLimitsOf plan (limits_with qs c.self.inside.rows.items c.fill.new.self.len)) (sym (again ∙ new))
+    (subst (λ n. AreLimitsOf plan (limits_with (map relaxed c.self.inside.queues.items) c.self.inside.rows.items n)) (sym c.fill.ensures.len)
+    (AreLimitsOf-relaxed c.self.inside.queues.items c.self.inside.rows.items _ _ c.self.view_is plan of))
 
 pub returns-clause-relaxed : goal.returns-clause-relaxed
 returns-clause-relaxed c =

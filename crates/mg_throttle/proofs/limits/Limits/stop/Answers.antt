@@ -1,6 +1,6 @@
 use Rattle.std.proofs.Common.{◌∙◌, ap, sym, subst, map, length, arith}
-use Rattle.mg_throttle.specs.Throttle.{stopped, IsOf}
-use Rattle.mg_throttle.proofs.Counts.{whole, IsOf-stopped, limits_with}
+use Rattle.mg_throttle.specs.Throttle.{stopped, AreLimitsOf}
+use Rattle.mg_throttle.proofs.Counts.{whole, AreLimitsOf-stopped, limits_with}
 use Rattle.mg_throttle.proofs.Listing.{listed_stopped}
 use Rattle.mg_throttle.proofs.Pressing.{enough_stopped, IsKept-stopped, IsKept-stopped_none}
 use Rattle.mg_throttle.proofs.limits.Limits.stop.Goals as goal
@@ -37,12 +37,12 @@ pub returns-then-full-gt0-clause-of : goal.returns-then-full-gt0-clause-of
 returns-then-full-gt0-clause-of c plan of =
     let again = whole c.self.inside.queues.len c.stop_queues-full.new.queues c.self.inside.queues.items (omega arith) in
     let new = c.stop_queues-full.ensures.queues ∙ ap (map (stopped c.args.node)) c.deref_mut.ensures.value in
-    subst (λ qs. IsOf plan (limits_with qs c.self.inside.rows.items c.self.inside.counts.len)) (sym (again ∙ new))
-    (IsOf-stopped c.args.node c.self.inside.queues.items c.self.inside.rows.items _ _ c.self.view_is plan of)
+    subst (λ qs. AreLimitsOf plan (limits_with qs c.self.inside.rows.items c.self.inside.counts.len)) (sym (again ∙ new))
+    (AreLimitsOf-stopped c.args.node c.self.inside.queues.items c.self.inside.rows.items _ _ c.self.view_is plan of)
 
 pub returns-else-full-gt0-clause-of : goal.returns-else-full-gt0-clause-of
 returns-else-full-gt0-clause-of c plan of =
     let again = whole c.self.inside.queues.len c.stop_queues-full.new.queues c.self.inside.queues.items (omega arith) in
     let new = c.stop_queues-full.ensures.queues ∙ ap (map (stopped c.args.node)) c.deref_mut.ensures.value in
-    subst (λ qs. IsOf plan (limits_with qs c.self.inside.rows.items c.self.inside.counts.len)) (sym (again ∙ new))
-    (IsOf-stopped c.args.node c.self.inside.queues.items c.self.inside.rows.items _ _ c.self.view_is plan of)
+    subst (λ qs. AreLimitsOf plan (limits_with qs c.self.inside.rows.items c.self.inside.counts.len)) (sym (again ∙ new))
+    (AreLimitsOf-stopped c.args.node c.self.inside.queues.items c.self.inside.rows.items _ _ c.self.view_is plan of)

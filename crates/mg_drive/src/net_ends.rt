@@ -2,7 +2,7 @@ use mg_value::InputSet;
 
 /// The two ends of a net that is driven: where its batches come from, what tells the sets of its outputs, and room for one of these sets.
 #[derive(Drop)]
-pub struct Ends<B, T> {
+pub struct NetEnds<B, T> {
     pub batches: B,
     pub telling: T,
     pub set: InputSet,

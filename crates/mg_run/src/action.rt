@@ -8,11 +8,11 @@ ghost use Rattle.mg_subgraph.specs.Expansion.{expansion_of};
 ghost use Rattle.mg_words.specs.Command.{command};
 ghost use Rattle.mg_run.specs.Task.{Task, task};
 ghost use Rattle.mg_run.specs.Answer as answers;
-ghost use Rattle.mg_run.specs.Code.Job.{job_view, CanBeDone};
+ghost use Rattle.mg_run.specs.Code.Action.{action_view, CanBeDone};
 ghost use Rattle.mg_files.specs.Reads.{contents_of, AreNotedOf};
-ghost use Rattle.mg_run.specs.Call.{IsJob};
+ghost use Rattle.mg_run.specs.Call.{IsActionOf};
 
-use crate::way::{live_job, way_job};
+use crate::way::{live_action, way_action};
 use mg_calc::{OuterShape, Plan};
 use mg_check::check;
 use mg_config::GraphConfig;
@@ -44,7 +44,7 @@ pub enum Use {
 
 /// What a command has to do once its files are loaded.
 #[derive(Debug, Drop)]
-pub enum Job {
+pub enum Action {
     /// A file, the expansion or the graph is refused with this note.
     Refuse(Vec<u8>),
     /// This text is written.
@@ -55,131 +55,135 @@ pub enum Job {
 
 /// Reads the contents of a command's files, and returns what the command has to do with them. `outers` are the shapes and laws of the
 /// calculators that are handed in.
-pub fn job_of(
+pub fn action_of(
     alloc: Global,
     order: Order,
     outers: &[OuterShape],
     names: &[MgText],
     contents: Vec<Vec<u8>>,
-) -> Result<Job, AllocError>
+) -> Result<Action, AllocError>
     requires each { length contents.items ≡ length names.now }
     requires outers { All IsOuterShape outers.now }
-    ensures due { IfOk result (λ job. IsJob (task (command order names.now) outers.now) (contents_of contents.items) (job_view job)) }
-    ensures valid { IfOk result (λ job. CanBeDone outers.now (job_view job)) }
+    ensures due { IfOk result (λ action. IsActionOf (task (command order names.now) outers.now) (contents_of contents.items) (action_view action)) }
+    ensures valid { IfOk result (λ action. CanBeDone outers.now (action_view action)) }
 {
     match graphs_of(alloc, names, &contents) {
         Ok(graphs) => {
             drop(contents);
-            graphs_job(alloc, order, outers, graphs)
+            graphs_action(alloc, order, outers, graphs)
         }
         Err(fault) => refused(fault),
     }
 }
 
-// Returns the job of refusing a file with its note, or an error where memory ran out.
-fn refused(fault: Fault) -> Result<Job, AllocError>
-    ensures valid { IfOk result (λ job. (outers : List OuterShape) → CanBeDone outers (job_view job)) }
-    ensures due { IfOk result (λ job. (task : Task) (contents : List (List ℕ)) → AreNotedOf fault task.files contents → IsJob task contents (job_view job)) }
+// Returns the action of refusing a file with its note, or an error where memory ran out.
+fn refused(fault: Fault) -> Result<Action, AllocError>
+    ensures valid { IfOk result (λ action. (outers : List OuterShape) → CanBeDone outers (action_view action)) }
+    ensures due { IfOk result (λ action. (task : Task) (contents : List (List ℕ)) → AreNotedOf fault task.files contents → IsActionOf task contents (action_view action)) }
 {
     match fault {
-        Fault::Noted(note) => Ok(Job::Refuse(note)),
+        Fault::Noted(note) => Ok(Action::Refuse(note)),
         Fault::OutOfMemory => Err(AllocError),
     }
 }
 
 // Returns what there is to do with graphs, of which the first is the main one and the others are its library.
-fn graphs_job(
+fn graphs_action(
     alloc: Global,
     order: Order,
     outers: &[OuterShape],
     graphs: Vec<GraphConfig>,
-) -> Result<Job, AllocError>
+) -> Result<Action, AllocError>
     requires sound { All (λ graph. IsSound (graph_view graph)) graphs.items }
     requires printable { All (λ graph. IsPrintable (graph_view graph)) graphs.items }
     requires outers { All IsOuterShape outers.now }
-    ensures due { IfOk result (λ job. job_view job ≡ answers.graphs_job order outers.now (map graph_view graphs.items)) }
-    ensures valid { IfOk result (λ job. CanBeDone outers.now (job_view job)) }
+    ensures due { IfOk result (λ action. action_view action ≡ answers.graphs_action order outers.now (map graph_view graphs.items)) }
+    ensures valid { IfOk result (λ action. CanBeDone outers.now (action_view action)) }
 {
     if graphs.is_empty() {
-        return Ok(Job::Refuse(Vec::new(alloc)));
+        return Ok(Action::Refuse(Vec::new(alloc)));
     }
     let mut library = graphs;
     let main = library.remove(0);
-    main_job(alloc, order, outers, main, library.as_slice())
+    main_action(alloc, order, outers, main, library.as_slice())
 }
 
-fn main_job(
+fn main_action(
     alloc: Global,
     order: Order,
     outers: &[OuterShape],
     main: GraphConfig,
     library: &[GraphConfig],
-) -> Result<Job, AllocError>
+) -> Result<Action, AllocError>
     requires sound { IsSound (graph_view main) }
     requires printable { IsPrintable (graph_view main) }
     requires sound_files { All (λ graph. IsSound (graph_view graph)) library.now }
     requires printable_files { All (λ graph. IsPrintable (graph_view graph)) library.now }
     requires outers { All IsOuterShape outers.now }
-    ensures valid { IfOk result (λ job. CanBeDone outers.now (job_view job)) }
-    ensures due { IfOk result (λ job. job_view job ≡ answers.expanded_job order outers.now (expansion_of (graph_view main) (map graph_view library.now))) }
+    ensures valid { IfOk result (λ action. CanBeDone outers.now (action_view action)) }
+    ensures due { IfOk result (λ action. action_view action ≡ answers.expanded_action order outers.now (expansion_of (graph_view main) (map graph_view library.now))) }
 {
     match expand_own(alloc, main, library) {
-        Ok(graph) => graph_job(alloc, order, outers, graph),
-        Err(fault) => Ok(Job::Refuse(expand_note(alloc, &fault)?)),
+        Ok(graph) => graph_action(alloc, order, outers, graph),
+        Err(fault) => Ok(Action::Refuse(expand_note(alloc, &fault)?)),
     }
 }
 
-fn graph_job(
+fn graph_action(
     alloc: Global,
     order: Order,
     outers: &[OuterShape],
     graph: GraphConfig,
-) -> Result<Job, AllocError>
+) -> Result<Action, AllocError>
     requires sound { IsSound (graph_view graph) }
     requires printable { IsPrintable (graph_view graph) }
     requires few { length graph.nodes ≤ 4096 }
     requires outers { All IsOuterShape outers.now }
-    ensures due { IfOk result (λ job. job_view job ≡ answers.graph_job order outers.now (graph_view graph)) }
-    ensures valid { IfOk result (λ job. CanBeDone outers.now (job_view job)) }
+    ensures due { IfOk result (λ action. action_view action ≡ answers.graph_action order outers.now (graph_view graph)) }
+    ensures valid { IfOk result (λ action. CanBeDone outers.now (action_view action)) }
 {
     match order.verb {
-        Verb::Check => check_job(alloc, outers, &graph),
-        Verb::Expand => Ok(Job::Show(graph_text(alloc, graph)?)),
-        Verb::Use(way) => plan_job(alloc, way, order, outers, &graph),
+        Verb::Check => check_action(alloc, outers, &graph),
+        Verb::Expand => Ok(Action::Show(graph_text(alloc, graph)?)),
+        Verb::Use(way) => plan_action(alloc, way, order, outers, &graph),
     }
 }
 
-// Returns the job of `check`: to write its text where the graph has a plan, and else to refuse the graph.
-fn check_job(alloc: Global, outers: &[OuterShape], graph: &GraphConfig) -> Result<Job, AllocError>
+// Returns the action of `check`: to write its text where the graph has a plan, and else to refuse the graph.
+fn check_action(
+    alloc: Global,
+    outers: &[OuterShape],
+    graph: &GraphConfig,
+) -> Result<Action, AllocError>
     requires few { length graph.now.nodes ≤ 4096 }
     requires outers { All IsOuterShape outers.now }
-    ensures due { IfOk result (λ job. job_view job ≡ answers.check_job (check_of outers.now (graph_view graph.now))) }
-    ensures valid { IfOk result (λ job. CanBeDone outers.now (job_view job)) }
+    ensures due { IfOk result (λ action. action_view action ≡ answers.check_action (check_of outers.now (graph_view graph.now))) }
+    ensures valid { IfOk result (λ action. CanBeDone outers.now (action_view action)) }
 {
     match check(alloc, graph, outers) {
-        Ok(plan) => Ok(Job::Show(check_text(alloc, &plan)?)),
-        Err(fault) => Ok(Job::Refuse(check_note(alloc, &fault)?)),
+        Ok(plan) => Ok(Action::Show(check_text(alloc, &plan)?)),
+        Err(fault) => Ok(Action::Refuse(check_note(alloc, &fault)?)),
     }
 }
 
-// Returns the job of using a graph in a way. A graph without a plan is refused, and so is one whose free nodes don't allow that way.
-fn plan_job(
+// Returns the action of using a graph in a way. A graph without a plan is refused, and so is one whose free nodes don't allow that way.
+fn plan_action(
     alloc: Global,
     way: Way,
     order: Order,
     outers: &[OuterShape],
     graph: &GraphConfig,
-) -> Result<Job, AllocError>
+) -> Result<Action, AllocError>
     requires few { length graph.now.nodes ≤ 4096 }
     requires outers { All IsOuterShape outers.now }
-    ensures due { IfOk result (λ job. job_view job ≡ answers.plan_job way order (check_of outers.now (graph_view graph.now))) }
-    ensures valid { IfOk result (λ job. CanBeDone outers.now (job_view job)) }
+    ensures due { IfOk result (λ action. action_view action ≡ answers.plan_action way order (check_of outers.now (graph_view graph.now))) }
+    ensures valid { IfOk result (λ action. CanBeDone outers.now (action_view action)) }
 {
     match check(alloc, graph, outers) {
         Ok(plan) => match first_free(&plan) {
-            Some(node) => live_job(alloc, way, order, node, plan),
-            None => Ok(way_job(way, order, plan)),
+            Some(node) => live_action(alloc, way, order, node, plan),
+            None => Ok(way_action(way, order, plan)),
         },
-        Err(fault) => Ok(Job::Refuse(check_note(alloc, &fault)?)),
+        Err(fault) => Ok(Action::Refuse(check_note(alloc, &fault)?)),
     }
 }

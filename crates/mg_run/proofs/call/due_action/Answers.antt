@@ -4,11 +4,11 @@ use Rattle.mg_calc.specs.declared.shape.OuterShape.{OuterShape}
 use Rattle.mg_subgraph.proofs.Steps.{length-map}
 use Rattle.mg_words.specs.Command.{command}
 use Rattle.mg_run.specs.Boxes.{outers_told, MayBeHandedIn}
-use Rattle.mg_run.specs.Code.Job.{job_view, CanBeDone}
+use Rattle.mg_run.specs.Code.Action.{action_view, CanBeDone}
 use Rattle.mg_files.specs.Reads.{contents_of}
 use Rattle.mg_files.proofs.Loading.{loaded-count}
 use Rattle.mg_run.proofs.Duty.{due_by}
-use Rattle.mg_run.proofs.call.due_job.Goals as goal
+use Rattle.mg_run.proofs.call.due_action.Goals as goal
 
 pub job_of-requires-clause-each : goal.job_of-requires-clause-each
 job_of-requires-clause-each g c =
@@ -17,11 +17,11 @@ job_of-requires-clause-each g c =
 
 pub returns-clause-due : goal.returns-clause-due
 returns-clause-due g c =
-    due_by (command c.args.ordered.now.order c.args.ordered.now.files.now) _ (outers_told (map g.C.Calculator.told c.args.boxes.now)) (contents_of c.in_ok-contents.contents.items) _ (job_view c.in_ok-job.job)
-    (c.deref.ensures.value ∙ c.in_ok-outers.ensures.outers) c.in_ok-contents.ensures.all c.in_ok-job.ensures.due
+    due_by (command c.args.ordered.now.order c.args.ordered.now.files.now) _ (outers_told (map g.C.Calculator.told c.args.boxes.now)) (contents_of c.in_ok-contents.contents.items) _ (action_view c.in_ok-action.action)
+    (c.deref.ensures.value ∙ c.in_ok-outers.ensures.outers) c.in_ok-contents.ensures.all c.in_ok-action.ensures.due
 
 pub returns-clause-can : goal.returns-clause-can
-returns-clause-can g c = subst (λ (outers : List OuterShape). CanBeDone outers (job_view c.in_ok-job.job)) (c.deref.ensures.value ∙ c.in_ok-outers.ensures.outers) c.in_ok-job.ensures.valid
+returns-clause-can g c = subst (λ (outers : List OuterShape). CanBeDone outers (action_view c.in_ok-action.action)) (c.deref.ensures.value ∙ c.in_ok-outers.ensures.outers) c.in_ok-action.ensures.valid
 
 pub returns-clause-lawful : goal.returns-clause-lawful
 returns-clause-lawful g c = subst (λ (outers : List OuterShape). All MayBeHandedIn outers) c.in_ok-outers.ensures.outers c.in_ok-outers.ensures.lawful

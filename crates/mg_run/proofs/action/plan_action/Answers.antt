@@ -1,6 +1,6 @@
 use Rattle.std.proofs.Common.{◌≡◌, Option, None, Some, IfNone}
 use Rattle.mg_calc.specs.Plan.{IsValid}
-use Rattle.mg_run.proofs.job.plan_job.Goals as goal
+use Rattle.mg_run.proofs.action.plan_action.Goals as goal
 
 none_holds : {X : Type 0} (o : Option X) (P : Type 0) → o ≡ None → IfNone o P → P
 none_holds None P is holds = holds

@@ -9,7 +9,7 @@ use Rattle.mg_run.specs.Task.{task}
 use Rattle.mg_files.specs.Reads.{contents_of, AreNotedOf}
 use Rattle.mg_files.proofs.Together.{all-graphs}
 use Rattle.mg_files.proofs.Texts.{sound_graph, printable_graph}
-use Rattle.mg_run.proofs.job.job_of.Goals as goal
+use Rattle.mg_run.proofs.action.action_of.Goals as goal
 
 pub graphs_job-requires-clause-sound : goal.graphs_job-requires-clause-sound
 graphs_job-requires-clause-sound c = all-graphs IsSound sound_graph (contents_of c.deref.result.now) c.in-Ok.graphs.items c.in-Ok.ensures.graphs

@@ -1,4 +1,4 @@
-use Rattle.mg_run.proofs.way.live_job.Goals as goal
+use Rattle.mg_run.proofs.way.live_action.Goals as goal
 
 pub returns-in-Run-clause-valid : goal.returns-in-Run-clause-valid
 returns-in-Run-clause-valid c = λ outers valid fit. (c.as_asked.ensures.valid_with_free valid, c.as_asked.ensures.fit outers fit)

@@ -1,0 +1,62 @@
+-- What an `Action` of the code stands for, whether it may read the input, and whether it can be done.
+use Rattle.std.specs.Prelude.{ℕ, Bool, List}
+use Rattle.mg_calc.specs.declared.plan.Plan.{Plan}
+use Rattle.mg_calc.specs.declared.shape.OuterShape.{OuterShape}
+use Rattle.mg_calc.specs.Plan.{IsValid, IsValidWithFree, OutersFit}
+use Rattle.mg_run.specs.Answer.{Action, refuse, show, run_plan, run_live, solve, generate, generate_live, trace, replay}
+use Rattle.mg_edge.specs.Edge.{StoreTold}
+use Rattle.mg_files.specs.Loads.{LoadedAll}
+use Rattle.mg_run.specs.Task.{Task}
+use Rattle.mg_run.specs.Devices.{Device}
+use Rattle.mg_run.specs.Call.{IsActionOf}
+use Rattle.mg_run.specs.declared.action.Action as code
+use Rattle.mg_run.specs.declared.action.Action.TheVariants.{Refuse, Show, Graph}
+use Rattle.mg_run.specs.declared.action.Use.{Use}
+use Rattle.mg_run.specs.declared.action.Use.TheVariants.{Run, RunLive, Solve, Generate, GenerateLive, Trace, Replay}
+
+-- the action of using a plan in a way of the code, with a report or without
+abbrev pub use_action : Use → Bool → Plan → Action
+use_action Run report plan = run_plan report plan
+use_action RunLive report plan = run_live report plan
+use_action Solve report plan = solve report plan
+use_action (Generate number) report plan = generate report number plan
+use_action (GenerateLive number) report plan = generate_live report number plan
+use_action Trace report plan = trace report plan
+use_action Replay report plan = replay report plan
+
+-- the action that an `Action` of the code stands for
+abbrev pub action_view : code.Action → Action
+action_view (Refuse note) = refuse note.items
+action_view (Show text) = show text.items
+action_view (Graph used report plan) = use_action used report plan
+
+-- the input may be read where this action is done
+abbrev pub MayRead : Action → Type 0
+MayRead (refuse note) = ⊥
+MayRead (show text) = ⊥
+MayRead (run_plan report plan) = Unit {0}
+MayRead (run_live report plan) = Unit {0}
+MayRead (solve report plan) = Unit {0}
+MayRead (generate report number plan) = ⊥
+MayRead (generate_live report number plan) = ⊥
+MayRead (trace report plan) = Unit {0}
+MayRead (replay report plan) = Unit {0}
+
+-- An action can be done: a plan that is used is valid, with free nodes where such are run, and the calculators that are handed in fit a plan
+-- that is run.
+abbrev pub CanBeDone : List OuterShape → Action → Type 0
+CanBeDone outers (refuse note) = Unit {0}
+CanBeDone outers (show text) = Unit {0}
+CanBeDone outers (run_plan report plan) = IsValid plan × OutersFit plan outers
+CanBeDone outers (run_live report plan) = IsValidWithFree plan × OutersFit plan outers
+CanBeDone outers (solve report plan) = IsValid plan
+CanBeDone outers (generate report number plan) = IsValid plan × OutersFit plan outers
+CanBeDone outers (generate_live report number plan) = IsValidWithFree plan × OutersFit plan outers
+CanBeDone outers (trace report plan) = IsValid plan × OutersFit plan outers
+CanBeDone outers (replay report plan) = IsValid plan × OutersFit plan outers
+
+-- All files of a task were loaded, and this action is what there is to do with them.
+pub record IsDue (task : Task) (store : Device StoreTold) (action : Action) : Type 0 where
+  pub contents : List (List ℕ)
+  pub loaded : LoadedAll task.files contents store
+  pub due : IsActionOf task contents action
