@@ -17,4 +17,4 @@ pub use holder::Holder;
 pub use in_place::{begin_in, outer_step_in};
 pub use law_box::LawBox;
 pub use laying::packets_fault;
-pub use route::route_step_in;
+pub use route::{route_step, route_step_in};

@@ -1,7 +1,7 @@
 ghost use Rattle.std.specs.Prelude.{◌≡◌, ◌+◌, List, option_copied, OnErr};
 ghost use Rattle.mg_value.specs.Payload.{Plain};
 ghost use Rattle.mg_value.specs.Settled.{selected as the_selected};
-ghost use Rattle.mg_calc.specs.Answer.{GivesEmission};
+ghost use Rattle.mg_calc.specs.Answer.{Gives, GivesEmission};
 ghost use Rattle.mg_calc.specs.Kinds.{is_wrong as is_it_wrong, has_wrong_kind};
 ghost use Rattle.mg_calc.specs.Law.{step};
 ghost use Rattle.mg_calc.specs.Shape.{IsRouting};
@@ -15,9 +15,26 @@ use mg_time::Timestamp;
 use mg_value::{InputSet, Kind, Packet, Payload, has_kind};
 use std::alloc::Global;
 
-/// Returns what a calculator that hands packets on emits at a set, or its cause, and changes its state in place.
+/// Returns what a calculator that hands packets on gives at a set: its new state and its emission, or its cause.
 ///
-/// Packets that go on share their payloads.
+/// Packets that go on share their payloads, and the new state shares those of the old one; `route_step_in` changes a state in place.
+pub fn route_step(
+    alloc: Global,
+    law: &Law,
+    state: &State,
+    at: Timestamp,
+    set: &InputSet,
+) -> Result<(State, Emission), CalcFault>
+    requires { IsRouting law.now }
+    ensures { Gives result (step law.now state.now at set.now) }
+{
+    let mut kept = state.try_clone(alloc)?;
+    let emission = route_step_in(alloc, law, &mut kept, at, set)?;
+    Ok((kept, emission))
+}
+
+/// Returns what a calculator that hands packets on emits at a set, or its cause, and changes its state in place. On an error the state
+/// stays. Packets that go on share their payloads.
 pub fn route_step_in(
     alloc: Global,
     law: &Law,
