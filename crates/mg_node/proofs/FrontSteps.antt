@@ -16,7 +16,7 @@ use Rattle.mg_node.specs.declared.fronts.FrontEnd.{FrontEnd}
 use Rattle.mg_node.specs.Views.{BenchView, PerformedView, EntryView}
 use Rattle.mg_node.specs.Commits.{raised_before, laid_by, failure_by, Front, answer_laid, has_stopped, with_ready, front_laid, fault_at}
 use Rattle.mg_node.specs.Windows.{ready_of, starts_ready}
-use Rattle.mg_node.specs.Code.QueueLaying.{Stand, packets_by, room_at}
+use Rattle.mg_node.specs.Code.QueueLaying.{Stand, packets_by, room_at, HasRoomFor}
 use Rattle.mg_node.specs.Code.FrontLaying.{needed, counted_in, front_end_of, IsFirstLaid, start_of, HasCome, IsFrontLaid}
 use Rattle.mg_node.proofs.Replying.{same_backlog}
 use Rattle.mg_node.proofs.Zips.{map-set}

@@ -11,17 +11,17 @@ use Rattle.mg_files.proofs.Together.{all-graphs}
 use Rattle.mg_files.proofs.Texts.{sound_graph, printable_graph}
 use Rattle.mg_run.proofs.action.action_of.Goals as goal
 
-pub graphs_job-requires-clause-sound : goal.graphs_job-requires-clause-sound
-graphs_job-requires-clause-sound c = all-graphs IsSound sound_graph (contents_of c.deref.result.now) c.in-Ok.graphs.items c.in-Ok.ensures.graphs
+pub graphs_action-requires-clause-sound : goal.graphs_action-requires-clause-sound
+graphs_action-requires-clause-sound c = all-graphs IsSound sound_graph (contents_of c.deref.result.now) c.in-Ok.graphs.items c.in-Ok.ensures.graphs
 
-pub graphs_job-requires-clause-printable : goal.graphs_job-requires-clause-printable
-graphs_job-requires-clause-printable c = all-graphs IsPrintable printable_graph (contents_of c.deref.result.now) c.in-Ok.graphs.items c.in-Ok.ensures.graphs
+pub graphs_action-requires-clause-printable : goal.graphs_action-requires-clause-printable
+graphs_action-requires-clause-printable c = all-graphs IsPrintable printable_graph (contents_of c.deref.result.now) c.in-Ok.graphs.items c.in-Ok.ensures.graphs
 
 pub returns-in-Ok-clause-due : goal.returns-in-Ok-clause-due
 returns-in-Ok-clause-due c =
     let gs = map graph_view c.in-Ok.graphs.items in
     let are = subst (λ (contents : List (Vec ℕ)). AreGraphs (contents_of contents) gs) c.deref.ensures.value c.in-Ok.ensures.graphs in
-    IfOk-weaker c.graphs_job.result _ _ (λ job same. (graphs gs, are, same)) c.graphs_job.ensures.due
+    IfOk-weaker c.graphs_action.result _ _ (λ job same. (graphs gs, are, same)) c.graphs_action.ensures.due
 
 pub returns-in-Err-clause-due : goal.returns-in-Err-clause-due
 returns-in-Err-clause-due c =

@@ -15,7 +15,7 @@ use Rattle.mg_run.specs.Code.Action.{action_view}
 use Rattle.mg_run.specs.declared.action.Action.{Action}
 use Rattle.mg_run.proofs.action.graphs_action.Goals as goal
 
--- An action of the first of some graphs, with those behind it, is the action of all of them. What the jobs are doesn't count: `all` and `by` are
+-- An action of the first of some graphs, with those behind it, is the action of all of them. What the actions are doesn't count: `all` and `by` are
 -- any two functions that agree so.
 of_all : {J : Type 0} (all : List GraphView → J) (by : GraphView → List GraphView → J) → ((g : GraphView) (gs : List GraphView) → by g gs ≡ all (g ∷ gs))
     → (graphs : List GraphConfig) (main : GraphConfig) (library : List GraphConfig) → 0 < length graphs → main ≡ get_or graphs 0 main → library ≡ drop 1 graphs
@@ -44,25 +44,25 @@ returns-then-is_empty-clause-due c =
     let none : length c.args.graphs.items ≡ 0 = grind (arith, nat_tests) in
     ap answers.refuse c.new.ensures.items ∙ ap (λ (gs : List GraphConfig). answers.graphs_action c.args.order c.args.outers.now (map graph_view gs)) (empty c.args.graphs.items none)
 
-pub main_job-requires-clause-sound : goal.main_job-requires-clause-sound
-main_job-requires-clause-sound c =
+pub main_action-requires-clause-sound : goal.main_action-requires-clause-sound
+main_action-requires-clause-sound c =
     let known = c.args.graphs.ok.0 in
     let some : 0 < length c.args.graphs.items = omega (arith, c.remove-main.ensures.len) in
     subst (λ (g : GraphConfig). IsSound (graph_view g)) (sym c.remove-main.ensures.value) (c.requires.sound 0 c.remove-main.result some)
 
-pub main_job-requires-clause-printable : goal.main_job-requires-clause-printable
-main_job-requires-clause-printable c =
+pub main_action-requires-clause-printable : goal.main_action-requires-clause-printable
+main_action-requires-clause-printable c =
     let known = c.args.graphs.ok.0 in
     let some : 0 < length c.args.graphs.items = omega (arith, c.remove-main.ensures.len) in
     subst (λ (g : GraphConfig). IsPrintable (graph_view g)) (sym c.remove-main.ensures.value) (c.requires.printable 0 c.remove-main.result some)
 
-pub main_job-requires-clause-sound_files : goal.main_job-requires-clause-sound_files
-main_job-requires-clause-sound_files c =
+pub main_action-requires-clause-sound_files : goal.main_action-requires-clause-sound_files
+main_action-requires-clause-sound_files c =
     subst (All {X = GraphConfig} (λ g. IsSound (graph_view g))) (sym (c.as_slice.ensures.value ∙ c.remove-main.ensures.by_index.2))
     (All-drop {X = GraphConfig} (λ g. IsSound (graph_view g)) 1 c.args.graphs.items c.requires.sound)
 
-pub main_job-requires-clause-printable_files : goal.main_job-requires-clause-printable_files
-main_job-requires-clause-printable_files c =
+pub main_action-requires-clause-printable_files : goal.main_action-requires-clause-printable_files
+main_action-requires-clause-printable_files c =
     subst (All {X = GraphConfig} (λ g. IsPrintable (graph_view g))) (sym (c.as_slice.ensures.value ∙ c.remove-main.ensures.by_index.2))
     (All-drop {X = GraphConfig} (λ g. IsPrintable (graph_view g)) 1 c.args.graphs.items c.requires.printable)
 

@@ -8,7 +8,7 @@ none_holds (Some x) P is holds = absurd (let e = is in cc)
 
 pub returns-in-None-clause-valid : goal.returns-in-None-clause-valid
 returns-in-None-clause-valid c =
-    c.way_job.ensures.valid c.args.outers.now (none_holds _ (IsValid c.in-Ok.plan) c.in-None.is (c.first_free.ensures.valid c.in-Ok.ensures.valid)) c.in-Ok.ensures.fit
+    c.way_action.ensures.valid c.args.outers.now (none_holds _ (IsValid c.in-Ok.plan) c.in-None.is (c.first_free.ensures.valid c.in-Ok.ensures.valid)) c.in-Ok.ensures.fit
 
 pub returns-in-Some-clause-valid : goal.returns-in-Some-clause-valid
-returns-in-Some-clause-valid c = c.live_job.ensures.valid c.args.outers.now c.in-Ok.ensures.valid c.in-Ok.ensures.fit
+returns-in-Some-clause-valid c = c.live_action.ensures.valid c.args.outers.now c.in-Ok.ensures.valid c.in-Ok.ensures.fit

@@ -10,12 +10,12 @@ use Rattle.mg_run.proofs.Duty.{due_among}
 use Rattle.mg_run.proofs.Ending.{unread-by}
 use Rattle.mg_run.proofs.call.do_command.Goals as goal
 
-pub do_job-requires-clause-can : goal.do_job-requires-clause-can
-do_job-requires-clause-can g c κs within =
+pub do_action-requires-clause-can : goal.do_action-requires-clause-can
+do_action-requires-clause-can g c κs within =
     subst (λ (boxes : List CalculatorTold). CanBeDone (outers_told boxes) (action_view c.in-Ok.action)) (ap (map g.C.Calculator.told) c.as_slice.ensures.value) c.in-Ok.ensures.can
 
-pub do_job-requires-clause-lawful : goal.do_job-requires-clause-lawful
-do_job-requires-clause-lawful g c κs within =
+pub do_action-requires-clause-lawful : goal.do_action-requires-clause-lawful
+do_action-requires-clause-lawful g c κs within =
     subst (λ (boxes : List CalculatorTold). All MayBeHandedIn (outers_told boxes)) (ap (map g.C.Calculator.told) c.as_slice.ensures.value) c.in-Ok.ensures.lawful
 
 pub returns-in-Ok-clause-called : goal.returns-in-Ok-clause-called

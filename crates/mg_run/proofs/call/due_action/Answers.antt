@@ -10,8 +10,8 @@ use Rattle.mg_files.proofs.Loading.{loaded-count}
 use Rattle.mg_run.proofs.Duty.{due_by}
 use Rattle.mg_run.proofs.call.due_action.Goals as goal
 
-pub job_of-requires-clause-each : goal.job_of-requires-clause-each
-job_of-requires-clause-each g c =
+pub action_of-requires-clause-each : goal.action_of-requires-clause-each
+action_of-requires-clause-each g c =
     sym (length-map (λ v. v.items) c.in_ok-contents.contents.items)
     ∙ loaded-count (g.T.Store.told c.args.store.now).content c.args.ordered.now.files.now (contents_of c.in_ok-contents.contents.items) c.in_ok-contents.ensures.all.given
 
