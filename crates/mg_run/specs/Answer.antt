@@ -136,10 +136,10 @@ action_of task files = files_action task.order task.outers files
 
 -- The answers --
 
--- The answer of an action where an input of these bytes ends well, and these calculators are handed in. Running a graph without free nodes and
--- solving it have the same answer, and recording a run has that answer too, but that the output is a trace of any run of the graph over that input. Making a
--- recorded run again has the answer of its graph's run where the input's lines are such a run to rest, and else refuses a line. Where packets
--- are made the input doesn't matter.
+-- The answer of an action where an input of these bytes ends well, and these calculators are handed in. Running a graph without free nodes
+-- and solving it have the same answer, and recording a run has that answer too, but that the output is a trace of any run of the graph over
+-- that input. Making a recorded run again has the answer of its graph's run where the input's lines are such a run to rest, and else
+-- refuses a line. Where packets are made the input doesn't matter.
 abbrev pub AnswersAction : Action → List CalculatorTold → List ℕ → RunAnswer → Type 0
 AnswersAction (refuse note) boxes input given = given ≡ record { output = []; notes = note; status = GraphRefused }
 AnswersAction (show text) boxes input given = given ≡ record { output = text; notes = []; status = Good }
