@@ -9,7 +9,8 @@ use Rattle.mg_feed.specs.declared.feed_end.FeedEnd.{FeedEnd}
 use Rattle.mg_answer.specs.Answer.{RunAnswer}
 use Rattle.mg_answer.specs.Told.{status_of}
 use Rattle.mg_answer.specs.Notes.{notes_by}
-use Rattle.mg_answer.specs.Report.{end_of, report_by, asked_report, end_bounds, open_numbers}
+use Rattle.mg_value.specs.Ends.{end_of}
+use Rattle.mg_answer.specs.Report.{report_by, asked_report, end_bounds, open_numbers}
 use Rattle.mg_answer.specs.declared.outcomes.Outcomes.{Outcomes}
 use Rattle.mg_answer.specs.declared.status.Status.{Status}
 use Rattle.mg_answer.specs.declared.status.Status.TheVariants.{WriteFault}

@@ -1,21 +1,18 @@
 -- The report: how far each node and each stream has come.
-use Rattle.std.specs.Prelude.{ℕ, ◌==◌, not, Bool, List, [], ◌++◌, map, filter, length, codes, decimal, if◌then◌else◌}
+use Rattle.std.specs.Prelude.{ℕ, ◌==◌, not, Bool, List, [], ◌++◌, map, filter, codes, decimal, if◌then◌else◌}
 use Rattle.std.specs.List.{flat_map}
 use Rattle.mg_time.specs.Time.{done}
 use Rattle.mg_time.specs.Text.{time_text}
 use Rattle.mg_value.specs.Payload.{Plain}
 use Rattle.mg_value.specs.Prefix.{StreamPrefix}
+use Rattle.mg_value.specs.Ends.{end_of}
+use Rattle.mg_value.specs.declared.stream_end.StreamEnd.{StreamEnd}
 use Rattle.mg_calc.specs.declared.plan.Plan.{Plan}
 use Rattle.mg_calc.specs.Equations.{Job}
 use Rattle.mg_calc.specs.Meaning.{numbered, counts}
 use Rattle.mg_answer.specs.Shown.{escaped}
 use Rattle.mg_answer.specs.Text.{name_of}
 use Rattle.mg_answer.specs.Notes.{label_of}
-use Rattle.mg_answer.specs.declared.outcomes.StreamEnd.{StreamEnd}
-
--- how far a stream has come: how many packets it has, and its bound
-abbrev pub end_of : StreamPrefix Plain → StreamEnd
-end_of s = record { packets = length s.packets; bound = s.bound }
 
 -- the numbers of the streams that haven't ended, where the list tells how far each stream has come
 abbrev pub open_numbers : List StreamEnd → List ℕ

@@ -32,7 +32,7 @@ pub use concluding::{conclude, conclude_frozen};
 pub use devices::Devices;
 pub use failing::{note_out_of_memory, note_write_fault};
 pub use notes::{put_arrival, put_end};
-pub use outcomes::{Outcomes, StreamEnd};
+pub use outcomes::Outcomes;
 pub use output_summary::OutputSummary;
 pub use output_text::OutputText;
 pub use pieces::put_number;

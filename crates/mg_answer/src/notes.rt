@@ -5,15 +5,16 @@ ghost use Rattle.mg_time.specs.Time.{pre_stream};
 ghost use Rattle.mg_answer.specs.Notes as notes;
 ghost use Rattle.mg_answer.specs.Report.{end_bounds};
 
+use crate::Status;
 use crate::failing::{MEMORY_NOTE, WRITE_NOTE};
 use crate::pieces::{label_at, put, put_number, put_time};
 use crate::set_lines::stream_name;
 use crate::shown::put_shown;
 use crate::words::{cause_name, line_refusal};
-use crate::{Status, StreamEnd};
 use mg_calc::{NodeFault, Phase, Plan};
 use mg_feed::{FeedEnd, LineFault};
 use mg_time::Timestamp;
+use mg_value::StreamEnd;
 use std::alloc::AllocError;
 
 /// Puts the note of how an input ended at a text's end, where a read failed or a line was refused. Otherwise it puts nothing.

@@ -1,15 +1,5 @@
 use mg_calc::NodeFaultList;
-use mg_time::Timestamp;
-use mg_value::BlockList;
-
-/// How far a stream has come.
-#[derive(Clone, Copy, Debug, PartialEq, Eq)]
-pub struct StreamEnd {
-    /// How many packets it has.
-    pub packets: u64,
-    /// The lowest timestamp that a further packet may have.
-    pub bound: Timestamp,
-}
+use mg_value::{CountList, StreamEnd};
 
 /// What a run tells of its nodes and streams in the notes and in the report, by the numbers of its plan.
 #[derive(Drop)]
@@ -18,7 +8,7 @@ pub struct Outcomes {
     pub faults: NodeFaultList,
     /// For each node how many sets it was shown, how often it was called if it is a source, how many packets of MAIN it answered if it is
     /// a loopback, and how many packets arrived at it if it is free; the set or call that failed included.
-    pub sets: BlockList<u64>,
+    pub sets: CountList,
     /// How far each stream has come, in stream order.
     pub ends: Vec<StreamEnd>,
     /// The text of the lines of all arrivals at free nodes.

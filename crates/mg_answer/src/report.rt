@@ -4,11 +4,11 @@ ghost use Rattle.std.specs.List.{flat_map};
 ghost use Rattle.mg_calc.specs.Meaning.{numbered};
 ghost use Rattle.mg_answer.specs.Report.{node_line, stream_line, report_by, asked_report};
 
-use crate::StreamEnd;
 use crate::pieces::{label_at, put, put_number, put_time};
 use crate::set_lines::stream_name;
 use crate::shown::put_shown;
 use mg_calc::Plan;
+use mg_value::StreamEnd;
 use std::alloc::AllocError;
 
 /// Puts the report at a text's end, where it is asked for.

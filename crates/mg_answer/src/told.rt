@@ -4,10 +4,11 @@ ghost use Rattle.mg_answer.specs.Answer.{is_ended};
 ghost use Rattle.mg_answer.specs.Told.{status_of};
 ghost use Rattle.mg_answer.specs.Report.{open_numbers};
 
-use crate::{Status, StreamEnd};
+use crate::Status;
 use mg_calc::NodeFault;
 use mg_feed::FeedEnd;
 use mg_time::Timestamp;
+use mg_value::StreamEnd;
 use std::alloc::{AllocError, Global};
 
 /// Returns the numbers of the streams that haven't ended, where `ends` tells how far each stream has come.

@@ -1,5 +1,5 @@
 -- Of each law: the bounds that it emits are times, and the state that it keeps is of its form.
-use Rattle.std.proofs.Common.{◌≡◌, ℕ, ℤ, ◌+◌, ◌+ℤ◌, ◌*ℤ◌, pos, List, [], ◌∷◌, map, take, Option, Some, None, is_some, Ok, Err, unwrap_or, slice_get, ◌-◌, refl, subst, IfOk}
+use Rattle.std.proofs.Common.{◌≡◌, ℕ, ◌+◌, ◌+ℤ◌, ◌*ℤ◌, pos, List, [], ◌∷◌, map, take, Option, Some, None, is_some, Ok, Err, unwrap_or, slice_get, refl, subst, IfOk}
 use Rattle.mg_value.specs.Plain.{Plain, int}
 use Rattle.mg_value.specs.Prefix.{Stamped}
 use Rattle.mg_value.specs.Settled.{selected}

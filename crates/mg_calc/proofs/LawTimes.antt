@@ -24,9 +24,6 @@ abbrev pub Times : Answer → Type 0
 Times (Ok given) = TimesByRecursion given.1
 Times (Err cause) = Unit {0}
 
-nothing_times : TimesByRecursion []
-nothing_times = tt
-
 places_times : (places : List (Option (Stamped Plain))) → TimesByRecursion (map laid places)
 places_times [] = tt
 places_times (place ∷ places) = (tt, places_times places)

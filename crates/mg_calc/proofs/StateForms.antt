@@ -12,7 +12,7 @@ use Rattle.std.proofs.lemmas.Option.{slice_get_cases}
 use Rattle.mg_time.specs.Time.{raw_of, place_of, pre_stream, one_over_post_stream}
 use Rattle.mg_value.specs.Plain.{Plain, int, depth}
 use Rattle.mg_value.specs.Prefix.{Stamped}
-use Rattle.mg_calc.specs.declared.law.Law.TheVariants.{Mux, Cloner, Thin, Tally, Scripted, BeginLoop, EndLoop}
+use Rattle.mg_calc.specs.declared.law.Law.TheVariants.{Cloner, Thin, Scripted, BeginLoop}
 use Rattle.mg_calc.specs.declared.shape.Shape.{Shape}
 use Rattle.mg_calc.specs.declared.port_kind.PortKind.{PortKind}
 use Rattle.mg_calc.specs.declared.emission.Laid.{Laid}
@@ -23,7 +23,7 @@ use Rattle.mg_calc.specs.Values.{fits, time_of, is_in_range, stored, kept_in}
 use Rattle.mg_calc.specs.State.{IsStateOf, IsNumber, CountsTo, ArePlaces, state_of, number_in, count_in, time_kept, next_valid, places_in, full_places, AreItems}
 use Rattle.mg_calc.specs.Routing.{renewed, renewed_places, valid_after, chosen, thinned}
 use Rattle.mg_calc.specs.Batch.{last_inner, begun_batch, with_item, gathered}
-use Rattle.mg_calc.specs.Law.{emits_number, emits_at, step}
+use Rattle.mg_calc.specs.Law.{emits_number, emits_at}
 use Rattle.mg_calc.proofs.StateLists.{kept-full_places}
 use Rattle.mg_value.specs.declared.kind.Kind.TheVariants.{Any}
 use Rattle.mg_calc.specs.Shape.{IsShapeOf, FitsInputs, untagged, tagged}
@@ -94,9 +94,6 @@ cloned lanes shape state set of_law places =
 place_is : (z : ℤ) (u : ℕ) → z ≡ raw_of u → place_of z ≡ u
 place_is (pos n) u e = omega (arith, ints)
 place_is (negsuc n) u e = omega (arith, ints)
-
-time_of-raw_of : (u : ℕ) → is_in_range u ≡ true → time_of (raw_of u) ≡ Some u
-time_of-raw_of u inside = rw (place_is (raw_of u) u refl, inside) refl
 
 abbrev IsValid : ℕ → Type 0
 IsValid u = (is_in_range u ≡ true) ⊎ (u ≡ one_over_post_stream)

@@ -31,14 +31,8 @@ call_code = call.the_row.coded
 abbrev pub emission_code : Coded (List Laid)
 emission_code = coded_list laid.the_row.coded
 
-abbrev pub plan_node_code : Coded PlanNode
-plan_node_code = plan_node.the_row.coded
-
 abbrev pub plan_code : Coded Plan
 plan_code = plan.the_row.coded
-
-abbrev pub inputs_code : Coded Inputs
-inputs_code = inputs.the_row.coded
 
 abbrev pub told_code : Coded CalculatorTold
 told_code =

@@ -1,4 +1,4 @@
-ghost use Rattle.std.specs.Prelude.{◌≡◌, true, false, MatchResult, IfOk, IfErr};
+ghost use Rattle.std.specs.Prelude.{◌≡◌, true, false, IfOk, IfErr};
 ghost use Rattle.mg_calc.specs.Values.{number_of, place_at, total as the_total, fits, number_at};
 ghost use Rattle.mg_calc.specs.declared.cause.CalcFault.TheVariants.{Fault};
 ghost use Rattle.mg_calc.specs.declared.cause.Cause.TheVariants.{Overflow};

@@ -1,5 +1,5 @@
 -- Where again and again the nodes go that read what none of the others writes, the largest set of nodes is left that feeds itself.
-use Rattle.std.proofs.Common.{◌≡◌, ℕ, ◌<◌, ◌≤◌, zero, suc, Bool, true, false, not, ◌&&◌, cond, eqb, List, [], ◌∷◌, length, filter, get_or, All, Contains, inl, inr, ◌∙◌, sym, ap, subst, refl, arith}
+use Rattle.std.proofs.Common.{◌≡◌, ℕ, ◌<◌, ◌≤◌, zero, suc, Bool, true, not, ◌&&◌, cond, eqb, List, [], ◌∷◌, length, filter, get_or, All, Contains, inl, inr, ◌∙◌, sym, ap, subst, refl, arith}
 use Rattle.std.specs.List.Sorted.{IsStrictlyIncreasing}
 use Rattle.std.proofs.lemmas.Bool.{cases_Bool, cases_lt, false≢true, eqb-true, eq-eqb, and_parts, or_cases}
 use Rattle.std.proofs.lemmas.List.{get_or_default}

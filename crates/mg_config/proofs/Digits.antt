@@ -53,9 +53,6 @@ numeral_is : (base : ℕ) (ds : List ℕ) → 0 < length ds → is_numeral base 
 numeral_is base [] some = absurd (omega arith)
 numeral_is base (d ∷ ds) some = refl
 
-pub no_digits : (base most : ℕ) → value_in base most [] ≡ None
-no_digits base most = refl
-
 pub refused : (base most : ℕ) (ds : List ℕ) (i : ℕ) → i < length ds → None ≡ digit_of base (get_or ds i 0) → None ≡ value_in base most ds
 refused base most ds i inside none = by (is_numeral base ds) (numeral_is base ds (omega arith) ∙ list_all_at (λ byte. is_digit byte base) ds i 0 inside (no_digit_by base (get_or ds i 0) none))
   where

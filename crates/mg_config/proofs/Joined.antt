@@ -37,15 +37,6 @@ joined_more fs i d options more inside same here at is =
           ∙ sym (append_fields_assoc options more later);
     }
 
-pub joined_skip : (fs : List Field) (i : ℕ) (d : Field) (options : Fields) → i < length fs → d ≡ get_or fs i d → is_option (field_view d) ≡ false → AreJoined fs i options → AreJoined fs (i + 1) options
-joined_skip fs i d options inside same here at = record {
-  whole = at.whole ∙ ap (λ es. append options (options_in es)) (rest_of fs i d inside ∙ ap (λ f. field_view f ∷ map field_view (drop (i + 1) fs)) (sym same))
-      ∙ ap (append options) (options_cons (field_view d) (map field_view (drop (i + 1) fs)) false here);
-}
-
-pub joined_first : (fs : List Field) → AreJoined fs 0 none
-joined_first fs = record { whole = refl }
-
 pub joined_all : (fs : List Field) (i : ℕ) (options : Fields) → length fs ≤ i → AreJoined fs i options → options ≡ options_in (map field_view fs)
 joined_all fs i options past at = sym (at.whole ∙ ap (λ es. append options (options_in es)) (none_after fs i past) ∙ append_none options)
 

@@ -1,5 +1,5 @@
 -- Nodes without a calculator, one node after another.
-use Rattle.std.proofs.Common.{ℕ, suc, ◌+◌, ◌<◌, ◌≤◌, ◌≡◌, List, [], Bool, true, false, length, get_or, map, add-one, arith, refl, sym, ap, ◌∙◌, Option, None, Some, codes, if◌then◌else◌}
+use Rattle.std.proofs.Common.{ℕ, suc, ◌+◌, ◌<◌, ◌≤◌, ◌≡◌, List, [], Bool, true, false, length, get_or, map, add-one, arith, sym, ap, ◌∙◌, Option, Some, codes, if◌then◌else◌}
 use Rattle.std.specs.Str.{bytes_eq}
 use Rattle.mg_text.specs.declared.tree.Field.{Field}
 use Rattle.mg_text.specs.View.{field_view, value_view, fields_view}
@@ -7,7 +7,7 @@ use Rattle.mg_config.specs.Values.{has_name, entries, fields_of_value, messages_
 use Rattle.mg_config.specs.Faults.{calculator_fault, calculator_path}
 use Rattle.mg_config.specs.declared.fault.ConfigFault.{ConfigFault}
 use Rattle.mg_config.specs.declared.fault.ConfigFault.TheVariants.{WrongShape}
-use Rattle.mg_config.proofs.Loops.{messages_from, messages_here, messages_skip, messages_end, entries_view}
+use Rattle.mg_config.proofs.Loops.{messages_from, messages_here, entries_view}
 
 abbrev pub node_name : List ℕ
 node_name = codes "node"
@@ -31,9 +31,6 @@ one_by fs i k d node lacks inside same here at view is =
     ∙ ap (λ es. if bytes_eq (text_in calculator es) [] then Some (WrongShape (calculator_path k)) else calculator_fault (suc k) (messages_from node_name fs (i + 1))) (ap entries (sym view) ∙ entries_view node)
     ∙ ap (λ b. if b then Some (WrongShape (calculator_path k)) else calculator_fault (suc k) (messages_from node_name fs (i + 1))) (sym is)
 
-pub named_first : (fs : List Field) → AreNamed fs 0 0
-named_first fs = record { whole = refl; few = omega arith }
-
 pub named_more : (fs : List Field) (i k : ℕ) (d : Field) (node : List Field) → i < length fs → d ≡ get_or fs i d → has_name node_name (field_view d) ≡ true → AreNamed fs i k
     → fields_view node ≡ fields_of_value (value_view d.value) → false ≡ bytes_eq (text_in calculator (map field_view node)) [] → AreNamed fs (i + 1) (k + 1)
 named_more fs i k d node inside same here at view is = record {
@@ -44,12 +41,3 @@ named_more fs i k d node inside same here at view is = record {
 pub unnamed : (fs : List Field) (i k : ℕ) (d : Field) (node : List Field) (path : List ℕ) → i < length fs → d ≡ get_or fs i d → has_name node_name (field_view d) ≡ true → AreNamed fs i k
     → fields_view node ≡ fields_of_value (value_view d.value) → true ≡ bytes_eq (text_in calculator (map field_view node)) [] → path ≡ calculator_path k → all_calculators fs ≡ Some (WrongShape path)
 unnamed fs i k d node path inside same here at view is place = one_by fs i k d node true inside same here at view is ∙ ap (λ p. Some (WrongShape p)) (sym place)
-
-pub named_skip : (fs : List Field) (i k : ℕ) (d : Field) → i < length fs → d ≡ get_or fs i d → has_name node_name (field_view d) ≡ false → AreNamed fs i k → AreNamed fs (i + 1) k
-named_skip fs i k d inside same here at = record {
-  whole = at.whole ∙ ap (calculator_fault k) (messages_skip node_name fs i d inside same here);
-  few = omega (arith, at.few);
-}
-
-pub named_all : (fs : List Field) (i k : ℕ) → length fs ≤ i → AreNamed fs i k → all_calculators fs ≡ None
-named_all fs i k past at = at.whole ∙ ap (calculator_fault k) (messages_end node_name fs i past)

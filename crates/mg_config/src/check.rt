@@ -1,6 +1,6 @@
 //! The faults of fields, in the order of the text.
 ghost use Rattle.std.specs.Prelude.{◌≡◌, ◌≢◌, OnOk, IfErr, map, not, ◌&&◌};
-ghost use Rattle.mg_text.specs.View.{field_view, value_view, fields_view};
+ghost use Rattle.mg_text.specs.View.{field_view, fields_view};
 ghost use Rattle.std.specs.List.{list_any};
 ghost use Rattle.mg_config.specs.Faults as faults;
 ghost use Rattle.mg_config.specs.Values as values;

@@ -1,8 +1,7 @@
 //! Functions that put fields at the end of a list. An empty text, handler or options, and the number 0, put no field;
 //! `put_string` puts any text.
-ghost use Rattle.std.specs.Prelude.{◌≡◌, [], ◌∷◌, ◌++◌, OnOk, IfOk, map, codes};
-ghost use Rattle.mg_text.specs.Tree.{quoted};
-ghost use Rattle.mg_text.specs.View.{Value, simple, inner, field_view, value_view, fields_view, view};
+ghost use Rattle.std.specs.Prelude.{◌≡◌, [], ◌∷◌, ◌++◌, OnOk, map};
+ghost use Rattle.mg_text.specs.View.{inner, field_view, value_view, fields_view, view};
 ghost use Rattle.mg_config.specs.Values.{entry};
 ghost use Rattle.mg_config.specs.Written as written;
 

@@ -1,5 +1,5 @@
 //! The nodes that the fields of a graph tell of.
-ghost use Rattle.std.specs.Prelude.{◌≡◌, ◌≢◌, [], ◌++◌, Ok, Err, OnOk, IfOk, IfErr, map, codes};
+ghost use Rattle.std.specs.Prelude.{◌≡◌, ◌≢◌, [], Ok, Err, IfOk, IfErr, map, codes};
 ghost use Rattle.mg_text.specs.View.{field_view};
 ghost use Rattle.mg_config.specs.Values.{messages_in};
 ghost use Rattle.mg_config.specs.Path as paths;

@@ -1,6 +1,6 @@
 //! Numbers and truth values by their spelling (Protocol Buffers text format, language specification: numeric
 //! literals, and the values of Boolean fields).
-ghost use Rattle.std.specs.Prelude.{◌≡◌, ◌<◌, ◌≤◌, ◌^◌, ◌*◌, ◌+◌, IfSome};
+ghost use Rattle.std.specs.Prelude.{◌≡◌, ◌<◌, ◌≤◌, ◌*◌, ◌+◌, IfSome};
 ghost use Rattle.mg_config.specs.Number as number;
 
 use crate::word::is;

@@ -1,5 +1,5 @@
 //! What one value says, and the first value of a name among fields.
-ghost use Rattle.std.specs.Prelude.{◌≡◌, ◌++◌, IfOk, option_copied, option_map, map};
+ghost use Rattle.std.specs.Prelude.{◌≡◌, IfOk, option_copied, option_map, map};
 ghost use Rattle.mg_text.specs.View.{value_view, field_view, fields_view};
 ghost use Rattle.mg_config.specs.Values as values;
 ghost use Rattle.mg_config.specs.Faults as faults;

@@ -1,7 +1,7 @@
 //! The fields that a configuration is written as.
 ghost use Rattle.std.specs.Prelude.{◌≡◌, ◌≤◌, [], ◌∷◌, ◌++◌, Ok, OnOk, IfOk, map, codes};
 ghost use Rattle.mg_text.specs.Tree.{depth};
-ghost use Rattle.mg_text.specs.View.{field_view, fields_view, view};
+ghost use Rattle.mg_text.specs.View.{field_view, view};
 ghost use Rattle.mg_text.specs.Answer.{max_depth};
 ghost use Rattle.mg_text.specs.Canonical.{AreSpelled};
 ghost use Rattle.mg_config.specs.Config.{node_view, graph_view, config_of};

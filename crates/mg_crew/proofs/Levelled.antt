@@ -1,5 +1,5 @@
 -- What a worker's seats are after several calls, and what it works with.
-use Rattle.std.proofs.Common.{◌≡◌, ℕ, ◌<◌, ◌+◌, ◌∙◌, Option, Some, None, IfSome, All, Contains, length, ap, sym, refl, subst, arith}
+use Rattle.std.proofs.Common.{◌≡◌, ℕ, ◌<◌, ◌+◌, ◌∙◌, Option, Some, None, IfSome, All, Contains, length, ap, sym, subst, arith}
 use Rattle.std.proofs.lemmas.List.Elements.{All-weaker}
 use Rattle.mg_calc.specs.declared.calculator.Calculator.{Ghosts}
 use Rattle.mg_calc.specs.declared.plan.Plan.{Plan}
@@ -18,7 +18,6 @@ use Rattle.mg_turns.specs.Calls.{key_of}
 use Rattle.mg_turns.specs.declared.shared.SharedNet.{SharedNet}
 use Rattle.mg_turns.specs.declared.seat.NetSeat.{NetSeat}
 use Rattle.mg_workers.specs.Shared.{KeptView, IsSharedOf, StaysShared}
-use Rattle.mg_workers.specs.Became.{Became}
 use Rattle.mg_workers.specs.Woven.{frame_of}
 use Rattle.mg_crew.specs.Leaves.{NetGoesOn}
 use Rattle.mg_crew.specs.declared.putting.Place.{Place}
@@ -58,10 +57,6 @@ first_place levels place seat has none of = record {
   seat = subst (λ (o : Option LevelSeat). IsAnyOf levels o) (sym has) of;
   kept = subst (λ (o : Option ℕ). IfSome o (λ node. Contains (order_of levels) node)) (sym none) tt;
 }
-
--- a net that nothing was done to
-pub became_itself : (net : NetView) → Became net net
-became_itself net = record { stands = λ job h. h; taken = refl; plan = refl; spare = refl; whole = λ stream number h. h }
 
 module _ {X : Type 0} {g : Ghosts X} (net : SharedNet X) (tools : Tools) where
   -- a worker that goes on after some calls

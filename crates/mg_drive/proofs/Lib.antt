@@ -16,7 +16,6 @@ pub mod PiecesRan
 pub mod EventsPut
 pub mod RecordedRuns
 pub mod TracesRan
-pub mod NoNodes
 pub mod Working
 pub mod StillThere
 pub mod Looking

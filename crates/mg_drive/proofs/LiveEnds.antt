@@ -11,7 +11,7 @@ use Rattle.mg_calc.specs.Plan.{numbers}
 use Rattle.mg_free.specs.declared.node.FreeNode.{FreeNode}
 use Rattle.mg_free.specs.Core.{is_free, stream_number}
 use Rattle.mg_free.specs.Rounds.{Taken}
-use Rattle.mg_answer.specs.Report.{end_of}
+use Rattle.mg_value.specs.Ends.{end_of}
 use Rattle.mg_answer.specs.declared.outcomes.Outcomes.{Outcomes}
 use Rattle.mg_drive.specs.Live.{LiveTells, first_of, sets_by}
 

@@ -1,5 +1,5 @@
 -- What is told of a net that has come to rest is told of the solution.
-use Rattle.std.proofs.Common.{◌≡◌, ◌<◌, List, [], ◌∷◌, length, map, All, refl, sym, ap, ◌∙◌, subst}
+use Rattle.std.proofs.Common.{◌≡◌, ◌<◌, List, length, All, sym, ap, ◌∙◌, subst}
 use Rattle.std.proofs.lemmas.List.{length-map}
 use Rattle.mg_value.specs.Payload.{Plain}
 use Rattle.mg_value.specs.Prefix.{StreamPrefix}
@@ -9,26 +9,20 @@ use Rattle.mg_calc.specs.Meaning.{faults, count_of}
 use Rattle.mg_calc.proofs.Solutions.{solution_has_each}
 use Rattle.mg_calc.proofs.Jobs.{any_state, job_known}
 use Rattle.mg_feed.specs.declared.feed_end.FeedEnd.{FeedEnd}
-use Rattle.mg_answer.specs.Report.{end_of}
+use Rattle.mg_value.specs.Ends.{end_of}
 use Rattle.mg_answer.specs.Outcomes.{TellsOf}
 use Rattle.mg_answer.specs.declared.outcomes.Outcomes.{Outcomes}
-use Rattle.mg_answer.specs.declared.outcomes.StreamEnd.{StreamEnd}
 use Rattle.mg_answer.proofs.Telling.{faults-below}
 use Rattle.mg_node.specs.Job.{LoggedJob, Solves}
 use Rattle.mg_sched.specs.declared.report.Report.{Report}
 use Rattle.mg_sched.specs.Views.{NetView}
-use Rattle.mg_sched.specs.Reports.{report_of, stream_end}
+use Rattle.mg_sched.specs.Reports.{report_of}
 use Rattle.mg_sched.proofs.Solved.{solved}
 use Rattle.mg_sched.proofs.RestingReports.{rests_with_sets, rests_with_all_faults, rests_with_ends}
 use Rattle.mg_drive.specs.Batches.{Giving, logged, AreOfGiven}
 use Rattle.mg_drive.specs.Code.Running.{HasRested, SomeRested, SomeRestedOf}
-use Rattle.mg_drive.specs.Code.Ending.{told_end, TellsNet}
+use Rattle.mg_drive.specs.Code.Ending.{TellsNet}
 use Rattle.mg_drive.proofs.Jobs.{valid_plan}
-
--- streams are told alike
-told_ends : (ss : List (StreamPrefix Plain)) → map told_end (map stream_end ss) ≡ map end_of ss
-told_ends [] = refl
-told_ends (s ∷ ss) = ap (λ (l : List StreamEnd). end_of s ∷ l) (told_ends ss)
 
 -- the report is that of the net at rest
 same_report : (job : LoggedJob) (net : NetView) (h : HasRested job net) → report_of net ≡ report_of h.rested
@@ -41,8 +35,7 @@ tells_at job net streams outcomes h solves tells =
     record {
       faults = tells.faults ∙ ap (λ (r : Report). r.faults) same ∙ rests_with_all_faults job h.rested streams h.stands h.running h.rests solves;
       sets = tells.sets ∙ ap (λ (r : Report). r.sets) same ∙ rests_with_sets job h.rested streams h.stands h.running h.rests solves;
-      ends = tells.ends ∙ ap (λ (r : Report). map told_end r.streams) same
-          ∙ ap (map told_end) (rests_with_ends job h.rested streams h.stands h.running h.rests solves) ∙ told_ends streams;
+      ends = tells.ends ∙ ap (λ (r : Report). r.streams) same ∙ rests_with_ends job h.rested streams h.stands h.running h.rests solves;
       arrivals = tells.arrivals;
     }
 

@@ -1,5 +1,5 @@
 -- What workers keep of a net.
-use Rattle.std.proofs.Common.{◌≡◌, ◌∙◌, refl}
+use Rattle.std.proofs.Common.{◌≡◌, ◌∙◌}
 use Rattle.mg_node.specs.Job.{LoggedJob}
 use Rattle.mg_sched.specs.Views.{NetView}
 use Rattle.mg_sched.specs.StandsFor.{StandsFor, StandsForSome}
@@ -7,10 +7,6 @@ use Rattle.mg_sched.specs.Taking.{taken_out}
 use Rattle.mg_workers.specs.Became.{Became}
 use Rattle.mg_drive.specs.Nets.{Keeps}
 use Rattle.mg_drive.proofs.Looping.{keeps_on}
-
--- a net is what became of itself
-pub became_itself : (net : NetView) → Became net net
-became_itself net = record { stands = λ job h. h; taken = refl; plan = refl; spare = refl; whole = λ stream number h. h }
 
 pub still_some : (before now : NetView) → StandsForSome before → Became before now → StandsForSome now
 still_some before now some b = record { job = some.job; stands = b.stands some.job some.stands }

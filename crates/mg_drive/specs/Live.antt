@@ -13,7 +13,7 @@ use Rattle.mg_free.specs.declared.node.FreeNode.{FreeNode}
 use Rattle.mg_free.specs.Core.{split_of, is_free, stream_number}
 use Rattle.mg_free.specs.Rounds.{Taken}
 use Rattle.mg_answer.specs.Notes.{arrival_note}
-use Rattle.mg_answer.specs.Report.{end_of}
+use Rattle.mg_value.specs.Ends.{end_of}
 use Rattle.mg_answer.specs.declared.outcomes.Outcomes.{Outcomes}
 
 -- a fault of a core's node, by the plan's number of the node

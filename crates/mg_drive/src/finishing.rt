@@ -1,5 +1,5 @@
 //! How a run ends once its net has come to rest.
-ghost use Rattle.std.specs.Prelude.{◌≡◌, ◌<◌, ◌^◌, ◌⊎◌, length, map, IfOk, OnOk, OnErr};
+ghost use Rattle.std.specs.Prelude.{◌≡◌, ◌<◌, ◌^◌, ◌⊎◌, length, IfOk, OnOk, OnErr};
 ghost use Rattle.mg_edge.specs.Edge.{SinkTold};
 ghost use Rattle.mg_calc.specs.Equations.{Job};
 ghost use Rattle.mg_node.specs.Job.{LoggedJob};
@@ -12,10 +12,10 @@ ghost use Rattle.mg_sched.specs.StandsFor.{StandsFor};
 ghost use Rattle.mg_sched.specs.WindsUp.{WindsUpNet};
 ghost use Rattle.mg_drive.specs.Batches.{OutcomesFit, TellsSolution};
 ghost use Rattle.mg_drive.specs.Code.Running.{HasRested, SomeRested, SomeRestedOf, FrontIn};
-ghost use Rattle.mg_drive.specs.Code.Ending.{IsWhole, told_end, TellsNet};
+ghost use Rattle.mg_drive.specs.Code.Ending.{IsWhole, TellsNet};
 
 use crate::{Batches, Closing, Driven};
-use mg_answer::{Outcomes, OutputText, Run, Status, StreamEnd, conclude, conclude_frozen};
+use mg_answer::{Outcomes, OutputText, Run, Status, conclude, conclude_frozen};
 use mg_edge::Sink;
 use mg_feed::FeedEnd;
 use std::alloc::{AllocError, Global};
@@ -110,32 +110,10 @@ fn outcomes_of<N: Driven>(alloc: Global, net: &N) -> Result<Outcomes, AllocError
     ensures few { IfOk result (λ outcomes. length outcomes.ends.items < 2 ^ 32) }
 {
     let report = net.report(alloc)?;
-    let ends = ends_of(alloc, report.streams.as_slice())?;
     Ok(Outcomes {
         faults: report.faults,
         sets: report.sets,
-        ends,
+        ends: report.streams.into_vec(),
         arrivals: Vec::new(alloc),
     })
-}
-
-// Returns how far streams have come, in the form that mg_answer takes.
-fn ends_of(alloc: Global, streams: &[mg_sched::StreamEnd]) -> Result<Vec<StreamEnd>, AllocError>
-    ensures { IfOk result (λ ends. ends.items ≡ map told_end streams.now) }
-{
-    let mut ends = Vec::with_capacity(alloc, streams.len())?;
-    for stream in streams {
-        ends.push(end_of(stream))?;
-    }
-    Ok(ends)
-}
-
-// Returns how far a stream has come, in the form that mg_answer takes.
-fn end_of(stream: &mg_sched::StreamEnd) -> StreamEnd
-    ensures { result ≡ told_end stream.now }
-{
-    StreamEnd {
-        packets: stream.packets,
-        bound: stream.bound,
-    }
 }

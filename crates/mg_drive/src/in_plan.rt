@@ -9,16 +9,16 @@ ghost use Rattle.mg_free.specs.Core.{is_free as the_free, is_core, split_of};
 ghost use Rattle.mg_free.specs.Rounds.{Taken};
 ghost use Rattle.mg_live.specs.Takes.{HaveTaken};
 ghost use Rattle.mg_answer.specs.Outcomes.{TellsOf};
-ghost use Rattle.mg_answer.specs.Report.{end_of};
+ghost use Rattle.mg_value.specs.Ends.{end_of};
 ghost use Rattle.mg_drive.specs.Batches.{OutcomesFit};
 ghost use Rattle.mg_drive.specs.Live.{LiveTells, renumbered_fault, sets_by, lines_at, arrivals_text};
 ghost use Rattle.mg_drive.specs.Code.Live.{AreNumbersOf};
 
-use mg_answer::{Outcomes, StreamEnd, put_arrival};
+use mg_answer::{Outcomes, put_arrival};
 use mg_calc::{NodeFault, NodeFaultList, Plan, PlanNode};
 use mg_free::is_free;
 use mg_live::LiveNodes;
-use mg_value::{BlockList, NumberList};
+use mg_value::{BlockList, NumberList, StreamEnd};
 use std::alloc::{AllocError, Global};
 
 /// A plan with free nodes, and how its numbers and those of its core go together: `nodes` has the plan's number of each node of the core,

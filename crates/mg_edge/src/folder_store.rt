@@ -1,4 +1,4 @@
-ghost use Rattle.std.specs.Prelude.{◌≡◌, ℕ, List, Option, None, Some};
+ghost use Rattle.std.specs.Prelude.{◌≡◌, Option, None, Some};
 ghost use Rattle.std.specs.Option.{option_map};
 ghost use Rattle.mg_edge.specs.Edge.{LoadsWithin, LoadGives};
 ghost use Rattle.mg_edge.specs.Adapters.{folder_told};

@@ -11,4 +11,4 @@ mod progress;
 mod round;
 mod solving;
 
-pub use solving::{CountList, Streams, solve};
+pub use solving::{Streams, solve};

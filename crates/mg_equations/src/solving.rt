@@ -12,11 +12,8 @@ use crate::output::Output;
 use crate::progress::Progress;
 use crate::round::{first_nodes, go_on_all, grown};
 use mg_calc::{Inputs, NodeFault, NodeFaultList, Plan};
-use mg_value::{BlockList, PrefixList};
+use mg_value::{BlockList, CountList, PrefixList};
 use std::alloc::{AllocError, Global};
-
-/// Counts, one for each node.
-pub type CountList = BlockList<u64>;
 
 /// The solution of a job, with the counts and the faults of its nodes.
 #[derive(Debug, Drop)]

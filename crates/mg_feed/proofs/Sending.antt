@@ -1,13 +1,9 @@
 -- What a sink takes in pieces.
-use Rattle.std.proofs.Common.{◌≡◌, ℕ, List, ◌++◌, take, drop, Option, sym, ap, ◌∙◌, arith, append_assoc, take-append-drop}
-use Rattle.mg_edge.specs.Edge.{WriteAppends, one_more, Rose}
+use Rattle.std.proofs.Common.{◌≡◌, ℕ, List, ◌++◌, take, drop, Option, sym, ap, ◌∙◌, append_assoc, take-append-drop}
+use Rattle.mg_edge.specs.Edge.{WriteAppends}
 use Rattle.mg_edge.specs.declared.sink.Put.TheVariants.{Took}
 use Rattle.mg_edge.specs.Runs.{TookAll}
 use Rattle.mg_edge.proofs.Runs.{TookAll-write}
-
--- a call that fails, after others that don't
-pub rose-after : (a b c : ℕ) → b ≡ a → c ≡ one_more b → Rose a c
-rose-after a b c same more = omega (arith, same, more)
 
 -- one more write that took bytes
 pub TookAll-on : (first before now : Option (List ℕ)) (bytes done left after : List ℕ) (n : ℕ)

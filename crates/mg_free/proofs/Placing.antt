@@ -115,11 +115,6 @@ pub pairs_from_apart : (xs : List ℕ) → AreApart xs → AllPairs ◌≢◌ xs
 pairs_from_apart [] a = λ i j d less within. absurd (omega (arith, within))
 pairs_from_apart (x ∷ xs) a = AllPairs-cons ◌≢◌ x xs (λ k d le e. a.0 (subst (λ (n : ℕ). Among n xs) (sym e) (among_got xs k d le))) (pairs_from_apart xs a.1)
 
-among_front : (n : ℕ) (xs ys : List ℕ) → Among n xs → Among n (xs ++ ys)
-among_front n [] ys a = absurd a
-among_front n (x ∷ xs) ys (inl same) = inl same
-among_front n (x ∷ xs) ys (inr later) = inr (among_front n xs ys later)
-
 among_back : (n : ℕ) (xs ys : List ℕ) → Among n ys → Among n (xs ++ ys)
 among_back n [] ys a = a
 among_back n (x ∷ xs) ys a = inr (among_back n xs ys a)

@@ -1,8 +1,8 @@
 //! The streams of a core, each with its producer in the core.
-ghost use Rattle.std.specs.Prelude.{◌≡◌, ◌++◌, IfOk, OnOk, map, filter};
-ghost use Rattle.std.specs.List.{enumerate_from, flat_map};
+ghost use Rattle.std.specs.Prelude.{◌≡◌, ◌++◌, IfOk, OnOk, map};
+ghost use Rattle.std.specs.List.{enumerate_from};
 ghost use Rattle.mg_calc.specs.declared.plan_stream.Producer.TheVariants.{Input as the_input};
-ghost use Rattle.mg_free.specs.Core.{is_core, entering as the_entering, written_by as the_written, output_streams, streams_of as the_streams};
+ghost use Rattle.mg_free.specs.Core.{entering as the_entering, written_by as the_written, output_streams, streams_of as the_streams};
 
 use crate::kinds::is_free;
 use crate::numbering::entering;

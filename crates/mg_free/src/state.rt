@@ -3,7 +3,7 @@ ghost use Rattle.mg_time.specs.Time.{IsAllowed};
 ghost use Rattle.mg_value.specs.Payload.{Plain};
 ghost use Rattle.mg_value.specs.Prefix.{IsPrefix, MayFollow, closed};
 ghost use Rattle.mg_free.specs.Code.Room.{HasRoom, may_arrive, comes_in_time};
-ghost use Rattle.mg_free.specs.Free.{Arrival, begun, ports_of, is_laid, risen, arrived, with_laid, without_laid, MayArrive};
+ghost use Rattle.mg_free.specs.Free.{begun, ports_of, is_laid, risen, arrived, with_laid, without_laid, MayArrive};
 
 use crate::output::{self, no_packets};
 use crate::{FreeLaw, FreeNode};

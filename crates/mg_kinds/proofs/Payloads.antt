@@ -1,25 +1,14 @@
 -- Side packets that stand in a graph, one after another.
-use Rattle.std.proofs.Common.{ℕ, ◌+◌, ◌<◌, ◌≤◌, ◌≡◌, ◌≢◌, List, [], ◌∷◌, ◌++◌, Option, None, Some, length, drop, get_or, map, refl, sym, ap, ◌∙◌, arith, append_assoc, append-nil}
+use Rattle.std.proofs.Common.{ℕ, ◌+◌, ◌<◌, ◌≤◌, ◌≡◌, List, [], ◌∷◌, ◌++◌, Option, None, Some, length, drop, get_or, map, refl, sym, ap, ◌∙◌, append_assoc, append-nil}
 use Rattle.std.specs.Prelude.{option_map, option_and_then}
 use Rattle.std.specs.Borrow.{Bor}
 use Rattle.mg_text.specs.declared.tree.Field.{Field}
 use Rattle.mg_text.specs.View.{Value, field_view, value_view}
 use Rattle.mg_text.proofs.Views.{field-record}
 use Rattle.mg_value.specs.Plain.{Plain}
-use Rattle.mg_kinds.specs.Values.{payload_of, payload_by, payload_in, payloads_in}
+use Rattle.mg_kinds.specs.Values.{payload_in, payloads_in}
 use Rattle.mg_kinds.specs.Views.{fields_of}
 use Rattle.mg_kinds.proofs.Lists.{left, none_left}
-
--- a message with one field, and one with none or several
-pub only_one : (fs : List Field) (d : Field) → length fs ≡ 1 → d ≡ get_or fs 0 d → payload_of (field_view d) ≡ payload_by (map field_view fs)
-only_one [] d one same = absurd (omega arith)
-only_one (f ∷ []) d one same = ap (λ x. payload_of (field_view x)) same
-only_one (f ∷ g ∷ fs) d one same = absurd (omega arith)
-
-pub not_one : (fs : List Field) → length fs ≢ 1 → None ≡ payload_by (map field_view fs)
-not_one [] other = refl
-not_one (f ∷ []) other = absurd (other refl)
-not_one (f ∷ g ∷ fs) other = refl
 
 abbrev pub values_left : List (Bor Field) → ℕ → List Value
 values_left options i = map (λ field. field.value) (fields_of (drop i options))

@@ -93,9 +93,6 @@ total-map : {X Y : Type 0} (f : Y → ℕ) (k : X → Y) (xs : List X) → total
 total-map f k [] = refl
 total-map f k (x ∷ xs) = ap (λ n. f (k x) + n) (total-map f k xs)
 
-pub taken_of : HandView → List ℕ
-taken_of h = h.taken
-
 module _ (order : List ℕ) (n : ℕ) where
   pub same_puts : (xs ys : List HandView) → map (λ (h : HandView). h.put) xs ≡ map (λ (h : HandView). h.put) ys → total_put order n xs ≡ total_put order n ys
   same_puts xs ys same = total-map (times_of order n) (λ (h : HandView). h.put) xs ∙ ap (total (times_of order n)) same ∙ sym (total-map (times_of order n) (λ (h : HandView). h.put) ys)

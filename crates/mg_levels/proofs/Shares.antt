@@ -1,11 +1,11 @@
 -- Each step at a level keeps its rule.
-use Rattle.std.proofs.Common.{◌≡◌, ◌≢◌, ℕ, zero, suc, ◌<◌, List, [], ◌∷◌, set, sym, refl, ap, ◌∙◌, subst, ⊎_elim, arith}
-use mathlib.Core.Option.{some, some-injective, some-ne-none}
+use Rattle.std.proofs.Common.{◌≡◌, ◌≢◌, ℕ, ◌<◌, List, [], ◌∷◌, set, sym, refl, ap, ◌∙◌, subst, ⊎_elim, arith}
+use mathlib.Core.Option.{some}
 use lib.ListN.{get_elem?}
 use Rattle.crossbeam_queue.specs.Fifo.{Pushes, Pops, Forks, Merges, Learns}
 use Rattle.crossbeam_queue.proofs.Lists.{at_set, at_snoc}
 use Rattle.mg_levels.specs.declared.share.Share.{Share}
-use Rattle.mg_levels.specs.Balance.{share, whole, with_put, with_taken, kept_of, both, weigh, total, IdleIsEmpty, Balanced, Knows}
+use Rattle.mg_levels.specs.Balance.{share, with_put, with_taken, kept_of, both, weigh, total, IdleIsEmpty, Balanced, Knows}
 use Rattle.mg_levels.proofs.Sums.{weigh-append, total-append, total-set, terms_le, total-only}
 
 abbrev part : Share → ℕ
@@ -21,17 +21,6 @@ idle_set : (views : List Share) (number : ℕ) (w : Share) → (w.portion ≡ 0 
 idle_set views number w mine old j u e none = ⊎_elim
     (λ (x : (j ≡ number) × (w ≡ u)). subst (λ (y : Share). (y.put ≡ []) × (y.taken ≡ [])) x.1 (mine (ap (λ (y : Share). y.portion) x.1 ∙ none)))
     (λ (x : (j ≢ number) × (get_elem? views j ≡ some u)). old j u x.1 none) (at_set views number j w u e)
-
-pub begins : Balanced [] (share whole [] [] ∷ [])
-begins = record {
-  portions = refl;
-  even = λ h. refl;
-  idle = λ j u e none. begin_idle j u e none;
-}
-  where
-    begin_idle : (j : ℕ) (u : Share) → get_elem? (share whole [] [] ∷ []) j ≡ some u → u.portion ≡ 0 → (u.put ≡ []) × (u.taken ≡ [])
-    begin_idle zero u e none = let is : share whole [] [] ≡ u = some-injective (share whole [] []) u e in (ap (λ (y : Share). y.put) (sym is), ap (λ (y : Share). y.taken) (sym is))
-    begin_idle (suc j) u e none = absurd (some-ne-none u (sym e))
 
 pub puts : (n number : ℕ) (v : Share) (x : ℕ) → 0 < v.portion → Pushes Balanced n number v x (λ w. w ≡ with_put v x)
 puts n number v x some_part items views room b at = let w = with_put v x in (

@@ -118,9 +118,6 @@ did_all streams frees takens count false long all s =
 pub taken_there : (frees : List FreeNode) (takens : List Taken) (takers : List Taker) (place : ℕ) → HaveTaken frees takens takers → place < length frees → (taken : Taken) × (slice_get takens place ≡ Some taken)
 taken_there frees takens takers place h within = get_there takens place (let long = h.takens_long in omega (arith, within, long))
 
-pub none_had : (streams : List (StreamPrefix Plain)) (frees : List FreeNode) (takens : List Taken) (takers : List Taker) → HadTurns streams frees takens 0 takers
-none_had streams frees takens takers place free taken taker less at at_taken at_taker = absurd (omega (arith, less))
-
 -- Nothing taken yet.
 nothing_long : (frees : List FreeNode) → length (nothing_taken frees) ≡ length frees
 nothing_long [] = refl
@@ -211,9 +208,6 @@ none_more frees takers now count free taker is long at has each = λ place f t f
       let less : place < length takers = omega (arith, within, more, e, other, long) in
       each place f t f_at (sym (early_there takers taker place less) ∙ ap (λ (l : List Taker). slice_get l place) (sym is) ∙ t_at))
 ]
-
-pub at_start : (frees : List FreeNode) (takers : List Taker) → takers ≡ [] → NoneYet frees takers
-at_start frees takers is = λ place f t f_at t_at. absurd (none-some t (ap (λ (l : List Taker). slice_get l place) (sym is) ∙ t_at))
 
 -- A turn hands on nothing.
 pub handed_then : (before takers : List Taker) (place : ℕ) (now d : Taker) → place < length takers → now.handed ≡ (get_or takers place d).handed → handed_of takers ≡ handed_of before → handed_of (set takers place now) ≡ handed_of before

@@ -68,10 +68,6 @@ all_below streams free taken count long = ap (λ (l : List (StreamPrefix Plain))
 last_is_next : (streams : List (StreamPrefix Plain)) (free : FreeNode) (taken : Taken) → IfSome (last_of (next_arrivals streams free taken)) (IsNext (free_inputs streams free) taken.log)
 last_is_next streams free taken = last_keeps (IsNext (free_inputs streams free) taken.log) (next_arrivals streams free taken) (all_next [] (free_inputs streams free) taken.log)
 
-pub none_waits : (o : Option (Arrival Plain)) → None ≡ option_map (λ a. a.port) o → o ≡ None
-none_waits None e = refl
-none_waits (Some a) e = absurd cc
-
 -- the port of the last is told: there is one, and the packet there is the next of its port
 pub record IsLast (streams : List (StreamPrefix Plain)) (free : FreeNode) (taken : Taken) (port : ℕ) : Type 0 where
   pub packet : Stamped Plain

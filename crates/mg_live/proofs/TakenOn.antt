@@ -1,8 +1,7 @@
 -- What is kept of a free node, as it goes on.
-use Rattle.std.proofs.Common.{◌≡◌, ℕ, zero, suc, ◌+◌, ◌<◌, ◌≤◌, false, cond, ◌==◌, List, [], ◌∷◌, ◌++◌, map, filter, fold, length, length-append, slice_get, get_or, set, length-set, get_or-set_same, get_or-set_other, replicate, Some, option_map, refl, sym, ap, ap₂, ◌∙◌, subst, inl, inr, arith}
-use Rattle.std.proofs.lemmas.Bool.{cases_eq, cases_Bool, eq-eqb, ne_eqb}
-use Rattle.std.proofs.lemmas.List.{length-map, map-append, append-nil, length-replicate}
-use Rattle.std.proofs.lemmas.List.Sums.{fold-append}
+use Rattle.std.proofs.Common.{◌≡◌, ℕ, zero, suc, ◌+◌, ◌<◌, ◌≤◌, cond, ◌==◌, List, [], ◌∷◌, ◌++◌, map, filter, fold, length, slice_get, get_or, Some, option_map, refl, sym, ap, ◌∙◌, subst, inl, inr, arith}
+use Rattle.std.proofs.lemmas.Bool.{cases_Bool}
+use Rattle.std.proofs.lemmas.List.{length-map}
 use Rattle.std.proofs.lemmas.List.Elements.{recursion_from_All}
 use Rattle.mg_value.specs.Payload.{Plain}
 use Rattle.mg_value.specs.Prefix.{Stamped, StreamPrefix, IsPrefix}
@@ -13,54 +12,11 @@ use Rattle.mg_free.specs.Free.{Arrival, Flow, begun, arrived, MayArrive, ports_o
 use Rattle.mg_free.specs.Logs.{MayAllArrive, arrived_at}
 use Rattle.mg_free.specs.Rounds.{Taken, free_inputs, next_arrivals, last_of}
 use Rattle.mg_free.proofs.Logging.{lawful_may}
-use Rattle.mg_free.proofs.Turning.{IsNext, arrived-both, none_at, lawful_with}
+use Rattle.mg_free.proofs.Turning.{IsNext, lawful_with}
 use Rattle.mg_live.specs.declared.arrived.Arrived.{Arrived}
 use Rattle.mg_live.specs.declared.taker.Taker.{Taker}
 use Rattle.mg_live.specs.Takes.{told, HasTaken, MayTurn}
 use Rattle.mg_live.proofs.LastWaits.{is_last}
-
--- An arrival more.
-
-abbrev pub with_arrival : Taken → ℕ → Stamped Plain → Taken
-with_arrival taken port packet = record { log = taken.log ++ record { port = port; packet = packet } ∷ []; closed = taken.closed }
-
-counted_one : (log : List (Arrival Plain)) (port : ℕ) (packet : Stamped Plain) → length (arrived_at port (log ++ record { port = port; packet = packet } ∷ [])) ≡ length (arrived_at port log) + 1
-counted_one log port packet =
-    let a : Arrival Plain = record { port = port; packet = packet } in
-    let one : arrived_at port (a ∷ []) ≡ packet ∷ [] = ap (λ b. map (λ (x : Arrival Plain). x.packet) (cond b (a ∷ []) [])) (eq-eqb port port refl) in
-    ap (λ (l : List (Stamped Plain)). length l) (arrived-both port log a) ∙ length-append (arrived_at port log) (arrived_at port (a ∷ []))
-    ∙ ap (λ (l : List (Stamped Plain)). length (arrived_at port log) + length l) one
-
-counted_other : (log : List (Arrival Plain)) (port other : ℕ) (packet : Stamped Plain) → (other ≡ port → ⊥) → arrived_at other (log ++ record { port = port; packet = packet } ∷ []) ≡ arrived_at other log
-counted_other log port other packet not =
-    let a : Arrival Plain = record { port = port; packet = packet } in
-    arrived-both other log a ∙ ap (λ (l : List (Stamped Plain)). arrived_at other log ++ l) (none_at other a (ne_eqb port other (λ same. not (sym same)))) ∙ append-nil (arrived_at other log)
-
-pub goes_on : (free : FreeNode) (taken : Taken) (before now : Taker) (port : ℕ) (packet : Stamped Plain) → port < length free.inputs → HasTaken free taken before
-    → now.state.law ≡ before.state.law → now.state.flow ≡ arrived before.state.law before.state.flow (record { port = port; packet = packet })
-    → now.counts.items ≡ set before.counts.items port (get_or before.counts.items port 0 + 1) → now.log.items ≡ before.log.items ++ record { port = port; at = packet.at } ∷ [] → now.closed ≡ before.closed
-    → HasTaken free (with_arrival taken port packet) now
-goes_on free taken before now port packet within h law flow counts log shut =
-    let a : Arrival Plain = record { port = port; packet = packet } in
-    record {
-      law = law ∙ h.law;
-      flow = flow ∙ ap₂ (λ (l : FreeLaw) (f : Flow Plain). arrived l f a) h.law h.flow ∙ sym (fold-append (arrived free.law) begun taken.log (a ∷ []));
-      ports = ap (λ (l : List ℕ). length l) counts ∙ length-set before.counts.items port (get_or before.counts.items port 0 + 1) ∙ h.ports;
-      counts = λ other less. elim (cases_eq other port) [
-        | inl same ↦
-            (let ports = h.ports in
-            let here : port < length before.counts.items = omega (arith, within, ports) in
-            ap (λ (n : ℕ). get_or now.counts.items n 0) same ∙ ap (λ (l : List ℕ). get_or l port 0) counts
-            ∙ get_or-set_same before.counts.items port (get_or before.counts.items port 0 + 1) 0 here
-            ∙ ap (λ (n : ℕ). n + 1) (h.counts port within) ∙ sym (counted_one taken.log port packet)
-            ∙ ap (λ (n : ℕ). length (arrived_at n (taken.log ++ a ∷ []))) (sym same))
-        | inr not ↦
-            ap (λ (l : List ℕ). get_or l other 0) counts ∙ get_or-set_other before.counts.items port other (get_or before.counts.items port 0 + 1) 0 not
-            ∙ h.counts other less ∙ sym (ap (λ (l : List (Stamped Plain)). length l) (counted_other taken.log port other packet not))
-      ];
-      log = log ∙ ap (λ (l : List Arrived). l ++ record { port = port; at = packet.at } ∷ []) h.log ∙ sym (map-append told taken.log (a ∷ []));
-      closed = shut ∙ h.closed;
-    }
 
 -- fewer arrived at a port than in all
 pub few_at : (port : ℕ) (log : List (Arrival Plain)) → length (arrived_at port log) ≤ length log
@@ -108,23 +64,3 @@ may_come streams free taken taker port packet h may waits is =
     let all = lawful_may free.law (free_inputs streams free) (taken.log ++ a ∷ []) many (recursion_from_All IsPrefix (free_inputs streams free) may.prefixes) lawful in
     let own = last_may free.law begun taken.log a all in
     subst (λ (l : FreeLaw). MayArrive l taker.state.flow a) (sym h.law) (subst (λ (f : Flow Plain). MayArrive free.law f a) (sym h.flow) own)
-
--- Nothing was taken yet.
-abbrev zeros : ℕ → List ℕ
-zeros n = replicate n 0
-
-zero_at : (n i : ℕ) → get_or (zeros n) i zero ≡ zero
-zero_at zero i = refl
-zero_at (suc n) zero = refl
-zero_at (suc n) (suc i) = zero_at n i
-
-pub nothing_yet : (free : FreeNode) (taker : Taker) → taker.state ≡ record { law = free.law; flow = begun } → taker.counts.items ≡ replicate (length free.inputs) 0 → taker.log.items ≡ [] → taker.closed ≡ false
-    → HasTaken free (record { log = []; closed = false }) taker
-nothing_yet free taker state counts log open_yet = record {
-  law = ap (λ s. s.law) state;
-  flow = ap (λ s. s.flow) state;
-  ports = ap (λ (l : List ℕ). length l) counts ∙ length-replicate (length free.inputs) 0;
-  counts = λ port less. ap (λ (l : List ℕ). get_or l port 0) counts ∙ zero_at (length free.inputs) port;
-  log = log;
-  closed = open_yet;
-}

@@ -2,7 +2,7 @@
 ghost use Rattle.std.specs.Prelude.{◌≡◌, ◌∷◌, ◌++◌, List, length, max, reverse};
 ghost use Rattle.mg_calc.specs.declared.inputs.Inputs.{Inputs};
 ghost use Rattle.mg_calc.specs.declared.plan.Plan.{Plan};
-ghost use Rattle.mg_calc.specs.Plan.{IsValidWithFree, InputsFit};
+ghost use Rattle.mg_calc.specs.Plan.{IsValidWithFree};
 ghost use Rattle.mg_calc.specs.Equations.{IsJob, IsSolution};
 ghost use Rattle.mg_value.specs.Payload.{Plain};
 ghost use Rattle.mg_value.specs.Prefix.{StreamPrefix};

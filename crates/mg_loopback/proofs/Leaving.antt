@@ -1,5 +1,5 @@
 -- The packets of a queue at or below a time, one after the other.
-use Rattle.std.proofs.Common.{◌≡◌, ℕ, suc, ◌+◌, ◌<◌, ◌≤◌, List, [], ◌∷◌, take, drop, length, filter, ◌⊎◌, Option, Some, None, option_map, unwrap_or, slice_get, leb, ltb, inl, inr, ap, ap₂, refl, sym, ◌∙◌, arith, eq-eqb, ne_eqb, All, subst, length-drop, drop-drop}
+use Rattle.std.proofs.Common.{◌≡◌, ℕ, ◌+◌, ◌<◌, ◌≤◌, List, [], ◌∷◌, take, drop, length, filter, ◌⊎◌, Option, Some, None, option_map, unwrap_or, slice_get, leb, ltb, inl, inr, ap, ap₂, refl, sym, ◌∙◌, arith, eq-eqb, ne_eqb, All, subst, length-drop, drop-drop}
 use Rattle.std.proofs.Math.Seq.{take-add}
 use Rattle.std.specs.List.{AllByRecursion}
 use Rattle.std.proofs.lemmas.Bool.{cases_Bool, lt-ltb, le-ltb, le-leb, lt-leb, leb-true, leb-false}
@@ -39,23 +39,6 @@ pub record Goes {X : Type 0} (t : ℕ) (q r : Waiting X) : Type 0 where
   pub left : without (Some t) r ≡ without (Some t) q
   pub found : packet_at t r.packets ≡ packet_at t q.packets
   pub fewer : length r.packets + 1 ≡ length q.packets
-
-pub first_goes : {X : Type 0} (t u : ℕ) (q : Waiting X) → Some u ≡ option_map (λ p. p.at) (slice_get q.packets 0) → u < t → Goes t q (popped_at u q)
-first_goes {X} t u q first lt = by q.packets first
-  where
-    by : (ps : List (Stamped X)) → Some u ≡ option_map (λ p. p.at) (slice_get ps 0) → Goes t (queue_of q.gone ps q.bound q.spare) (popped_at u (queue_of q.gone ps q.bound q.spare))
-    by [] first = absurd cc
-    by (p ∷ ps) first =
-        let at : u ≡ p.at = ap (λ (o : Option ℕ). unwrap_or o u) first in
-        let low : p.at < t = omega (arith, at, lt) in
-        rw (eq-eqb p.at u (sym at)) (record {
-          left =
-              rw (le-leb p.at t (omega (arith, low)), le-ltb t p.at (omega (arith, low)))
-              (let n = length (filter (λ r. leb r.at t) ps) in
-              same_queue (q.gone + 1 + n) (q.gone + suc n) (filter (λ r. ltb t r.at) ps) q.bound (q.spare + 1 + n) (q.spare + suc n) (omega arith) (omega arith));
-          found = rw (ne_eqb p.at t (λ e. omega (arith, e, low))) refl;
-          fewer = omega arith;
-        })
 
 -- the first packet's time, as the call answers it
 pub found_first : (t u v : ℕ) (answer first : Option ℕ) → answer ≡ first → answer ≡ Some v → t ≤ v → Some u ≡ first → t ≤ u

@@ -1,11 +1,10 @@
 -- The ports of texts, one text after another.
-use Rattle.std.proofs.Common.{Bool, Err, List, None, Ok, Option, Result, Some, [], add-one, ap, append-nil, append_assoc, arith, count_by, drop, drop-cons, false, get_or, if◌then◌else◌, length, nat_le, refl, sym, take, true, ℕ, ◌&&◌, ◌++◌, ◌+◌, ◌<◌, ◌∙◌, ◌∷◌, ◌≡◌, ◌≤◌}
+use Rattle.std.proofs.Common.{Bool, Err, List, None, Ok, Option, Result, Some, [], add-one, ap, append_assoc, arith, count_by, drop, drop-cons, false, get_or, if◌then◌else◌, length, nat_le, refl, sym, take, true, ℕ, ◌&&◌, ◌++◌, ◌+◌, ◌<◌, ◌∙◌, ◌∷◌, ◌≡◌, ◌≤◌}
 use Rattle.std.specs.Str.{bytes_eq}
 use Rattle.std.proofs.lemmas.Bool.Decides.{nat_tests}
 use Rattle.std.proofs.lemmas.Bool.{false≢true}
 use Rattle.std.proofs.lemmas.List.{take_more, length-take-le}
 use Rattle.std.proofs.lemmas.List.Sums.{count_by_more_yes, count_by_more_no}
-use Rattle.std.proofs.Math.ListN.{drop_of_length-le}
 use Rattle.mg_names.specs.Grammar.{is_tag, index_of}
 use Rattle.mg_names.specs.Spelling.{parts_of, spelling_of, spelling_of_parts, named, tagged, named_at, indexed, is_untagged, is_one}
 use Rattle.mg_names.specs.Ports.{after, port_of, lacks_index, port_at, port_after, placed_at, ports_after}
@@ -136,13 +135,6 @@ ports_refused texts i d fault made inside read whole =
     let place : length (take i texts) ≡ i = length-take-le i texts (omega arith) in
     whole ∙ (ap (λ r. after (ports_after (take i texts) r) (λ more. Ok (made ++ more))) rest
     ∙ ports_cons_refused (take i texts) (get_or texts i d) (drop (i + 1) texts) fault made (ap (λ n. placed_at n (port_after (take i texts) (get_or texts i d))) place ∙ read))
-
-pub ports_end : (texts : List (List ℕ)) (i : ℕ) (made : List Port) → length texts ≤ i
-    → ports_after [] texts ≡ after (ports_after (take i texts) (drop i texts)) (λ more. Ok (made ++ more))
-    → ports_after [] texts ≡ Ok made
-ports_end texts i made past whole =
-    let rest : drop i texts ≡ [] = drop_of_length-le texts past in
-    whole ∙ (ap (λ r. after (ports_after (take i texts) r) (λ more. Ok (made ++ more))) rest ∙ ap Ok (append-nil made))
 
 -- the count of untagged ports, one text more
 pub count_step : (texts : List (List ℕ)) (i : ℕ) (d : List ℕ) (empty : Bool) → i < length texts → empty ≡ is_untagged (get_or texts i d)

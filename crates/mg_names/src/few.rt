@@ -1,5 +1,5 @@
 //! The search in lists of at most `FEW` ports, one port after the other. Most nodes have no more, and need no table of places.
-ghost use Rattle.std.specs.Prelude.{◌≡◌, ◌≢◌, ◌<◌, ◌^◌, ◌&&◌, ◌==◌, length, Ok, Err, OnOk, IfErr};
+ghost use Rattle.std.specs.Prelude.{◌≡◌, ◌<◌, ◌^◌, ◌&&◌, ◌==◌, length, Ok, Err, OnOk, IfErr};
 ghost use Rattle.std.specs.Str.{bytes_eq};
 ghost use Rattle.mg_names.specs.Ports.{is_at, has_port, stands_twice, has_gap, place_of, checked};
 ghost use Rattle.mg_names.specs.Code.Places.{lacks_below};

@@ -1,4 +1,4 @@
-ghost use Rattle.std.specs.Prelude.{◌≡◌, ◌≢◌, ◌<◌, ◌^◌, ℕ, List, true, false, Ok, Err, IfOk, OnOk, OnErr, IfErr, length};
+ghost use Rattle.std.specs.Prelude.{◌≡◌, ◌≢◌, ◌<◌, ◌^◌, ℕ, List, true, false, Ok, Err, IfOk, OnOk, IfErr, length};
 ghost use Rattle.std.specs.List.{list_any};
 ghost use Rattle.mg_names.specs.Code.Places.{kept_place, found_in};
 ghost use Rattle.mg_names.specs.Ports.{stands_twice, place_of, checked};

@@ -1,5 +1,3 @@
-ghost use Rattle.std.specs.Prelude.{◌≡◌, ◌≢◌, IfOk, IfErr};
-ghost use Rattle.mg_names.specs.Spelling.{spelling_of};
 
 use crate::fault::NameFault;
 use crate::grammar;

@@ -2,14 +2,10 @@
 use Rattle.std.proofs.Common.{◌≡◌, ℕ, zero, suc, List, Option, Some, None, IfSome, IsSomeAnd, map, get_or, slice_get, sym, subst, ap, ◌∙◌}
 use Rattle.mg_calc.specs.declared.plan.Plan.{Plan}
 use Rattle.mg_calc.specs.declared.plan_node.PlanNode.{PlanNode}
-use Rattle.mg_calc.specs.declared.shape.OuterShape.{OuterShape}
 use Rattle.mg_calc.specs.Plan.{FitsNode, OutersFit}
 use Rattle.mg_calc.specs.Told.{CalculatorTold}
 use Rattle.mg_sched.specs.Made.{FitsNew, BoxesFit}
 use Rattle.mg_nets.specs.Handed.{two_outers, two_tallies}
-
-pub outers_fit : (plan : Plan) (outers : List OuterShape) → outers ≡ two_outers → OutersFit plan outers → OutersFit plan two_outers
-outers_fit plan outers are fit = subst (OutersFit plan) are fit
 
 -- those that a plan asks for are there
 box_fits : (node : PlanNode) (number : Option ℕ) → IfSome number (λ n. IsSomeAnd (slice_get two_outers n) (λ outer. FitsNode node outer.law outer.shape))

@@ -1,9 +1,9 @@
 //! How what a net gives and tells is written in tables: a packet as its number, `@` and its timestamp.
 use mg_calc::{Calculator, Call, CallList, NodeFault, Phase};
 use mg_route::LawBox;
-use mg_sched::{Report, StreamEnd};
+use mg_sched::Report;
 use mg_tables::{show_packet_at, text_of};
-use mg_value::Packet;
+use mg_value::{Packet, StreamEnd};
 use std::alloc::Global;
 use std::test::Fail;
 

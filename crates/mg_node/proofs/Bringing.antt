@@ -11,11 +11,8 @@ use Rattle.mg_node.specs.declared.delivered.Delivered.TheVariants.{Moved}
 use Rattle.mg_node.specs.Ports.{ports_in, port_queue, with_port, with_room}
 use Rattle.mg_node.specs.Delivery.{missing, with_packets, delivered, Delivers, AreOfOne}
 use Rattle.mg_node.specs.Code.Bringing.{Brought}
-use Rattle.mg_node.proofs.PortSteps.{queue-there, ports-same, port-twice, port-same}
+use Rattle.mg_node.proofs.PortSteps.{queue-there, ports-same, port-twice}
 use Rattle.mg_node.proofs.Delivering.{none_first, of_one_next, of_one_room, missing-next, with_packets-push}
-
-pub brought_none : (o : Waiting Plain) (w : Pending) (port : ℕ) → port < ports_in w → AreOfOne o (port_queue w port) → Brought o port 0 w w
-brought_none o w port there of_one = record { there = there; of_one = of_one; within = omega arith; came = sym (port-same w port); left = refl }
 
 -- the first of what is left, by its place
 at_place : {X : Type 0} (xs : List X) (n : ℕ) (x : X) → slice_get (drop n xs) 0 ≡ Some x → (n < length xs) × (get_or xs n x ≡ x)
@@ -99,9 +96,6 @@ some_left o port n most before now p b le first =
     let all = missing o (port_queue before port) in
     let place = at_place all n p (ap (λ (ps : List (Stamped Plain)). slice_get ps 0) (sym b.left) ∙ first) in
     omega (arith, le, place.0)
-
-pub enough : (o : Waiting Plain) (port n most : ℕ) (before now : Pending) → Brought o port n before now → n ≤ most → most ≤ n → n ≡ min most (length (missing o (port_queue before port)))
-enough o port n most before now b le ge = (let within = b.within in omega (arith, le, ge, within))
 
 -- what a call of a queue's place finds
 pub found : {X : Type 0} (o r : Option X) (x : X) → o ≡ r → o ≡ Some x → r ≡ Some x

@@ -1,18 +1,17 @@
 -- Outputs of graph inputs: all packets of a prefix, and what is given up of them.
-use Rattle.std.proofs.Common.{◌≡◌, ℕ, zero, suc, ◌+◌, ◌-◌, ◌<◌, ◌≤◌, max, List, [], ◌∷◌, ◌++◌, length, length-drop, map, true, false, take, drop, drop-drop, append-nil, append_assoc, add-one, get_or, All, option_map, Some, None, slice_get, eq-eqb, ap, sym, refl, subst, ◌∙◌, arith}
+use Rattle.std.proofs.Common.{◌≡◌, ℕ, zero, suc, ◌+◌, ◌-◌, ◌<◌, ◌≤◌, max, List, [], ◌∷◌, ◌++◌, length, map, true, false, take, drop, drop-drop, append-nil, append_assoc, add-one, get_or, option_map, Some, None, slice_get, eq-eqb, ap, sym, refl, subst, ◌∙◌, arith}
 use Rattle.std.proofs.lemmas.List.{take_more, take_all, drop_all}
-use Rattle.std.proofs.lemmas.List.Elements.{All-head}
-use Rattle.mg_time.specs.Time.{IsAllowed, next, pre_stream}
+use Rattle.mg_time.specs.Time.{next}
 use Rattle.mg_value.specs.Payload.{Plain}
 use Rattle.mg_value.specs.Prefix.{Stamped, StreamPrefix, IsPrefix, Ascends, first_time, empty_prefix}
 use Rattle.mg_value.proofs.Lemmas.{appended_extends}
-use Rattle.mg_stream.specs.Queue.{Waiting, StandsFor, MayCome, count_of, IsLike, empty_queue, with_packet, popped, popped_at}
+use Rattle.mg_stream.specs.Queue.{Waiting, StandsFor, MayCome, IsLike, with_packet, popped, popped_at}
 use Rattle.mg_stream.specs.Pool.{Backlog, backlog_of, queue_of}
 use Rattle.mg_calc.specs.declared.plan.Plan.{Plan}
 use Rattle.mg_calc.specs.Plan.{IsValid}
 use Rattle.mg_node.specs.declared.role.Role.TheVariants.{Input}
 use Rattle.mg_node.specs.Views.{BenchView, EntryView, EngineView}
-use Rattle.mg_node.specs.Outputs.{without_first, kept_whole, input_engine}
+use Rattle.mg_node.specs.Outputs.{kept_whole, input_engine}
 use Rattle.mg_node.specs.Job.{LoggedJob, Solves}
 use Rattle.mg_node.specs.Lawful.{of_input, LawfulEngine}
 use Rattle.mg_node.proofs.Leads.{row_at}
@@ -65,28 +64,9 @@ filled_all start q ps i f end = (
   (λ b asc le. subst (λ (qs : List (Stamped Plain)). q.bound ≤ first_time qs b) (drop_all i ps end) (f.bound b asc le)),
 )
 
--- a prefix begins at PreStream or above
-pub begins : (s : StreamPrefix Plain) → IsPrefix s → pre_stream ≤ first_time s.packets s.bound
-begins s is = by_packets s.packets is.allowed
-  where
-    by_packets : (ps : List (Stamped Plain)) → All (λ p. IsAllowed p.at) ps → pre_stream ≤ first_time ps s.bound
-    by_packets [] a = is.opened
-    by_packets (p ∷ ps) a = (let here : IsAllowed p.at = All-head (λ (q : Stamped Plain). IsAllowed q.at) p ps a in here.0)
-
 -- a filled queue has all of a prefix
 pub same_backlog : (a b : Backlog Plain) → a.gone ≡ b.gone → a.packets ≡ b.packets → a.bound ≡ b.bound → a ≡ b
 same_backlog a b gone packets bound = λ i. record { gone = gone i; packets = packets i; bound = bound i }
-
-pub filled : (s : StreamPrefix Plain) (fresh q r : Waiting Plain) → IsPrefix s → IsLike fresh empty_queue → q.gone ≡ fresh.gone → q.packets ≡ fresh.packets ++ s.packets
-    → ((b : ℕ) → Ascends s.packets b → fresh.bound ≤ first_time s.packets b → q.bound ≤ b) → r ≡ record q { bound = max q.bound s.bound } → backlog_of r ≡ kept_whole s
-filled s fresh q r is like gone packets bound raised =
-    let start = like.bound in
-    let first = begins s is in
-    let low : q.bound ≤ s.bound = bound s.bound is.ascends (omega (arith, start, first)) in
-    same_backlog (backlog_of r) (kept_whole s)
-    (ap (λ (w : Waiting Plain). w.gone) raised ∙ gone ∙ like.gone)
-    (ap (λ (w : Waiting Plain). w.packets) raised ∙ packets ∙ ap (λ (ps : List (Stamped Plain)). ps ++ s.packets) like.packets)
-    (ap (λ (w : Waiting Plain). w.bound) raised ∙ omega (arith, low))
 
 -- the engine of a graph input is lawful
 pub input_lawful : (job : LoggedJob) (streams : List (StreamPrefix Plain)) (plan : Plan) (input : ℕ) (s : StreamPrefix Plain) → input < length plan.inputs → IsPrefix s → job.job.plan ≡ plan → Solves job streams
@@ -118,9 +98,6 @@ pub record GivesUp (old now : Waiting Plain) (got : ℕ) : Type 0 where
   pub packets : now.packets ≡ drop (now.gone - old.gone) old.packets
   pub bound : now.bound ≡ old.bound
 
-pub gives_none : (old : Waiting Plain) (got : ℕ) → GivesUp old old got
-gives_none old got = record { from = omega arith; upto = omega arith; packets = (let none : old.gone - old.gone ≡ 0 = omega arith in ap (λ (n : ℕ). drop n old.packets) (sym none)); bound = refl }
-
 popped_is : (q : Waiting Plain) (t : ℕ) → Some t ≡ option_map (λ p. p.at) (slice_get q.packets 0) → popped_at t q ≡ popped q
 popped_is q t first = by_packets q.packets refl
   where
@@ -141,21 +118,6 @@ gives_more old now got t g less first =
       packets = ap (λ (ps : List (Stamped Plain)). drop 1 ps) g.packets ∙ drop-drop 1 (now.gone - old.gone) old.packets ∙ ap (λ (n : ℕ). drop n old.packets) (omega (arith, from));
       bound = g.bound;
     })
-
-pub given_up : (old now : Waiting Plain) (got : ℕ) → GivesUp old now got → got ≤ now.gone → backlog_of now ≡ without_first got (backlog_of old)
-given_up old now got g enough =
-    let from = g.from in
-    let upto = g.upto in
-    same_backlog (backlog_of now) (without_first got (backlog_of old)) (omega (arith, from, upto, enough))
-    (g.packets ∙ ap (λ (n : ℕ). drop n old.packets) (omega (arith, from, upto, enough))) g.bound
-
--- there is a packet to give up where not all are
-pub some_waits : (old now : Waiting Plain) (got : ℕ) → GivesUp old now got → got ≤ count_of old → now.gone < got → None ≡ option_map (λ p. p.at) (slice_get now.packets 0) → ⊥
-some_waits old now got g le less none = by_packets now.packets refl
-  where
-    by_packets : (ps : List (Stamped Plain)) → now.packets ≡ ps → ⊥
-    by_packets [] is = (let from = g.from in omega (arith, from, le, less, ap length (sym g.packets ∙ is), length-drop (now.gone - old.gone) old.packets))
-    by_packets (p ∷ ps) is = (let e = rw is at none in cc)
 
 -- the engine of a graph input, as the code makes it
 pub input_made : (input stream first : ℕ) (s : StreamPrefix Plain) (items : List (Waiting Plain)) (q : Waiting Plain) (window : List EntryView) (idle : List BenchView) → first ≡ stream → items ≡ q ∷ [] → backlog_of q ≡ kept_whole s → window ≡ [] → idle ≡ []

@@ -1,23 +1,8 @@
 -- The last Close of a run.
-use Rattle.std.proofs.Common.{◌≡◌, ℕ, zero, suc, ◌==◌, Bool, true, false, List, [], ◌∷◌, length, Option, Ok, Err, refl, sym, subst, ◌∙◌, ap, arith}
+use Rattle.std.proofs.Common.{◌≡◌, ℕ, zero, suc, ◌==◌, Bool, true, false, List, [], ◌∷◌, length, Option, refl, sym, subst, ◌∙◌, ap, arith}
 use Rattle.std.proofs.lemmas.Bool.Decides.{nat_tests}
-use Rattle.mg_value.specs.Payload.{Plain}
-use Rattle.mg_calc.specs.declared.law.Law.{Law}
-use Rattle.mg_calc.specs.declared.law.Law.TheVariants.{Scripted}
-use Rattle.mg_calc.specs.declared.emission.Laid.{Laid}
-use Rattle.mg_calc.specs.Answer.{Answer}
-use Rattle.mg_calc.specs.Law.{finish}
 use Rattle.mg_node.specs.Views.{OutcomeView, EntryView, EngineView}
 use Rattle.mg_node.specs.WindingUp.{lacks_close, FinishesBack, FinishesEntry, FinishesFront, WindsUp}
-
--- the state stays
-abbrev state_in : List Plain → Answer → List Plain
-state_in state (Ok answer) = answer.0
-state_in state (Err cause) = state
-
-finish_keeps : (law : Law) (state now : List Plain) (emission : List Laid) → finish law state ≡ Ok (now, emission) → now ≡ state
-finish_keeps (Scripted offset first steps last) state now emission e = ap (state_in state) (sym e)
-finish_keeps law state now emission e = ap (state_in state) (sym e)
 
 pub winds_first : (before now : EngineView) → lacks_close before ≡ true → before.idle ≡ [] → FinishesFront before now → WindsUp before now
 winds_first before now lacks none f = record {

@@ -17,7 +17,7 @@ use Rattle.mg_node.specs.Views.{BenchView, PerformedView, EntryView}
 use Rattle.mg_node.specs.Commits.{raised_before, laid_by, failure_by, Front, answer_laid, has_stopped, with_ready, front_laid, fault_at}
 use Rattle.mg_node.specs.Windows.{ready_of, starts_ready}
 use Rattle.mg_node.specs.Code.QueueLaying.{Stand, packets_by, room_at, HasRoomFor}
-use Rattle.mg_node.specs.Code.FrontLaying.{needed, counted_in, front_end_of, IsFirstLaid, start_of, HasCome, IsFrontLaid}
+use Rattle.mg_node.specs.Code.FrontLaying.{needed, front_end_of, IsFirstLaid, start_of, HasCome, IsFrontLaid}
 use Rattle.mg_node.proofs.Replying.{same_backlog}
 use Rattle.mg_node.proofs.Zips.{map-set}
 
@@ -107,12 +107,6 @@ pub single_room : (qs : List (Waiting Plain)) (r : Waiting Plain) (answer : Resu
 single_room qs r answer more one is room = λ output le.
     answer_room qs 0 r answer more (omega (arith, one)) is room (λ k less. absurd (omega (arith, less))) output (let long = length-set qs 0 r in omega (arith, le, one, long))
 
--- The first entry is laid.
-
-pub first_count : (offset : Option ℤ) (node : ℕ) (before now : List (Waiting Plain)) (window window_now : List EntryView) (idle idle_now : List BenchView) (end : FrontEnd) → IsFirstLaid offset node before now window window_now idle idle_now end
-    → counted_in window ≡ end.laid + counted_in window_now
-first_count offset node before now window window_now idle idle_now end h = ap counted_in h.first ∙ ap (λ (n : ℕ). n + counted_in window_now) (sym (ap (λ (e : FrontEnd). e.laid) h.end_is))
-
 -- a front that was laid so far: with what is left of the window it comes to the same, whatever the outputs stand for
 pub record Reaches (offset : Option ℤ) (now : List (Waiting Plain)) (window_now : List EntryView) (idle_now : List BenchView) (laid : ℕ) (wanted : Front) : Type 0 where
   pub whole : List (StreamPrefix Plain)
@@ -147,10 +141,6 @@ front_stays offset (entry ∷ entries) front stopped =
 pub fault_is : (node : ℕ) (phase : Phase) (given : Result (List (StreamPrefix Plain)) Cause) (cause : Option Cause) → cause ≡ reason_of given → (front_end_of node phase cause).fault ≡ option_map (fault_at node) (failure_by phase given)
 fault_is node phase (Ok outputs) cause is = ap (λ (o : Option Cause). (front_end_of node phase o).fault) is
 fault_is node phase (Err c) cause is = ap (λ (o : Option Cause). (front_end_of node phase o).fault) is
-
-neither : (a b : Bool) → (a || b) ≡ false → (a ≡ false) × (b ≡ false)
-neither true b e = absurd cc
-neither false b e = (refl, e)
 
 -- the front once the first entry is laid
 pub record LaidFirst (offset : Option ℤ) (node : ℕ) (now : List (Waiting Plain)) (window_now : List EntryView) (idle_now : List BenchView) (end : FrontEnd) (laid : ℕ) (wanted : Front) : Type 0 where

@@ -24,7 +24,7 @@ use Rattle.mg_node.specs.Ports.{IsNext}
 use Rattle.mg_node.specs.Intakes.{HasLoop}
 use Rattle.mg_node.specs.Job.{LoggedJob}
 use Rattle.mg_node.specs.Lawful.{HoldsLoop, HoldsWaits, LawfulIntake, IsRaised, come_to, IsEngineOf, LawfulEngine, of_node, AgreeBy, AreCell}
-use Rattle.mg_node.specs.Claims.{MayClaim, IsEarly, IsOver, AreSame, TakesAnswer, with_reply, with_answer}
+use Rattle.mg_node.specs.Claims.{MayClaim, IsEarly, AreSame, TakesAnswer, with_reply, with_answer}
 use Rattle.mg_node.specs.Code.Replying.{MayLay, LaysReply, TellsNone}
 use Rattle.mg_node.proofs.Answering.{loop_law, loop_cell, may_answer, cell_base}
 use Rattle.mg_node.proofs.Claiming.{few_rise}
@@ -119,9 +119,6 @@ one_same (x ∷ xs) q r one here same = ap (λ (b : Backlog Plain). b ∷ map ba
 pub early : (role : Role) (w : Pending) (held : Held Plain) → role ≡ LoopRole → w ≡ Loop held → next_reply held ≡ None → ¬ IsNext w AtEnd → IsEarly role w
 early role w held is waits none not_over =
     subst (λ (r : Role). IsEarly r w) (sym is) (subst (λ (v : Pending). (¬ IsNext v AtEnd) → IsNext v NotYet) (sym waits) (λ no. (none, no)) not_over)
-
-pub over : (role : Role) (claimed : ℕ) (w : Pending) → role ≡ LoopRole → IsNext w AtEnd → IsOver role claimed w
-over role claimed w is next = subst (λ (r : Role). IsOver r claimed w) (sym is) next
 
 -- The engine, after each of its answers.
 pub item_one : (engine : EngineView) (intake : IntakeView) (items : List (Waiting Plain)) → AreCell engine intake → engine.role ≡ LoopRole → MayClaim engine → map backlog_of items ≡ engine.outputs → length items ≡ 1

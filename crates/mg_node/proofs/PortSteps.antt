@@ -1,6 +1,6 @@
 -- Another queue at a port of what waits.
 use Rattle.std.proofs.Common.{◌≡◌, ℕ, ◌<◌, ◌==◌, Bool, true, false, List, ap, refl, if◌then◌else◌}
-use Rattle.std.proofs.lemmas.List.{length-set, set-set, set-get_or, get_or-set_same}
+use Rattle.std.proofs.lemmas.List.{length-set, set-set, get_or-set_same}
 use Rattle.mg_value.specs.Payload.{Plain}
 use Rattle.mg_stream.specs.Queue.{Waiting}
 use Rattle.mg_stream.specs.Pool.{Backlog, empty_backlog, queue_of, backlog_of}
@@ -33,12 +33,3 @@ held_twice held false q r = refl
 pub port-twice : (w : Pending) (port : ℕ) (q r : Waiting Plain) → with_port (with_port w port q) port r ≡ with_port w port r
 port-twice (Sets inbox) port q r = ap (λ (ports : List (Backlog Plain)). Sets (record { policy = inbox.policy; pool = record { ports = ports; spare = r.spare } })) (set-set inbox.pool.ports port (backlog_of q) (backlog_of r))
 port-twice (Loop held) port q r = ap Loop (held_twice held (port == 0) q r)
-
--- the same one changes nothing
-held_same : (held : Held Plain) (test : Bool) → (if test then record held { loop = (if test then held.loop else held.main) } else record held { main = (if test then held.loop else held.main) }) ≡ held
-held_same held true = refl
-held_same held false = refl
-
-pub port-same : (w : Pending) (port : ℕ) → with_port w port (port_queue w port) ≡ w
-port-same (Sets inbox) port = ap (λ (ports : List (Backlog Plain)). Sets (record { policy = inbox.policy; pool = record { ports = ports; spare = inbox.pool.spare } })) (set-get_or inbox.pool.ports port empty_backlog)
-port-same (Loop held) port = ap Loop (held_same held (port == 0))

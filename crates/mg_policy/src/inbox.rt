@@ -3,7 +3,7 @@ ghost use Rattle.std.specs.Bool.{OnTrue, OnFalse};
 ghost use Rattle.mg_time.specs.Time.{post_stream, done, IsAllowed};
 ghost use Rattle.mg_value.specs.Payload.{Plain};
 ghost use Rattle.mg_value.specs.Prefix.{StreamPrefix, empty_prefix, appended, raised, closed};
-ghost use Rattle.mg_value.specs.Settled.{reach, settled_sets, IsBelowBounds};
+ghost use Rattle.mg_value.specs.Settled.{reach, settled_sets};
 ghost use Rattle.mg_value.specs.Left.{after_sets};
 ghost use Rattle.mg_stream.specs.Queue.{StandsFor, MayCome, count_of, with_packet, raised_to};
 ghost use Rattle.mg_stream.specs.Pool.{empty_backlog, queue_at, queues_of, with_queue, pool_len};

@@ -1,5 +1,5 @@
 //! What one look at each port of a pool finds.
-ghost use Rattle.std.specs.Prelude.{◌≡◌, ◌<◌, ◌↔◌, ℕ, All, length, min, unwrap_or, IfNone, IsTrue};
+ghost use Rattle.std.specs.Prelude.{◌≡◌, ◌<◌, ◌↔◌, All, min, unwrap_or, IfNone, IsTrue};
 ghost use Rattle.mg_time.specs.Time.{done};
 ghost use Rattle.mg_value.specs.Prefix.{IsPrefix};
 ghost use Rattle.mg_value.specs.Settled.{low, is_settled, reach};

@@ -1,5 +1,5 @@
 //! Taking a set: what leaves the queues with it.
-ghost use Rattle.std.specs.Prelude.{◌≡◌, ◌<◌, ◌+◌, ℕ, All, Some, None, length, map, slice_get, sum_by, if◌then◌else◌};
+ghost use Rattle.std.specs.Prelude.{◌≡◌, ◌<◌, ◌+◌, All, Some, None, length, map, slice_get, if◌then◌else◌};
 ghost use Rattle.mg_value.specs.Prefix.{IsPrefix};
 ghost use Rattle.mg_value.specs.Settled.{settled_sets, packet_at};
 ghost use Rattle.mg_stream.specs.Queue.{rest_of};

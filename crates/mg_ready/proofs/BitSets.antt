@@ -44,7 +44,3 @@ IsGreatest-found words i t within small low high none =
         | inr apart ↦ rw (none (k / 64) (omega arith)) (bit_at-zero (k % 64))
       ];
     }
-
--- no number is in words that are all 0
-pub none_there : (words : List ℕ) → ((j : ℕ) → get_or words j 0 ≡ 0) → (k : ℕ) → bit_of words k ≡ 0
-none_there words none k = rw (none (k / 64)) (bit_at-zero (k % 64))

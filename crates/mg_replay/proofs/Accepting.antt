@@ -17,7 +17,7 @@ use Rattle.mg_sched.specs.AtRest.{IsAtRest}
 use Rattle.mg_sched.specs.Taking.{taken_out, settled_outputs, HasAllOutputs, LeavesNodes}
 use Rattle.mg_sched.proofs.OutputsTaken.{all_come_at_rest}
 use Rattle.mg_drive.specs.Told.{HasLines}
-use Rattle.mg_drive.specs.Code.Running.{IsTold, IsToldSome, IsSomeTold, HasRested, SomeRested}
+use Rattle.mg_drive.specs.Code.Running.{IsTold, IsToldSome, IsSomeTold, HasRested}
 use Rattle.mg_drive.specs.Code.Ending.{IsWhole}
 use Rattle.mg_drive.proofs.Jobs.{valid_plan}
 use Rattle.mg_drive.proofs.LinesRan.{none_told, front_lines}
@@ -58,6 +58,3 @@ front_none sink text = ([], (text, refl), TookAll-start sink.taken)
 -- a net at rest has rested, also where sets were taken from it
 pub rested_since : (job : LoggedJob) (rested net : NetView) → StandsFor job rested → IsRunning rested → IsAtRest rested → LeavesNodes rested net → HasRested job net
 rested_since job rested net stands running rests since = record { rested = rested; stands = stands; running = running; rests = rests; since = since }
-
-pub some_rested : (plan : Plan) (before net : NetView) → StandsForPlan plan before → ((job : LoggedJob) → StandsFor job before → StandsFor job net) → ((job : LoggedJob) → StandsFor job before → HasRested job net) → SomeRested plan net
-some_rested plan before net some keeps rests = record { job = some.job; plan_is = some.plan_is; stands = keeps some.job some.stands; has_rested = rests some.job some.stands }

@@ -56,9 +56,6 @@ usage-came outers asked all done is sent unloaded unread unwritten uncalled =
     subst (λ (a : Asked). CallEnded outers a Usage all) (sym is)
     (record { noted = inl (refl, noted-from done all.notes usage_note sent); unloaded = unloaded; unread = unread; unwritten = unwritten; uncalled = uncalled })
 
-pub told-by : (text : List ℕ) (status : Status) (all : CallDevices) → Written text status all → Untouched all.store → Untouched all.input → Untouched all.boxes → WasTold text status all
-told-by text status all written unloaded unread uncalled = record { written = inl written; unloaded = unloaded; unread = unread; uncalled = uncalled }
-
 -- Usage --
 
 told-status : (text : List ℕ) (all : CallDevices) → WasTold text Usage all → ⊥

@@ -19,7 +19,8 @@ use Rattle.mg_edge.specs.Edge.{SinkTold}
 use Rattle.mg_feed.specs.declared.feed_end.FeedEnd.{FeedEnd}
 use Rattle.mg_answer.specs.Told.{status_of}
 use Rattle.mg_answer.specs.Notes.{end_note, fault_note, status_notes, bounds_of}
-use Rattle.mg_answer.specs.Report.{report_by, end_of, asked_report}
+use Rattle.mg_value.specs.Ends.{end_of}
+use Rattle.mg_answer.specs.Report.{report_by, asked_report}
 use Rattle.mg_answer.specs.Answer.{Telling, OutputForm, packet_lines, totals, in_place, output_in, RunAnswer, answer_of, failed_notes, IsAnswerOf}
 use Rattle.mg_answer.specs.Devices.{Device}
 use Rattle.mg_answer.specs.Wrote.{WroteBy}

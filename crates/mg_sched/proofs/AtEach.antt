@@ -1,9 +1,6 @@
 -- What holds of each element of a list by its place, of lists that are made one by one and then changed at single places.
-use Rattle.std.proofs.Common.{◌≡◌, ◌≢◌, ℕ, zero, suc, ◌+◌, ◌∙◌, List, [], ◌∷◌, ◌++◌, length, Some, slice_get, set, length-append, subst, ap, sym, arith}
+use Rattle.std.proofs.Common.{◌≡◌, ◌≢◌, ℕ, zero, suc, ◌+◌, ◌∙◌, List, [], ◌∷◌, ◌++◌, length, set, length-append, subst, ap, sym, arith}
 use Rattle.mg_sched.specs.Code.Made.{AtPlaces}
-
-pub none_there : {X : Type 0} (P : ℕ → X → Type 0) (xs : List X) → xs ≡ [] → AtPlaces P xs
-none_there {X} P xs none place x there = (let there_none : slice_get [] place ≡ Some x = subst (λ (ys : List X). slice_get ys place ≡ Some x) none there in absurd cc)
 
 -- one more behind the others
 pub one_behind : {X : Type 0} (P : ℕ → X → Type 0) (xs : List X) (x : X) → AtPlaces P xs → P (length xs) x → AtPlaces P (xs ++ x ∷ [])

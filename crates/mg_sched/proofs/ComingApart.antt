@@ -57,10 +57,6 @@ one_more_back start engine engine_now on desk desk_now work h works room now bac
       apart = subst (AllPairs (λ (a b : WorkView). a.number ≢ b.number)) (append-nil front) (pairs_middle (λ (a b : WorkView). a.number ≢ b.number) not_turned front [] work pairs).0;
     }
 
-pub all_back : (start engine : EngineView) (on desk : DeskView) → BackSoFar start engine on desk → desk.works ≡ [] → (engine ≡ all_shelved start on.works) × (desk ≡ record on { works = [] })
-all_back start engine on desk h none = (
-  ap (all_shelved engine) (sym none) ∙ h.same,
-  λ i. record { room = h.room i; works = none i },
 )
 
 -- A cell whose works come back stays one.

@@ -64,10 +64,6 @@ free_input net e input answer h within from told is held =
     let no_feed : answer ≡ false = told_by.1 (subst (λ (n : ℕ). IsThrottled net.plan net.limits (graph_input n)) (sym other) held.throttled) in
     absurd (let yes_feed = not_false answer is in cc)
 
--- an edge from a node
-pub free_node : (net : NetView) (e : Edge) (p : Producer) → producer_of net.plan e.stream ≡ Some p → ((input : ℕ) → ¬ (p ≡ Input input)) → ¬ IsHeld net e
-free_node net e p from other held = other held.input (same_Some p (Input held.input) (sym from ∙ held.from))
-
 -- Sources.
 
 pub source_fits : (net : NetView) (node feeder : ℕ) (planned : PlanNode) → StandsForSome net → IsFeederOf net.plan node planned (Some feeder) → feeder < net.limits.feeders

@@ -1,5 +1,5 @@
 -- A step that did something leaves less to do, and no step leaves more.
-use Rattle.std.proofs.Common.{◌<◌, ◌≤◌, ◌||◌, Bool, true, false, sym, subst, ◌∙◌, arith}
+use Rattle.std.proofs.Common.{◌<◌, ◌≤◌, arith}
 use Rattle.mg_calc.specs.declared.event.Event.{Event}
 use Rattle.mg_calc.specs.declared.event.Event.TheVariants.{Deliver, Advance, Claim, Perform, Commit, Relax}
 use Rattle.mg_calc.specs.declared.event.Effect.{Effect}
@@ -9,7 +9,7 @@ use Rattle.mg_sched.specs.Views.{NetView}
 use Rattle.mg_sched.specs.StandsFor.{StandsFor, StandsForSome, IsRunning}
 use Rattle.mg_sched.specs.Acts.{IsEventOf, Acts}
 use Rattle.mg_sched.specs.Sweeps.{Becomes, itself, step}
-use Rattle.mg_sched.specs.Code.Left.{left_in, Goes}
+use Rattle.mg_sched.specs.Code.Left.{left_in}
 use Rattle.mg_sched.proofs.Becoming.{becomes_runs, becomes_stands}
 use Rattle.mg_sched.proofs.LeftDeliver.{deliver_less, deliver_no_more}
 use Rattle.mg_sched.proofs.LeftAdvance.{advance_less, advance_no_more}
@@ -42,9 +42,3 @@ becomes_no_more before now running some (step event effect between after h of ac
     let first = becomes_no_more before between running some h in
     let last = acts_no_more some.job event effect between after of (becomes_runs before between running h) (becomes_stands some.job before between running some.stands h) acts in
     omega (arith, first, last)
-
-pub goes_on : (a b : Bool) (before between now : NetView) → Goes a before between → Goes b between now → Goes (a || b) before now
-goes_on true true before between now first last = omega (arith, first, last)
-goes_on true false before between now first last = subst (λ (v : NetView). left_in v < left_in before) (sym last) first
-goes_on false true before between now first last = subst (λ (v : NetView). left_in now < left_in v) first last
-goes_on false false before between now first last = last ∙ first

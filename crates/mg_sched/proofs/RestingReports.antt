@@ -6,6 +6,8 @@ use Rattle.std.proofs.lemmas.List.Concat.{flat_map_single}
 use Rattle.std.proofs.lemmas.Simd.{map-map}
 use Rattle.mg_value.specs.Payload.{Plain}
 use Rattle.mg_value.specs.Prefix.{StreamPrefix}
+use Rattle.mg_value.specs.Ends.{end_of}
+use Rattle.mg_value.specs.declared.stream_end.StreamEnd.{StreamEnd}
 use Rattle.mg_stream.specs.Queue.{StandsFor as IsQueueOf}
 use Rattle.mg_stream.specs.Pool.{Backlog, queue_of}
 use Rattle.mg_calc.specs.declared.plan.Plan.{Plan}
@@ -19,11 +21,10 @@ use Rattle.mg_node.specs.Views.{EngineView}
 use Rattle.mg_node.specs.Job.{LoggedJob, Solves, streams_at}
 use Rattle.mg_node.specs.Lawful.{StandForAll}
 use Rattle.mg_node.proofs.Lemmas.{get_drop, input_has_laid}
-use Rattle.mg_sched.specs.declared.report.StreamEnd.{StreamEnd}
 use Rattle.mg_sched.specs.Views.{NetView}
 use Rattle.mg_sched.specs.StandsFor.{StandsFor, StandsForSome, IsRunning}
 use Rattle.mg_sched.specs.AtRest.{IsAtRest}
-use Rattle.mg_sched.specs.Reports.{node_engines, input_engines, end_of, stream_ends_of, stream_end, report_of}
+use Rattle.mg_sched.specs.Reports.{node_engines, input_engines, backlog_end, stream_ends_of, report_of}
 use Rattle.mg_sched.proofs.Finding.{valid}
 use Rattle.mg_sched.proofs.PlanStreams.{number_of}
 use Rattle.mg_sched.proofs.RestingNets.{in_order, rests_solved, rests_with_counts, rests_with_faults}
@@ -76,15 +77,15 @@ rests_with_all_faults job net solution h running rest solves =
 
 -- how far the stream of a number has come
 abbrev end_at : List (StreamPrefix Plain) → ℕ → StreamEnd
-end_at streams number = stream_end (stream_of streams number)
+end_at streams number = end_of (stream_of streams number)
 
-end_is : (b : Backlog Plain) (s : StreamPrefix Plain) → IsQueueOf (queue_of 0 b) s → end_of b ≡ stream_end s
+end_is : (b : Backlog Plain) (s : StreamPrefix Plain) → IsQueueOf (queue_of 0 b) s → backlog_end b ≡ end_of s
 end_is b s h =
     let gone = h.gone in
     let count : b.gone + length b.packets ≡ length s.packets = omega (arith, gone, ap length h.waiting, length-drop b.gone s.packets) in
     ap₂ (λ (n bound : ℕ). let it : StreamEnd = record { packets = n; bound = bound } in it) count h.bound
 
-ends_are : (streams : List (StreamPrefix Plain)) (bs : List (Backlog Plain)) (numbers : List ℕ) → StandForAll bs (streams_at streams numbers) → map end_of bs ≡ map (end_at streams) numbers
+ends_are : (streams : List (StreamPrefix Plain)) (bs : List (Backlog Plain)) (numbers : List ℕ) → StandForAll bs (streams_at streams numbers) → map backlog_end bs ≡ map (end_at streams) numbers
 ends_are streams [] [] stand = refl
 ends_are streams [] (n ∷ ns) stand = absurd stand
 ends_are streams (b ∷ bs) [] stand = absurd stand
@@ -117,7 +118,7 @@ input_ends job net solution h solves =
     ∙ ap (λ (n : ℕ). end_at solution n ∷ []) same)
     ∙ ap (map (end_at solution)) (flat_map_single (λ (n : ℕ). n) inputs ∙ map-id inputs)
 
-pub rests_with_ends : (job : LoggedJob) (net : NetView) (solution : List (StreamPrefix Plain)) → StandsFor job net → IsRunning net → IsAtRest net → Solves job solution → (report_of net).streams ≡ map stream_end solution
+pub rests_with_ends : (job : LoggedJob) (net : NetView) (solution : List (StreamPrefix Plain)) → StandsFor job net → IsRunning net → IsAtRest net → Solves job solution → (report_of net).streams ≡ map end_of solution
 unfolding StandsFor
 rests_with_ends job net solution h running rest solves =
     let some : StandsForSome net = record { job = job; stands = h } in
@@ -126,5 +127,5 @@ rests_with_ends job net solution h running rest solves =
     solution_has_each any_state job.job (job_known job.job solves.is_job) solution solves.solution ∙ ap (λ (p : Plan). length p.streams) (sym h.plan) in
     ap₂ (λ (xs ys : List StreamEnd). xs ++ ys) (input_ends job net solution h solves) (node_ends job net solution h running rest solves)
     ∙ sym (map-append (end_at solution) net.plan.inputs outputs)
-    ∙ sym (map-map stream_end (stream_of solution) (written_streams net.plan))
-    ∙ ap (map stream_end) (in_order net.plan solution (valid net some) count)
+    ∙ sym (map-map end_of (stream_of solution) (written_streams net.plan))
+    ∙ ap (map end_of) (in_order net.plan solution (valid net some) count)

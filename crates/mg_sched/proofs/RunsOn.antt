@@ -2,6 +2,7 @@
 use Rattle.std.proofs.Common.{◌≡◌, ◌≢◌, ◌<◌, ◌≤◌, List, [], ◌∷◌, ◌++◌, map, refl, sym, ap, subst, arith}
 use Rattle.mg_value.specs.Payload.{Plain}
 use Rattle.mg_value.specs.Prefix.{StreamPrefix}
+use Rattle.mg_value.specs.Ends.{end_of}
 use Rattle.mg_calc.specs.declared.event.Event.{Event}
 use Rattle.mg_calc.specs.declared.event.Effect.TheVariants.{Did}
 use Rattle.mg_calc.specs.declared.inputs.Inputs.{Inputs}
@@ -13,7 +14,7 @@ use Rattle.mg_sched.specs.Views.{NetView}
 use Rattle.mg_sched.specs.StandsFor.{StandsFor, IsRunning}
 use Rattle.mg_sched.specs.Acts.{IsEventOf, Acts}
 use Rattle.mg_sched.specs.Made.{job_of}
-use Rattle.mg_sched.specs.Reports.{stream_end, report_of}
+use Rattle.mg_sched.specs.Reports.{report_of}
 use Rattle.mg_sched.specs.Sweeps.{Becomes, itself}
 use Rattle.mg_sched.specs.Runs.{IsRun, IsRunAtRest}
 use Rattle.mg_sched.specs.Code.Left.{left_in}
@@ -75,6 +76,6 @@ run_faults plan inputs boxes events solution run solves =
     rests_with_all_faults (job_of plan inputs boxes) run.rested solution (rested_stands plan inputs boxes events run) (rested_runs plan inputs boxes events run) run.rests solves
 
 pub run_streams : (plan : Plan) (inputs : Inputs) (boxes : List CalculatorTold) (events : List Event) (solution : List (StreamPrefix Plain)) (run : IsRunAtRest plan inputs boxes events)
-    → Solves (job_of plan inputs boxes) solution → (report_of run.rested).streams ≡ map stream_end solution
+    → Solves (job_of plan inputs boxes) solution → (report_of run.rested).streams ≡ map end_of solution
 run_streams plan inputs boxes events solution run solves =
     rests_with_ends (job_of plan inputs boxes) run.rested solution (rested_stands plan inputs boxes events run) (rested_runs plan inputs boxes events run) run.rests solves

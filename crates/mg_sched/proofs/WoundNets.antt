@@ -31,27 +31,6 @@ next_of shown net engine engine_now is may less value winds =
       now_is = refl;
     })
 
--- nothing is wound up yet
-pub none_yet : (net : NetView) → MayWindUp net → WindsUpNet net net
-none_yet net may = record {
-  more = omega arith;
-  upto = may.wound;
-  parts = refl;
-  places = refl;
-  wound_up = λ place engine engine_now from before at now_at. absurd (omega (arith, from, before));
-  had_been = λ place before. refl;
-  others = λ place past. refl;
-}
-
--- it may still be wound up after some
-pub may_go_on : (before now : NetView) → MayWindUp before → WindsUpNet before now → MayWindUp now
-may_go_on before now may w =
-    let plan : length now.plan.nodes ≡ length before.plan.nodes = ap (λ (v : NetView). length v.plan.nodes) w.parts in
-    record {
-      engines = (let long = may.engines in let same = w.places in omega (arith, long, same, plan));
-      wound = (let upto = w.upto in omega (arith, upto, plan));
-    }
-
 -- one number is below another, or not
 pub order_of : (a b : ℕ) → (a < b) ⊎ (b ≤ a)
 order_of a b = elim (cases_Bool (nat_lt a b)) [ inl is ↦ inl (ltb-true a b is) | inr is_not ↦ inr (ltb-false a b is_not) ]

@@ -2,12 +2,11 @@
 use Rattle.std.specs.Prelude.{ℕ, ◌+◌, List, ◌++◌, length, map, take, drop, sum_by}
 use Rattle.std.specs.List.{flat_map, filter_map}
 use Rattle.mg_value.specs.Payload.{Plain}
-use Rattle.mg_value.specs.Prefix.{StreamPrefix}
+use Rattle.mg_value.specs.declared.stream_end.StreamEnd.{StreamEnd}
 use Rattle.mg_stream.specs.Pool.{Backlog}
 use Rattle.mg_node.specs.Views.{EngineView}
 use Rattle.mg_node.specs.Outputs.{packets_kept}
 use Rattle.mg_node.specs.Ports.{waiting_in}
-use Rattle.mg_sched.specs.declared.report.StreamEnd.{StreamEnd}
 use Rattle.mg_sched.specs.declared.report.Report.{Report}
 use Rattle.mg_sched.specs.Views.{NetView}
 
@@ -23,12 +22,12 @@ abbrev pub input_engines : NetView → List EngineView
 input_engines net = drop (length net.plan.nodes) net.engines
 
 -- how far a stream has come, by what was laid at its output: how many packets, those that were given up included, and the bound
-abbrev pub end_of : Backlog Plain → StreamEnd
-end_of b = record { packets = b.gone + length b.packets; bound = b.bound }
+abbrev pub backlog_end : Backlog Plain → StreamEnd
+backlog_end b = record { packets = b.gone + length b.packets; bound = b.bound }
 
 -- the streams that an engine writes, by its outputs
 abbrev pub stream_ends_of : EngineView → List StreamEnd
-stream_ends_of engine = map end_of engine.outputs
+stream_ends_of engine = map backlog_end engine.outputs
 
 -- the report: for each node how many sets were laid, calls or answers; how far each stream has come, first those of the graph inputs,
 -- and then those at the outputs of each node; and the faults in node order
@@ -42,7 +41,3 @@ report_of net = record {
 -- how many sets, calls or answers the nodes have claimed, all together
 abbrev pub claimed_in : NetView → ℕ
 claimed_in net = sum_by (λ e. e.claimed) (node_engines net)
-
--- how far a whole stream has come
-abbrev pub stream_end : StreamPrefix Plain → StreamEnd
-stream_end s = record { packets = length s.packets; bound = s.bound }

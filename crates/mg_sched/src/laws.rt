@@ -2,6 +2,7 @@
 ghost use Rattle.std.specs.Prelude.{◌≡◌, ◌⊎◌, ℕ, ◌+◌, ◌-◌, ◌<◌, ◌≤◌, Bool, true, false, List, length, map, All, Option, Some, None, slice_get};
 ghost use Rattle.mg_value.specs.Payload.{Plain};
 ghost use Rattle.mg_value.specs.Prefix.{Stamped, StreamPrefix};
+ghost use Rattle.mg_value.specs.Ends.{end_of};
 ghost use Rattle.mg_value.specs.Extension.{IsExtendedBy};
 ghost use Rattle.mg_value.specs.Settled.{settled_sets, inputs_of};
 ghost use Rattle.mg_value.specs.declared.policy.Policy.TheVariants.{Default};
@@ -34,7 +35,7 @@ ghost use Rattle.mg_sched.specs.Extends.{MayGoOnWith, Extends};
 ghost use Rattle.mg_sched.specs.Trims.{is_kept, Trims};
 ghost use Rattle.mg_sched.specs.Looks.{IsOutputOf, HasFrom};
 ghost use Rattle.mg_sched.specs.GivesBack.{given_back, StoodFor};
-ghost use Rattle.mg_sched.specs.Reports.{claimed_in, stream_end, report_of};
+ghost use Rattle.mg_sched.specs.Reports.{claimed_in, report_of};
 ghost use Rattle.mg_sched.specs.ComesApart.{PartsView, NoneOnDesks, ArePartsOf, IsInPlace};
 ghost use Rattle.mg_calc.specs.declared.edge.Edge.{Edge};
 
@@ -81,7 +82,7 @@ pub fn what_rests_reports_the_solution()
     ensures faults { (job : LoggedJob) (net : NetView) (solution : List (StreamPrefix Plain))
         → StandsFor job net → IsRunning net → IsAtRest net → Solves job solution → (report_of net).faults ≡ faults job.job solution }
     ensures streams { (job : LoggedJob) (net : NetView) (solution : List (StreamPrefix Plain))
-        → StandsFor job net → IsRunning net → IsAtRest net → Solves job solution → (report_of net).streams ≡ map stream_end solution }
+        → StandsFor job net → IsRunning net → IsAtRest net → Solves job solution → (report_of net).streams ≡ map end_of solution }
 {}
 
 /// Each edge of the parts of one net leads from an engine that has its stream to the port of that stream, and no other leads there.

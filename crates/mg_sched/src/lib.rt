@@ -19,4 +19,4 @@ mod tables;
 pub use hears::{Deaf, Hears};
 pub use net::{IndexedPlan, Net, NetRest};
 pub use net_parts::NetParts;
-pub use report::{CountList, Report, StreamEnd, StreamEndList};
+pub use report::Report;

@@ -2,6 +2,7 @@
 ghost use Rattle.std.specs.Prelude.{◌≡◌, ◌≢◌, List, [], ◌∷◌, ◌++◌, map};
 ghost use Rattle.mg_value.specs.Payload.{Plain};
 ghost use Rattle.mg_value.specs.Prefix.{StreamPrefix};
+ghost use Rattle.mg_value.specs.Ends.{end_of};
 ghost use Rattle.mg_calc.specs.declared.event.Event.{Event};
 ghost use Rattle.mg_calc.specs.declared.event.Effect.TheVariants.{Did};
 ghost use Rattle.mg_calc.specs.declared.inputs.Inputs.{Inputs};
@@ -13,7 +14,7 @@ ghost use Rattle.mg_sched.specs.Views.{NetView};
 ghost use Rattle.mg_sched.specs.StandsFor.{StandsFor, IsRunning};
 ghost use Rattle.mg_sched.specs.Acts.{IsEventOf, Acts};
 ghost use Rattle.mg_sched.specs.Made.{job_of};
-ghost use Rattle.mg_sched.specs.Reports.{stream_end, report_of};
+ghost use Rattle.mg_sched.specs.Reports.{report_of};
 ghost use Rattle.mg_sched.specs.Runs.{IsRun, IsRunAtRest};
 ghost use Rattle.mg_sched.specs.Sweeps.{Becomes};
 
@@ -52,5 +53,5 @@ pub fn runs_at_rest_have_the_solution()
     ensures faults { (plan : Plan) (inputs : Inputs) (boxes : List CalculatorTold) (events : List Event) (solution : List (StreamPrefix Plain))
         (run : IsRunAtRest plan inputs boxes events) → Solves (job_of plan inputs boxes) solution → (report_of run.rested).faults ≡ faults (job_of plan inputs boxes).job solution }
     ensures streams { (plan : Plan) (inputs : Inputs) (boxes : List CalculatorTold) (events : List Event) (solution : List (StreamPrefix Plain))
-        (run : IsRunAtRest plan inputs boxes events) → Solves (job_of plan inputs boxes) solution → (report_of run.rested).streams ≡ map stream_end solution }
+        (run : IsRunAtRest plan inputs boxes events) → Solves (job_of plan inputs boxes) solution → (report_of run.rested).streams ≡ map end_of solution }
 {}

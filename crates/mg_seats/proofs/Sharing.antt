@@ -1,5 +1,5 @@
 -- What the calls on a shared net leave of a seat: it is still one of the net, and has a work or none.
-use Rattle.std.proofs.Common.{◌≡◌, ℕ, ◌<◌, ◌∙◌, Option, None, length, ap, sym, refl, subst, inl, inr}
+use Rattle.std.proofs.Common.{◌≡◌, ℕ, ◌<◌, ◌∙◌, Option, length, ap, refl, subst}
 use Rattle.std.proofs.lemmas.Option.{slice_get_within}
 use Rattle.mg_calc.specs.declared.calculator.Calculator.{Ghosts}
 use Rattle.mg_calc.specs.declared.plan.Plan.{Plan}
@@ -9,15 +9,14 @@ use Rattle.mg_node.specs.Lawful.{LawfulWork}
 use Rattle.mg_node.specs.declared.claimed.Claimed.{Claimed}
 use Rattle.mg_node.specs.declared.claimed.Claimed.TheVariants.{Work}
 use Rattle.mg_node.specs.Claims.{IsLawfulWork}
-use Rattle.mg_turns.specs.Parts.{FrameView, nodes_in, Fits, FitsSome, EdgesFit}
-use Rattle.mg_turns.specs.Sights.{Missed, has_after, handed, either_work, joined}
+use Rattle.mg_turns.specs.Parts.{FrameView, nodes_in, Fits, FitsSome}
+use Rattle.mg_turns.specs.Sights.{has_after}
 use Rattle.mg_turns.specs.Calls.{key_of, view_of, IsSeatOf, HasClaimed}
 use Rattle.mg_turns.specs.Standings.{Keeps}
 use Rattle.mg_turns.specs.declared.view.View.{View}
 use Rattle.mg_turns.specs.declared.shared.SharedNet.{SharedNet}
 use Rattle.mg_turns.specs.declared.seat.NetSeat.{NetSeat}
 use Rattle.mg_workers.specs.Shared.{IsShared, StaysShared, IsSharedWith}
-use Rattle.mg_seats.specs.Held.{IsSameWork}
 
 -- a seat that has no work before a call, and none after it
 pub stays_free : {X : Type 0} {g : Ghosts X} (net : SharedNet X) (before now : NetSeat X g) → IsShared net before → IsSeatOf net now → (view_of now).work ≡ (view_of before).work → IsShared net now
@@ -29,9 +28,6 @@ stays_shared net before now h of same keeps = record { shared = stays_free net b
 
 pub stays_itself : {X : Type 0} {g : Ghosts X} (net : SharedNet X) (seat : NetSeat X g) → IsShared net seat → StaysShared net seat seat
 stays_itself net seat h = record { shared = h; portion = refl }
-
-pub stays_on : {X : Type 0} {g : Ghosts X} (net : SharedNet X) (first second third : NetSeat X g) → StaysShared net first second → StaysShared net second third → StaysShared net first third
-stays_on net first second third h k = record { shared = k.shared; portion = k.portion ∙ h.portion }
 
 -- a work that was handed out
 
@@ -67,34 +63,3 @@ has_claimed {X} net before now result work node h of is tried lawful = record {
 pub has_none : {X : Type 0} {g : Ghosts X} (net : SharedNet X) (before now : NetSeat X g) (answer : Claimed X) (node : ℕ) → IsShared net before → IsSeatOf net now
     → has_after answer (view_of before).work ≡ (view_of before).work → HasClaimed answer node (view_of before) (view_of now) → IsShared net now
 has_none net before now result node h of same tried = stays_free net before now h of (ap (λ (v : View). v.work) tried.left ∙ same)
-
-missed_work : (first second word : ℕ) (v w : View) → Missed first second word v w → w.work ≡ v.work
-missed_work first second word v w (inl m) = ap (λ (x : View). x.work) m.1
-missed_work first second word v w (inr m) = ap (λ (x : View). x.work) m.3
-
--- a seat whose work came back
-
-freed : {X : Type 0} {g : Ghosts X} (net : SharedNet X) (before now : NetSeat X g) (work : WorkView) → IsSharedWith net before work → IsSeatOf net now → (view_of now).work ≡ None → IsShared net now
-freed net before now work h of free = record { of = of; some = h.some; edges = h.edges; free = free }
-
--- the work of a seat, whatever its calculator has done
-
-pub same_work : {X : Type 0} {g : Ghosts X} (net : SharedNet X) (seat : NetSeat X g) (work now : WorkView) → IsSameWork work now → IsSharedWith net seat work → IsSharedWith net seat now
-same_work net seat work now same h = record {
-  of = h.of;
-  some = h.some;
-  edges = h.edges;
-  has = record { it = h.has.it; there = h.has.there; node = h.has.node ∙ sym same.node; number = h.has.number ∙ sym same.number; phase = h.has.phase ∙ sym same.phase };
-  node = subst (λ (n : ℕ). n < nodes_in (key_of net)) (sym same.node) h.node;
-}
-
--- seats that are split and joined
-
-pub split_off : {X : Type 0} {g : Ghosts X} (net : SharedNet X) (before new : NetSeat X g) (portion : ℕ) → FitsSome (key_of net) → EdgesFit (key_of net) → IsSeatOf net new
-    → view_of new ≡ handed portion (view_of before) → IsShared net new
-split_off net before new portion some edges of is = record { of = of; some = some; edges = edges; free = ap (λ (v : View). v.work) is }
-
-pub joined_free : {X : Type 0} {g : Ghosts X} (net : SharedNet X) (one other now : NetSeat X g) → IsShared net one → IsShared net other → IsSeatOf net now
-    → view_of now ≡ joined (view_of one) (view_of other) → IsShared net now
-joined_free net one other now h k of is =
-    stays_free net one now h of (ap (λ (v : View). v.work) is ∙ (ap (λ (w : Option WorkView). either_work w (view_of other).work) h.free ∙ (k.free ∙ sym h.free)))

@@ -183,11 +183,6 @@ popped_entries slots now c e whole waits is others =
     ∙ ap (λ (rest : List (ℕ × Stamped Plain)). (c.first, first.entry.packet) ∷ rest) (sym now_same)
     ∙ ap (λ (f : Entry). (c.first, f.packet) ∷ linked now (c.waiting - 1) f.next) same
 
--- an entry behind an empty chain
-pub pushed_first : (slots now : List (Option Entry)) (c : Chain) (key : ℕ) (new : Entry) → c.waiting ≡ 0 → entry_at now key ≡ Some new
-    → linked now 1 key ≡ entries_of slots c ++ (key, new.packet) ∷ []
-pushed_first slots now c key new none there = rw none (linked-one now 0 key new there)
-
 -- the last entry of a chain is there still when another comes
 pub last_kept : (s t : Slab Entry) (c : Chain) (key : ℕ) (new : Entry) → IsWhole s.slots c → 0 < c.waiting → get s key ≡ None → Updates s t key (Some new)
     → (e : Entry) × (get s c.last ≡ Some e) × (get t c.last ≡ Some e)

@@ -11,7 +11,7 @@ use Rattle.mg_value.proofs.PrefixSteps.{empty_is_prefix}
 use Rattle.mg_stream.specs.Queue.{Waiting, IsQueue, MayCome, rest_of, raised_to, with_packet, popped}
 use Rattle.mg_stream.specs.Pool.{Backlog, Pooled, empty_backlog, queue_of, queue_at, with_queue}
 use Rattle.mg_stream.specs.PoolView.{pool_view, IsPool}
-use Rattle.mg_stream.specs.Code.Chain.{entry_at, linked, IsKey, keys_of, packets_of, entries_of, backlog_in, empty_chain, chain_at, IsWhole, AreLaid}
+use Rattle.mg_stream.specs.Code.Chain.{entry_at, linked, packets_of, entries_of, backlog_in, empty_chain, chain_at, IsWhole}
 use Rattle.mg_stream.specs.declared.chain.Chain.{Chain}
 use Rattle.mg_stream.specs.declared.chain.Entry.{Entry}
 use Rattle.mg_stream.specs.declared.pool.Pool.TheInside.{Inside}
@@ -220,21 +220,6 @@ rest_read p v port c seen pool in_v read =
     subst (λ (q : Waiting Plain). IsPrefix (rest_of q)) (sym (queue_read p v port c seen in_v read)) (whole_read p v port c seen pool in_v read).queue.rest
 
 -- A new pool --
-
-at_replicate : {X : Type 0} (n i : ℕ) (x : X) → get_or (replicate n x) i x ≡ x
-at_replicate zero i x = refl
-at_replicate (suc n) zero x = refl
-at_replicate (suc n) (suc i) x = at_replicate n i x
-
-pub laid_none : (n : ℕ) → AreLaid [] (replicate n empty_chain)
-laid_none n = record {
-  each = λ port. subst (λ (c : Chain). IsWhole [] c) (sym (at_replicate n port empty_chain)) (record {
-    full = refl;
-    last = refl;
-    queue = record { rest = empty_is_prefix; counted = omega arith };
-  });
-  apart = λ port other key differs among also. subst (λ (c : Chain). IsKey key (keys_of (entries_of [] c))) (at_replicate n port empty_chain) among;
-}
 
 pub view_none : (n : ℕ) → map (backlog_in []) (replicate n empty_chain) ≡ replicate n empty_backlog
 view_none zero = refl

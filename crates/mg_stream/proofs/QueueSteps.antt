@@ -1,10 +1,9 @@
 -- Each step on a queue keeps what holds of every queue, and what it stands for.
-use Rattle.std.proofs.Common.{◌≡◌, ℕ, zero, suc, ◌+◌, ◌-◌, ◌<◌, ◌≤◌, max, List, [], ◌∷◌, ◌++◌, length, length-append, length-drop, drop, ap, sym, refl, ◌∙◌, arith, drop-drop, is_some, true, inl, inr}
-use Rattle.std.proofs.lemmas.Bool.{cases_Bool}
+use Rattle.std.proofs.Common.{◌≡◌, ℕ, zero, suc, ◌+◌, ◌-◌, ◌<◌, ◌≤◌, max, List, [], ◌∷◌, ◌++◌, length, length-append, length-drop, drop, ap, sym, refl, ◌∙◌, arith, drop-drop}
 use Rattle.mg_time.specs.Time.{next, done}
 use Rattle.mg_value.specs.Prefix.{Stamped, StreamPrefix, MayFollow, appended, raised, closed}
 use Rattle.mg_value.proofs.PrefixSteps.{next_above, appended_is_prefix, raised_is_prefix, closed_is_prefix}
-use Rattle.mg_stream.specs.Queue.{Waiting, IsQueue, StandsFor, MayCome, IsLike, rest_of, with_packet, raised_to, popped, popped_at, front_at}
+use Rattle.mg_stream.specs.Queue.{Waiting, IsQueue, StandsFor, MayCome, IsLike, rest_of, with_packet, raised_to, popped}
 
 pub closed_queue : {X : Type 0} (q : Waiting X) → IsQueue q → IsQueue (record q { bound = done })
 closed_queue q h = record { rest = closed_is_prefix (rest_of q) h.rest; counted = (let most = h.rest.within in let counted = h.counted in omega (arith, most, counted)) }
@@ -69,11 +68,6 @@ pub stands_appended_fields : {X : Type 0} (q r : Waiting X) (p : Stamped X) (s :
 stands_appended_fields q r p s gone packets bound may h =
     stands_like (with_packet q p) r (appended s p) (record { gone = gone; packets = packets; bound = bound }) (stands_appended q p s may h)
 
--- where a first packet is found, one waits
-first_waits : {X : Type 0} (t : ℕ) (ps : List (Stamped X)) → is_some (front_at t ps) ≡ true → 0 < length ps
-first_waits t [] found = absurd cc
-first_waits t (p ∷ ps) found = omega arith
-
 -- the first packet is gone
 pub stands_without_first : {X : Type 0} (q : Waiting X) (s : StreamPrefix X) → 0 < length q.packets → StandsFor q s → StandsFor (popped q) s
 stands_without_first {X} q s waits h = record {
@@ -83,10 +77,6 @@ stands_without_first {X} q s waits h = record {
   bound = h.bound;
 }
 
-pub stands_popped : {X : Type 0} (t : ℕ) (q : Waiting X) (s : StreamPrefix X) → StandsFor q s → StandsFor (popped_at t q) s
-stands_popped {X} t q s h = elim (cases_Bool (is_some (front_at t q.packets))) [
-  | inl found ↦ rw found (stands_without_first q s (first_waits t q.packets found) h)
-  | inr none ↦ rw none h
 ]
 
 -- a packet is put where there is room, told of the fields as the code leaves them

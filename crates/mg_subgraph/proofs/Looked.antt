@@ -1,5 +1,5 @@
 -- Looking through lists for the first that passes.
-use Rattle.std.proofs.Common.{ℕ, suc, zero, ◌+◌, ◌≡◌, List, [], ◌∷◌, ◌++◌, Option, None, Some, Bool, true, false, not, ◌==◌, if◌then◌else◌, cond, refl, sym, ap, ◌∙◌, length, arith, map, drop, subst, is_none, is_some, ◌||◌, option_map, Bor, inl, inr}
+use Rattle.std.proofs.Common.{ℕ, suc, zero, ◌+◌, ◌≡◌, List, [], ◌∷◌, ◌++◌, Option, None, Some, Bool, true, false, not, ◌==◌, if◌then◌else◌, cond, refl, sym, ap, ◌∙◌, length, arith, map, drop, subst, is_some, ◌||◌, option_map, Bor, inl, inr}
 use Rattle.std.specs.Prelude.{slice_get, find, position, unwrap_or, option_copied}
 use Rattle.std.specs.Option.{option_or, option_and_then}
 use Rattle.std.specs.List.{flat_map, list_any, prefix_len}
@@ -14,9 +14,7 @@ use Rattle.mg_subgraph.specs.Names.{is_reserved}
 use Rattle.mg_text.specs.Tree.{Fields}
 use Rattle.mg_text.specs.View.{Value, simple, inner, put, field_view, fields_view}
 use Rattle.mg_text.specs.declared.tree.Field.{Field}
-use Rattle.mg_names.specs.Ports.{has_port, is_at, place_of}
 use Rattle.mg_names.specs.declared.port.Port.{Port}
-use Rattle.mg_names.proofs.Standing.{any_has_place}
 use Rattle.mg_config.specs.Config.{NodeView, GraphView}
 use Rattle.mg_subgraph.specs.Library.{is_of, is_subgraph, used_files}
 use Rattle.mg_subgraph.specs.declared.shared.FileNames.{FileNames}
@@ -43,14 +41,6 @@ find_here p xs i x here passes = ap (find p) (drop_next xs i x here) ∙ cond-tr
 
 pub find_later : {X : Type 0} (p : X → Bool) (xs : List X) (i : ℕ) (x : X) → slice_get xs i ≡ Some x → p x ≡ false → find p (drop i xs) ≡ find p (drop (i + 1) xs)
 find_later p xs i x here fails = ap (find p) (drop_next xs i x here) ∙ cond-false (p x) (Some x) (find p (drop (i + 1) xs)) fails
-
--- a port that stands in a list has a place there
-none_is_not_some : {X : Type 0} (o : Option X) → is_none o ≡ not (is_some o)
-none_is_not_some None = refl
-none_is_not_some (Some x) = refl
-
-pub no_port : (tag : List ℕ) (index : ℕ) (ports : List Port) → is_none (place_of tag index ports) ≡ not (has_port tag index ports)
-no_port tag index ports = none_is_not_some (place_of tag index ports) ∙ ap not (sym (any_has_place (is_at tag index) ports))
 
 -- fields of which there are some
 has_put : (name : List ℕ) (value : Value) (rest : Fields) → has_fields (put name value rest) ≡ true

@@ -1,11 +1,10 @@
 -- The walk along links from some places: each place that was found has its links found once it has had its turn.
-use Rattle.std.proofs.Common.{ℕ, suc, zero, ◌+◌, ◌<◌, ◌≤◌, ◌≡◌, ⊎_elim, List, [], ◌∷◌, ◌++◌, Some, Bool, true, false, ◌||◌, ◌==◌, sym, ap, ◌∙◌, length, arith, take, subst}
+use Rattle.std.proofs.Common.{ℕ, suc, zero, ◌+◌, ◌<◌, ◌≤◌, ◌≡◌, ⊎_elim, List, [], ◌∷◌, ◌++◌, Some, Bool, true, ◌||◌, ◌==◌, sym, ap, ◌∙◌, length, arith, take, subst}
 use Rattle.std.specs.Prelude.{slice_get}
-use Rattle.std.proofs.lemmas.Bool.{false≢true}
 use Rattle.std.proofs.lemmas.Bool.Decides.{nat_tests}
 use Rattle.mg_subgraph.specs.Code.Places.{listed, flag_at}
 use Rattle.mg_subgraph.proofs.Flags.{listed-push}
-use Rattle.mg_subgraph.proofs.Joins.{or_left, or_right, or_cases, or_false}
+use Rattle.mg_subgraph.proofs.Joins.{or_left, or_right, or_cases}
 
 -- what the walk keeps: the places from `next` on are still to have their turn
 pub record IsWalk (links : List (List ℕ)) (start : List ℕ) (flags : List Bool) (places : List ℕ) (next : ℕ) : Type 0 where
@@ -15,15 +14,6 @@ pub record IsWalk (links : List (List ℕ)) (start : List ℕ) (flags : List Boo
       → ((place : ℕ) (list : List ℕ) (other : ℕ) → test place ≡ true → slice_get links place ≡ Some list → listed other list ≡ true → test other ≡ true)
       → (place : ℕ) → flag_at flags place ≡ true → test place ≡ true
   pub within : next ≤ length places
-
--- the walk begins with the places that it starts from
-pub walk_begins : (links : List (List ℕ)) (start : List ℕ) (flags : List Bool) (places : List ℕ) → ((other : ℕ) → flag_at flags other ≡ (listed other start || false)) → IsWalk links start flags places 0
-walk_begins links start flags places begun = record {
-  started = λ place known. begun place ∙ or_left (listed place start) false known;
-  turned = λ place list other none. absurd (false≢true none);
-  least = λ test started closed place set. started place (sym (or_false (listed place start)) ∙ (sym (begun place) ∙ set));
-  within = omega arith;
-}
 
 take_suc : {X : Type 0} (xs : List X) (n : ℕ) (x : X) → slice_get xs n ≡ Some x → take (suc n) xs ≡ take n xs ++ x ∷ []
 take_suc [] n x here = cc

@@ -1,5 +1,5 @@
 -- One element more of a list, as at a step of a loop.
-use Rattle.std.proofs.Common.{ℕ, suc, zero, ◌+◌, ◌<◌, ◌≡◌, ◌⊎◌, inl, inr, List, [], ◌∷◌, ◌++◌, Some, Bool, refl, sym, ap, ◌∙◌, length, arith, map, take, drop, get_or}
+use Rattle.std.proofs.Common.{ℕ, suc, zero, ◌+◌, ◌<◌, ◌≡◌, ◌⊎◌, inl, inr, List, [], ◌∷◌, ◌++◌, Some, Bool, refl, sym, ap, ◌∙◌, length, arith, map, take, get_or}
 use Rattle.std.specs.Prelude.{slice_get}
 use Rattle.std.proofs.lemmas.List.{take_more}
 use Rattle.mg_subgraph.specs.Code.Places.{flag_at}
@@ -11,15 +11,6 @@ map-push f (y ∷ xs) x = ap (λ l. f y ∷ l) (map-push f xs x)
 -- one element more is taken
 pub taken : {X Y : Type 0} (f : X → Y) (xs : List X) (i : ℕ) (x : X) → i < length xs → x ≡ get_or xs i x → map f (take (i + 1) xs) ≡ map f (take i xs) ++ f x ∷ []
 taken f xs i x inside here = ap (map f) (take_more xs i x inside) ∙ (map-push f (take i xs) (get_or xs i x) ∙ ap (λ y. map f (take i xs) ++ f y ∷ []) (sym here))
-
--- one element less is left
-drop_suc : {X : Type 0} (xs : List X) (i : ℕ) (x : X) → i < length xs → x ≡ get_or xs i x → drop i xs ≡ x ∷ drop (suc i) xs
-drop_suc [] i x inside here = absurd (omega arith)
-drop_suc (y ∷ xs) zero x inside here = ap (λ z. z ∷ xs) (sym here)
-drop_suc (y ∷ xs) (suc i) x inside here = drop_suc xs i x (omega arith) here
-
-pub left : {X Y : Type 0} (f : X → Y) (xs : List X) (i : ℕ) (x : X) → i < length xs → x ≡ get_or xs i x → map f (drop i xs) ≡ f x ∷ map f (drop (i + 1) xs)
-left f xs i x inside here = let count : suc i ≡ i + 1 = omega arith in ap (map f) (drop_suc xs i x inside here) ∙ ap (λ k. f x ∷ map f (drop k xs)) count
 
 -- an element at a place
 pub got : {X : Type 0} (xs : List X) (i : ℕ) (x : X) → i < length xs → x ≡ get_or xs i x → slice_get xs i ≡ Some x

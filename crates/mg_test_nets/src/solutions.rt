@@ -5,8 +5,8 @@ use mg_calc::{Inputs, Plan};
 use mg_equations::{Streams, solve};
 use mg_nets::{plan_of, show_packets, show_report};
 use mg_plans::{do_fit, inputs_of};
-use mg_sched::{Report, StreamEnd, StreamEndList};
-use mg_value::{BlockList, PrefixList};
+use mg_sched::Report;
+use mg_value::{BlockList, PrefixList, StreamEnd, StreamEndList};
 use std::alloc::Global;
 use std::test::Fail;
 

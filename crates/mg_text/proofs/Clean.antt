@@ -92,17 +92,6 @@ moves_clean : (s : State) (o : Option Spot) → ((spot : Spot) → o ≡ Some sp
 moves_clean s None f = tt
 moves_clean s (Some spot) f = f spot refl
 
-settled_clean : (p : Place) → IsCleanPlace (settled_place p)
-settled_clean (joined n slots.One bytes) = tt
-settled_clean (joined n slots.Scalars bytes) = tt
-settled_clean (joined n slots.Messages bytes) = tt
-settled_clean (start f) = tt
-settled_clean (named n) = tt
-settled_clean (valued n) = tt
-settled_clean (opened n x) = tt
-settled_clean (element n x) = tt
-settled_clean (behind n x) = tt
-
 pub after_clean : (n : List ℕ) (slot : Slot) → IsCleanPlace (after n slot)
 after_clean n slots.One = tt
 after_clean n slots.Scalars = tt

@@ -25,9 +25,6 @@ use Rattle.mg_text.specs.declared.fault.TextFault.TheVariants.{Syntax, TooDeep, 
 
 -- runs, piece by piece
 
-then_run : (o : Option State) (p : List ℕ) → Option State
-then_run o p = option_and_then (λ s. run s p) o
-
 pub outcome_over : (p w : List ℕ) (s t : State) → run s p ≡ Some t → outcome s (p ++ w) ≡ outcome t w
 outcome_over [] w s t e = ap (λ x. outcome x w) (some_same e)
 outcome_over (b ∷ p) w s t e = by_step (step s b) (λ n. outcome_over p w n t) e
@@ -225,9 +222,6 @@ syntax_at_end file s r e =
           let none_is = outcome_over file (10 ∷ []) begin s r.ran ∙ e in
           let both : Some t ≡ None = sym whole ∙ none_is in cc;
     }
-
-pub reached_none : Reached [] begin
-reached_none = record { ran = refl; shallow = record { within = omega arith; deep_enough = tt } }
 
 -- no two answers are due for one file
 

@@ -118,11 +118,6 @@ machine_lasts old new xs run is all same added =
     (sym (ap state_of same ∙ ap (λ z. st (fields_view old.done.items) (frames_of old.frames.items) (spot_of old.reading old.name z)) added))
     (lasts_by (fields_view old.done.items) (frames_of old.frames.items) old.reading old.name old.token.items xs run is all)
 
--- no message opens or closes
-pub lasts_frames : (xs : List ℕ) (s t : State) → Lasts s xs t → t.frames ≡ s.frames
-lasts_frames [] s t same = ap (λ (x : State). x.frames) (sym same)
-lasts_frames (b ∷ xs) s t (next, taken, same, more) = lasts_frames xs next t more ∙ same
-
 lasting : (p xs : List ℕ) (s t : State) → Reached p s → length s.frames ≤ max_depth → Lasts s xs t → Reached (p ++ xs) t
 lasting p [] s t r few same = subst (λ z. Reached z t) (sym (append-nil p)) (subst (Reached p) same r)
 lasting p (b ∷ xs) s t r few (next, taken, same, more) =

@@ -146,9 +146,6 @@ end_over : (part : ScalarPart) → is_whole_scalar part ≡ true → scalar_next
 end_over part w s x e (g.no_exponent i) = suffix_over part w s e i
 end_over part w s x e (g.exponent {b = b} {s = sign} d {f = f} k h i j) = (sp.Exponent, ap (scalar_next part) k ∙ x, exponent_over sign d f h i j)
 
-whole_over : (d e : List ℕ) → AllOf is_digit d → IsEnd e → ScalarEnds sp.Whole (d ++ e)
-whole_over d e h i = digits_over sp.Whole whole_digit d e h (end_over sp.Whole refl refl refl e i)
-
 point_over : (f e : List ℕ) → Some1 is_digit f → IsEnd e → ScalarEnds sp.Point (f ++ e)
 point_over f e h i = digits_to sp.Point sp.Fraction (λ c k. if_is (is_digit c) k) fraction_digit f e h (end_over sp.Fraction refl refl refl e i)
 

@@ -1,9 +1,9 @@
 -- Trees, level by level, beside the fields that they stand for.
 use Rattle.std.proofs.Common.{arith, zero, suc, max, ◌+◌, ◌<◌, ◌≤◌, length, get_or, take, append_assoc, ◌≡◌, ℕ, List, [], ◌∷◌, ◌++◌, map, refl, sym, ap, ◌∙◌, rules}
-use Rattle.std.proofs.lemmas.List.{reverse-append, map-append, append-nil, take_more}
+use Rattle.std.proofs.lemmas.List.{map-append, append-nil, take_more}
 use Rattle.mg_text.specs.declared.tree.Scalar.{Scalar}
 use Rattle.mg_text.specs.declared.tree.Field.{Field}
-use Rattle.mg_text.specs.declared.tree.Tree.{Tree, out-Tree}
+use Rattle.mg_text.specs.declared.tree.Tree.{Tree}
 use Rattle.mg_text.specs.declared.tree.TreeValue as values
 use Rattle.mg_text.specs.declared.tree.TreeValue.{TreeValue, the_lemmas}
 use Rattle.mg_text.specs.Tree.{Fields, none, scalar, message, append, depth}
@@ -12,7 +12,6 @@ use Rattle.mg_text.specs.Code.Printing.{entry_lines, entry_depth}
 use Rattle.mg_text.specs.View.{Value, simple, inner, Entry, put, fields_of, fields_view, field_view, value_view, view, scalar_view}
 use Rattle.mg_text.specs.declared.machine.Frame.{Frame}
 use Rattle.mg_text.specs.Code.Machine as model
-use Rattle.mg_text.specs.Code.Running.{frames_of, frame_of}
 
 pub put-append : (n : List ℕ) (v : Value) (a b : Fields) → append (put n v a) b ≡ put n v (append a b)
 put-append n (simple k bytes) a b = refl
@@ -33,12 +32,6 @@ value-message t = search (rules, the_lemmas)
 
 pub field-record : (f : Field) → field_view f ≡ record { name = f.name; value = value_view f.value }
 field-record f = search (rules, the_lemmas)
-
-pub view-record : (t : Tree) → view t ≡ fields_view (out-Tree t).fields.value.items
-view-record t = search (rules, the_lemmas)
-
-pub frames_of-push : (fs : List Frame) (f : Frame) → frames_of (fs ++ f ∷ []) ≡ frame_of f ∷ frames_of fs
-frames_of-push fs f = ap (map frame_of) (reverse-append fs (f ∷ []))
 
 pub pushed : (fs gs : List Field) (name : List ℕ) (value : TreeValue) (v : Value)
     → gs ≡ fs ++ (record { name = name; value = value }) ∷ [] → value_view value ≡ v → fields_view gs ≡ append (fields_view fs) (put name v none)

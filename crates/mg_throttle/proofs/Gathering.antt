@@ -15,10 +15,6 @@ or_none : (a : Bool) → (a || false) ≡ a
 or_none true = refl
 or_none false = refl
 
-or_assoc : (a b c : Bool) → ((a || b) || c) ≡ (a || (b || c))
-or_assoc true b c = refl
-or_assoc false b c = refl
-
 -- no mark enters a node by the edges of others
 other_enters : (plan : Plan) (rows : List (List Bool)) (node f : ℕ) (e : Edge) → e.node ≢ node → enters plan rows node f e ≡ false
 other_enters plan rows node f e other = and_left (eqb e.node node) (not e.back && stream_brings rows f (slice_get plan.streams e.stream)) (ne_eqb e.node node other)

@@ -1,7 +1,7 @@
 -- Which event a line is: what stands behind its word is read as the numbers of that event, and of no other.
 use Rattle.std.proofs.Common.{◌≡◌, ◌<◌, ◌≤◌, ◌^◌, ◌↔◌, ℕ, List, [], ◌∷◌, ◌++◌, length, drop, get_or, codes, decimal, Option, Some, None, IsNone, option_map, refl, sym, ap, subst, ◌∙◌, arith}
 use Rattle.std.proofs.lemmas.Fmt.{decimal_injective}
-use Rattle.std.proofs.lemmas.List.{append_cancel_right, length-append}
+use Rattle.std.proofs.lemmas.List.{append_cancel_right}
 use Rattle.mg_calc.specs.declared.event.Event.{Event}
 use Rattle.mg_calc.specs.declared.event.Event.TheVariants.{Deliver, Advance, Claim, Perform, Commit, Relax}
 use Rattle.mg_calc.specs.declared.plan.Plan.{Plan}
@@ -111,16 +111,6 @@ read-fed plan line text r is read event = (
   λ e. (let p = (read event).0 e in (p.0, is ∙ ap (λ l. l ++ 10 ∷ []) p.1)),
   λ p. (read event).1 (p.0, append_cancel_right line (event_line event) (10 ∷ []) (sym is ∙ p.1)),
 )
-
-last_of : (xs : List ℕ) (b : ℕ) → get_or (xs ++ b ∷ []) (length xs) 0 ≡ b
-last_of [] b = refl
-last_of (x ∷ xs) b = last_of xs b
-
-last_is : (xs ys : List ℕ) (a b : ℕ) → xs ++ a ∷ [] ≡ ys ++ b ∷ [] → a ≡ b
-last_is xs ys a b e =
-    let long = ap length e in
-    let same : length xs ≡ length ys = omega (arith, long, length-append xs (a ∷ []), length-append ys (b ∷ [])) in
-    sym (last_of xs a) ∙ ap (λ l. get_or l (length xs) 0) e ∙ ap (λ k. get_or (ys ++ b ∷ []) k 0) same ∙ last_of ys b
 
 -- nothing is read exactly where the text is that of no event
 pub none_is : (plan : Plan) (text : List ℕ) (r : Option Event) → IsTextRead plan text r → IsNone r ↔ ((event : Event) → ¬ (IsEventOf plan event × (text ≡ event_text event)))

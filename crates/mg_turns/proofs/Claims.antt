@@ -25,7 +25,7 @@ use Rattle.mg_node.proofs.Making.{some_same}
 use Rattle.mg_node.specs.Out.{IsMissing, GoesOut}
 use Rattle.mg_node.proofs.StaysOut.{unrun_goes, further_goes}
 use Rattle.mg_turns.specs.Parts.{PartView, FrameView, at, nodes_in, owner_in, an_engine, an_intake, PartGrows, IsKind, LawfulPart, Fits, FitsSome, gone_by, gone_in, first_by, first_in, claimed_by, Follows, AgreeParts, IsMissingAt}
-use Rattle.mg_turns.specs.Code.Plays.{with_miss, Joins, Goes, Outs}
+use Rattle.mg_turns.specs.Code.Plays.{Joins, Goes, Outs}
 use Rattle.mg_turns.specs.Sights.{has_after}
 use Rattle.mg_turns.proofs.Grows.{part_further}
 use Rattle.mg_turns.specs.Words.{Whose, engine_of}

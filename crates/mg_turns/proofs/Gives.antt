@@ -1,17 +1,11 @@
 -- A turn is given back in one of three ways.
-use Rattle.std.proofs.Common.{◌≡◌, ◌*◌, ℕ, refl, [], ◌∷◌, List, length, ap, ◌∙◌, sym, subst, inl, inr, Option, Some, None}
-use Rattle.atomic_table.specs.Table.{rest}
+use Rattle.std.proofs.Common.{◌≡◌, ◌*◌, ℕ, refl, [], ◌∷◌, List, length, ap, sym, subst, inl, inr, Option}
 use Rattle.mg_node.specs.Views.{WorkView}
 use Rattle.mg_turns.specs.Parts.{PartView, JoinedParts}
 use Rattle.mg_turns.specs.Turns.{Turn}
-use Rattle.mg_turns.specs.Code.Plays.{Sat, left, Like, Joins, Back, Alike, HasTurn, Returns, GivesTurnBack, note_or, with_note, gave, claimed_view, laid_view, MayGiveBack, GivesPlainly, GivesClaim, GivesLaid, GivesBrought, Took, HoldsTurn}
+use Rattle.mg_turns.specs.Code.Plays.{Sat, left, Like, Joins, Back, Alike, HasTurn, Returns, GivesTurnBack, note_or, with_note, gave, claimed_view, laid_view, MayGiveBack, GivesPlainly, GivesClaim, GivesLaid, GivesBrought}
 use Rattle.mg_turns.specs.declared.view.View.{View}
 use Rattle.mg_turns.proofs.Keeps.{alike_same}
-use Rattle.mg_turns.proofs.Links.{part_or}
-
-abbrev pub head_or : PartView → List (ℕ × Option PartView) → PartView
-head_or p [] = p
-head_or p (x ∷ xs) = part_or p x.1
 
 pub has_turn_of : (m : Sat) (word : ℕ) (p : PartView) (t : Turn) (ts : List Turn) → MayGiveBack m word p t ts → HasTurn m.0 word p
 has_turn_of m word p t ts g = (t, ts, g.turns, g.word_is, g.grows)
@@ -88,11 +82,3 @@ brought_ok m word p g =
         others = λ l x r ne at node old. g.others l x r ne at node (subst (λ (y : PartView). JoinedParts r x y) same old);
       }))),
     )
-
--- the part that came out is the part that the step told of
-took_is : (m n : Sat) (i r : ℕ) (p : PartView) (t : Took m i r n) → n.1 ≡ (i, Some p) ∷ rest n.1 → t.0 ≡ p
-took_is m n i r p t out = ap (head_or t.0) (sym (ap (λ (s : Sat). s.1) t.1) ∙ out)
-
-pub taken_of : (m n o : Sat) (i r : ℕ) (p : PartView) → Took m i r n → n.1 ≡ (i, Some p) ∷ rest n.1 → o ≡ (n.0, (i, None) ∷ rest n.1) → HoldsTurn m i p o
-taken_of m n o i r p t out e = let same = took_is m n i r p t out in
-    subst (λ (q : PartView). HoldsTurn m i q o) same (e ∙ ap (λ (s : Sat). (s.0, (i, None) ∷ rest s.1)) t.1, t.2)

@@ -21,7 +21,6 @@ use Rattle.mg_turns.specs.Rounds.{CellRounds, Stops}
 use Rattle.mg_turns.specs.Sights.{has_after}
 use Rattle.std.proofs.lemmas.Option.{none-some}
 use Rattle.mg_turns.proofs.Grows.{intake_further}
-use Rattle.mg_turns.proofs.Backs.{named_out}
 use Rattle.mg_turns.proofs.Claims.{gones, engine_of_part, missing_by, ap_first, claim_stays, claim_gone, claim_outs, work_goes, CellParts, ClaimFacts, facts_by}
 
 returned_by : (e f : EngineView) (number : ℕ) (Good : LoggedJob → Type 0) → ComesBack e f number → f.role ≡ e.role → f.claimed ≡ e.claimed → f.first ≡ e.first → gones f ≡ gones e → EngineGrows e f
@@ -125,10 +124,6 @@ work_steps {X} w e f g i k c claims out grows grows_i lawful r =
             agree = subst (λ (x : Role). AgreeBy x g.claimed k.claimed) (sym r.role) (subst (λ (n : ℕ). AgreeBy f.role n k.claimed) (sym r.claimed) b.agree);
           };
     }
-
-pub performed_out : (f : EngineView) (w : WorkView) (p : PerformedView) (o : OutcomeView) → IsOut f w → IsPerformed w p → o ≡ outcome_of p → IsOut f o.work
-performed_out f w p o out done is = subst (λ (x : OutcomeView). IsOut f x.work) (sym is)
-    (named_out f w p.work (ap (λ (x : WorkView). x.node) (sym done.same)) (ap (λ (x : WorkView). x.number) (sym done.same)) (ap (λ (x : WorkView). x.phase) (sym done.same)) out)
 
 pub performed_number : (w : WorkView) (p : PerformedView) (o : OutcomeView) → IsPerformed w p → o ≡ outcome_of p → o.work.number ≡ w.number
 performed_number w p o done is = ap (λ (x : OutcomeView). x.work.number) is ∙ ap (λ (x : WorkView). x.number) done.same

@@ -9,7 +9,7 @@ use Rattle.mg_turns.specs.Parts.{PartView, Grown, PartGrows, arrived_in, arrived
 use Rattle.mg_turns.specs.Turns.{Sight}
 use Rattle.mg_turns.specs.Rule.{Sights}
 use Rattle.mg_turns.specs.Sights.{sight}
-use Rattle.mg_turns.specs.Standings.{bound_by, packets_laid_by, laid_in, laid_bound_by, laid_bound_in, sets_laid_by, sets_in, most_seen}
+use Rattle.mg_turns.specs.Standings.{packets_laid_by, laid_in, laid_bound_by, laid_bound_in, sets_laid_by, sets_in, most_seen}
 
 -- a number that only grows
 abbrev pub Rises : (PartView → ℕ) → Type 0
@@ -73,12 +73,6 @@ came_by (Some x) (Some y) port g = (g.ports port).count
 
 pub came_rises : (port : ℕ) → Rises (λ p. arrived_in p port)
 came_rises port p q g = came_by p.intake q.intake port g.intake
-
-bounds_by : (a b : Option IntakeView) (port : ℕ) → Grown IntakeGrows a b → bound_by a port ≤ bound_by b port
-bounds_by None None port g = omega arith
-bounds_by None (Some y) port g = absurd g
-bounds_by (Some x) None port g = absurd g
-bounds_by (Some x) (Some y) port g = (g.ports port).bound
 
 laids_by : (a b : Option EngineView) (output : ℕ) → Grown EngineGrows a b → packets_laid_by a output ≤ packets_laid_by b output
 laids_by None None output g = omega arith

@@ -1,5 +1,5 @@
 -- What is left when one more set is taken, told by how many packets are gone.
-use Rattle.std.proofs.Common.{◌≡◌, ℕ, zero, suc, ◌+◌, ◌-◌, ◌<◌, ◌≤◌, List, [], ◌∷◌, map, drop, get_or, length, length-drop, replicate, All, Some, ap, ap₂, subst, sym, refl, ◌∙◌, arith, leb}
+use Rattle.std.proofs.Common.{◌≡◌, ℕ, suc, ◌+◌, ◌-◌, ◌<◌, ◌≤◌, List, [], ◌∷◌, map, drop, get_or, length, length-drop, replicate, All, Some, ap, ap₂, subst, sym, refl, ◌∙◌, arith, leb}
 use Rattle.std.specs.List.{AllZip, prefix_len}
 use Rattle.std.proofs.lemmas.List.{length-map}
 use Rattle.std.proofs.lemmas.List.Sums.{prefix_len-le-length}

@@ -9,7 +9,7 @@ use Rattle.mg_value.specs.Prefix.{Stamped, StreamPrefix, IsPrefix, first_time}
 use Rattle.mg_value.specs.Extension.{IsExtendedBy}
 use Rattle.mg_value.specs.Settled.{times_of, packet_at}
 use Rattle.mg_value.specs.Loopback.{turns, is_answered, Reply, reply, replies, replies_behind, packet_of, loopback, StandsBehind, ArePast, IsPast, last_of, behind_first, AreAnswers, GoesOn}
-use Rattle.mg_value.proofs.Times.{In, Rises, Rises-least}
+use Rattle.mg_value.proofs.Times.{Rises, Rises-least}
 use Rattle.mg_value.proofs.Climbs.{prefix-rises}
 use Rattle.mg_value.proofs.Fronts.{take_while-drop}
 use Rattle.mg_value.proofs.Leaving.{each-packet}

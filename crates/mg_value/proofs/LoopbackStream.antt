@@ -1,5 +1,5 @@
 -- The loopback's output stream is a prefix, and what extends its inputs extends it.
-use Rattle.std.proofs.Common.{◌≡◌, ℕ, ◌≤◌, true, inl, inr, List, [], ◌∷◌, ◌++◌, zip, map, take, drop, filter_map, length, All, Option, Some, None, option_map, ap, sym, refl, ◌∙◌, arith, lt-ltb, ltb-true}
+use Rattle.std.proofs.Common.{◌≡◌, ℕ, ◌≤◌, true, inl, inr, List, [], ◌∷◌, ◌++◌, map, take, drop, filter_map, length, All, Option, Some, None, option_map, ap, sym, refl, ◌∙◌, arith, lt-ltb, ltb-true}
 use Rattle.std.specs.List.{AllByRecursion, cons_option, prefix_len, take_while}
 use Rattle.std.proofs.lemmas.Bool.{cases_Bool}
 use Rattle.std.proofs.lemmas.List.{take-map, take_all, length-map}

@@ -63,14 +63,6 @@ pub record IsChecked {X : Type 0} (n b : ℕ) (ps : List (Stamped X)) (i low : �
 here : {X : Type 0} (n b : ℕ) (ps : List (Stamped X)) (i low : ℕ) (p : Stamped X) → i < length ps → p ≡ get_or ps i p → drop i ps ≡ p ∷ drop (i + 1) ps
 here {X} n b ps i low p lt is = rw (drop_more ps i p lt) (ap (λ (q : Stamped X). q ∷ drop (i + 1) ps) (sym is))
 
-pub checked-more : {X : Type 0} (n b : ℕ) (ps : List (Stamped X)) (i low : ℕ) (p : Stamped X) → i < length ps → p ≡ get_or ps i p → IsChecked n b ps i low → MayStand n low p.at → IsChecked n b ps (i + 1) (next p.at)
-checked-more {X} n b ps i low p lt is h may =
-    let first = here n b ps i low p lt is in
-    record {
-      to = λ all. (let at : Stand n low (p ∷ drop (i + 1) ps) b = rw first at (h.to all) in at.1);
-      back = λ rest. h.back (rw first (may, rest));
-    }
-
 pub checked-stops : {X : Type 0} (n b : ℕ) (ps : List (Stamped X)) (i low : ℕ) (p : Stamped X) → i < length ps → p ≡ get_or ps i p → IsChecked n b ps i low → (MayStand n low p.at → ⊥) → Stand n pre_stream ps b → ⊥
 checked-stops {X} n b ps i low p lt is h out all =
     let at : Stand n low (p ∷ drop (i + 1) ps) b = rw (here n b ps i low p lt is) at (h.to all) in

@@ -1,4 +1,5 @@
 pub mod Code
+pub mod Ends
 pub mod Extension
 pub mod FirstSet
 pub mod Json

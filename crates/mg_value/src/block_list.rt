@@ -13,6 +13,9 @@ pub struct BlockList<T> {
 /// A list of numbers, as those of streams or ports.
 pub type NumberList = BlockList<u32>;
 
+/// A list of counts, as of the sets of each node in node order.
+pub type CountList = BlockList<u64>;
+
 impl<T> Model for BlockList<T> {
     ghost use Rattle.std.specs.Prelude.{List, ◌<◌, ◌^◌, vec_len};
 

@@ -232,10 +232,6 @@ intake_room n es is parts ps engines intakes p m last of h =
     let b = intake_back n es is parts ps engines intakes p m last of h in
     omega (arith, few_intakes n es is ps engines (intakes ++ b.0 ∷ []) b.2, length-append intakes (b.0 ∷ []))
 
--- the parts that are left are those of all that lie in the lists
-pub all_back : (n : ℕ) (parts : List PartView) (es : List EngineView) (is : List IntakeView) → AreKinds n parts → IsWovenFrom n (engines_in parts ++ reverse es) (intakes_in parts ++ reverse is) parts es is
-all_back n parts es is kinds = record { engines_are = refl; intakes_are = refl; kinds = kinds }
-
 -- what holds of the parts and the lists, told by other values that are equal
 pub stays_of : (n : ℕ) (es : List EngineView) (is : List IntakeView) (parts now : List PartView) (engines old : List EngineView) (intakes left : List IntakeView) → now ≡ parts → old ≡ engines → left ≡ intakes
     → IsWovenFrom n es is parts engines intakes → IsWovenFrom n es is now old left

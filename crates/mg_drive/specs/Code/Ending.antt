@@ -1,5 +1,5 @@
 -- How a run of a net ends, and what it leaves.
-use Rattle.std.specs.Prelude.{◌≡◌, ◌⊎◌, ℕ, Bool, List, [], map, Some, slice_get}
+use Rattle.std.specs.Prelude.{◌≡◌, ◌⊎◌, ℕ, Bool, List, [], Some, slice_get}
 use Rattle.mg_edge.specs.Edge.{SourceTold, SinkTold}
 use Rattle.mg_value.specs.Payload.{Plain}
 use Rattle.mg_value.specs.Prefix.{StreamPrefix}
@@ -16,14 +16,12 @@ use Rattle.mg_answer.specs.Answer.{OutputForm, output_in}
 use Rattle.mg_answer.specs.Devices.{Device, device, RunDevices}
 use Rattle.mg_answer.specs.Put.{TextView, HasPut}
 use Rattle.mg_answer.specs.declared.outcomes.Outcomes.{Outcomes}
-use Rattle.mg_answer.specs.declared.outcomes.StreamEnd.{StreamEnd}
 use Rattle.mg_answer.specs.declared.status.Status.{Status}
 use Rattle.mg_node.specs.Job.{LoggedJob}
 use Rattle.mg_node.specs.Had.{HadCalls}
 use Rattle.mg_sched.specs.Views.{NetView}
 use Rattle.mg_sched.specs.GivesBack.{StoodFor, given_back}
 use Rattle.mg_sched.specs.Reports.{report_of}
-use Rattle.mg_sched.specs.declared.report.StreamEnd as nets
 use Rattle.mg_drive.specs.Batches.{IsMore, logged}
 use Rattle.mg_drive.specs.Leaves.{HadCallsOf}
 pub use Rattle.mg_drive.specs.OneRun.{CalculatorsCameBack, WasNothing}
@@ -33,15 +31,11 @@ use Rattle.mg_drive.specs.Code.Running.{Giving, ReadingOn, TellingSets, Start, j
 abbrev pub IsWhole : OutputForm → SinkTold → SinkTold → Job → TextView → Type 0
 IsWhole form first sink job text = (streams : List (StreamPrefix Plain)) → IsSolution job streams → HasPut first sink text (output_in form job.plan streams)
 
--- how far a stream of a net has come, in the form that mg_answer takes
-abbrev pub told_end : nets.StreamEnd → StreamEnd
-told_end s = record { packets = s.packets; bound = s.bound }
-
 -- the outcomes are what a net reports
 pub record TellsNet (net : NetView) (outcomes : Outcomes) : Type 0 where
   pub faults : outcomes.faults ≡ (report_of net).faults
   pub sets : outcomes.sets ≡ (report_of net).sets
-  pub ends : outcomes.ends.items ≡ map told_end (report_of net).streams
+  pub ends : outcomes.ends.items ≡ (report_of net).streams
   pub arrivals : outcomes.arrivals.items ≡ []
 
 -- Calculators.

@@ -4,13 +4,13 @@ ghost use Rattle.std.specs.List.{flat_map, filter_map};
 ghost use Rattle.mg_stream.specs.Pool.{empty_backlog};
 ghost use Rattle.mg_node.specs.Outputs.{packets_kept};
 ghost use Rattle.mg_node.specs.Ports.{waiting_in};
-ghost use Rattle.mg_sched.specs.Reports.{held_in, node_engines, input_engines, end_of, stream_ends_of, report_of};
+ghost use Rattle.mg_sched.specs.Reports.{held_in, node_engines, input_engines, backlog_end, stream_ends_of, report_of};
 
 use super::Net;
-use crate::report::{CountList, Report, StreamEnd, StreamEndList};
+use crate::report::Report;
 use mg_calc::{Calculator, NodeFaultList};
 use mg_node::{Engine, Intake};
-use mg_value::BlockList;
+use mg_value::{BlockList, CountList, StreamEnd, StreamEndList};
 use std::alloc::{AllocError, Global};
 
 // How many packets engines keep.
@@ -65,7 +65,7 @@ fn faults_of<C: Calculator>(
 // How far the stream at an output has come.
 fn end_at<C: Calculator>(engine: &Engine<C>, output: u32) -> StreamEnd
     requires { output < length engine.now.outputs }
-    ensures { result ≡ end_of (slice_index_or engine.now.outputs output empty_backlog) }
+    ensures { result ≡ backlog_end (slice_index_or engine.now.outputs output empty_backlog) }
 {
     StreamEnd {
         packets: engine.count(output),

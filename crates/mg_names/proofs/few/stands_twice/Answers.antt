@@ -1,4 +1,4 @@
-use Rattle.std.proofs.Common.{◌≡◌, ◌+◌, drop, true, false, sym, ap, ap₂, ◌∙◌, arith}
+use Rattle.std.proofs.Common.{◌≡◌, ◌+◌, drop, true, false, sym, ap₂, ◌∙◌, arith}
 use Rattle.mg_names.specs.Ports.{has_port}
 use Rattle.mg_names.proofs.Searched.{twins_here, twins_skip, twins_end}
 use Rattle.mg_names.proofs.few.stands_twice.Goals as goal

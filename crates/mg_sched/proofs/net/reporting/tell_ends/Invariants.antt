@@ -1,7 +1,7 @@
 -- With the outputs that are left it comes to the same.
 use Rattle.std.proofs.Common.{◌≡◌, ◌++◌, map, drop}
-use Rattle.mg_sched.specs.Reports.{end_of, stream_ends_of}
+use Rattle.mg_sched.specs.Reports.{backlog_end, stream_ends_of}
 use Rattle.mg_sched.proofs.net.reporting.tell_ends.Given as goal
 
 abbrev pub invariant-loop-output : goal.invariant-loop-output
-invariant-loop-output g l = l.ends.items ++ map end_of (drop l.output l.engine.outputs) ≡ l.initial.ends.items ++ stream_ends_of l.engine
+invariant-loop-output g l = l.ends.items ++ map backlog_end (drop l.output l.engine.outputs) ≡ l.initial.ends.items ++ stream_ends_of l.engine
