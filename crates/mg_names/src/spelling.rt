@@ -1,4 +1,3 @@
-
 use crate::fault::NameFault;
 use crate::grammar;
 use mg_value::MgText;

@@ -57,8 +57,6 @@ one_more_back start engine engine_now on desk desk_now work h works room now bac
       apart = subst (AllPairs (λ (a b : WorkView). a.number ≢ b.number)) (append-nil front) (pairs_middle (λ (a b : WorkView). a.number ≢ b.number) not_turned front [] work pairs).0;
     }
 
-)
-
 -- A cell whose works come back stays one.
 
 one_back : (job : LoggedJob) (node : ℕ) (engine mid : EngineView) (intake : IntakeView) (desk : DeskView) (front : List WorkView) (work : WorkView) → CellStep job node engine mid intake intake (record desk { works = front ++ work ∷ [] })

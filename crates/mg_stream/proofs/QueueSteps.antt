@@ -77,8 +77,6 @@ stands_without_first {X} q s waits h = record {
   bound = h.bound;
 }
 
-]
-
 -- a packet is put where there is room, told of the fields as the code leaves them
 pub put_fields : {X : Type 0} (q r : Waiting X) (p : Stamped X) → r.gone ≡ q.gone → r.packets ≡ q.packets ++ p ∷ [] → r.bound ≡ next p.at → r.spare ≡ q.spare - 1
     → r ≡ (let w : Waiting X = record (with_packet q p) { spare = q.spare - 1 } in w)
