@@ -17,12 +17,12 @@ use std::thread::Threads;
 
 /// A gate that holds each call up for `turns` turns of a loop.
 #[derive(Drop)]
-struct Held {
+struct Delay {
     turns: u32,
     word: AtomicU64,
 }
 
-impl Gate for Held {
+impl Gate for Delay {
     fn enter(&self, _node: u32, _number: u64) {
         for _ in 0..self.turns {
             self.word.load(Ordering::SeqCst);
@@ -33,8 +33,8 @@ impl Gate for Held {
 }
 
 // Returns a gate that holds each call up for a number of turns.
-fn gate_of(turns: u32) -> Held {
-    Held {
+fn gate_of(turns: u32) -> Delay {
+    Delay {
         turns,
         word: AtomicU64::new(0),
     }
@@ -105,7 +105,7 @@ fn worked<R: Threads + Wait + Sync>(
     alloc: Global,
     driver: Driver,
     workers: u32,
-    gate: &Held,
+    gate: &Delay,
 ) -> Driver
     requires { IsDriven driver.plan driver.inputs driver.net }
     ensures { IsDriven result.plan result.inputs result.net }
@@ -116,7 +116,7 @@ fn worked<R: Threads + Wait + Sync>(
 }
 
 // Brings a net to rest, and returns how many sets its last node has taken.
-fn swept(alloc: Global, driver: Driver, gate: &Held) -> Result<u64, Fail>
+fn swept(alloc: Global, driver: Driver, gate: &Delay) -> Result<u64, Fail>
     requires { IsDriven driver.plan driver.inputs driver.net }
 {
     let mut driver = driver;
@@ -126,7 +126,7 @@ fn swept(alloc: Global, driver: Driver, gate: &Held) -> Result<u64, Fail>
 }
 
 // Brings a net to rest, and returns how many sets its last node has taken.
-fn last_sets(alloc: Global, driver: &mut Driver, gate: &Held) -> Result<u64, Fail>
+fn last_sets(alloc: Global, driver: &mut Driver, gate: &Delay) -> Result<u64, Fail>
     requires { IsDriven driver.old.plan driver.old.inputs driver.old.net }
 {
     sweep(driver, gate, &mut Deaf)?;

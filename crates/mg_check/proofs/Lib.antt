@@ -2,7 +2,7 @@ pub mod Between
 pub mod Filling
 pub mod Fixed
 pub mod Made
-pub mod MetKinds
+pub mod InferredKinds
 pub mod Numbering
 mod OrderExamples
 pub mod OrderFacts

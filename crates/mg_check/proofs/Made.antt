@@ -7,7 +7,7 @@ use Rattle.mg_calc.specs.declared.edge.Edge.{Edge}
 use Rattle.mg_calc.specs.declared.plan_stream.Producer.{Producer}
 use Rattle.mg_calc.specs.declared.plan_stream.PlanStream.{PlanStream}
 use Rattle.mg_check.specs.Drafts.{DraftView}
-use Rattle.mg_check.specs.Meeting.{met_kind}
+use Rattle.mg_check.specs.Meeting.{inferred_kind}
 use Rattle.mg_check.specs.Names.{number_among}
 use Rattle.mg_calc.specs.Plan.{numbers}
 use Rattle.mg_calc.specs.Side.{PlainSide}
@@ -15,24 +15,24 @@ use Rattle.mg_calc.specs.declared.plan_node.PlanNode.{PlanNode}
 use Rattle.mg_check.specs.Joining.{stream_names, stream_meetings, writers, edges, edges_into, side_names}
 use Rattle.mg_check.specs.Joining as joining
 use Rattle.mg_check.specs.Planning.{plan_streams, plan_nodes, plan_sides, plan_of, limit_of, workers_of}
-use Rattle.mg_check.specs.Code.Meets.{met_of}
+use Rattle.mg_check.specs.Code.Meets.{inferred_of}
 use Rattle.mg_check.specs.Code.Streams.{streams_of}
 use Rattle.mg_check.specs.Code.Edges.{node_edges_from}
-use Rattle.mg_check.specs.declared.met.Met.{Met}
+use Rattle.mg_check.specs.declared.met.Inferred.{Inferred}
 
-met_streams : (names : List (List ℕ)) (kinds : List (List Kind)) (ws : List Producer) → streams_of names (map met_of kinds) ws ≡ map (λ e. record { name = e.0; kind = met_kind e.1.0; producer = e.1.1 }) (zip names (zip kinds ws))
-met_streams [] kinds ws = refl
-met_streams (n ∷ names) [] ws = refl
-met_streams (n ∷ names) (k ∷ kinds) [] = refl
-met_streams (n ∷ names) (k ∷ kinds) (w ∷ ws) = ap (λ l. record { name = n; kind = met_kind k; producer = w } ∷ l) (met_streams names kinds ws)
+inferred_streams : (names : List (List ℕ)) (kinds : List (List Kind)) (ws : List Producer) → streams_of names (map inferred_of kinds) ws ≡ map (λ e. record { name = e.0; kind = inferred_kind e.1.0; producer = e.1.1 }) (zip names (zip kinds ws))
+inferred_streams [] kinds ws = refl
+inferred_streams (n ∷ names) [] ws = refl
+inferred_streams (n ∷ names) (k ∷ kinds) [] = refl
+inferred_streams (n ∷ names) (k ∷ kinds) (w ∷ ws) = ap (λ l. record { name = n; kind = inferred_kind k; producer = w } ∷ l) (inferred_streams names kinds ws)
 
-pub shown_streams : (graph : GraphView) (ds : List DraftView) (made : List PlanStream) (names : List (List ℕ)) (mets items : List Met) (ws written : List Producer) → made ≡ streams_of names mets ws → names ≡ stream_names graph ds
-    → mets ≡ items → items ≡ map met_of (stream_meetings graph ds) → ws ≡ written → written ≡ writers graph ds → made ≡ plan_streams graph ds
-shown_streams graph ds made names mets items ws written is named is_items met is_written writes =
+pub shown_streams : (graph : GraphView) (ds : List DraftView) (made : List PlanStream) (names : List (List ℕ)) (mets items : List Inferred) (ws written : List Producer) → made ≡ streams_of names mets ws → names ≡ stream_names graph ds
+    → mets ≡ items → items ≡ map inferred_of (stream_meetings graph ds) → ws ≡ written → written ≡ writers graph ds → made ≡ plan_streams graph ds
+shown_streams graph ds made names mets items ws written is named is_items inferred is_written writes =
     is ∙ (ap (λ l. streams_of l mets ws) named
-    ∙ (ap (λ l. streams_of (stream_names graph ds) l ws) (is_items ∙ met)
-    ∙ (ap (streams_of (stream_names graph ds) (map met_of (stream_meetings graph ds))) (is_written ∙ writes)
-    ∙ met_streams (stream_names graph ds) (stream_meetings graph ds) (writers graph ds))))
+    ∙ (ap (λ l. streams_of (stream_names graph ds) l ws) (is_items ∙ inferred)
+    ∙ (ap (streams_of (stream_names graph ds) (map inferred_of (stream_meetings graph ds))) (is_written ∙ writes)
+    ∙ inferred_streams (stream_names graph ds) (stream_meetings graph ds) (writers graph ds))))
 
 pub all_edges_made : (graph : GraphView) (ds : List DraftView) (new old : List Edge) (names : List (List ℕ)) (count : ℕ) → new ≡ old ++ edges_into names count None (port_names graph.outputs) → old ≡ node_edges_from names 0 ds → names ≡ stream_names graph ds
     → count ≡ length ds → new ≡ edges graph ds

@@ -15,7 +15,7 @@ use Rattle.mg_check.specs.Code.Judged.{Judges, AreJudged, draft_in, wrong_in, wr
 use Rattle.mg_check.specs.declared.choosing.Choice.{Choice}
 use Rattle.mg_check.specs.declared.choosing.Choices.{Choices}
 use Rattle.mg_check.specs.declared.draft.Draft.{Draft}
-use Rattle.mg_check.specs.declared.drafting.Judgement.{Judgement}
+use Rattle.mg_check.specs.declared.drafting.NodeDrafts.{NodeDrafts}
 use Rattle.mg_check.specs.declared.groups.Groups.{Groups}
 use Rattle.mg_check.specs.declared.node_draft.Wrong.{Wrong}
 use Rattle.mg_check.specs.declared.node_draft.Wrong.TheVariants as wrong
@@ -27,7 +27,7 @@ judged_one : (outers : List OuterShape) (c : Chosen) (answer : Result Draft Wron
 judged_one outers c (Ok draft) known = (ap (λ o. cons_option o []) known.0, known.1)
 judged_one outers c (Err fault) known = (ap (λ o. cons_option o []) known.0, known.1)
 
-pub judged_more : (old new : Judgement) (outers : List OuterShape) (choices : List Choice) (i : ℕ) (choice : Choice) (answer : Result Draft Wrong) → i < length choices → choice ≡ get_or choices i choice
+pub judged_more : (old new : NodeDrafts) (outers : List OuterShape) (choices : List Choice) (i : ℕ) (choice : Choice) (answer : Result Draft Wrong) → i < length choices → choice ≡ get_or choices i choice
     → Judges outers (choice_view choice) answer → drafts_view new.drafts.items ≡ drafts_view old.drafts.items ++ draft_in answer → new.wrongs.items ≡ old.wrongs.items ++ wrong_in answer ∷ []
     → AreJudged old outers (choices_view (take i choices)) → AreJudged new outers (choices_view (take (i + 1) choices))
 judged_more old new outers choices i choice answer inside here known drafts wrongs so_far =
@@ -111,14 +111,14 @@ faults outers cs =
     (third_at outers 0 cs (sym (place_begins (has_bad_ports outers) cs) ∙ none) (sym (place_begins (has_bad_options outers) cs) ∙ none')))
 
 -- the refusal of nodes whose calculators are all known, and of which there are enough
-pub refusal_is : (outers : List OuterShape) (nodes : List NodeView) (stock : Groups) (choices : Choices) (judgement : Judgement) → unknown_calculator outers nodes ≡ None → short_in outers nodes nodes ≡ None
-    → IsStock stock outers → AreChosen choices stock nodes → AreJudged judgement outers (choices_view choices.list.items) → fault_by judgement.wrongs.items ≡ node_refusal outers nodes
-refusal_is outers nodes stock choices judgement known enough is_stock chose judge =
+pub refusal_is : (outers : List OuterShape) (nodes : List NodeView) (stock : Groups) (choices : Choices) (node_drafts : NodeDrafts) → unknown_calculator outers nodes ≡ None → short_in outers nodes nodes ≡ None
+    → IsStock stock outers → AreChosen choices stock nodes → AreJudged node_drafts outers (choices_view choices.list.items) → fault_by node_drafts.wrongs.items ≡ node_refusal outers nodes
+refusal_is outers nodes stock choices node_drafts known enough is_stock chose judge =
     ap fault_by (judge.wrongs ∙ ap (map (wrong_of outers)) (chose.list outers is_stock))
     ∙ (faults outers (chosen_nodes outers nodes)
     ∙ sym (ap (λ o. option_or o (option_or (no_more_boxes outers nodes) (option_or (bad_ports outers (chosen_nodes outers nodes)) (option_or (bad_options outers (chosen_nodes outers nodes)) (unsupported outers (chosen_nodes outers nodes)))))) known
     ∙ ap (λ o. option_or o (option_or (bad_ports outers (chosen_nodes outers nodes)) (option_or (bad_options outers (chosen_nodes outers nodes)) (unsupported outers (chosen_nodes outers nodes))))) enough))
 
-pub drafts_are : (outers : List OuterShape) (nodes : List NodeView) (stock : Groups) (choices : Choices) (judgement : Judgement) → IsStock stock outers → AreChosen choices stock nodes
-    → AreJudged judgement outers (choices_view choices.list.items) → drafts_view judgement.drafts.items ≡ drafts outers nodes
-drafts_are outers nodes stock choices judgement is_stock chose judge = judge.drafts ∙ ap (filter_map (draft_of outers)) (chose.list outers is_stock)
+pub drafts_are : (outers : List OuterShape) (nodes : List NodeView) (stock : Groups) (choices : Choices) (node_drafts : NodeDrafts) → IsStock stock outers → AreChosen choices stock nodes
+    → AreJudged node_drafts outers (choices_view choices.list.items) → drafts_view node_drafts.drafts.items ≡ drafts outers nodes
+drafts_are outers nodes stock choices node_drafts is_stock chose judge = judge.drafts ∙ ap (filter_map (draft_of outers)) (chose.list outers is_stock)

@@ -6,9 +6,9 @@ use Rattle.mg_subgraph.proofs.Indexed.{position-map}
 use Rattle.mg_check.specs.DraftView.{draft_view, drafts_view}
 use Rattle.mg_check.specs.Names.{first_again}
 use Rattle.mg_check.specs.Order.{left_out}
-use Rattle.mg_check.specs.Code.Meets.{met_of}
+use Rattle.mg_check.specs.Code.Meets.{inferred_of}
 use Rattle.mg_check.specs.declared.draft.Draft.{Draft}
-use Rattle.mg_check.specs.declared.met.Met.{Met}
+use Rattle.mg_check.specs.declared.met.Inferred.{Inferred}
 use Rattle.mg_check.specs.declared.fault.CheckFault.TheVariants.{KindClash, BackEdgeMisplaced, TwoProducers}
 use Rattle.mg_config.specs.Config.{GraphView}
 use Rattle.mg_check.specs.Drafts.{DraftView}
@@ -51,11 +51,11 @@ side_again graph ds streams sides one two once =
     ap (λ o. option_map TwoProducers (option_or o (first_again (side_names graph ds)))) (ap first_again (sym one) ∙ once) ∙ ap (λ l. option_map TwoProducers (first_again l)) (sym two)
 
 -- the refusals by what the code has
-pub clash_is : (names : List (List ℕ)) (mets items : List Met) (graph : GraphView) (ds : List DraftView) → names ≡ stream_names graph ds → mets ≡ items → items ≡ map met_of (stream_meetings graph ds) → clash_by names mets ≡ kind_clash graph ds
+pub clash_is : (names : List (List ℕ)) (mets items : List Inferred) (graph : GraphView) (ds : List DraftView) → names ≡ stream_names graph ds → mets ≡ items → items ≡ map inferred_of (stream_meetings graph ds) → clash_by names mets ≡ kind_clash graph ds
 clash_is names mets items graph ds same is known =
     ap (clash_by names) (is ∙ known)
-    ∙ (ap (λ l. clash_by l (map met_of (stream_meetings graph ds))) same
-    ∙ ap (λ o. option_map KindClash (option_and_then (λ n. slice_get (stream_names graph ds) n) o)) (position-map (λ met. met.clash) met_of (stream_meetings graph ds)))
+    ∙ (ap (λ l. clash_by l (map inferred_of (stream_meetings graph ds))) same
+    ∙ ap (λ o. option_map KindClash (option_and_then (λ n. slice_get (stream_names graph ds) n) o)) (position-map (λ inferred. inferred.clash) inferred_of (stream_meetings graph ds)))
 
 pub misplaced_is : (drafts : List Draft) (found : Option ℕ) → found ≡ position (λ draft. draft.misplaced) drafts → option_map BackEdgeMisplaced found ≡ back_edge_misplaced (drafts_view drafts)
 misplaced_is drafts found is = ap (option_map BackEdgeMisplaced) (is ∙ sym (position-map (λ d. d.misplaced) draft_view drafts))

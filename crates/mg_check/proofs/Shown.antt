@@ -7,7 +7,7 @@ use Rattle.mg_calc.specs.Side.{PlainSide, given_at}
 use Rattle.mg_calc.specs.declared.plan_stream.PlanStream.{PlanStream}
 use Rattle.mg_calc.specs.declared.plan_stream.Producer.{Producer}
 use Rattle.mg_check.specs.Code.Streams.{streams_of, given_from}
-use Rattle.mg_check.specs.declared.met.Met.{Met}
+use Rattle.mg_check.specs.declared.met.Inferred.{Inferred}
 use Rattle.mg_check.proofs.Filling.{moved_over, found}
 
 none_at : {Y : Type 0} (xs : List Y) (i : ℕ) → length xs ≤ i → slice_get xs i ≡ None
@@ -15,43 +15,43 @@ none_at [] i past = refl
 none_at (x ∷ xs) zero past = absurd (omega arith)
 none_at (x ∷ xs) (suc i) past = none_at xs i (omega arith)
 
-pub no_name : (names : List (List ℕ)) (mets : List Met) (writers : List Producer) (i : ℕ) → None ≡ slice_get names i → None ≡ slice_get (streams_of names mets writers) i
+pub no_name : (names : List (List ℕ)) (mets : List Inferred) (writers : List Producer) (i : ℕ) → None ≡ slice_get names i → None ≡ slice_get (streams_of names mets writers) i
 no_name [] mets writers i none = refl
 no_name (n ∷ names) [] writers i none = refl
 no_name (n ∷ names) (m ∷ mets) [] i none = refl
 no_name (n ∷ names) (m ∷ mets) (w ∷ writers) zero none = cc
 no_name (n ∷ names) (m ∷ mets) (w ∷ writers) (suc i) none = no_name names mets writers i none
 
-pub no_met : (names : List (List ℕ)) (mets : List Met) (writers : List Producer) (i : ℕ) → None ≡ slice_get mets i → None ≡ slice_get (streams_of names mets writers) i
-no_met [] mets writers i none = refl
-no_met (n ∷ names) [] writers i none = refl
-no_met (n ∷ names) (m ∷ mets) [] i none = refl
-no_met (n ∷ names) (m ∷ mets) (w ∷ writers) zero none = cc
-no_met (n ∷ names) (m ∷ mets) (w ∷ writers) (suc i) none = no_met names mets writers i none
+pub no_inferred : (names : List (List ℕ)) (mets : List Inferred) (writers : List Producer) (i : ℕ) → None ≡ slice_get mets i → None ≡ slice_get (streams_of names mets writers) i
+no_inferred [] mets writers i none = refl
+no_inferred (n ∷ names) [] writers i none = refl
+no_inferred (n ∷ names) (m ∷ mets) [] i none = refl
+no_inferred (n ∷ names) (m ∷ mets) (w ∷ writers) zero none = cc
+no_inferred (n ∷ names) (m ∷ mets) (w ∷ writers) (suc i) none = no_inferred names mets writers i none
 
-pub no_writer : (names : List (List ℕ)) (mets : List Met) (writers : List Producer) (i : ℕ) → None ≡ slice_get writers i → None ≡ slice_get (streams_of names mets writers) i
+pub no_writer : (names : List (List ℕ)) (mets : List Inferred) (writers : List Producer) (i : ℕ) → None ≡ slice_get writers i → None ≡ slice_get (streams_of names mets writers) i
 no_writer [] mets writers i none = refl
 no_writer (n ∷ names) [] writers i none = refl
 no_writer (n ∷ names) (m ∷ mets) [] i none = refl
 no_writer (n ∷ names) (m ∷ mets) (w ∷ writers) zero none = cc
 no_writer (n ∷ names) (m ∷ mets) (w ∷ writers) (suc i) none = no_writer names mets writers i none
 
-all_there : (names : List (List ℕ)) (mets : List Met) (writers : List Producer) (i : ℕ) (name : List ℕ) (met : Met) (writer : Producer) → Some name ≡ slice_get names i → Some met ≡ slice_get mets i → Some writer ≡ slice_get writers i
-    → Some (record { name = name; kind = met.kind; producer = writer }) ≡ slice_get (streams_of names mets writers) i
-all_there [] mets writers i name met writer a b c = cc
-all_there (n ∷ names) [] writers i name met writer a b c = cc
-all_there (n ∷ names) (m ∷ mets) [] i name met writer a b c = cc
-all_there (n ∷ names) (m ∷ mets) (w ∷ writers) zero name met writer a b c =
+all_there : (names : List (List ℕ)) (mets : List Inferred) (writers : List Producer) (i : ℕ) (name : List ℕ) (inferred : Inferred) (writer : Producer) → Some name ≡ slice_get names i → Some inferred ≡ slice_get mets i → Some writer ≡ slice_get writers i
+    → Some (record { name = name; kind = inferred.kind; producer = writer }) ≡ slice_get (streams_of names mets writers) i
+all_there [] mets writers i name inferred writer a b c = cc
+all_there (n ∷ names) [] writers i name inferred writer a b c = cc
+all_there (n ∷ names) (m ∷ mets) [] i name inferred writer a b c = cc
+all_there (n ∷ names) (m ∷ mets) (w ∷ writers) zero name inferred writer a b c =
     let same_name : name ≡ n = cc in
-    let same_met : met ≡ m = cc in
+    let same_inferred : inferred ≡ m = cc in
     let same_writer : writer ≡ w = cc in
-    ap (λ x. Some (record { name = x; kind = met.kind; producer = writer })) same_name
-    ∙ (ap (λ x. Some (record { name = n; kind = x.kind; producer = writer })) same_met ∙ ap (λ x. Some (record { name = n; kind = m.kind; producer = x })) same_writer)
-all_there (n ∷ names) (m ∷ mets) (w ∷ writers) (suc i) name met writer a b c = all_there names mets writers i name met writer a b c
+    ap (λ x. Some (record { name = x; kind = inferred.kind; producer = writer })) same_name
+    ∙ (ap (λ x. Some (record { name = n; kind = x.kind; producer = writer })) same_inferred ∙ ap (λ x. Some (record { name = n; kind = m.kind; producer = x })) same_writer)
+all_there (n ∷ names) (m ∷ mets) (w ∷ writers) (suc i) name inferred writer a b c = all_there names mets writers i name inferred writer a b c
 
-pub all_named : (names : List (List ℕ)) (mets : List Met) (writers : List Producer) (i : ℕ) (text name : List ℕ) (met : Met) (writer : Producer) → text ≡ name → Some name ≡ slice_get names i → Some met ≡ slice_get mets i → Some writer ≡ slice_get writers i
-    → Some (record { name = text; kind = met.kind; producer = writer }) ≡ slice_get (streams_of names mets writers) i
-all_named names mets writers i text name met writer same a b c = ap (λ t. Some (record { name = t; kind = met.kind; producer = writer })) same ∙ all_there names mets writers i name met writer a b c
+pub all_named : (names : List (List ℕ)) (mets : List Inferred) (writers : List Producer) (i : ℕ) (text name : List ℕ) (inferred : Inferred) (writer : Producer) → text ≡ name → Some name ≡ slice_get names i → Some inferred ≡ slice_get mets i → Some writer ≡ slice_get writers i
+    → Some (record { name = text; kind = inferred.kind; producer = writer }) ≡ slice_get (streams_of names mets writers) i
+all_named names mets writers i text name inferred writer same a b c = ap (λ t. Some (record { name = t; kind = inferred.kind; producer = writer })) same ∙ all_there names mets writers i name inferred writer a b c
 
 -- one stream more
 take_suc : {X : Type 0} (xs : List X) (i : ℕ) (x : X) → Some x ≡ slice_get xs i → take (suc i) xs ≡ take i xs ++ x ∷ []
@@ -83,5 +83,5 @@ given_moved new out all text ports i port put same at known =
     (ap (λ l. given_from i (port_names l)) (found ports i port at))
     known
 
-pub streams_all : (out : List PlanStream) (names : List (List ℕ)) (mets : List Met) (writers : List Producer) (i : ℕ) → length names ≤ i → out ≡ take i (streams_of names mets writers) → out ≡ streams_of names mets writers
+pub streams_all : (out : List PlanStream) (names : List (List ℕ)) (mets : List Inferred) (writers : List Producer) (i : ℕ) → length names ≤ i → out ≡ take i (streams_of names mets writers) → out ≡ streams_of names mets writers
 streams_all out names mets writers i past known = known ∙ take_none (streams_of names mets writers) i (no_name names mets writers i (sym (none_at names i past)))

@@ -14,7 +14,7 @@ use Rattle.mg_calc.specs.declared.plan_stream.Producer.{Producer}
 use Rattle.mg_calc.specs.declared.plan_stream.Producer.TheVariants.{Input, Node}
 use Rattle.mg_calc.specs.Plan.{numbers, written_streams, producers}
 use Rattle.mg_check.specs.Drafts.{DraftView}
-use Rattle.mg_check.specs.Meeting.{met_kind, kinds_at}
+use Rattle.mg_check.specs.Meeting.{inferred_kind, kinds_at}
 use Rattle.mg_check.specs.Joining.{stream_names, side_names, kinds, written_kinds, readings, stream_meetings, writers}
 use Rattle.mg_check.specs.Planning.{plan_nodes, plan_streams, plan_of}
 use Rattle.mg_check.specs.Code.Sound.{HasNames}
@@ -88,16 +88,16 @@ meetings_count graph ds named =
     let whole = length-append (map (λ p. any) graph.inputs) (flat_map (λ d. kinds d.shape.outputs) ds) in
     let inputs = length-map graph.inputs (λ p. any) in
     let nodes = kinds_long ds named in
-    let listed : length (stream_meetings graph ds) ≡ length (written_kinds graph ds) = met 0 (written_kinds graph ds) in
+    let listed : length (stream_meetings graph ds) ≡ length (written_kinds graph ds) = inferred 0 (written_kinds graph ds) in
     omega arith
   where
-    met : (n : ℕ) (ks : List Kind) → length (map (λ e. kinds_at (readings graph ds) e.0 e.1) (enumerate_from n ks)) ≡ length ks
-    met n [] = refl
-    met n (k ∷ ks) = ap suc (met (n + 1) ks)
+    inferred : (n : ℕ) (ks : List Kind) → length (map (λ e. kinds_at (readings graph ds) e.0 e.1) (enumerate_from n ks)) ≡ length ks
+    inferred n [] = refl
+    inferred n (k ∷ ks) = ap suc (inferred (n + 1) ks)
 
 -- the streams of a plan, by their names, kinds and producers
 abbrev stream_by : List ℕ × (List Kind × Producer) → PlanStream
-stream_by e = record { name = e.0; kind = met_kind e.1.0; producer = e.1.1 }
+stream_by e = record { name = e.0; kind = inferred_kind e.1.0; producer = e.1.1 }
 
 producers_kept : (names : List (List ℕ)) (ms : List (List Kind)) (ws : List Producer) → length names ≡ length ws → length ms ≡ length ws → map (λ s. s.producer) (map stream_by (zip names (zip ms ws))) ≡ ws
 producers_kept [] ms [] a b = refl

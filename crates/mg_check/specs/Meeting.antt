@@ -18,13 +18,13 @@ is_kind Record Record = true
 is_kind a b = false
 
 -- the kind of a stream is the first other than Any, or else Any
-abbrev pub met_kind : List Kind → Kind
-met_kind [] = Any
-met_kind (kind ∷ kinds) = if is_any kind then met_kind kinds else kind
+abbrev pub inferred_kind : List Kind → Kind
+inferred_kind [] = Any
+inferred_kind (kind ∷ kinds) = if is_any kind then inferred_kind kinds else kind
 
 -- whether two different kinds other than Any meet
 abbrev pub clashes : List Kind → Bool
-clashes kinds = list_any (λ kind. not (is_any kind) && not (is_kind kind (met_kind kinds))) kinds
+clashes kinds = list_any (λ kind. not (is_any kind) && not (is_kind kind (inferred_kind kinds))) kinds
 
 -- a port that reads: the number of its stream, and its kind
 pub record PortReading : Type 0 where

@@ -10,7 +10,7 @@ use Rattle.mg_calc.specs.declared.plan_stream.PlanStream.{PlanStream}
 use Rattle.mg_calc.specs.Plan.{numbers}
 use Rattle.mg_check.specs.Drafts.{DraftView}
 use Rattle.mg_check.specs.Names.{number_among}
-use Rattle.mg_check.specs.Meeting.{met_kind}
+use Rattle.mg_check.specs.Meeting.{inferred_kind}
 use Rattle.mg_check.specs.Joining.{stream_names, side_names, edges, stream_meetings, writers, order}
 
 -- the plan's node of a draft, where its first output is the stream of this number
@@ -35,7 +35,7 @@ plan_nodes streams sides first (d ∷ ds) = plan_node streams sides first d ∷ 
 -- the streams: their names, the kinds that meet there, and who writes them
 abbrev pub plan_streams : GraphView → List DraftView → List PlanStream
 plan_streams graph ds =
-    map (λ e. record { name = e.0; kind = met_kind e.1.0; producer = e.1.1 }) (zip (stream_names graph ds) (zip (stream_meetings graph ds) (writers graph ds)))
+    map (λ e. record { name = e.0; kind = inferred_kind e.1.0; producer = e.1.1 }) (zip (stream_names graph ds) (zip (stream_meetings graph ds) (writers graph ds)))
 
 -- the side packets that are handed in, with their places in order
 abbrev pub given_sides : GraphView → List PlainSide

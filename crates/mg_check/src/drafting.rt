@@ -17,26 +17,26 @@ use std::alloc::{AllocError, Global};
 
 /// The drafts of the nodes with which nothing is wrong, and for each node what is wrong with it, if anything is.
 #[derive(Drop)]
-pub struct Judgement<'a> {
+pub struct NodeDrafts<'a> {
     pub drafts: Vec<Draft<'a>>,
     pub wrongs: Vec<Option<Wrong>>,
 }
 
 fn put<'a>(
-    judgement: &mut Judgement<'a>,
+    node_drafts: &mut NodeDrafts<'a>,
     answer: Result<Draft<'a>, Wrong>,
 ) -> Result<(), AllocError>
-    ensures drafts { OnOk result (drafts_view judgement.new.drafts.items ≡ drafts_view judgement.old.drafts.items ++ draft_in answer.entry) }
-    ensures wrongs { OnOk result (judgement.new.wrongs.items ≡ judgement.old.wrongs.items ++ wrong_in answer.entry ∷ []) }
+    ensures drafts { OnOk result (drafts_view node_drafts.new.drafts.items ≡ drafts_view node_drafts.old.drafts.items ++ draft_in answer.entry) }
+    ensures wrongs { OnOk result (node_drafts.new.wrongs.items ≡ node_drafts.old.wrongs.items ++ wrong_in answer.entry ∷ []) }
 {
     match answer {
         Ok(draft) => {
-            judgement.drafts.push(draft)?;
-            judgement.wrongs.push(None)?;
+            node_drafts.drafts.push(draft)?;
+            node_drafts.wrongs.push(None)?;
             Ok(())
         }
         Err(wrong) => {
-            judgement.wrongs.push(Some(wrong))?;
+            node_drafts.wrongs.push(Some(wrong))?;
             Ok(())
         }
     }
@@ -46,20 +46,20 @@ fn judge<'a>(
     alloc: Global,
     outers: &[OuterShape],
     choices: &[Choice<'a>],
-) -> Result<Judgement<'a>, AllocError>
-    ensures { IfOk result (λ judgement. AreJudged judgement outers.now (choices_view choices.now)) }
+) -> Result<NodeDrafts<'a>, AllocError>
+    ensures { IfOk result (λ node_drafts. AreJudged node_drafts outers.now (choices_view choices.now)) }
 {
-    let mut judgement = Judgement {
+    let mut node_drafts = NodeDrafts {
         drafts: Vec::new(alloc),
         wrongs: Vec::new(alloc),
     };
     for choice in choices {
         put(
-            &mut judgement,
+            &mut node_drafts,
             judged(alloc, outers, choice.node, choice.kind)?,
         )?;
     }
-    Ok(judgement)
+    Ok(node_drafts)
 }
 
 fn first_with(wrongs: &[Option<Wrong>], wrong: Wrong) -> Option<usize>
@@ -106,7 +106,7 @@ pub(crate) fn drafts_of<'a>(
     check_known(nodes, &stock)?;
     let choices = choices_of(alloc, nodes, &stock)?;
     check_boxes(alloc, nodes, &stock, &choices.wanted)?;
-    let judgement = judge(alloc, outers, choices.list.as_slice())?;
-    check_wrongs(alloc, judgement.wrongs.as_slice())?;
-    Ok(judgement.drafts)
+    let node_drafts = judge(alloc, outers, choices.list.as_slice())?;
+    check_wrongs(alloc, node_drafts.wrongs.as_slice())?;
+    Ok(node_drafts.drafts)
 }

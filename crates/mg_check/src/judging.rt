@@ -4,21 +4,21 @@ ghost use Rattle.mg_config.specs.Config.{graph_view};
 ghost use Rattle.mg_check.specs.DraftView.{drafts_view};
 ghost use Rattle.mg_check.specs.Joining as joining;
 ghost use Rattle.mg_check.specs.Order as orders;
-ghost use Rattle.mg_check.specs.Code.Refusing.{wiring_refusal, clash_by, count_refusal, AreJoint, AreWired};
+ghost use Rattle.mg_check.specs.Code.Refusing.{wiring_refusal, clash_by, count_refusal, ArePlanNames, AreWired};
 
 use crate::draft::Draft;
 use crate::fault::{CheckFault, Many};
-use crate::joint::Joint;
+use crate::inferred::Inferred;
 use crate::meeting::clash_in;
-use crate::met::Met;
 use crate::names::Names;
 use crate::ordering::left_out;
+use crate::plan_names::PlanNames;
 use crate::wiring::Wiring;
 use mg_config::GraphConfig;
 use mg_value::{BlockList, MgText};
 use std::alloc::Global;
 
-fn check_kinds(alloc: Global, streams: &Names, mets: &[Met]) -> Result<(), CheckFault>
+fn check_kinds(alloc: Global, streams: &Names, mets: &[Inferred]) -> Result<(), CheckFault>
     ensures ok { OnOk result (clash_by streams.now mets.now ≡ None) }
     ensures err { IfErr result (λ fault. fault ≢ CheckFault.OutOfMemory → clash_by streams.now mets.now ≡ Some fault) }
 {
@@ -88,16 +88,16 @@ pub(crate) fn check_wiring(
     alloc: Global,
     graph: &GraphConfig,
     drafts: &[Draft],
-    joint: &Joint,
+    plan_names: &PlanNames,
     wiring: &Wiring,
 ) -> Result<(), CheckFault>
     requires nodes { length drafts.now ≤ 4096 }
-    requires joint { AreJoint joint.now (graph_view graph.now) (drafts_view drafts.now) }
+    requires plan_names { ArePlanNames plan_names.now (graph_view graph.now) (drafts_view drafts.now) }
     requires wiring { AreWired wiring.now (graph_view graph.now) (drafts_view drafts.now) }
     ensures ok { OnOk result (wiring_refusal (graph_view graph.now) (drafts_view drafts.now) ≡ None) }
     ensures err { IfErr result (λ fault. fault ≢ CheckFault.OutOfMemory → wiring_refusal (graph_view graph.now) (drafts_view drafts.now) ≡ Some fault) }
 {
-    check_kinds(alloc, &joint.streams, wiring.mets.as_slice())?;
+    check_kinds(alloc, &plan_names.streams, wiring.mets.as_slice())?;
     check_back(drafts)?;
     check_cycle(alloc, drafts.len() as u32, wiring.order.as_slice())?;
     check_counts(wiring.edges.as_slice().len(), graph.outputs.len())

@@ -8,7 +8,7 @@ ghost use Rattle.mg_check.specs.Joining as joining;
 ghost use Rattle.mg_check.specs.Code.Meets as meets;
 
 use crate::draft::Draft;
-use crate::met::Met;
+use crate::inferred::Inferred;
 use mg_calc::{Edge, PortKind};
 use mg_config::GraphConfig;
 use mg_names::PortMap;
@@ -61,12 +61,12 @@ fn read_kinds(alloc: Global, graph: &GraphConfig, drafts: &[Draft]) -> Result<Ve
     Ok(kinds)
 }
 
-fn begin(alloc: Global, kinds: &[Kind]) -> Result<Vec<Met>, AllocError>
+fn begin(alloc: Global, kinds: &[Kind]) -> Result<Vec<Inferred>, AllocError>
     ensures { IfOk result (λ mets. mets.items ≡ map meets.begun kinds.now) }
 {
     let mut mets = Vec::new(alloc);
     for kind in kinds {
-        mets.push(Met {
+        mets.push(Inferred {
             kind: *kind,
             clash: false,
         })?;
@@ -97,22 +97,22 @@ fn is_kind(a: Kind, b: Kind) -> bool
     }
 }
 
-fn meet(met: Met, kind: Kind) -> Met
-    ensures { result ≡ meets.meet met kind }
+fn meet(inferred: Inferred, kind: Kind) -> Inferred
+    ensures { result ≡ meets.meet inferred kind }
 {
-    if is_any(met.kind) {
-        return Met {
+    if is_any(inferred.kind) {
+        return Inferred {
             kind,
-            clash: met.clash,
+            clash: inferred.clash,
         };
     }
-    Met {
-        kind: met.kind,
-        clash: met.clash || !is_any(kind) && !is_kind(kind, met.kind),
+    Inferred {
+        kind: inferred.kind,
+        clash: inferred.clash || !is_any(kind) && !is_kind(kind, inferred.kind),
     }
 }
 
-fn meet_at(mets: &mut Vec<Met>, stream: u32, kind: Kind)
+fn meet_at(mets: &mut Vec<Inferred>, stream: u32, kind: Kind)
     ensures { mets.new.items ≡ meets.meet_at mets.old.items stream kind }
 {
     let stream = stream as usize;
@@ -121,7 +121,7 @@ fn meet_at(mets: &mut Vec<Met>, stream: u32, kind: Kind)
     }
 }
 
-fn meet_all(mets: &mut Vec<Met>, edges: &[Edge], kinds: &[Kind])
+fn meet_all(mets: &mut Vec<Inferred>, edges: &[Edge], kinds: &[Kind])
     ensures { mets.new.items ≡ meets.meet_all mets.old.items (meets.readings_of edges.now kinds.now) }
 {
     for place in 0..edges.len().min(kinds.len()) {
@@ -137,7 +137,7 @@ pub(crate) fn meetings_of(
     graph: &GraphConfig,
     drafts: &[Draft],
     edges: &[Edge],
-) -> Result<Vec<Met>, AllocError>
+) -> Result<Vec<Inferred>, AllocError>
     ensures { IfOk result (λ mets. edges.now ≡ joining.edges (graph_view graph.now) (drafts_view drafts.now)
         → mets.items ≡ map meets.met_of (joining.stream_meetings (graph_view graph.now) (drafts_view drafts.now))) }
 {
@@ -149,8 +149,8 @@ pub(crate) fn meetings_of(
 }
 
 /// Returns the number of the first stream at which two kinds clash, or none where there is no such stream.
-pub(crate) fn clash_in(mets: &[Met]) -> Option<usize>
-    ensures { result ≡ position (λ met. met.clash) mets.now }
+pub(crate) fn clash_in(mets: &[Inferred]) -> Option<usize>
+    ensures { result ≡ position (λ inferred. inferred.clash) mets.now }
 {
-    mets.iter().position(|met| met.clash)
+    mets.iter().position(|inferred| inferred.clash)
 }

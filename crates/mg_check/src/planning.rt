@@ -5,16 +5,16 @@ ghost use Rattle.mg_subgraph.specs.Refusals.{port_names};
 ghost use Rattle.mg_check.specs.Names.{number_among};
 ghost use Rattle.mg_check.specs.Joining.{join_refusal};
 ghost use Rattle.mg_check.specs.Planning as planning;
-ghost use Rattle.mg_check.specs.Code.Refusing.{AreJoint, AreShown, AreWired};
+ghost use Rattle.mg_check.specs.Code.Refusing.{ArePlanNames, AreShown, AreWired};
 
 use crate::counting::range_of;
 use crate::draft::Draft;
 use crate::fault::CheckFault;
 use crate::gathering::port_texts;
-use crate::joint::{Joint, check_names, joint_of};
 use crate::judging::check_wiring;
 use crate::names::{Names, numbers_of};
 use crate::nodes::nodes_of;
+use crate::plan_names::{PlanNames, check_names, plan_names_of};
 use crate::sides::sides_of;
 use crate::streams::streams_of;
 use crate::wiring::{Wiring, wire};
@@ -62,22 +62,22 @@ fn shown_of(
     alloc: Global,
     graph: &GraphConfig,
     drafts: &[Draft],
-    joint: &Joint,
+    plan_names: &PlanNames,
     wiring: &Wiring,
 ) -> Result<Shown, AllocError>
-    requires joint { AreJoint joint.now (graph_view graph.now) (drafts_view drafts.now) }
+    requires plan_names { ArePlanNames plan_names.now (graph_view graph.now) (drafts_view drafts.now) }
     requires wiring { AreWired wiring.now (graph_view graph.now) (drafts_view drafts.now) }
     ensures { IfOk result (λ shown. AreShown shown (graph_view graph.now) (drafts_view drafts.now)) }
 {
     let streams = streams_of(
         alloc,
-        &joint.streams,
+        &plan_names.streams,
         wiring.mets.as_slice(),
         wiring.writers.as_slice(),
     )?;
     let sides = sides_of(alloc, graph, drafts)?;
     let inputs = range_of(alloc, 0, graph.inputs.len())?;
-    let outputs = outputs_of(alloc, &joint.streams, &graph.outputs)?;
+    let outputs = outputs_of(alloc, &plan_names.streams, &graph.outputs)?;
     Ok(Shown {
         streams,
         sides,
@@ -89,7 +89,7 @@ fn shown_of(
 /// How the nodes of a graph are joined: the names of its streams and side packets, and how the streams are wired.
 #[derive(Drop)]
 struct Joined<'a> {
-    joint: Joint<'a>,
+    plan_names: PlanNames<'a>,
     wiring: Wiring,
 }
 
@@ -99,16 +99,16 @@ fn join<'a>(
     drafts: &[Draft<'a>],
 ) -> Result<Joined<'a>, CheckFault>
     requires { length drafts.now ≤ 4096 }
-    ensures joint { IfOk result (λ joined. AreJoint joined.joint (graph_view graph.now) (drafts_view drafts.now)) }
+    ensures plan_names { IfOk result (λ joined. ArePlanNames joined.plan_names (graph_view graph.now) (drafts_view drafts.now)) }
     ensures wiring { IfOk result (λ joined. AreWired joined.wiring (graph_view graph.now) (drafts_view drafts.now)) }
     ensures ok { OnOk result (join_refusal (graph_view graph.now) (drafts_view drafts.now) ≡ None) }
     ensures err { IfErr result (λ fault. fault ≢ CheckFault.OutOfMemory → join_refusal (graph_view graph.now) (drafts_view drafts.now) ≡ Some fault) }
 {
-    let joint = joint_of(alloc, graph, drafts)?;
-    check_names(alloc, graph, drafts, &joint)?;
-    let wiring = wire(alloc, graph, drafts, &joint.streams)?;
-    check_wiring(alloc, graph, drafts, &joint, &wiring)?;
-    Ok(Joined { joint, wiring })
+    let plan_names = plan_names_of(alloc, graph, drafts)?;
+    check_names(alloc, graph, drafts, &plan_names)?;
+    let wiring = wire(alloc, graph, drafts, &plan_names.streams)?;
+    check_wiring(alloc, graph, drafts, &plan_names, &wiring)?;
+    Ok(Joined { plan_names, wiring })
 }
 
 fn plan_of(
@@ -117,16 +117,16 @@ fn plan_of(
     drafts: Vec<Draft>,
     joined: Joined,
 ) -> Result<Plan, AllocError>
-    requires joint { AreJoint joined.joint (graph_view graph.now) (drafts_view drafts.items) }
+    requires plan_names { ArePlanNames joined.plan_names (graph_view graph.now) (drafts_view drafts.items) }
     requires wiring { AreWired joined.wiring (graph_view graph.now) (drafts_view drafts.items) }
     ensures { IfOk result (λ plan. plan ≡ planning.plan_of (graph_view graph.now) (drafts_view drafts.entry.items)) }
 {
-    let Joined { joint, wiring } = joined;
-    let shown = shown_of(alloc, graph, drafts.as_slice(), &joint, &wiring)?;
+    let Joined { plan_names, wiring } = joined;
+    let shown = shown_of(alloc, graph, drafts.as_slice(), &plan_names, &wiring)?;
     let nodes = nodes_of(
         alloc,
-        &joint.streams,
-        &joint.sides,
+        &plan_names.streams,
+        &plan_names.sides,
         graph.inputs.len(),
         drafts,
     )?;

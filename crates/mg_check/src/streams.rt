@@ -1,7 +1,7 @@
 ghost use Rattle.std.specs.Prelude.{◌≡◌, IfOk, slice_get, option_copied};
 ghost use Rattle.mg_check.specs.Code.Streams.{streams_of as by_parts};
 
-use crate::met::Met;
+use crate::inferred::Inferred;
 use crate::names::Names;
 use mg_calc::{PlanStream, PlanStreamList, Producer};
 use mg_value::{BlockList, MgText};
@@ -13,11 +13,11 @@ fn at<T>(items: &[T], place: u32) -> Option<&T>
     items.get(place as usize)
 }
 
-#[tactic(auto, using(crate::proofs::Shown::no_name, crate::proofs::Shown::no_met, crate::proofs::Shown::no_writer, crate::proofs::Shown::all_named))]
+#[tactic(auto, using(crate::proofs::Shown::no_name, crate::proofs::Shown::no_inferred, crate::proofs::Shown::no_writer, crate::proofs::Shown::all_named))]
 fn stream_at(
     alloc: Global,
     names: &Names,
-    mets: &[Met],
+    mets: &[Inferred],
     writers: &[Producer],
     place: u32,
 ) -> Result<Option<PlanStream>, AllocError>
@@ -26,7 +26,7 @@ fn stream_at(
     let Some(name) = names.get(place) else {
         return Ok(None);
     };
-    let Some(met) = at(mets, place) else {
+    let Some(inferred) = at(mets, place) else {
         return Ok(None);
     };
     let Some(producer) = at(writers, place) else {
@@ -34,7 +34,7 @@ fn stream_at(
     };
     Ok(Some(PlanStream {
         name: MgText::new(alloc, name)?,
-        kind: met.kind,
+        kind: inferred.kind,
         producer: *producer,
     }))
 }
@@ -44,7 +44,7 @@ fn stream_at(
 pub(crate) fn streams_of(
     alloc: Global,
     names: &Names,
-    mets: &[Met],
+    mets: &[Inferred],
     writers: &[Producer],
 ) -> Result<PlanStreamList, AllocError>
     ensures { IfOk result (λ streams. streams ≡ by_parts names.now mets.now writers.now) }

@@ -6,9 +6,9 @@ ghost use Rattle.mg_check.specs.Code.Refusing.{AreWired};
 
 use crate::draft::Draft;
 use crate::edges::{add_collector, node_edges};
+use crate::inferred::Inferred;
 use crate::linking::{links_of, sources_of, writers_of};
 use crate::meeting::meetings_of;
-use crate::met::Met;
 use crate::names::Names;
 use crate::ordering::order_of;
 use mg_calc::{Edge, Producer};
@@ -20,7 +20,7 @@ use std::alloc::{AllocError, Global};
 #[derive(Drop)]
 pub(crate) struct Wiring {
     pub(crate) edges: Vec<Edge>,
-    pub(crate) mets: Vec<Met>,
+    pub(crate) mets: Vec<Inferred>,
     pub(crate) writers: Vec<Producer>,
     pub(crate) order: Vec<u32>,
 }

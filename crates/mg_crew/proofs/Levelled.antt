@@ -11,14 +11,14 @@ use Rattle.mg_levels.specs.declared.seat.LevelSeat.{LevelSeat}
 use Rattle.mg_sched.specs.Views.{NetView}
 use Rattle.mg_sched.specs.StandsFor.{StandsForSome}
 use Rattle.mg_sched.specs.ComesApart.{parts_in}
-use Rattle.mg_turns.specs.Parts.{FrameView, nodes_in, at, Follows}
+use Rattle.mg_turns.specs.Parts.{LayoutView, nodes_in, at, Follows}
 use Rattle.mg_turns.specs.Ends.{Unshared}
 use Rattle.mg_turns.specs.declared.view.View.{View}
 use Rattle.mg_turns.specs.Calls.{key_of}
 use Rattle.mg_turns.specs.declared.shared.SharedNet.{SharedNet}
 use Rattle.mg_turns.specs.declared.seat.NetSeat.{NetSeat}
 use Rattle.mg_workers.specs.Shared.{KeptView, IsSharedOf, StaysShared}
-use Rattle.mg_workers.specs.Woven.{frame_of}
+use Rattle.mg_workers.specs.Woven.{layout_of}
 use Rattle.mg_crew.specs.Leaves.{NetGoesOn}
 use Rattle.mg_crew.specs.declared.putting.Place.{Place}
 use Rattle.mg_crew.specs.declared.shop.Tools.{Tools}
@@ -27,10 +27,10 @@ use Rattle.mg_crew.specs.Code.Seats.{AreToolsOf, IsWithoutWork, StaysAtWork}
 use Rattle.mg_crew.proofs.Sharing.{stays_itself, stays_on}
 
 -- the plan that is kept aside is the net's, and is valid
-pub kept_plan : (before : NetView) (key : FrameView) (kept : KeptView) → IsSharedOf before key kept → kept.plan ≡ key.plan
-kept_plan before key kept of = ap (λ (k : KeptView). k.plan) of.stays ∙ sym (ap (λ (f : FrameView). f.plan) of.shared)
+pub kept_plan : (before : NetView) (key : LayoutView) (kept : KeptView) → IsSharedOf before key kept → kept.plan ≡ key.plan
+kept_plan before key kept of = ap (λ (k : KeptView). k.plan) of.stays ∙ sym (ap (λ (f : LayoutView). f.plan) of.shared)
 
-pub kept_valid : (before : NetView) (key : FrameView) (kept : KeptView) → StandsForSome before → IsSharedOf before key kept → IsValid kept.plan
+pub kept_valid : (before : NetView) (key : LayoutView) (kept : KeptView) → StandsForSome before → IsSharedOf before key kept → IsValid kept.plan
 kept_valid before key kept some of =
     let parts = of.of some.job some.stands in
     let is : kept.plan ≡ some.job.job.plan = ap (λ (k : KeptView). k.plan) of.stays ∙ parts.plan in
@@ -75,10 +75,10 @@ module _ {X : Type 0} {g : Ghosts X} (net : SharedNet X) (tools : Tools) where
   seat_stays first second third place h k = record { stays = stays_on net first second third h.stays k; placed = h.placed }
 
 -- a net that is put together of the parts that were shared
-pub goes_on : (before now : NetView) (key : FrameView) (kept : KeptView) (v : View) → IsSharedOf before key kept → Unshared key v (frame_of (parts_in now)).parts → NetGoesOn before now
+pub goes_on : (before now : NetView) (key : LayoutView) (kept : KeptView) (v : View) → IsSharedOf before key kept → Unshared key v (layout_of (parts_in now)).parts → NetGoesOn before now
 goes_on before now key kept v of u = record {
   parts = of.parts;
   apart = of.apart;
-  count = u.count ∙ ap (λ (f : FrameView). length f.parts) of.shared;
-  follows = subst (λ (f : FrameView). (word : ℕ) → word < length f.parts → Follows f word (at (frame_of (parts_in now)) word)) of.shared u.follows;
+  count = u.count ∙ ap (λ (f : LayoutView). length f.parts) of.shared;
+  follows = subst (λ (f : LayoutView). (word : ℕ) → word < length f.parts → Follows f word (at (layout_of (parts_in now)) word)) of.shared u.follows;
 }

@@ -8,7 +8,7 @@ use Rattle.mg_node.specs.Job.{LoggedJob}
 use Rattle.mg_node.specs.Lawful.{LawfulWork}
 use Rattle.mg_node.specs.Running.{IsPerformed, SomeJobHas}
 use Rattle.mg_node.specs.declared.claimed.Claimed.{Claimed}
-use Rattle.mg_turns.specs.Parts.{FrameView, nodes_in, FitsSome}
+use Rattle.mg_turns.specs.Parts.{LayoutView, nodes_in, FitsSome}
 use Rattle.mg_turns.specs.Sights.{Missed, MissedOne, has_after}
 use Rattle.mg_turns.specs.Calls.{key_of, view_of, IsSeatOf, HasClaimed, HasCommitted, FoundNone, HasShelved}
 use Rattle.mg_turns.specs.Standings.{Keeps}
@@ -34,10 +34,10 @@ node_there : (job : LoggedJob) (work : WorkView) → LawfulWork job work → wor
 unfolding LawfulWork
 node_there job work lawful = slice_get_within job.job.plan.nodes work.node lawful.node lawful.there
 
-pub node_within : (key : FrameView) (work : WorkView) → FitsSome key → FitsWork key work → work.node < nodes_in key
+pub node_within : (key : LayoutView) (work : WorkView) → FitsSome key → FitsWork key work → work.node < nodes_in key
 node_within key work some lawful = subst (λ (p : Plan). work.node < length p.nodes) some.fits.plan (node_there some.job work (lawful some.job some.fits))
 
-pub some_job_has : (key : FrameView) (work : WorkView) → FitsSome key → FitsWork key work → SomeJobHas work
+pub some_job_has : (key : LayoutView) (work : WorkView) → FitsSome key → FitsWork key work → SomeJobHas work
 some_job_has key work some lawful = record { job = some.job; lawful = lawful some.job some.fits }
 
 module _ {X : Type 0} {g : Ghosts X} (net : SharedNet X) (before now : NetSeat X g) where

@@ -3,7 +3,7 @@ use Rattle.std.specs.Prelude.{◌≡◌, ℕ, ◌<◌, ◌⊎◌, length}
 use Rattle.mg_sched.specs.Views.{NetView}
 use Rattle.mg_sched.specs.ComesApart.{PartsView, parts_in, HasComeApart}
 use Rattle.mg_turns.specs.Parts.{at, Follows}
-use Rattle.mg_workers.specs.Woven.{frame_of}
+use Rattle.mg_workers.specs.Woven.{layout_of}
 use Rattle.mg_workers.specs.Became.{CameBack}
 
 -- a net came apart, and each of its parts has become the part of the net that is there now: that is lawful for the same jobs, its standing
@@ -11,10 +11,10 @@ use Rattle.mg_workers.specs.Became.{CameBack}
 pub record NetGoesOn (before now : NetView) : Type 0 where
   pub parts : PartsView
   pub apart : HasComeApart before parts
-  pub count : length (frame_of (parts_in now)).parts ≡ length (frame_of parts).parts
-  pub follows : (word : ℕ) → word < length (frame_of parts).parts → Follows (frame_of parts) word (at (frame_of (parts_in now)) word)
+  pub count : length (layout_of (parts_in now)).parts ≡ length (layout_of parts).parts
+  pub follows : (word : ℕ) → word < length (layout_of parts).parts → Follows (layout_of parts) word (at (layout_of (parts_in now)) word)
 
--- what workers leave of a net: the net as it was; the net as it was but that the works on its desks stand in their windows again; or a net
+-- what workers leave of a net: the net as it was; the net as it was but that the works in its work queues stand in their windows again; or a net
 -- whose parts have gone on
 abbrev pub Leaves : NetView → NetView → Type 0
 Leaves before now = (now ≡ before) ⊎ (CameBack before now ⊎ NetGoesOn before now)

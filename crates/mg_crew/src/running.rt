@@ -21,7 +21,7 @@ use std::thread::Threads;
 
 // How a net is run: by how many workers, and through which gate each Process call goes.
 #[derive(Drop)]
-struct Task<'a, G: Gate> {
+struct Executor<'a, G: Gate> {
     alloc: Global,
     workers: u32,
     gate: &'a G,
@@ -31,7 +31,7 @@ struct Task<'a, G: Gate> {
 // is done.
 fn run_shared<C: Calculator + Send, R: Threads + Wait + Sync, G: Gate + Sync>(
     rt: &R,
-    task: &Task<'_, G>,
+    executor: &Executor<'_, G>,
     net: &SharedNet<C>,
     seat: NetSeat<C>,
     plan: &Plan,
@@ -42,15 +42,15 @@ fn run_shared<C: Calculator + Send, R: Threads + Wait + Sync, G: Gate + Sync>(
     requires plan { plan.now ≡ (key_of net.now).plan }
     ensures { StaysShared net.now seat result }
 {
-    match tools_of(task.alloc, plan) {
+    match tools_of(executor.alloc, plan) {
         Ok((tools, place)) => {
             let shop = Shop {
-                alloc: task.alloc,
+                alloc: executor.alloc,
                 net,
                 tools: &tools,
-                gate: task.gate,
+                gate: executor.gate,
             };
-            crew(rt, &shop, seat, Place::new(place), task.workers)
+            crew(rt, &shop, seat, Place::new(place), executor.workers)
         }
         Err(_) => seat,
     }
@@ -80,12 +80,12 @@ pub fn run_workers<C: Calculator + Send, R: Threads + Wait + Sync, G: Gate + Syn
     }
     match share(alloc, net) {
         Ok((shared, seat, kept)) => {
-            let task = Task {
+            let executor = Executor {
                 alloc,
                 workers,
                 gate,
             };
-            let seat = run_shared(rt, &task, &shared, seat, kept.plan());
+            let seat = run_shared(rt, &executor, &shared, seat, kept.plan());
             unshare(shared, seat, kept)
         }
         Err(net) => net,

@@ -25,7 +25,7 @@ pub mod Moving
 pub mod Stepping
 pub mod JsonParts
 pub mod Trees
-pub mod Frames
+pub mod PacketLines
 pub mod ChangingPlaces
 pub mod LinesOut
 pub mod WholeOrNone

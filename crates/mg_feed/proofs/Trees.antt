@@ -8,7 +8,7 @@ use Rattle.json.proofs.Grammar.{value_is, value-begin_array, value-begin_object}
 use Rattle.serde_json.specs.Data.{Data, Items, Members, no_members, array, object}
 use Rattle.serde_json.specs.Read.{of_json, of_items, converted, max_depth}
 use Rattle.mg_feed.specs.Form.{json_value}
-use Rattle.mg_feed.specs.Code.Frames.{scalar_of}
+use Rattle.mg_feed.specs.Code.PacketLines.{scalar_of}
 use Rattle.mg_feed.proofs.Json.{json_value-read}
 use Rattle.mg_feed.proofs.JsonParts.{members_behind, array_of, object_of, whole_read}
 

@@ -10,6 +10,6 @@ pub mod LineEnd
 pub mod Readers
 pub mod Filled
 pub mod Moves
-pub mod Frames
+pub mod PacketLines
 pub mod Handing
 pub mod MadeSoFar

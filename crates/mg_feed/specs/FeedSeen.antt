@@ -1,13 +1,13 @@
 -- What a `Feed` stands for.
 use Rattle.mg_feed.specs.View.{View}
-use Rattle.mg_feed.specs.Seen.{collected}
+use Rattle.mg_feed.specs.Seen.{input_buffer}
 use Rattle.mg_feed.specs.Fed.{Fed}
 use Rattle.mg_feed.specs.Code.Readers.{reading_of}
 use Rattle.mg_feed.specs.declared.feed.Feed.{Feed}
 
 -- what the feed has of the lines that it accepted
 abbrev pub seen : Feed → View
-seen feed = collected feed.collected
+seen feed = input_buffer feed.input_buffer
 
 -- what the feed has of accepted lines, and what it read behind them
 abbrev pub fed : Feed → Fed

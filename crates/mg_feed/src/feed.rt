@@ -1,5 +1,5 @@
-use crate::collected::Collected;
 use crate::feed_end::Step;
+use crate::input_buffer::InputBuffer;
 use crate::reader::Reader;
 use crate::{BatchEnd, FeedEnd, LineFault};
 use json::Scratch;
@@ -11,7 +11,7 @@ use std::alloc::{AllocError, Global};
 #[derive(Drop)]
 pub struct Feed {
     alloc: Global,
-    collected: Collected,
+    input_buffer: InputBuffer,
     reader: Reader,
     // Room for reading the JSON of a line.
     scratch: Scratch,
@@ -40,11 +40,11 @@ impl Feed {
         ensures stands { IfOk result (λ feed. HasAccepted [] (nothing_taken (inputs_of plan.now)) (seen feed)) }
         ensures unread { IfOk result (λ feed. (fed feed).read ≡ record { kept = []; ended = false }) }
     {
-        let collected = Collected::new(alloc, plan)?;
+        let input_buffer = InputBuffer::new(alloc, plan)?;
         let reader = Reader::new(alloc)?;
         Ok(Feed {
             alloc,
-            collected,
+            input_buffer,
             reader,
             scratch: Scratch::new(alloc),
         })
@@ -61,7 +61,7 @@ impl Feed {
         ensures graph { (seen self.new).graph ≡ (seen self.old).graph }
         ensures read { (fed self.new).read ≡ (fed self.old).read }
     {
-        self.collected.line(self.alloc, &mut self.scratch, text)?;
+        self.input_buffer.line(self.alloc, &mut self.scratch, text)?;
         Ok(())
     }
 
@@ -77,7 +77,7 @@ impl Feed {
         ensures graph { (seen self.new).graph ≡ (seen self.old).graph }
         ensures read { (fed self.new).read ≡ (fed self.old).read }
     {
-        let inputs = self.collected.take_inputs(self.alloc, ended)?;
+        let inputs = self.input_buffer.take_inputs(self.alloc, ended)?;
         Ok(inputs)
     }
 
@@ -89,13 +89,13 @@ impl Feed {
     {
         let Feed {
             alloc,
-            collected,
+            input_buffer,
             reader,
             scratch,
         } = self;
         drop(reader);
         drop(scratch);
-        collected.into_inputs(alloc, ended)
+        input_buffer.into_inputs(alloc, ended)
     }
 
     /// Reads a source to its end, its first fault or the first line that isn't good, and takes the lines. Behind the block in which
@@ -180,7 +180,7 @@ impl Feed {
         ensures { TookNext result (fed self.old) (fed self.new) }
     {
         let named = self
-            .collected
+            .input_buffer
             .line(self.alloc, &mut self.scratch, self.reader.front(end))?;
         self.reader.pass(end + 1);
         Ok(named)
@@ -193,7 +193,7 @@ impl Feed {
     {
         self.reader.hold(end)?;
         let named = self
-            .collected
+            .input_buffer
             .line(self.alloc, &mut self.scratch, &self.reader.cut)?;
         self.reader.pass_cut();
         Ok(named)
@@ -223,7 +223,7 @@ impl Feed {
             Got::Bytes(_) => Step::Read,
             Got::End => Step::Read,
             Got::Failed => Step::Stop(FeedEnd::Failed {
-                lines: self.collected.lines,
+                lines: self.input_buffer.lines,
             }),
         }
     }
@@ -236,7 +236,7 @@ impl Feed {
             FeedEnd::OutOfMemory
         } else {
             FeedEnd::Refused {
-                line: self.collected.lines + 1,
+                line: self.input_buffer.lines + 1,
                 cause: fault,
             }
         }

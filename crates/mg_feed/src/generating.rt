@@ -4,28 +4,28 @@ ghost use Rattle.mg_value.specs.Plain.{item, no_items, entry, no_entries};
 ghost use Rattle.mg_calc.specs.Given.{given};
 ghost use Rattle.mg_feed.specs.Generated.{generated_value};
 
-use crate::collected::Collected;
+use crate::input_buffer::InputBuffer;
 use itoa::Buffer;
 use mg_time::Timestamp;
 use mg_value::{Entry, Kind, MgText, Packet, Payload, PayloadList, RecordList};
 use std::alloc::{AllocError, Global};
 use std::sync::Arc;
 
-impl Collected {
+impl InputBuffer {
     ghost use Rattle.std.specs.Prelude.{◌≡◌, ◌<◌, ◌≤◌, ◌%◌, List, OnOk, length};
     ghost use Rattle.mg_value.specs.Payload.{Plain};
     ghost use Rattle.mg_value.specs.Prefix.{Stamped, appended};
     ghost use Rattle.mg_feed.specs.Accepted.{stepped};
     ghost use Rattle.mg_feed.specs.Generated.{generated_packet, generated_sides};
     ghost use Rattle.mg_feed.specs.Code.MadeSoFar.{AreMade};
-    ghost use Rattle.mg_feed.specs.Seen.{collected};
+    ghost use Rattle.mg_feed.specs.Seen.{input_buffer};
 
     /// Makes the packets from number `from` up to `to`, without it, and puts them at the ends of their streams.
     pub fn make_packets(&mut self, alloc: Global, from: u32, to: u32) -> Result<(), AllocError>
         requires { from ≤ to }
-        ensures made { OnOk result ((gone : List (List (Stamped Plain))) → AreMade gone from (collected self.old) → AreMade gone to (collected self.new)) }
-        ensures sides { OnOk result ((collected self.new).given.sides ≡ (collected self.old).given.sides) }
-        ensures graph { (collected self.new).graph ≡ (collected self.old).graph }
+        ensures made { OnOk result ((gone : List (List (Stamped Plain))) → AreMade gone from (input_buffer self.old) → AreMade gone to (input_buffer self.new)) }
+        ensures sides { OnOk result ((input_buffer self.new).given.sides ≡ (input_buffer self.old).given.sides) }
+        ensures graph { (input_buffer self.new).graph ≡ (input_buffer self.old).graph }
     {
         let inputs = self.graph.kinds.len();
         if inputs == 0 {
@@ -39,11 +39,11 @@ impl Collected {
 
     // Makes packet `i`, and puts it at the end of its stream.
     fn make_packet(&mut self, alloc: Global, i: u32) -> Result<(), AllocError>
-        requires { 0 < length (collected self.old).graph.kinds }
-        ensures streams { OnOk result ((collected self.new).given.streams
-            ≡ stepped (i % length (collected self.old).graph.kinds) (λ s. appended s (generated_packet (collected self.old).graph.kinds i)) (collected self.old).given.streams) }
-        ensures sides { OnOk result ((collected self.new).given.sides ≡ (collected self.old).given.sides) }
-        ensures graph { (collected self.new).graph ≡ (collected self.old).graph }
+        requires { 0 < length (input_buffer self.old).graph.kinds }
+        ensures streams { OnOk result ((input_buffer self.new).given.streams
+            ≡ stepped (i % length (input_buffer self.old).graph.kinds) (λ s. appended s (generated_packet (input_buffer self.old).graph.kinds i)) (input_buffer self.old).given.streams) }
+        ensures sides { OnOk result ((input_buffer self.new).given.sides ≡ (input_buffer self.old).given.sides) }
+        ensures graph { (input_buffer self.new).graph ≡ (input_buffer self.old).graph }
     {
         let count = self.graph.kinds.len() as u64;
         let number = u64::from(i);
@@ -56,9 +56,9 @@ impl Collected {
 
     /// Gives the number 1 as each side packet of the graph.
     pub fn give_sides(&mut self, alloc: Global) -> Result<(), AllocError>
-        ensures sides { OnOk result ((collected self.new).given.sides ≡ generated_sides (length (collected self.old).graph.sides)) }
-        ensures streams { OnOk result ((collected self.new).given.streams ≡ (collected self.old).given.streams) }
-        ensures graph { OnOk result ((collected self.new).graph ≡ (collected self.old).graph) }
+        ensures sides { OnOk result ((input_buffer self.new).given.sides ≡ generated_sides (length (input_buffer self.old).graph.sides)) }
+        ensures streams { OnOk result ((input_buffer self.new).given.streams ≡ (input_buffer self.old).given.streams) }
+        ensures graph { OnOk result ((input_buffer self.new).graph ≡ (input_buffer self.old).graph) }
     {
         self.sides = ones(alloc, self.graph.sides.len())?;
         Ok(())

@@ -2,7 +2,7 @@ ghost use Rattle.std.specs.Prelude.{◌≡◌, ◌≤◌, ◌+◌, IfOk, length,
 ghost use Rattle.mg_feed.specs.Graph.{inputs_of};
 ghost use Rattle.mg_feed.specs.Generated.{generated, generated_sides};
 
-use crate::collected::Collected;
+use crate::input_buffer::InputBuffer;
 use mg_calc::{Inputs, Plan};
 use std::alloc::{AllocError, Global};
 
@@ -11,7 +11,7 @@ use std::alloc::{AllocError, Global};
 #[derive(Drop)]
 pub struct Generator {
     alloc: Global,
-    collected: Collected,
+    input_buffer: InputBuffer,
     // How many packets there are in all, and how many of them are made.
     number: u32,
     made: u32,
@@ -29,11 +29,11 @@ impl Generator {
         ensures fresh { IfOk result (λ g. HasHandedOn (inputs_of plan.now) number (making g)) }
         ensures none { IfOk result (λ g. (making g).made ≡ 0) }
     {
-        let mut collected = Collected::new(alloc, plan)?;
-        collected.give_sides(alloc)?;
+        let mut input_buffer = InputBuffer::new(alloc, plan)?;
+        input_buffer.give_sides(alloc)?;
         Ok(Generator {
             alloc,
-            collected,
+            input_buffer,
             number,
             made: 0,
         })
@@ -48,9 +48,11 @@ impl Generator {
         ensures further { OnOk result ((making self.new).made ≡ min ((making self.old).made + most) (making self.old).number) }
     {
         let now = further_by(self.made, most, self.number);
-        self.collected.make_packets(self.alloc, self.made, now)?;
+        self.input_buffer.make_packets(self.alloc, self.made, now)?;
         self.made = now;
-        let inputs = self.collected.take_inputs(self.alloc, now == self.number)?;
+        let inputs = self
+            .input_buffer
+            .take_inputs(self.alloc, now == self.number)?;
         Ok(inputs)
     }
 }

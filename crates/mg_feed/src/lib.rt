@@ -5,16 +5,15 @@
 #![tactic(auto)]
 
 mod all_or_nothing;
-mod collected;
 mod due;
 mod feed;
 mod feed_end;
 mod feed_stream;
 mod form;
-mod frame;
 mod generating;
 mod generator;
 mod graph;
+mod input_buffer;
 mod judge;
 pub mod laws;
 mod limits;
@@ -22,6 +21,7 @@ mod line_fault;
 mod line_json;
 mod line_writer;
 mod lines;
+mod packet_line;
 mod payload_text;
 mod places;
 mod put;

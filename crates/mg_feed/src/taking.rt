@@ -3,9 +3,9 @@ ghost use Rattle.mg_value.specs.Prefix.{empty_prefix};
 ghost use Rattle.mg_calc.specs.Given.{given};
 ghost use Rattle.mg_feed.specs.Code.Streams.{waiting, was_taken};
 
-use crate::collected::Collected;
 use crate::feed_stream::FeedStream;
 use crate::graph::{Graph, graph_of};
+use crate::input_buffer::InputBuffer;
 use crate::streams::take_prefixes;
 use mg_calc::{GivenList, Inputs, Plan};
 use mg_time::Timestamp;
@@ -13,18 +13,18 @@ use mg_value::{BlockList, Payload, Prefix};
 use std::alloc::{AllocError, Global};
 use std::sync::Arc;
 
-impl Collected {
+impl InputBuffer {
     ghost use Rattle.std.specs.Prelude.{◌≡◌, IfOk, OnOk, OnErr, false, replicate, length};
     ghost use Rattle.mg_feed.specs.Graph.{inputs_of};
     ghost use Rattle.mg_feed.specs.Accepted.{fresh};
     ghost use Rattle.mg_feed.specs.Given.{ended_streams};
     ghost use Rattle.mg_feed.specs.Code.Graphs.{graph_view};
     ghost use Rattle.mg_feed.specs.View.{after_taking};
-    ghost use Rattle.mg_feed.specs.Seen.{collected};
+    ghost use Rattle.mg_feed.specs.Seen.{input_buffer};
 
     /// Makes the inputs of a plan's graph, to which no line gave anything yet.
-    pub fn new(alloc: Global, plan: &Plan) -> Result<Collected, AllocError>
-        ensures { IfOk result (λ c. collected c ≡ record {
+    pub fn new(alloc: Global, plan: &Plan) -> Result<InputBuffer, AllocError>
+        ensures { IfOk result (λ c. input_buffer c ≡ record {
           graph = inputs_of plan.now;
           given = fresh (inputs_of plan.now);
           taken = replicate (length (inputs_of plan.now).kinds) false;
@@ -32,11 +32,11 @@ impl Collected {
         }) }
     {
         let graph = graph_of(alloc, plan)?;
-        Collected::of_graph(alloc, graph)
+        InputBuffer::of_graph(alloc, graph)
     }
 
-    fn of_graph(alloc: Global, graph: Graph) -> Result<Collected, AllocError>
-        ensures { IfOk result (λ c. collected c ≡ record {
+    fn of_graph(alloc: Global, graph: Graph) -> Result<InputBuffer, AllocError>
+        ensures { IfOk result (λ c. input_buffer c ≡ record {
           graph = graph_view graph;
           given = fresh (graph_view graph);
           taken = replicate (length (graph_view graph).kinds) false;
@@ -46,7 +46,7 @@ impl Collected {
         let streams = open_streams(alloc, graph.kinds.len())?;
         let sides = no_sides(alloc, graph.sides.len())?;
         let room = Vec::with_capacity(alloc, streams.len())?;
-        Ok(Collected {
+        Ok(InputBuffer {
             graph,
             streams,
             sides,
@@ -59,11 +59,11 @@ impl Collected {
     /// Takes the packets that came since the last taking, with each stream's bound, or Done where the input ended, and all side packets.
     /// After an `Err`, which is want of memory, nothing was taken.
     pub fn take_inputs(&mut self, alloc: Global, ended: bool) -> Result<Inputs, AllocError>
-        ensures streams { IfOk result (λ inputs. inputs.streams ≡ ended_streams ended (collected self.old).given.streams) }
-        ensures sides { IfOk result (λ inputs. inputs.sides ≡ (collected self.old).given.sides) }
+        ensures streams { IfOk result (λ inputs. inputs.streams ≡ ended_streams ended (input_buffer self.old).given.streams) }
+        ensures sides { IfOk result (λ inputs. inputs.sides ≡ (input_buffer self.old).given.sides) }
         ensures ended { IfOk result (λ inputs. inputs.ended ≡ ended) }
-        ensures taken { OnOk result (collected self.new ≡ after_taking (collected self.old)) }
-        ensures unchanged { OnErr result (collected self.new ≡ collected self.old) }
+        ensures taken { OnOk result (input_buffer self.new ≡ after_taking (input_buffer self.old)) }
+        ensures unchanged { OnErr result (input_buffer self.new ≡ input_buffer self.old) }
     {
         let sides = copy_sides(alloc, &self.sides)?;
         let room = Vec::with_capacity(alloc, self.streams.len())?;
@@ -74,11 +74,11 @@ impl Collected {
     /// Takes the packets that came since the last taking, with each stream's bound, or Done where the input ended, and all side packets.
     /// It takes no memory.
     pub fn into_inputs(self, alloc: Global, ended: bool) -> Inputs
-        ensures streams { result.streams ≡ ended_streams ended (collected self).given.streams }
-        ensures sides { result.sides ≡ (collected self).given.sides }
+        ensures streams { result.streams ≡ ended_streams ended (input_buffer self).given.streams }
+        ensures sides { result.sides ≡ (input_buffer self).given.sides }
         ensures ended { result.ended ≡ ended }
     {
-        let Collected {
+        let InputBuffer {
             graph,
             mut streams,
             sides,

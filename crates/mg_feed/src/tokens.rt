@@ -6,7 +6,7 @@ ghost use Rattle.serde_json.specs.Data.{no_members, put as with_member};
 ghost use Rattle.serde_json.specs.Read.{of_json, of_items, of_members, converted};
 ghost use Rattle.serde_json.specs.View.{view, items_view, members_view};
 ghost use Rattle.mg_feed.specs.Form.{json_value};
-ghost use Rattle.mg_feed.specs.Code.Frames.{scalar_of};
+ghost use Rattle.mg_feed.specs.Code.PacketLines.{scalar_of};
 
 use crate::whole::whole_by;
 use json::{Reader, Scratch, Token};

@@ -21,7 +21,7 @@ use Rattle.mg_calc.specs.Equations.{Job, outcome_by}
 use Rattle.mg_calc.specs.Meaning.{count_of}
 use Rattle.mg_node.specs.declared.pending.Pending.{Pending}
 use Rattle.mg_node.specs.declared.pending.Pending.TheVariants.{Loop}
-use Rattle.mg_node.specs.Views.{IntakeView, BenchView, EntryView, EngineView}
+use Rattle.mg_node.specs.Views.{IntakeView, ContextView, EntryView, EngineView}
 use Rattle.mg_node.specs.Job.{LoggedJob, main_of, loop_of, answered, stage_by, calls_before_by, log_after}
 use Rattle.mg_node.specs.Lawful.{HoldsWaits, IsIntakeOf, LawfulIntake, is_close, IsRaised, StandForAll, IsIdle, come_to, calls_by, IsEngineOf, LawfulEngine, of_node, AgreeBy}
 use Rattle.mg_node.specs.Claims.{MayClaim, with_answer, TakesAnswer}
@@ -100,8 +100,8 @@ calls_same law streams node m n is = subst (λ (l : Law). calls_before_by l stre
 count_replies : (law : Law) (job : Job) (streams : List (StreamPrefix Plain)) (node : PlanNode) → law ≡ Loopback → (outcome_by law job streams node).taken ≡ length (replies (main_of streams node) (loop_of streams node))
 count_replies law job streams node is = subst (λ (l : Law). (outcome_by l job streams node).taken ≡ length (replies (main_of streams node) (loop_of streams node))) (sym is) refl
 
-idle_on : (job : LoggedJob) (streams : List (StreamPrefix Plain)) (node : PlanNode) (laid : ℕ) (closed : Bool) → node.law ≡ Loopback → closed ≡ false → (bench : BenchView) → IsIdle job streams node laid closed bench → IsIdle job streams node (laid + 1) closed bench
-idle_on job streams node laid closed law going bench idle = record {
+idle_on : (job : LoggedJob) (streams : List (StreamPrefix Plain)) (node : PlanNode) (laid : ℕ) (closed : Bool) → node.law ≡ Loopback → closed ≡ false → (context : ContextView) → IsIdle job streams node laid closed context → IsIdle job streams node (laid + 1) closed context
+idle_on job streams node laid closed law going context idle = record {
   fits = idle.fits;
   places = idle.places;
   state = idle.state ∙ ap (λ (b : Bool). (come_to job streams node laid b).state) going ∙ stage_state node.law job.job streams node laid law ∙ sym (stage_state node.law job.job streams node (laid + 1) law) ∙ ap (λ (b : Bool). (come_to job streams node (laid + 1) b).state) (sym going);
@@ -162,7 +162,7 @@ answered_engine job number engine held r cell next =
       order = omega (arith, order);
       entries = (λ i entry there. absurd (let empty = ap (λ (w : List EntryView). slice_get w i) cell.laid in let nothing : slice_get engine.window i ≡ None = empty in cc));
       idle = All-weaker (IsIdle job h.streams h.node engine.laid engine.closed) (IsIdle job h.streams h.node (engine.laid + 1) engine.closed) (idle_on job h.streams h.node engine.laid engine.closed cell.law cell.going) engine.idle h.idle;
-      benches = h.benches;
+      contexts = h.contexts;
       waits = h.waits;
       ended = h.ended;
     }

@@ -21,14 +21,14 @@ use Rattle.mg_calc.specs.Told.{with_call}
 use Rattle.mg_route.specs.HolderView.{HolderView}
 use Rattle.mg_calc.proofs.Jobs.{any_state, job_known}
 use Rattle.mg_calc.proofs.Outcomes.{opened_keeps}
-use Rattle.mg_node.specs.Views.{BenchView, EngineView}
+use Rattle.mg_node.specs.Views.{ContextView, EngineView}
 use Rattle.mg_value.specs.Extension.{AreExtendedBy}
 use Rattle.mg_calc.specs.declared.node_fault.NodeFault.{NodeFault}
 use Rattle.mg_node.specs.Job.{LoggedJob, Solves, streams_at, stage_by, stage, first_log, calls_before_by, calls_before}
 use Rattle.mg_node.specs.Lawful.{of_node, StandForAll, IsRaised, IsIdle, IsEngineOf, LawfulEngine}
 use Rattle.mg_node.specs.Outputs.{kept_whole}
-use Rattle.mg_node.specs.Fresh.{own_told, bench_of}
-use Rattle.mg_node.specs.Begun.{own_benches, opened_node, HasOpened, IsUnbegun, HasBegun, IsHanded, LawfulUnbegun, IsNew}
+use Rattle.mg_node.specs.Fresh.{own_told, context_of}
+use Rattle.mg_node.specs.Begun.{own_contexts, opened_node, HasOpened, IsUnbegun, HasBegun, IsHanded, LawfulUnbegun, IsNew}
 use Rattle.mg_node.proofs.Making.{some_same}
 use Rattle.mg_node.proofs.Performing.{of_node as at_node}
 use Rattle.mg_node.proofs.Stages.{kind_of, outer_stage, called_stage, called_offset}
@@ -106,7 +106,7 @@ all_replicate : {X : Type 0} (P : X → Type 0) (n : ℕ) (x : X) → (0 < n →
 all_replicate P zero x is = tt
 all_replicate P (suc n) x is = (is (omega arith), all_replicate P n x (λ le. is (omega arith)))
 
-own_idle : (job : LoggedJob) (streams : List (StreamPrefix Plain)) (number : ℕ) (node : PlanNode) → Solves job streams → slice_get job.job.plan.nodes number ≡ Some node → 1 < node.in_flight → IsIdle job streams node 0 false (bench_of node (own_told node))
+own_idle : (job : LoggedJob) (streams : List (StreamPrefix Plain)) (number : ℕ) (node : PlanNode) → Solves job streams → slice_get job.job.plan.nodes number ≡ Some node → 1 < node.in_flight → IsIdle job streams node 0 false (context_of node (own_told node))
 own_idle job streams number node solves there several =
     let nothing : KeepsNothing job node = several_keep_nothing job number node solves.is_job there several in
     let none : Option (Stamped Plain) = None in
@@ -118,7 +118,7 @@ own_idle job streams number node solves there several =
     }
 
 begun_idle : (job : LoggedJob) (streams : List (StreamPrefix Plain)) (number : ℕ) (node : PlanNode) (told now : HolderView) → Solves job streams → IsHanded job number node told → now.state ≡ (opened_node node (sides_of job.job node)).state
-    → now.log ≡ with_call told.log Begun → now.law ≡ told.law → now.shape ≡ told.shape → now.handed ≡ told.handed → IsIdle job streams node 0 false (bench_of node now)
+    → now.log ≡ with_call told.log Begun → now.law ≡ told.law → now.shape ≡ told.shape → now.handed ≡ told.handed → IsIdle job streams node 0 false (context_of node now)
 begun_idle job streams number node told now solves handed state log law shape same =
     let none : Option (Stamped Plain) = None in
     record {
@@ -138,9 +138,9 @@ begun_lawful job streams number node told view solves handed h =
     let flight : FlightFits node = at_node FlightFits job.job.plan.nodes number node solves.is_job.plan.flights there in
     let some = flight.some in
     let prefixes = (opened_keeps node.law (any_state node.law) node.shape.offset (length node.outputs) sides (node_known job streams number node solves there).times).prefixes in
-    let P : BenchView → Type 0 = IsIdle job streams node 0 false in
-    let owns = own_benches node in
-    let told_bench = bench_of node h.now in
+    let P : ContextView → Type 0 = IsIdle job streams node 0 false in
+    let owns = own_contexts node in
+    let told_context = context_of node h.now in
     subst (λ (v : EngineView). IsEngineOf job number v) (sym h.is) (record {
       streams = streams;
       solves = solves;
@@ -158,12 +158,12 @@ begun_lawful job streams number node told view solves handed h =
       fault = ap (λ (o : Outcome). option_map (λ f. (let g : NodeFault = record { node = number; phase = f.phase; cause = f.cause } in g)) o.fault) (sym zero_is);
       order = omega arith;
       entries = (λ i entry at. absurd cc);
-      idle = All-push P owns told_bench
-          (All-from_recursion P owns (all_replicate P (node.in_flight - 1) (bench_of node (own_told node)) (λ le. own_idle job streams number node solves there (omega (arith, le)))))
+      idle = All-push P owns told_context
+          (All-from_recursion P owns (all_replicate P (node.in_flight - 1) (context_of node (own_told node)) (λ le. own_idle job streams number node solves there (omega (arith, le)))))
           (begun_idle job streams number node told h.now solves handed h.state h.log h.law h.shape h.same_handed);
-      benches = omega (arith, some, length-append owns (told_bench ∷ []), length-replicate (node.in_flight - 1) (bench_of node (own_told node)));
+      contexts = omega (arith, some, length-append owns (told_context ∷ []), length-replicate (node.in_flight - 1) (context_of node (own_told node)));
       waits = (λ goes. refl);
-      ended = (λ ended. omega (arith, length-append owns (told_bench ∷ [])));
+      ended = (λ ended. omega (arith, length-append owns (told_context ∷ [])));
     })
 
 -- One that isn't begun.

@@ -26,7 +26,7 @@ use Rattle.mg_calc.specs.Meaning.{last_call, log_of}
 use Rattle.mg_calc.specs.Plan.{FlightFits}
 use Rattle.mg_calc.specs.Told.{CalculatorTold, with_call}
 use Rattle.mg_route.specs.HolderView.{HolderView, told_by}
-use Rattle.mg_node.specs.Views.{IntakeView, BenchView, EntryView, EngineView}
+use Rattle.mg_node.specs.Views.{IntakeView, ContextView, EntryView, EngineView}
 use Rattle.mg_node.specs.Job.{LoggedJob, Solves, sets_of, stage, IsLastWork, first_log, log_after, calls_before}
 use Rattle.mg_node.specs.Lawful.{of_node, come_to, calls_by, IsIdle, IsEngineOf, LawfulEngine, LawfulIntake, Agree}
 use Rattle.mg_node.specs.Claims.{has_ended}
@@ -35,7 +35,7 @@ use Rattle.mg_node.specs.Leaving.{calculators_in, handed_told, first_handed}
 use Rattle.mg_node.specs.Resting.{IsResting, HasCome}
 use Rattle.mg_node.specs.Had.{HadCalls}
 use Rattle.mg_node.proofs.Performing.{of_node as at_node}
-use Rattle.mg_node.proofs.OneCalculator.{one_handed, boxed_some, one_bench}
+use Rattle.mg_node.proofs.OneCalculator.{one_handed, boxed_some, one_context}
 use Rattle.mg_node.proofs.RestingCounts.{HasBecome, rests_become}
 use Rattle.mg_node.proofs.RestingEnds.{of_these}
 use Rattle.mg_node.proofs.Stages.{outer_stage, outer_last}
@@ -126,28 +126,28 @@ close_had true number None close earlier = refl
 close_had false number None close earlier = refl
 close_had closed number (Some f) close earlier = at_phase closed f.phase number f.cause close earlier
 
--- The one bench of such a node is idle at rest.
+-- The one context of such a node is idle at rest.
 
-pub record HasOneBench (job : LoggedJob) (streams : List (StreamPrefix Plain)) (node : PlanNode) (engine : EngineView) : Type 0 where
-  pub bench : BenchView
-  pub idle : engine.idle ≡ bench ∷ []
+pub record HasOneContext (job : LoggedJob) (streams : List (StreamPrefix Plain)) (node : PlanNode) (engine : EngineView) : Type 0 where
+  pub context : ContextView
+  pub idle : engine.idle ≡ context ∷ []
   pub window : engine.window ≡ []
-  pub is : IsIdle job streams node engine.laid engine.closed bench
+  pub is : IsIdle job streams node engine.laid engine.closed context
 
 pub boxed_one : (job : LoggedJob) (number : ℕ) (engine : EngineView) (h : IsEngineOf job number engine) → is_some h.node.box_number ≡ true → length engine.idle + length engine.window ≡ 1
 boxed_one job number engine h boxed =
     let flight : FlightFits h.node = at_node FlightFits job.job.plan.nodes number h.node h.solves.is_job.plan.flights h.there in
-    h.benches ∙ h.set_up.in_flight ∙ flight.boxed (boxed_some h.node.box_number boxed)
+    h.contexts ∙ h.set_up.in_flight ∙ flight.boxed (boxed_some h.node.box_number boxed)
 
-pub bench_is : (job : LoggedJob) (number : ℕ) (engine : EngineView) (h : IsEngineOf job number engine) (bench : BenchView) → engine.idle ≡ bench ∷ [] → engine.window ≡ [] → HasOneBench job h.streams h.node engine
-bench_is job number engine h bench idle window =
-    let P : BenchView → Type 0 = IsIdle job h.streams h.node engine.laid engine.closed in
-    let all : AllByRecursion P (bench ∷ []) = subst (AllByRecursion P) idle (recursion_from_All P engine.idle h.idle) in
-    record { bench = bench; idle = idle; window = window; is = all.0 }
+pub context_is : (job : LoggedJob) (number : ℕ) (engine : EngineView) (h : IsEngineOf job number engine) (context : ContextView) → engine.idle ≡ context ∷ [] → engine.window ≡ [] → HasOneContext job h.streams h.node engine
+context_is job number engine h context idle window =
+    let P : ContextView → Type 0 = IsIdle job h.streams h.node engine.laid engine.closed in
+    let all : AllByRecursion P (context ∷ []) = subst (AllByRecursion P) idle (recursion_from_All P engine.idle h.idle) in
+    record { context = context; idle = idle; window = window; is = all.0 }
 
-pub one_idle : (job : LoggedJob) (number : ℕ) (engine : EngineView) (h : IsEngineOf job number engine) → is_some h.node.box_number ≡ true → (has_ended engine ≡ true) ⊎ (engine.window ≡ []) → HasOneBench job h.streams h.node engine
-one_idle job number engine h boxed rests = elim (one_bench engine.idle engine.window (boxed_one job number engine h boxed)) [
-  | inl b ↦ bench_is job number engine h b.0 b.1 b.2
+pub one_idle : (job : LoggedJob) (number : ℕ) (engine : EngineView) (h : IsEngineOf job number engine) → is_some h.node.box_number ≡ true → (has_ended engine ≡ true) ⊎ (engine.window ≡ []) → HasOneContext job h.streams h.node engine
+one_idle job number engine h boxed rests = elim (one_context engine.idle engine.window (boxed_one job number engine h boxed)) [
+  | inl b ↦ context_is job number engine h b.0 b.1 b.2
   | inr e ↦ elim rests [
     | inl ended ↦ absurd (let some = h.ended ended in let none = ap length e.1 in omega (arith, some, none))
     | inr empty ↦ absurd (let clash : [] ≡ e.0 ∷ [] = sym empty ∙ e.2 in cc)
@@ -156,45 +156,45 @@ one_idle job number engine h boxed rests = elim (one_bench engine.idle engine.wi
 
 -- The engine is wound up.
 
-pub record EndsAs (bench : BenchView) (lacks : Bool) (now : EngineView) : Type 0 where
+pub record EndsAs (context : ContextView) (lacks : Bool) (now : EngineView) : Type 0 where
   pub told : HolderView
   pub found : first_handed now ≡ Some (told_by told)
-  pub log : told.log ≡ option_map (λ calls. calls ++ finish_if lacks) bench.told.log
-  pub state : told.state ≡ bench.told.state
-  pub law : told.law ≡ bench.told.law
-  pub shape : told.shape ≡ bench.told.shape
+  pub log : told.log ≡ option_map (λ calls. calls ++ finish_if lacks) context.told.log
+  pub state : told.state ≡ context.told.state
+  pub law : told.law ≡ context.told.law
+  pub shape : told.shape ≡ context.told.shape
 
-pub first_of : (engine : EngineView) (bench : BenchView) → engine.idle ≡ bench ∷ [] → engine.window ≡ [] → bench.told.handed ≡ true → first_handed engine ≡ Some (told_by bench.told)
-first_of engine bench idle window handed =
-    let only : calculators_in engine ≡ bench.told ∷ [] = ap₂ (λ (bs : List BenchView) (es : List EntryView). calculators_in (record engine { idle = bs; window = es })) idle window in
-    ap (λ (hs : List HolderView). slice_get (filter_map handed_told hs) 0) only ∙ ap (λ (ts : List CalculatorTold). slice_get ts 0) (one_handed bench.told handed)
+pub first_of : (engine : EngineView) (context : ContextView) → engine.idle ≡ context ∷ [] → engine.window ≡ [] → context.told.handed ≡ true → first_handed engine ≡ Some (told_by context.told)
+first_of engine context idle window handed =
+    let only : calculators_in engine ≡ context.told ∷ [] = ap₂ (λ (bs : List ContextView) (es : List EntryView). calculators_in (record engine { idle = bs; window = es })) idle window in
+    ap (λ (hs : List HolderView). slice_get (filter_map handed_told hs) 0) only ∙ ap (λ (ts : List CalculatorTold). slice_get ts 0) (one_handed context.told handed)
 
 pub none_more : (log : Option (List Call)) → log ≡ option_map (λ calls. calls ++ []) log
 none_more None = refl
 none_more (Some calls) = ap Some (sym (append-nil calls))
 
-pub ends_as : (engine now : EngineView) (bench : BenchView) (lacks : Bool) → lacks_close engine ≡ lacks → engine.idle ≡ bench ∷ [] → engine.window ≡ [] → bench.told.handed ≡ true → WindsUp engine now → EndsAs bench lacks now
-ends_as engine now bench false lacks idle window handed winds = record {
-  told = bench.told;
-  found = ap first_handed (winds.had_close lacks) ∙ first_of engine bench idle window handed;
-  log = none_more bench.told.log;
+pub ends_as : (engine now : EngineView) (context : ContextView) (lacks : Bool) → lacks_close engine ≡ lacks → engine.idle ≡ context ∷ [] → engine.window ≡ [] → context.told.handed ≡ true → WindsUp engine now → EndsAs context lacks now
+ends_as engine now context false lacks idle window handed winds = record {
+  told = context.told;
+  found = ap first_handed (winds.had_close lacks) ∙ first_of engine context idle window handed;
+  log = none_more context.told.log;
   state = refl;
   law = refl;
   shape = refl;
 }
-ends_as engine now bench true lacks idle window handed winds =
+ends_as engine now context true lacks idle window handed winds =
     let some : 0 < length engine.idle = (let one = ap length idle in omega (arith, one)) in
     let f : FinishesLast engine now = winds.finishes lacks some in
-    let cut = same_from_push f.others [] f.bench bench (sym f.idle ∙ idle) in
-    let last : f.finished.told.handed ≡ true = f.is_finished.same_handed ∙ ap (λ (b : BenchView). b.told.handed) cut.1 ∙ handed in
-    let is : now ≡ record engine { idle = f.finished ∷ [] } = f.is ∙ ap (λ (bs : List BenchView). (let e : EngineView = record engine { idle = bs ++ f.finished ∷ [] } in e)) cut.0 in
+    let cut = same_from_push f.others [] f.context context (sym f.idle ∙ idle) in
+    let last : f.finished.told.handed ≡ true = f.is_finished.same_handed ∙ ap (λ (b : ContextView). b.told.handed) cut.1 ∙ handed in
+    let is : now ≡ record engine { idle = f.finished ∷ [] } = f.is ∙ ap (λ (bs : List ContextView). (let e : EngineView = record engine { idle = bs ++ f.finished ∷ [] } in e)) cut.0 in
     record {
       told = f.finished.told;
       found = ap first_handed is ∙ first_of (record engine { idle = f.finished ∷ [] }) f.finished refl window last;
-      log = f.is_finished.log ∙ ap (λ (b : BenchView). with_call b.told.log Finished) cut.1;
-      state = f.is_finished.state ∙ ap (λ (b : BenchView). b.told.state) cut.1;
-      law = f.is_finished.law ∙ ap (λ (b : BenchView). b.told.law) cut.1;
-      shape = f.is_finished.shape ∙ ap (λ (b : BenchView). b.told.shape) cut.1;
+      log = f.is_finished.log ∙ ap (λ (b : ContextView). with_call b.told.log Finished) cut.1;
+      state = f.is_finished.state ∙ ap (λ (b : ContextView). b.told.state) cut.1;
+      law = f.is_finished.law ∙ ap (λ (b : ContextView). b.told.law) cut.1;
+      shape = f.is_finished.shape ∙ ap (λ (b : ContextView). b.told.shape) cut.1;
     }
 
 -- All calls are had.
@@ -216,7 +216,7 @@ had_by job number engine now h boxed outer rests become winds =
     let fault = (outcome_of job.job streams node).fault in
     let lacks = not closed && closes_despite engine.fault in
     let one = one_idle job number engine h boxed rests in
-    let end = ends_as engine now one.bench lacks (ap (λ (b : Bool). b && not closed && closes_despite engine.fault) h.begun) one.idle one.window (one.is.fits.same_handed ∙ boxed) winds in
+    let end = ends_as engine now one.context lacks (ap (λ (b : Bool). b && not closed && closes_despite engine.fault) h.begun) one.idle one.window (one.is.fits.same_handed ∙ boxed) winds in
     let early : closed ≡ false → IsNotIn Close fault = λ goes.
     same_not_in number (come_to job streams node laid closed).fault fault (sym h.fault ∙ become.fault) (subst (λ (b : Bool). IsNotIn Close (come_to job streams node laid b).fault) (sym goes) (stage_earlier job.job streams node laid outer)) in
     let last : finish_if closed ++ finish_if lacks ≡ last_call fault =

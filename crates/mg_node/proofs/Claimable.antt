@@ -16,7 +16,7 @@ use Rattle.mg_node.specs.declared.role.Role.{Role}
 use Rattle.mg_node.specs.declared.role.Role.TheVariants.{Input, Sets as SetsRole}
 use Rattle.mg_node.specs.declared.pending.Pending.{Pending}
 use Rattle.mg_node.specs.declared.pending.Pending.TheVariants.{Sets, Loop}
-use Rattle.mg_node.specs.Views.{IntakeView, BenchView, EngineView}
+use Rattle.mg_node.specs.Views.{IntakeView, ContextView, EngineView}
 use Rattle.mg_node.specs.Ports.{ports_in, IsNext}
 use Rattle.mg_node.specs.Intakes.{HasSets, SomeJobHasIntake}
 use Rattle.mg_node.specs.Job.{LoggedJob, role_of}
@@ -59,18 +59,18 @@ cell_sets_by job number engine intake h i role = sets_by job number intake.claim
 pub cell_sets : (engine : EngineView) (intake : IntakeView) → AreCell engine intake → engine.role ≡ SetsRole → HasSets intake.waits
 cell_sets engine intake cell role = cell_sets_by cell.job cell.number engine intake cell.lawful_engine cell.lawful_intake role
 
--- the last bench has a place for each port
-cell_places_by : (job : LoggedJob) (number : ℕ) (engine : EngineView) (intake : IntakeView) (rest : List BenchView) (bench : BenchView) → LawfulEngine job (of_node number) engine → LawfulIntake job number intake → engine.idle ≡ rest ++ bench ∷ []
-    → length bench.set ≡ ports_in intake.waits
+-- the last context has a place for each port
+cell_places_by : (job : LoggedJob) (number : ℕ) (engine : EngineView) (intake : IntakeView) (rest : List ContextView) (context : ContextView) → LawfulEngine job (of_node number) engine → LawfulIntake job number intake → engine.idle ≡ rest ++ context ∷ []
+    → length context.set ≡ ports_in intake.waits
 unfolding LawfulEngine LawfulIntake
-cell_places_by job number engine intake rest bench h i idle =
-    let P : BenchView → Type 0 = IsIdle job h.streams h.node engine.laid engine.closed in
-    let last : AllByRecursion P (bench ∷ []) = last_have P rest (bench ∷ []) (subst (AllByRecursion P) idle (recursion_from_All P engine.idle h.idle)) in
+cell_places_by job number engine intake rest context h i idle =
+    let P : ContextView → Type 0 = IsIdle job h.streams h.node engine.laid engine.closed in
+    let last : AllByRecursion P (context ∷ []) = last_have P rest (context ∷ []) (subst (AllByRecursion P) idle (recursion_from_All P engine.idle h.idle)) in
     last.0.places ∙ sym (ports_long job i.streams number intake.claimed intake.waits i.holds
     ∙ ap (λ (o : Option PlanNode). length (unwrap_or (option_map (λ n. n.inputs) o) job.job.plan.outputs)) h.there)
 
-pub cell_places : (engine : EngineView) (intake : IntakeView) (rest : List BenchView) (bench : BenchView) → AreCell engine intake → engine.idle ≡ rest ++ bench ∷ [] → length bench.set ≡ ports_in intake.waits
-cell_places engine intake rest bench cell idle = cell_places_by cell.job cell.number engine intake rest bench cell.lawful_engine cell.lawful_intake idle
+pub cell_places : (engine : EngineView) (intake : IntakeView) (rest : List ContextView) (context : ContextView) → AreCell engine intake → engine.idle ≡ rest ++ context ∷ [] → length context.set ≡ ports_in intake.waits
+cell_places engine intake rest context cell idle = cell_places_by cell.job cell.number engine intake rest context cell.lawful_engine cell.lawful_intake idle
 
 -- a next set is one more than are claimed, and there are no more sets than times
 some_next : (o : Option (TimedSet Plain)) (at : ℕ) → IsSomeAnd o (λ e. e.at ≡ at) → (e : TimedSet Plain) × (o ≡ Some e)

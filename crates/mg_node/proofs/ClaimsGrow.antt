@@ -12,7 +12,7 @@ use Rattle.mg_node.specs.declared.claimed.Claimed.{Claimed}
 use Rattle.mg_node.specs.declared.claimed.Claimed.TheVariants.{Work, Answered, NotReady, InFlightFull, Draining, Ended, OutOfMemory}
 use Rattle.mg_node.specs.declared.pending.Pending.{Pending}
 use Rattle.mg_node.specs.declared.pending.Pending.TheVariants.{Loop}
-use Rattle.mg_node.specs.Views.{IntakeView, BenchView, EngineView}
+use Rattle.mg_node.specs.Views.{IntakeView, ContextView, EngineView}
 use Rattle.mg_node.specs.Lawful.{AreCell}
 use Rattle.mg_node.specs.Ports.{port_queue}
 use Rattle.mg_node.specs.Claims.{with_reply, with_answer, AreSame, MayClaim, Hands, TakesAnswer, Claims}
@@ -30,8 +30,8 @@ pub record CellGrows (engine engine_now : EngineView) (intake intake_now : Intak
 both_same : (engine engine_now : EngineView) (intake intake_now : IntakeView) → AreSame engine intake engine_now intake_now → CellGrows engine engine_now intake intake_now
 both_same engine engine_now intake intake_now s = record { engine_grows = engine_same engine engine_now s.same_engine; intake_grows = intake_same intake intake_now s.same_intake }
 
-hands_grow : (engine engine_now : EngineView) (phase : Phase) (more : ℕ) (bench : BenchView) → Hands engine engine_now phase more bench → EngineGrows engine engine_now
-hands_grow engine engine_now phase more bench h =
+hands_grow : (engine engine_now : EngineView) (phase : Phase) (more : ℕ) (context : ContextView) → Hands engine engine_now phase more context → EngineGrows engine engine_now
+hands_grow engine engine_now phase more context h =
     subst (λ (v : EngineView). EngineGrows engine v) (sym h.now) (record { laid = omega arith; claimed = omega arith; ended = (λ e. e); outputs = (λ output. grown_by_itself _) })
 
 -- an answer that is laid; the packet may come there

@@ -26,7 +26,7 @@ use Rattle.mg_calc.proofs.Solutions.{one_solution}
 use Rattle.mg_node.specs.declared.role.Role.TheVariants.{Source, Sets as SetsRole}
 use Rattle.mg_node.specs.declared.pending.Pending.{Pending}
 use Rattle.mg_node.specs.declared.pending.Pending.TheVariants.{Sets, Loop}
-use Rattle.mg_node.specs.Views.{IntakeView, BenchView, WorkView, OutcomeView, EntryView, EngineView}
+use Rattle.mg_node.specs.Views.{IntakeView, ContextView, WorkView, OutcomeView, EntryView, EngineView}
 use Rattle.mg_node.specs.Ports.{IsNext}
 use Rattle.mg_node.specs.Intakes.{next_set_of}
 use Rattle.mg_node.specs.Job.{LoggedJob, IsTask, count_of_all, count_by, sets_of, role_of, policy_of, ports_of, streams_at}
@@ -71,7 +71,7 @@ unrun_engine : (job : LoggedJob) (number : ℕ) (engine : EngineView) (place : �
     → IsEngineOf job number (record engine { window = set engine.window place (out_of entry) })
 unrun_engine job number engine place entry h there =
     let order = h.order in
-    let benches = h.benches in
+    let contexts = h.contexts in
     record {
       streams = h.streams;
       solves = h.solves;
@@ -97,7 +97,7 @@ unrun_engine job number engine place entry h there =
             (record { set = e.set; task = e.task; outcome = tt; committed = (λ c. absurd cc); close = e.close })))
       ]);
       idle = h.idle;
-      benches = omega (arith, benches, length-set engine.window place (out_of entry));
+      contexts = omega (arith, contexts, length-set engine.window place (out_of entry));
       waits = (λ goes. set_waits engine.window place (out_of entry) refl (h.waits goes));
       ended = h.ended;
     }
@@ -196,19 +196,19 @@ unrun_lawful job number engine engine_now work h t =
       unrun_work job number engine t.place hands.entry work h hands.there hands.outcome,
     )
 
--- of a work that is handed out with a bench
-pub hands_places : (job : LoggedJob) (number : ℕ) (engine engine_now : EngineView) (phase : Phase) (more : ℕ) (bench : BenchView) (h : IsEngineOf job number engine) → Hands engine engine_now phase more bench → length bench.set ≡ length h.node.inputs
-hands_places job number engine engine_now phase more bench h t =
-    let P : BenchView → Type 0 = IsIdle job h.streams h.node engine.laid engine.closed in
-    let last : AllByRecursion P (bench ∷ []) = last_have P engine_now.idle (bench ∷ []) (subst (AllByRecursion P) t.idle (recursion_from_All P engine.idle h.idle)) in
+-- of a work that is handed out with a context
+pub hands_places : (job : LoggedJob) (number : ℕ) (engine engine_now : EngineView) (phase : Phase) (more : ℕ) (context : ContextView) (h : IsEngineOf job number engine) → Hands engine engine_now phase more context → length context.set ≡ length h.node.inputs
+hands_places job number engine engine_now phase more context h t =
+    let P : ContextView → Type 0 = IsIdle job h.streams h.node engine.laid engine.closed in
+    let last : AllByRecursion P (context ∷ []) = last_have P engine_now.idle (context ∷ []) (subst (AllByRecursion P) t.idle (recursion_from_All P engine.idle h.idle)) in
     last.0.places
 
-pub hands_lawful : (job : LoggedJob) (number : ℕ) (engine engine_now : EngineView) (phase : Phase) (more : ℕ) (bench : BenchView) (set : List (Option (Stamped Plain))) (work : WorkView) (h : IsEngineOf job number engine) → MayClaim engine → Hands engine engine_now phase more bench
+pub hands_lawful : (job : LoggedJob) (number : ℕ) (engine engine_now : EngineView) (phase : Phase) (more : ℕ) (context : ContextView) (set : List (Option (Stamped Plain))) (work : WorkView) (h : IsEngineOf job number engine) → MayClaim engine → Hands engine engine_now phase more context
     → IsTask job.job h.streams h.node engine.claimed phase set → number_of (λ e. is_close e.phase) engine.window ≡ 0 → more + (if is_close phase then 1 else 0) ≡ 1 → (phase ≡ Close → engine.claimed ≡ engine.laid) → length set ≡ length h.node.inputs
-    → work ≡ record { node = engine.node; number = engine.claimed; phase = phase; bench = record { told = bench.told; set = set } } → IsEngineOf job number engine_now × LawfulWork job work
-hands_lawful job number engine engine_now phase more bench set work h may t task none one close places is = (
-  subst (λ (e : EngineView). IsEngineOf job number e) (sym t.now) (handed_engine job number engine phase more bench engine_now.idle set h may.goes t.idle task none one close),
-  subst (λ (w : WorkView). LawfulWork job w) (sym is) (handed_work job number engine phase bench engine_now.idle set h t.idle (not_first engine.closed (is_some engine.fault) may.goes) may.room none places task),
+    → work ≡ record { node = engine.node; number = engine.claimed; phase = phase; context = record { told = context.told; set = set } } → IsEngineOf job number engine_now × LawfulWork job work
+hands_lawful job number engine engine_now phase more context set work h may t task none one close places is = (
+  subst (λ (e : EngineView). IsEngineOf job number e) (sym t.now) (handed_engine job number engine phase more context engine_now.idle set h may.goes t.idle task none one close),
+  subst (λ (w : WorkView). LawfulWork job w) (sym is) (handed_work job number engine phase context engine_now.idle set h t.idle (not_first engine.closed (is_some engine.fault) may.goes) may.room none places task),
 )
 
 pub call_lawful : (job : LoggedJob) (number : ℕ) (engine engine_now : EngineView) (work : WorkView) → LawfulEngine job (of_node number) engine → MayClaim engine → TakesCall engine engine_now work → LawfulEngine job (of_node number) engine_now × LawfulWork job work
@@ -219,17 +219,17 @@ call_lawful job number engine engine_now work h may t =
     let count = count_calls h.node.law h.streams h.node law.0 in
     let calls = law.1 in
     let none = none_closes job number engine h (omega (arith, more, count, calls)) in
-    hands_lawful job number engine engine_now (Call engine.claimed) 1 t.bench t.bench.set work h may t.hands (law.0, refl, omega (arith, more, calls)) none refl (λ e. absurd cc)
-    (hands_places job number engine engine_now (Call engine.claimed) 1 t.bench h t.hands) t.work_is
+    hands_lawful job number engine engine_now (Call engine.claimed) 1 t.context t.context.set work h may t.hands (law.0, refl, omega (arith, more, calls)) none refl (λ e. absurd cc)
+    (hands_places job number engine engine_now (Call engine.claimed) 1 t.context h t.hands) t.work_is
 
 pub set_lawful : (job : LoggedJob) (number : ℕ) (engine engine_now : EngineView) (intake intake_now : IntakeView) (work : WorkView) → LawfulEngine job (of_node number) engine → LawfulIntake job number intake → engine.claimed ≡ intake.claimed → MayClaim engine
     → TakesSet engine engine_now intake intake_now work → LawfulEngine job (of_node number) engine_now × LawfulWork job work
 unfolding LawfulEngine LawfulIntake
 set_lawful job number engine engine_now intake intake_now work h i agree may t =
-    let task = set_task job number engine intake t.at work.bench.set h i t.role agree t.next t.takes.shown in
-    let none = none_closes job number engine h (more_sets job number engine t.at work.bench.set h t.role task) in
-    let long : length work.bench.set ≡ length (inputs_of h.streams h.node) = set_long h.node h.streams engine.claimed t.at work.bench.set task.1 in
-    hands_lawful job number engine engine_now (Process t.at) 1 t.bench work.bench.set work h may t.hands task none refl (λ e. absurd cc) (long ∙ length-map h.node.inputs (stream_of h.streams)) t.work_is
+    let task = set_task job number engine intake t.at work.context.set h i t.role agree t.next t.takes.shown in
+    let none = none_closes job number engine h (more_sets job number engine t.at work.context.set h t.role task) in
+    let long : length work.context.set ≡ length (inputs_of h.streams h.node) = set_long h.node h.streams engine.claimed t.at work.context.set task.1 in
+    hands_lawful job number engine engine_now (Process t.at) 1 t.context work.context.set work h may t.hands task none refl (λ e. absurd cc) (long ∙ length-map h.node.inputs (stream_of h.streams)) t.work_is
   where
     set_long : (node : PlanNode) (streams : List (StreamPrefix Plain)) (k at : ℕ) (set : List (Option (Stamped Plain))) → slice_get (sets_of streams node) k ≡ Some (record { at = at; set = set }) → length set ≡ length (inputs_of streams node)
     set_long node streams k at set is = at_node (λ (e : TimedSet Plain). length e.set ≡ length (inputs_of streams node)) (sets_of streams node) k (record { at = at; set = set }) (sets-places node.policy (inputs_of streams node)) is

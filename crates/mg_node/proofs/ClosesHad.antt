@@ -24,16 +24,16 @@ use Rattle.mg_calc.specs.Shape.{IsOuter}
 use Rattle.mg_calc.specs.Meaning.{count_of}
 use Rattle.mg_calc.specs.Told.{CalculatorTold, with_call}
 use Rattle.mg_route.specs.HolderView.{HolderView, FitsHolder, told_by}
-use Rattle.mg_node.specs.Views.{BenchView, WorkView, OutcomeView, EntryView, EngineView}
+use Rattle.mg_node.specs.Views.{ContextView, WorkView, OutcomeView, EntryView, EngineView}
 use Rattle.mg_node.specs.Job.{LoggedJob, Solves, sets_of, count_of_all, stage, IsTask, first_log, log_after, calls_before, calls_in}
 use Rattle.mg_node.specs.Lawful.{of_node, HasAnswered, answer_in, come_to, is_close, LawfulOutcome, StandsAt, IsEntry, IsEngineOf, LawfulEngine}
 use Rattle.mg_node.specs.Claims.{has_ended}
 use Rattle.mg_node.specs.WindingUp.{closes_after, closes_despite, lacks_close, was_closed, ClosesWork, FinishesWork, FinishesBack, FinishesEntry, FinishesFirst, FinishesFront, WindsUp}
 use Rattle.mg_node.specs.Leaving.{calculator_in, calculators_in, handed_told, first_handed}
 use Rattle.mg_node.specs.Had.{HadFront, FailsToOpen, HadClose}
-use Rattle.mg_node.proofs.CallsHad.{IsNotIn, unless_not_in, sets_not_in, stage_earlier, finish_if, boxed_one, bench_is, first_of, more_calls, EndsAs, ends_as}
+use Rattle.mg_node.proofs.CallsHad.{IsNotIn, unless_not_in, sets_not_in, stage_earlier, finish_if, boxed_one, context_is, first_of, more_calls, EndsAs, ends_as}
 use Rattle.mg_node.proofs.Closing.{second_not}
-use Rattle.mg_node.proofs.OneCalculator.{one_handed, one_bench}
+use Rattle.mg_node.proofs.OneCalculator.{one_handed, one_context}
 use Rattle.mg_node.proofs.RestingEnds.{most_counted, of_these}
 use Rattle.mg_node.proofs.Stages.{failed_is_all, outer_stage, outer_outcome, sets_in_parts}
 use Rattle.mg_node.proofs.StatesKept.{next_state, finish_state, come_state}
@@ -109,10 +109,10 @@ never_both : (b : Bool) → (b && false) ≡ false
 never_both true = refl
 never_both false = refl
 
-closes_of : (before now : OutcomeView) → ClosesWork before now → Closes before.work.bench.told now.work.bench.told
+closes_of : (before now : OutcomeView) → ClosesWork before now → Closes before.work.context.told now.work.context.told
 closes_of before now c =
     let f = c.is_finished in
-    let is : now.work.bench.told ≡ c.finished.told = ap (λ (o : OutcomeView). o.work.bench.told) c.is in
+    let is : now.work.context.told ≡ c.finished.told = ap (λ (o : OutcomeView). o.work.context.told) c.is in
     record {
       log = ap (λ (h : HolderView). h.log) is ∙ f.log;
       state = ap (λ (h : HolderView). h.state) is ∙ f.state;
@@ -121,20 +121,20 @@ closes_of before now c =
       same_handed = ap (λ (h : HolderView). h.handed) is ∙ f.same_handed;
     }
 
-told_same : (before now : OutcomeView) → now ≡ before → now.work.bench.told ≡ before.work.bench.told
-told_same before now is = ap (λ (o : OutcomeView). o.work.bench.told) is
+told_same : (before now : OutcomeView) → now ≡ before → now.work.context.told ≡ before.work.context.told
+told_same before now is = ap (λ (o : OutcomeView). o.work.context.told) is
 
 work_closed : (job : LoggedJob) (streams : List (StreamPrefix Plain)) (number : ℕ) (node : PlanNode) (work : WorkView) (answer : Option (Result (List Laid) Cause)) (now : OutcomeView) → Solves job streams → slice_get job.job.plan.nodes number ≡ Some node → IsOuter node.law
     → AtWork job (record { work = work; answer = answer }) streams node → work.number ≤ count_of job.job streams node → (work.number < count_of_all streams node → work.number + 1 ≤ count_of job.job streams node) → (stage job.job streams node work.number).fault ≡ None
-    → FinishesWork (record { work = work; answer = answer }) now → HadClose job streams node (told_by now.work.bench.told)
+    → FinishesWork (record { work = work; answer = answer }) now → HadClose job streams node (told_by now.work.context.told)
 work_closed job streams number node work None now solves there outer w le more good f =
-    closed_after job streams node work.bench.told now.work.bench.told work.number outer w.0 le w.2.1 w.2.0 (good_open job.job streams node work.number outer good) (closes_of (record { work = work; answer = None }) now (f.closes (never_both (is_close work.phase))))
+    closed_after job streams node work.context.told now.work.context.told work.number outer w.0 le w.2.1 w.2.0 (good_open job.job streams node work.number outer good) (closes_of (record { work = work; answer = None }) now (f.closes (never_both (is_close work.phase))))
 work_closed job streams number node work (Some answer) now solves there outer w le more good f =
-    phase_closed job streams number node work.bench.told now.work.bench.told work.number work.phase work.bench.set answer solves there outer w.0 w.1 le more good w.2.0 w.2.1 (λ is. closes_of (record { work = work; answer = Some answer }) now (f.closes is))
+    phase_closed job streams number node work.context.told now.work.context.told work.number work.phase work.context.set answer solves there outer w.0 w.1 le more good w.2.0 w.2.1 (λ is. closes_of (record { work = work; answer = Some answer }) now (f.closes is))
     (λ is. told_same (record { work = work; answer = Some answer }) now (f.had is))
 
 -- that of the one work in a window
-pub held_after : (before now : OutcomeView) → FinishesWork before now → now.work.bench.told.handed ≡ before.work.bench.told.handed
+pub held_after : (before now : OutcomeView) → FinishesWork before now → now.work.context.told.handed ≡ before.work.context.told.handed
 held_after before now f = elim (cases_Bool (was_closed before)) [
   | inl is ↦ ap (λ (h : HolderView). h.handed) (told_same before now (f.had is))
   | inr is ↦ (closes_of before now (f.closes is)).same_handed
@@ -142,7 +142,7 @@ held_after before now f = elim (cases_Bool (was_closed before)) [
 
 only_one : (engine : EngineView) (entry : EntryView) (o : Option OutcomeView) → engine.idle ≡ [] → engine.window ≡ entry ∷ [] → entry.outcome ≡ o → calculators_in engine ≡ filter_map calculator_in (record { phase = entry.phase; outcome = o; committed = entry.committed } ∷ [])
 only_one engine entry o idle window out =
-    ap₂ (λ (bs : List BenchView) (es : List EntryView). map (λ b. b.told) bs ++ filter_map calculator_in es) idle window
+    ap₂ (λ (bs : List ContextView) (es : List EntryView). map (λ b. b.told) bs ++ filter_map calculator_in es) idle window
     ∙ ap (λ (x : Option OutcomeView). filter_map calculator_in (record { phase = entry.phase; outcome = x; committed = entry.committed } ∷ [])) out
 
 -- an engine whose one entry may have been finished
@@ -170,7 +170,7 @@ window_closed job number engine engine_now h told entry None boxed outer idle wi
     absurd (let clash : None ≡ Some told = ap (λ (hs : List HolderView). slice_get (filter_map handed_told hs) 0) (sym (only_one engine_now f.entry None f.idle f.window f.back)) ∙ found in cc)
 window_closed job number engine engine_now h told entry (Some o) boxed outer idle window out f found =
     let now : OutcomeView = f.back.0 in
-    let held = now.work.bench.told in
+    let held = now.work.context.told in
     let only : calculators_in engine_now ≡ held ∷ [] = only_one engine_now f.entry (Some now) f.idle f.window f.back.2 in
     let e : IsEntry job h.streams h.node engine.laid (engine.laid + 0) number entry = h.entries 0 entry (ap (λ (es : List EntryView). slice_get es 0) window) in
     let stands : StandsAt job number (engine.laid + 0) entry.phase o = subst (λ (x : Option OutcomeView). IfSome x (λ y. StandsAt job number (engine.laid + 0) entry.phase y)) out e.outcome in
@@ -197,7 +197,7 @@ lacks_going job number engine h idle = elim (cases_Bool (has_ended engine)) [
       ap (λ (b : Bool). b && not engine.closed && closes_despite engine.fault) h.begun ∙ ap₂ (λ (b : Bool) (f : Option NodeFault). true && not b && closes_despite f) on.0 (none_if engine.fault on.1))
 ]
 
--- the one idle bench, where Close was lacking
+-- the one idle context, where Close was lacking
 
 lacks_not : (begun closed other : Bool) → (begun && not closed && other) ≡ true → closed ≡ false
 lacks_not begun false other lacks = refl
@@ -214,15 +214,15 @@ despite_past : (number : ℕ) (fault : Option Failure) → closes_despite (optio
 despite_past number None closes = tt
 despite_past number (Some failure) closes = λ is. absurd (let clash : true ≡ false = sym closes ∙ ap closes_after is in cc)
 
-ended_closed : (job : LoggedJob) (number : ℕ) (engine engine_now : EngineView) (h : IsEngineOf job number engine) (told : CalculatorTold) (bench : BenchView) → is_some h.node.box_number ≡ true → IsOuter h.node.law → engine.idle ≡ bench ∷ [] → engine.window ≡ [] → lacks_close engine ≡ true
+ended_closed : (job : LoggedJob) (number : ℕ) (engine engine_now : EngineView) (h : IsEngineOf job number engine) (told : CalculatorTold) (context : ContextView) → is_some h.node.box_number ≡ true → IsOuter h.node.law → engine.idle ≡ context ∷ [] → engine.window ≡ [] → lacks_close engine ≡ true
     → WindsUp engine engine_now → first_handed engine_now ≡ Some told → HadClose job h.streams h.node told
-ended_closed job number engine engine_now h told bench boxed outer idle window lacks winds found =
-    let one = bench_is job number engine h bench idle window in
-    let end : EndsAs one.bench true engine_now = ends_as engine engine_now one.bench true lacks one.idle one.window (one.is.fits.same_handed ∙ boxed) winds in
+ended_closed job number engine engine_now h told context boxed outer idle window lacks winds found =
+    let one = context_is job number engine h context idle window in
+    let end : EndsAs one.context true engine_now = ends_as engine engine_now one.context true lacks one.idle one.window (one.is.fits.same_handed ∙ boxed) winds in
     let going : engine.closed ≡ false = lacks_not engine.begun engine.closed (closes_despite engine.fault) lacks in
     let fault = h.fault ∙ ap (λ (b : Bool). option_map (λ f. record { node = number; phase = f.phase; cause = f.cause }) (come_to job h.streams h.node engine.laid b).fault) going in
     let past = despite_past number (stage job.job h.streams h.node engine.laid).fault (sym (ap closes_despite fault) ∙ lacks_despite engine.begun engine.closed (closes_despite engine.fault) lacks) in
-    let before : one.bench.told.log ≡ log_after job h.node (calls_before h.streams h.node engine.laid) =
+    let before : one.context.told.log ≡ log_after job h.node (calls_before h.streams h.node engine.laid) =
     one.is.log ∙ ap (λ (b : Bool). log_after job h.node (calls_before h.streams h.node engine.laid ++ finish_if b)) going ∙ ap (log_after job h.node) (append-nil (calls_before h.streams h.node engine.laid)) in
     let log : end.told.log ≡ log_after job h.node (calls_before h.streams h.node engine.laid ++ finish_if true) =
     end.log ∙ ap (option_map (λ calls. calls ++ finish_if true)) before ∙ more_calls (first_log job h.node) (calls_before h.streams h.node engine.laid) (finish_if true) in
@@ -267,14 +267,14 @@ open_failed job streams node number n f (Some g) outer le stage_is is after =
       in_open = open_phase g.phase (ap closes_after (sym same) ∙ after) earlier;
     }
 
-idle_closed : (job : LoggedJob) (number : ℕ) (engine : EngineView) (h : IsEngineOf job number engine) (told : CalculatorTold) (bench : BenchView) → is_some h.node.box_number ≡ true → IsOuter h.node.law → engine.idle ≡ bench ∷ [] → engine.window ≡ [] → lacks_close engine ≡ false
+idle_closed : (job : LoggedJob) (number : ℕ) (engine : EngineView) (h : IsEngineOf job number engine) (told : CalculatorTold) (context : ContextView) → is_some h.node.box_number ≡ true → IsOuter h.node.law → engine.idle ≡ context ∷ [] → engine.window ≡ [] → lacks_close engine ≡ false
     → first_handed engine ≡ Some told → HadClose job h.streams h.node told
-idle_closed job number engine h told bench boxed outer idle window lacks found =
-    let one = bench_is job number engine h bench idle window in
-    let held = one.bench.told in
+idle_closed job number engine h told context boxed outer idle window lacks found =
+    let one = context_is job number engine h context idle window in
+    let held = one.context.told in
     let state : held.state ≡ (stage job.job h.streams h.node engine.laid).state = one.is.state ∙ come_state job h.streams h.node engine.laid engine.closed outer h.closed in
     let why = lacks_why engine.closed engine.fault (sym (ap (λ (b : Bool). b && not engine.closed && closes_despite engine.fault) h.begun) ∙ lacks) in
-    subst (HadClose job h.streams h.node) (found_is engine held told (first_of engine one.bench one.idle one.window (one.is.fits.same_handed ∙ boxed)) found)
+    subst (HadClose job h.streams h.node) (found_is engine held told (first_of engine one.context one.idle one.window (one.is.fits.same_handed ∙ boxed)) found)
     (elim why [
       | inl is ↦
           close_by job h.streams h.node held engine.laid outer one.is.fits h.taken (one.is.log ∙ ap (λ (b : Bool). log_after job h.node (calls_before h.streams h.node engine.laid ++ finish_if b)) is) state
@@ -292,7 +292,7 @@ idle_closed job number engine h told bench boxed outer idle window lacks found =
     ])
 
 closed_by : (job : LoggedJob) (number : ℕ) (engine engine_now : EngineView) (h : IsEngineOf job number engine) (told : CalculatorTold) → is_some h.node.box_number ≡ true → IsOuter h.node.law → WindsUp engine engine_now → first_handed engine_now ≡ Some told → HadClose job h.streams h.node told
-closed_by job number engine engine_now h told boxed outer winds found = elim (one_bench engine.idle engine.window (boxed_one job number engine h boxed)) [
+closed_by job number engine engine_now h told boxed outer winds found = elim (one_context engine.idle engine.window (boxed_one job number engine h boxed)) [
   | inl b ↦ elim (cases_Bool (lacks_close engine)) [
     | inr had ↦ idle_closed job number engine h told b.0 boxed outer b.1 b.2 had (sym (ap first_handed (winds.had_close had)) ∙ found)
     | inl lacks ↦ ended_closed job number engine engine_now h told b.0 boxed outer b.1 b.2 lacks winds found

@@ -221,4 +221,4 @@ close_lawful job number engine engine_now intake work h i agree may t =
       good = ap (λ (k : ℕ). (stage job.job h.streams h.node k).fault) (sym laid) ∙ stage_good;
       over = all.1;
     } in
-    hands_lawful job number engine engine_now Close 0 t.bench t.bench.set work h may t.hands last none refl (λ e. sym laid) (hands_places job number engine engine_now Close 0 t.bench h t.hands) t.work_is
+    hands_lawful job number engine engine_now Close 0 t.context t.context.set work h may t.hands last none refl (λ e. sym laid) (hands_places job number engine engine_now Close 0 t.context h t.hands) t.work_is

@@ -29,7 +29,7 @@ ready_is true o p e = performed_is o p e
 ready_is false o p e = absurd cc
 
 module _ (job : LoggedJob) (streams : List (StreamPrefix Plain)) (number : ℕ) (node : PlanNode) (solves : Solves job streams) (there : slice_get job.job.plan.nodes number ≡ Some node) (claimed : ℕ) where
-  first_done : (front : Front) (entry : EntryView) (entries : List EntryView) (p : PerformedView) → IsFrontOf job streams node number claimed front → front.window ≡ entry ∷ entries → ready_of entry ≡ Some p → IsDone job streams node front.laid entry.phase p.work.bench p.answer
+  first_done : (front : Front) (entry : EntryView) (entries : List EntryView) (p : PerformedView) → IsFrontOf job streams node number claimed front → front.window ≡ entry ∷ entries → ready_of entry ≡ Some p → IsDone job streams node front.laid entry.phase p.work.context p.answer
   first_done front entry entries p h window ready =
       let e = h.entries 0 entry (ap (λ (w : List EntryView). slice_get w 0) window) in
       let it = ready_is entry.committed entry.outcome p ready in
@@ -41,7 +41,7 @@ module _ (job : LoggedJob) (streams : List (StreamPrefix Plain)) (number : ℕ) 
   laid_by_turns : (front : Front) (entry : EntryView) (entries : List EntryView) → IsFrontOf job streams node number claimed front → front.window ≡ entry ∷ entries
       → ((next : Front) → IsFrontOf job streams node number claimed next → next.window ≡ entries → IsFrontOf job streams node number claimed (front_laid node.shape.offset entries next))
       → (stops : Bool) (ready : Option PerformedView) → has_stopped front ≡ stops → ready_of entry ≡ ready
-      → IsFrontOf job streams node number claimed (if stops then front else with_ready ready front (λ p. front_laid node.shape.offset entries (answer_laid node.shape.offset entry.phase p.work.bench p.answer entries front)))
+      → IsFrontOf job streams node number claimed (if stops then front else with_ready ready front (λ p. front_laid node.shape.offset entries (answer_laid node.shape.offset entry.phase p.work.context p.answer entries front)))
   laid_by_turns front entry entries h window go_on true ready stop is = h
   laid_by_turns front entry entries h window go_on false None stop is = h
   laid_by_turns front entry entries h window go_on false (Some p) stop is =
@@ -49,8 +49,8 @@ module _ (job : LoggedJob) (streams : List (StreamPrefix Plain)) (number : ℕ) 
       let good : (stage job.job streams node front.laid).fault ≡ None =
       ap (λ (b : Bool). (come_to job streams node front.laid b).fault) (sym goes.0) ∙ sym h.same_fault ∙ none_failed front.fault goes.1 in
       let d = first_done front entry entries p h window is in
-      go_on (answer_laid node.shape.offset entry.phase p.work.bench p.answer entries front)
-      (next_front job streams node number claimed front entry entries p.work.bench p.answer h window goes.0 (several_keep_nothing job number node solves.is_job there) d (work_turns job streams number node front.laid entry.phase p.work.bench p.answer solves there good d))
+      go_on (answer_laid node.shape.offset entry.phase p.work.context p.answer entries front)
+      (next_front job streams node number claimed front entry entries p.work.context p.answer h window goes.0 (several_keep_nothing job number node solves.is_job there) d (work_turns job streams number node front.laid entry.phase p.work.context p.answer solves there good d))
       refl
 
   front_keeps : (entries : List EntryView) (front : Front) → IsFrontOf job streams node number claimed front → front.window ≡ entries → IsFrontOf job streams node number claimed (front_laid node.shape.offset entries front)
@@ -73,7 +73,7 @@ front_of_engine job number engine window h has = record {
   order = has.order;
   entries = has.entries;
   free = h.idle;
-  benches = has.benches ∙ h.set_up.in_flight;
+  contexts = has.contexts ∙ h.set_up.in_flight;
   ended = (λ stops. h.ended (ended_by engine.closed engine.fault stops));
 }
 
@@ -108,7 +108,7 @@ engine_of_front job number engine outputs front h stand f waits = record {
   order = f.order;
   entries = f.entries;
   idle = f.free;
-  benches = f.benches ∙ sym h.set_up.in_flight;
+  contexts = f.contexts ∙ sym h.set_up.in_flight;
   waits = (λ goes. waits (stops_by engine.node front.closed front.fault goes));
   ended = (λ stops. f.ended (stopped_by engine.node front.closed front.fault stops));
 }

@@ -12,7 +12,7 @@ use Rattle.mg_calc.specs.declared.node_fault.Phase.{Phase}
 use Rattle.mg_calc.specs.declared.node_fault.Phase.TheVariants.{Open, Call, Process, Close}
 use Rattle.mg_calc.specs.Outcome.{Failure}
 use Rattle.mg_node.specs.declared.fronts.FrontEnd.{FrontEnd}
-use Rattle.mg_node.specs.Views.{BenchView, WorkView, OutcomeView, EntryView, EngineView}
+use Rattle.mg_node.specs.Views.{ContextView, WorkView, OutcomeView, EntryView, EngineView}
 use Rattle.mg_node.specs.Job.{LoggedJob}
 use Rattle.mg_node.specs.Windows.{has_ended}
 use Rattle.mg_node.specs.Shelves.{IsOut}
@@ -81,7 +81,7 @@ not_ended false None e = (refl, refl)
 not_ended false (Some f) e = absurd cc
 
 -- what the code leaves of an engine
-abbrev pub with_front : EngineView → List (Backlog Plain) → ℕ → List EntryView → List BenchView → FrontEnd → EngineView
+abbrev pub with_front : EngineView → List (Backlog Plain) → ℕ → List EntryView → List ContextView → FrontEnd → EngineView
 with_front e outputs laid window idle end = record e { outputs = outputs; laid = laid; window = window; idle = idle; closed = end.closed; fault = end.fault }
 
 starts_so : (e : EngineView) (whole : List (StreamPrefix Plain)) → has_ended e ≡ false → start_of whole e.laid e.window e.idle ≡ front_of e e.window whole
@@ -94,7 +94,7 @@ starts_so e whole goes = λ i. record {
   fault = sym (ap (option_map (λ f. (let g : Failure = record { phase = f.phase; cause = f.cause } in g))) (not_ended e.closed e.fault goes).1) i;
 }
 
-come_front : (e : EngineView) (before now : List (Waiting Plain)) (window : List EntryView) (idle : List BenchView) (end : FrontEnd) (front : Front) → map backlog_of before ≡ e.outputs → map (λ q. q.gone) now ≡ map (λ q. q.gone) before
+come_front : (e : EngineView) (before now : List (Waiting Plain)) (window : List EntryView) (idle : List ContextView) (end : FrontEnd) (front : Front) → map backlog_of before ≡ e.outputs → map (λ q. q.gone) now ≡ map (λ q. q.gone) before
     → HasCome front e.node e.laid now window idle end → HasFront e (with_front e (map backlog_of now) (e.laid + end.laid) window idle end) front
 come_front e before now window idle end front is gone h = record {
   outputs = backlogs_stand now front.outputs h.outputs;
@@ -102,7 +102,7 @@ come_front e before now window idle end front is gone h = record {
   others = λ i. record e { outputs = map backlog_of now; laid = h.laid_is i; window = h.window i; idle = h.idle i; closed = h.closed i; fault = h.fault i };
 }
 
-pub lays_some : (e : EngineView) (before now : List (Waiting Plain)) (window : List EntryView) (idle : List BenchView) (end : FrontEnd) → map backlog_of before ≡ e.outputs → has_ended e ≡ false
+pub lays_some : (e : EngineView) (before now : List (Waiting Plain)) (window : List EntryView) (idle : List ContextView) (end : FrontEnd) → map backlog_of before ≡ e.outputs → has_ended e ≡ false
     → IsFrontLaid e.offset e.node before now e.window window e.idle idle end → LaysFront end.laid e (with_front e (map backlog_of now) (e.laid + end.laid) window idle end)
 lays_some e before now window idle end is goes h = record {
   counted = refl;

@@ -18,26 +18,26 @@ use Rattle.mg_calc.specs.Shape.{IsOuter}
 use Rattle.mg_calc.specs.Laying.{after, laid_behind}
 use Rattle.mg_calc.specs.Outcome.{after_laying, after_call}
 use Rattle.mg_route.specs.HolderView.{HolderView}
-use Rattle.mg_node.specs.Views.{BenchView, EntryView, EngineView}
+use Rattle.mg_node.specs.Views.{ContextView, EntryView, EngineView}
 use Rattle.mg_node.specs.Lawful.{StandForAll, HasAnswered}
 use Rattle.mg_node.specs.Commits.{laid_by, outputs_by, failure_by, fault_at}
 use Rattle.mg_node.specs.Outputs.{kept_whole}
-use Rattle.mg_node.specs.Fresh.{own_told, bench_of, fresh_engine}
-use Rattle.mg_node.specs.Begun.{IsOpened, opened_entry, own_benches, HasOpened, IsUnbegun, opened_node, HasBegun, SomeUnbegun, IsBlank, IsNew}
+use Rattle.mg_node.specs.Fresh.{own_told, context_of, fresh_engine}
+use Rattle.mg_node.specs.Begun.{IsOpened, opened_entry, own_contexts, HasOpened, IsUnbegun, opened_node, HasBegun, SomeUnbegun, IsBlank, IsNew}
 use Rattle.mg_node.specs.Code.FrontLaying.{counted_in, HasWhole, LaysFront}
 
 -- The calculator is opened.
 
-pub opened_so : (e view : EngineView) (node : PlanNode) (number : ℕ) (told : HolderView) (sides : List (Option Plain)) (answer : Result (List Laid) Cause) (bench bench_now : BenchView) (idle : List BenchView) → e ≡ fresh_engine node number told
-    → e.idle ≡ idle ++ bench ∷ [] → bench_now.set ≡ bench.set → IsOpened bench.told bench_now.told sides answer → view ≡ record e { window = e.window ++ opened_entry e.node bench_now answer ∷ []; idle = idle } → HasOpened node number told sides view
-opened_so e view node number told sides answer bench bench_now idle is idle_is set opened view_is =
-    let cut = same_from_push idle (replicate (node.in_flight - 1) (bench_of node (own_told node))) bench (bench_of node told) (sym idle_is ∙ ap (λ (v : EngineView). v.idle) is) in
-    let set_is : bench_now.set ≡ (bench_of node told).set = set ∙ ap (λ (b : BenchView). b.set) cut.1 in
+pub opened_so : (e view : EngineView) (node : PlanNode) (number : ℕ) (told : HolderView) (sides : List (Option Plain)) (answer : Result (List Laid) Cause) (context context_now : ContextView) (idle : List ContextView) → e ≡ fresh_engine node number told
+    → e.idle ≡ idle ++ context ∷ [] → context_now.set ≡ context.set → IsOpened context.told context_now.told sides answer → view ≡ record e { window = e.window ++ opened_entry e.node context_now answer ∷ []; idle = idle } → HasOpened node number told sides view
+opened_so e view node number told sides answer context context_now idle is idle_is set opened view_is =
+    let cut = same_from_push idle (replicate (node.in_flight - 1) (context_of node (own_told node))) context (context_of node told) (sym idle_is ∙ ap (λ (v : EngineView). v.idle) is) in
+    let set_is : context_now.set ≡ (context_of node told).set = set ∙ ap (λ (b : ContextView). b.set) cut.1 in
     record {
-      now = bench_now.told;
+      now = context_now.told;
       answer = answer;
-      opened = subst (λ (b : BenchView). IsOpened b.told bench_now.told sides answer) cut.1 opened;
-      is = view_is ∙ (λ i. record (is i) { window = (is i).window ++ opened_entry (is i).node (record { told = bench_now.told; set = set_is i }) answer ∷ []; idle = cut.0 i });
+      opened = subst (λ (b : ContextView). IsOpened b.told context_now.told sides answer) cut.1 opened;
+      is = view_is ∙ (λ i. record (is i) { window = (is i).window ++ opened_entry (is i).node (record { told = context_now.told; set = set_is i }) answer ∷ []; idle = cut.0 i });
     }
 
 -- One whose window is empty wasn't opened, and has a calculator.
@@ -49,11 +49,11 @@ pub opened_some : (node : PlanNode) (number : ℕ) (told : HolderView) (sides : 
 opened_some node number told sides view (inl fresh) some = absurd (let none = ap (λ (v : EngineView). length v.window) fresh in omega (arith, some, none))
 opened_some node number told sides view (inr opened) some = opened
 
-pub bench_there : (sides : List (Option Plain)) (view : EngineView) → SomeUnbegun sides view → view.window ≡ [] → 0 < length view.idle
-bench_there sides view h none =
+pub context_there : (sides : List (Option Plain)) (view : EngineView) → SomeUnbegun sides view → view.window ≡ [] → 0 < length view.idle
+context_there sides view h none =
     let fresh = fresh_empty h.node h.number h.told sides view h.unbegun none in
-    let same : length view.idle ≡ length (replicate (h.node.in_flight - 1) (bench_of h.node (own_told h.node)) ++ bench_of h.node h.told ∷ []) = ap (λ (v : EngineView). length v.idle) fresh in
-    omega (arith, same, length-append (replicate (h.node.in_flight - 1) (bench_of h.node (own_told h.node))) (bench_of h.node h.told ∷ []))
+    let same : length view.idle ≡ length (replicate (h.node.in_flight - 1) (context_of h.node (own_told h.node)) ++ context_of h.node h.told ∷ []) = ap (λ (v : EngineView). length v.idle) fresh in
+    omega (arith, same, length-append (replicate (h.node.in_flight - 1) (context_of h.node (own_told h.node))) (context_of h.node h.told ∷ []))
 
 -- What it emitted may be laid.
 
@@ -113,7 +113,7 @@ pub begun_so : (node : PlanNode) (number : ℕ) (told : HolderView) (sides : Lis
 begun_so node number told sides before mid now n new h lays is =
     let k = length node.outputs in
     let whole = replicate k (empty_prefix {X = Plain}) in
-    let laid : LaysFront n (record (fresh_engine node number told) { window = opened_entry number (bench_of node h.now) h.answer ∷ []; idle = own_benches node }) mid = subst (λ (v : EngineView). LaysFront n v mid) h.is lays in
+    let laid : LaysFront n (record (fresh_engine node number told) { window = opened_entry number (context_of node h.now) h.answer ∷ []; idle = own_contexts node }) mid = subst (λ (v : EngineView). LaysFront n v mid) h.is lays in
     let front = laid.front whole (fresh_stand k) in
     let answered : HasAnswered h.answer told.state h.now.state (opening node.law sides) = subst (λ (l : Law). HasAnswered h.answer told.state h.now.state (opening l sides)) new.fits.same_law h.opened.answered in
     let o = opened_by node.shape.offset whole h.answer told.state h.now.state (opening node.law sides) answered (λ cause is. kept_nothing told node.law sides cause new.fits.same_law new.state is) in
@@ -127,18 +127,18 @@ begun_so node number told sides before mid now n new h lays is =
       same_handed = h.opened.same_handed;
       is = is
           ∙ (λ i. record (front.others i) { begun = true })
-          ∙ (λ i. record (fresh_engine node number told) { outputs = outputs i; idle = own_benches node ++ bench_of node h.now ∷ []; begun = true; fault = option_map (fault_at number) (o.2 i) });
+          ∙ (λ i. record (fresh_engine node number told) { outputs = outputs i; idle = own_contexts node ++ context_of node h.now ∷ []; begun = true; fault = option_map (fault_at number) (o.2 i) });
     }
 
 -- What the code leaves.
 
-abbrev pub with_window_idle : EngineView → List EntryView → List BenchView → EngineView
+abbrev pub with_window_idle : EngineView → List EntryView → List ContextView → EngineView
 with_window_idle engine window idle = record engine { window = window; idle = idle }
 
 abbrev pub with_begun : EngineView → EngineView
 with_begun engine = record engine { begun = true }
 
-pub window_opened : (engine : EngineView) (items now : List EntryView) (node : ℕ) (bench : BenchView) (answer : Result (List Laid) Cause) (entry : EntryView) → now ≡ items ++ entry ∷ [] → entry ≡ opened_entry node bench answer → items ≡ engine.window → node ≡ engine.node
-    → now ≡ engine.window ++ opened_entry engine.node bench answer ∷ []
-window_opened engine items now node bench answer entry pushed is window node_is =
-    pushed ∙ ap (λ (x : EntryView). items ++ x ∷ []) (is ∙ ap (λ (n : ℕ). opened_entry n bench answer) node_is) ∙ ap (λ (es : List EntryView). es ++ opened_entry engine.node bench answer ∷ []) window
+pub window_opened : (engine : EngineView) (items now : List EntryView) (node : ℕ) (context : ContextView) (answer : Result (List Laid) Cause) (entry : EntryView) → now ≡ items ++ entry ∷ [] → entry ≡ opened_entry node context answer → items ≡ engine.window → node ≡ engine.node
+    → now ≡ engine.window ++ opened_entry engine.node context answer ∷ []
+window_opened engine items now node context answer entry pushed is window node_is =
+    pushed ∙ ap (λ (x : EntryView). items ++ x ∷ []) (is ∙ ap (λ (n : ℕ). opened_entry n context answer) node_is) ∙ ap (λ (es : List EntryView). es ++ opened_entry engine.node context answer ∷ []) window

@@ -10,7 +10,7 @@ use Rattle.mg_stream.specs.Pool.{Backlog, backlog_of, queue_of}
 use Rattle.mg_calc.specs.declared.plan.Plan.{Plan}
 use Rattle.mg_calc.specs.Plan.{IsValid}
 use Rattle.mg_node.specs.declared.role.Role.TheVariants.{Input}
-use Rattle.mg_node.specs.Views.{BenchView, EntryView, EngineView}
+use Rattle.mg_node.specs.Views.{ContextView, EntryView, EngineView}
 use Rattle.mg_node.specs.Outputs.{kept_whole, input_engine}
 use Rattle.mg_node.specs.Job.{LoggedJob, Solves}
 use Rattle.mg_node.specs.Lawful.{of_input, LawfulEngine}
@@ -120,7 +120,7 @@ gives_more old now got t g less first =
     })
 
 -- the engine of a graph input, as the code makes it
-pub input_made : (input stream first : ℕ) (s : StreamPrefix Plain) (items : List (Waiting Plain)) (q : Waiting Plain) (window : List EntryView) (idle : List BenchView) → first ≡ stream → items ≡ q ∷ [] → backlog_of q ≡ kept_whole s → window ≡ [] → idle ≡ []
+pub input_made : (input stream first : ℕ) (s : StreamPrefix Plain) (items : List (Waiting Plain)) (q : Waiting Plain) (window : List EntryView) (idle : List ContextView) → first ≡ stream → items ≡ q ∷ [] → backlog_of q ≡ kept_whole s → window ≡ [] → idle ≡ []
     → (let e : EngineView = record {
       role = Input;
       node = input;

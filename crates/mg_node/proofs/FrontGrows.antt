@@ -19,8 +19,8 @@ use Rattle.mg_calc.proofs.LaidBehind.{raise_extends, emission_extends}
 use Rattle.mg_node.specs.Views.{PerformedView, OutcomeView, EntryView, EngineView}
 use Rattle.mg_node.specs.Lawful.{StandForAll}
 use Rattle.mg_node.specs.Windows.{has_ended, ready_of}
-use Rattle.mg_node.specs.Fresh.{bench_of, fresh_engine}
-use Rattle.mg_node.specs.Begun.{opened_entry, own_benches, HasOpened, IsUnbegun}
+use Rattle.mg_node.specs.Fresh.{context_of, fresh_engine}
+use Rattle.mg_node.specs.Begun.{opened_entry, own_contexts, HasOpened, IsUnbegun}
 use Rattle.mg_node.specs.Commits.{raised_before, closed_after, laid_by, outputs_by, Front, answer_laid, has_stopped, with_ready, front_laid, front_of, fault_at, HasFront, window_with, Commits, SomeJobHasEngine}
 use Rattle.mg_node.specs.Code.FrontLaying.{LaysFront}
 use Rattle.mg_node.specs.IntakeStanding.{HasGrown}
@@ -85,10 +85,10 @@ answer_longer offset phase ss ts (Ok emission) k l = emission_longer offset phas
 
 ready_longer : (offset : Option ℤ) (entry : EntryView) (entries : List EntryView) (ss : List (StreamPrefix Plain)) (front : Front) (ready : Option PerformedView) → AllByRecursion IsPrefix ss → AreLonger ss front.outputs
     → ((f : Front) → AreLonger ss f.outputs → AreLonger ss (front_laid offset entries f).outputs)
-    → AreLonger ss (with_ready ready front (λ p. front_laid offset entries (answer_laid offset entry.phase p.work.bench p.answer entries front))).outputs
+    → AreLonger ss (with_ready ready front (λ p. front_laid offset entries (answer_laid offset entry.phase p.work.context p.answer entries front))).outputs
 ready_longer offset entry entries ss front None k l again = l
 ready_longer offset entry entries ss front (Some p) k l again =
-    again (answer_laid offset entry.phase p.work.bench p.answer entries front)
+    again (answer_laid offset entry.phase p.work.context p.answer entries front)
     (answer_longer offset entry.phase ss (raised_before offset entry.phase front.outputs) p.answer k (before_longer offset entry.phase ss front.outputs l))
 
 stop_longer : (ss : List (StreamPrefix Plain)) (stopped : Bool) (front go : Front) → AreLonger ss front.outputs → AreLonger ss go.outputs → AreLonger ss (if stopped then front else go).outputs
@@ -98,7 +98,7 @@ stop_longer ss false front go l m = m
 front_longer : (offset : Option ℤ) (entries : List EntryView) (ss : List (StreamPrefix Plain)) (front : Front) → AllByRecursion IsPrefix ss → AreLonger ss front.outputs → AreLonger ss (front_laid offset entries front).outputs
 front_longer offset [] ss front k l = l
 front_longer offset (entry ∷ entries) ss front k l =
-    stop_longer ss (has_stopped front) front (with_ready (ready_of entry) front (λ p. front_laid offset entries (answer_laid offset entry.phase p.work.bench p.answer entries front))) l
+    stop_longer ss (has_stopped front) front (with_ready (ready_of entry) front (λ p. front_laid offset entries (answer_laid offset entry.phase p.work.context p.answer entries front))) l
     (ready_longer offset entry entries ss front (ready_of entry) k l (λ f m. front_longer offset entries ss f k m))
 
 -- From prefixes to the outputs that stand for them.
@@ -152,11 +152,11 @@ pub opening_grows : (node : PlanNode) (number : ℕ) (told : HolderView) (sides 
 opening_grows node number told sides before mid (inl is) m =
     let fresh = fresh_engine node number told in
     subst (λ (v : EngineView). EngineGrows v mid) (sym is)
-    (subst (λ (v : EngineView). EngineGrows fresh v) (sym m.is) (window_grows fresh (opened_entry number (bench_of node m.now) m.answer ∷ []) (own_benches node)))
+    (subst (λ (v : EngineView). EngineGrows fresh v) (sym m.is) (window_grows fresh (opened_entry number (context_of node m.now) m.answer ∷ []) (own_contexts node)))
 opening_grows node number told sides before mid (inr h) m =
-    let opened : EngineView = record (fresh_engine node number told) { window = opened_entry number (bench_of node h.now) h.answer ∷ []; idle = own_benches node } in
+    let opened : EngineView = record (fresh_engine node number told) { window = opened_entry number (context_of node h.now) h.answer ∷ []; idle = own_contexts node } in
     subst (λ (v : EngineView). EngineGrows v mid) (sym h.is)
-    (subst (λ (v : EngineView). EngineGrows opened v) (sym m.is) (window_grows opened (opened_entry number (bench_of node m.now) m.answer ∷ []) (own_benches node)))
+    (subst (λ (v : EngineView). EngineGrows opened v) (sym m.is) (window_grows opened (opened_entry number (context_of node m.now) m.answer ∷ []) (own_contexts node)))
 
 pub begin_grows : (node : PlanNode) (number : ℕ) (told : HolderView) (sides : List (Option Plain)) (before mid laid now : EngineView) (n : ℕ) → IsUnbegun node number told sides before → HasOpened node number told sides mid → LaysFront n mid laid → now ≡ with_begun laid
     → EngineGrows before now

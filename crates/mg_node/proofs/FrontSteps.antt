@@ -13,7 +13,7 @@ use Rattle.mg_calc.specs.declared.node_fault.NodeFault.{NodeFault}
 use Rattle.mg_calc.specs.Outcome.{Failure}
 use Rattle.mg_route.specs.Reasons.{reason_of}
 use Rattle.mg_node.specs.declared.fronts.FrontEnd.{FrontEnd}
-use Rattle.mg_node.specs.Views.{BenchView, PerformedView, EntryView}
+use Rattle.mg_node.specs.Views.{ContextView, PerformedView, EntryView}
 use Rattle.mg_node.specs.Commits.{raised_before, laid_by, failure_by, Front, answer_laid, has_stopped, with_ready, front_laid, fault_at}
 use Rattle.mg_node.specs.Windows.{ready_of, starts_ready}
 use Rattle.mg_node.specs.Code.QueueLaying.{Stand, packets_by, room_at, HasRoomFor}
@@ -108,16 +108,16 @@ single_room qs r answer more one is room = λ output le.
     answer_room qs 0 r answer more (omega (arith, one)) is room (λ k less. absurd (omega (arith, less))) output (let long = length-set qs 0 r in omega (arith, le, one, long))
 
 -- a front that was laid so far: with what is left of the window it comes to the same, whatever the outputs stand for
-pub record Reaches (offset : Option ℤ) (now : List (Waiting Plain)) (window_now : List EntryView) (idle_now : List BenchView) (laid : ℕ) (wanted : Front) : Type 0 where
+pub record Reaches (offset : Option ℤ) (now : List (Waiting Plain)) (window_now : List EntryView) (idle_now : List ContextView) (laid : ℕ) (wanted : Front) : Type 0 where
   pub whole : List (StreamPrefix Plain)
   pub stand : Stand now whole
   pub same : front_laid offset window_now (start_of whole laid window_now idle_now) ≡ wanted
 
-pub record IsUnderWay (offset : Option ℤ) (before now : List (Waiting Plain)) (window window_now : List EntryView) (idle idle_now : List BenchView) (count : ℕ) : Type 0 where
+pub record IsUnderWay (offset : Option ℤ) (before now : List (Waiting Plain)) (window window_now : List EntryView) (idle idle_now : List ContextView) (count : ℕ) : Type 0 where
   pub gone : map (λ q. q.gone) now ≡ map (λ q. q.gone) before
   pub reaches : (whole : List (StreamPrefix Plain)) (laid : ℕ) → Stand before whole → Reaches offset now window_now idle_now (laid + count) (front_laid offset window (start_of whole laid window idle))
 
-pub way_begins : (offset : Option ℤ) (qs : List (Waiting Plain)) (window : List EntryView) (idle : List BenchView) → IsUnderWay offset qs qs window window idle idle 0
+pub way_begins : (offset : Option ℤ) (qs : List (Waiting Plain)) (window : List EntryView) (idle : List ContextView) → IsUnderWay offset qs qs window window idle idle 0
 way_begins offset qs window idle = record {
   gone = refl;
   reaches = λ whole laid stand. (let same : laid ≡ laid + 0 = omega arith in record { whole = whole; stand = stand; same = ap (λ (n : ℕ). front_laid offset window (start_of whole n window idle)) (sym same) });
@@ -125,7 +125,7 @@ way_begins offset qs window idle = record {
 
 -- a front of which the first entry is laid
 abbrev pub laid_once : Option ℤ → Phase → PerformedView → List EntryView → Front → Front
-laid_once offset phase p rest front = answer_laid offset phase p.work.bench p.answer rest front
+laid_once offset phase p rest front = answer_laid offset phase p.work.context p.answer rest front
 
 first_step : (offset : Option ℤ) (entry : EntryView) (entries : List EntryView) (p : PerformedView) (front : Front) → has_stopped front ≡ false → ready_of entry ≡ Some p
     → front_laid offset (entry ∷ entries) front ≡ front_laid offset entries (laid_once offset entry.phase p entries front)
@@ -143,7 +143,7 @@ fault_is node phase (Ok outputs) cause is = ap (λ (o : Option Cause). (front_en
 fault_is node phase (Err c) cause is = ap (λ (o : Option Cause). (front_end_of node phase o).fault) is
 
 -- the front once the first entry is laid
-pub record LaidFirst (offset : Option ℤ) (node : ℕ) (now : List (Waiting Plain)) (window_now : List EntryView) (idle_now : List BenchView) (end : FrontEnd) (laid : ℕ) (wanted : Front) : Type 0 where
+pub record LaidFirst (offset : Option ℤ) (node : ℕ) (now : List (Waiting Plain)) (window_now : List EntryView) (idle_now : List ContextView) (end : FrontEnd) (laid : ℕ) (wanted : Front) : Type 0 where
   pub front : Front
   pub stand : Stand now front.outputs
   pub same : front_laid offset window_now front ≡ wanted
@@ -153,7 +153,7 @@ pub record LaidFirst (offset : Option ℤ) (node : ℕ) (now : List (Waiting Pla
   pub closed : front.closed ≡ end.closed
   pub fault : end.fault ≡ option_map (fault_at node) front.fault
 
-laid_first : (offset : Option ℤ) (node : ℕ) (mid now : List (Waiting Plain)) (window window_now : List EntryView) (idle idle_now : List BenchView) (end : FrontEnd) (laid : ℕ) (wanted : Front) → IsFirstLaid offset node mid now window window_now idle idle_now end
+laid_first : (offset : Option ℤ) (node : ℕ) (mid now : List (Waiting Plain)) (window window_now : List EntryView) (idle idle_now : List ContextView) (end : FrontEnd) (laid : ℕ) (wanted : Front) → IsFirstLaid offset node mid now window window_now idle idle_now end
     → Reaches offset mid window idle laid wanted → LaidFirst offset node now window_now idle_now end laid wanted
 laid_first offset node mid now window window_now idle idle_now end laid wanted h r =
     let phase = h.entry.phase in
@@ -175,7 +175,7 @@ none_mapped : (node : ℕ) (o : Option NodeFault) (f : Option Failure) → o ≡
 none_mapped node o None is = sym (ap is_some is)
 none_mapped node o (Some f) is = sym (ap is_some is)
 
-pub way_stops : (offset : Option ℤ) (node : ℕ) (before mid now : List (Waiting Plain)) (window window_mid window_now : List EntryView) (idle idle_mid idle_now : List BenchView) (end last : FrontEnd) (count : ℕ)
+pub way_stops : (offset : Option ℤ) (node : ℕ) (before mid now : List (Waiting Plain)) (window window_mid window_now : List EntryView) (idle idle_mid idle_now : List ContextView) (end last : FrontEnd) (count : ℕ)
     → IsUnderWay offset before mid window window_mid idle idle_mid count → IsFirstLaid offset node mid now window_mid window_now idle_mid idle_now end → (end.closed || is_some end.fault) ≡ true
     → last.laid ≡ count + end.laid → last.closed ≡ end.closed → last.fault ≡ end.fault → IsFrontLaid offset node before now window window_now idle idle_now last
 way_stops offset node before mid now window window_mid window_now idle idle_mid idle_now end last count way h stopped laid_same closed_same fault_same = record {

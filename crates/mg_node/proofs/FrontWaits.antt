@@ -24,11 +24,11 @@ snoc_waits (x ∷ window) entry open_yet h = h
 ends_by : (offset : Option ℤ) (front : Front) (entry : EntryView) (entries : List EntryView) → front.window ≡ entry ∷ entries
     → ((next : Front) → next.window ≡ entries → has_stopped (front_laid offset entries next) ≡ false → starts_ready (front_laid offset entries next).window ≡ false)
     → (stops : Bool) (ready : Option PerformedView) → has_stopped front ≡ stops → ready_of entry ≡ ready
-    → has_stopped (if stops then front else with_ready ready front (λ p. front_laid offset entries (answer_laid offset entry.phase p.work.bench p.answer entries front))) ≡ false
-    → starts_ready (if stops then front else with_ready ready front (λ p. front_laid offset entries (answer_laid offset entry.phase p.work.bench p.answer entries front))).window ≡ false
+    → has_stopped (if stops then front else with_ready ready front (λ p. front_laid offset entries (answer_laid offset entry.phase p.work.context p.answer entries front))) ≡ false
+    → starts_ready (if stops then front else with_ready ready front (λ p. front_laid offset entries (answer_laid offset entry.phase p.work.context p.answer entries front))).window ≡ false
 ends_by offset front entry entries window go_on true ready stop is goes = absurd (let clash : true ≡ false = sym stop ∙ goes in cc)
 ends_by offset front entry entries window go_on false None stop is goes = ap starts_ready window ∙ ap is_some is
-ends_by offset front entry entries window go_on false (Some p) stop is goes = go_on (answer_laid offset entry.phase p.work.bench p.answer entries front) refl goes
+ends_by offset front entry entries window go_on false (Some p) stop is goes = go_on (answer_laid offset entry.phase p.work.context p.answer entries front) refl goes
 
 pub laid_waits : (offset : Option ℤ) (entries : List EntryView) (front : Front) → front.window ≡ entries → has_stopped (front_laid offset entries front) ≡ false → starts_ready (front_laid offset entries front).window ≡ false
 laid_waits offset [] front window goes = ap starts_ready window

@@ -21,7 +21,7 @@ use Rattle.mg_calc.specs.Meaning.{count_of}
 use Rattle.mg_calc.specs.Told.{CalculatorTold, with_call}
 use Rattle.mg_calc.proofs.Solutions.{one_solution}
 use Rattle.mg_route.specs.HolderView.{HolderView, FitsHolder, told_by}
-use Rattle.mg_node.specs.Views.{BenchView, WorkView, OutcomeView, EntryView, EngineView}
+use Rattle.mg_node.specs.Views.{ContextView, WorkView, OutcomeView, EntryView, EngineView}
 use Rattle.mg_node.specs.Job.{LoggedJob, Solves, sets_of, count_of_all, stage, IsTask, first_log, log_after, calls_before, calls_in}
 use Rattle.mg_node.specs.Lawful.{of_node, HasAnswered, answer_in, come_to, IsAtWork, IsWorkOf, LawfulOutcome, LawfulWork, StandsAt, IsEntry, IsEngineOf, LawfulEngine}
 use Rattle.mg_node.specs.Begun.{LawfulUnbegun}
@@ -29,10 +29,10 @@ use Rattle.mg_node.specs.Claims.{has_ended}
 use Rattle.mg_node.specs.Shelves.{IsOut}
 use Rattle.mg_node.specs.Leaving.{calculator_in, calculators_in, handed_told, first_handed, HasHanded}
 use Rattle.mg_node.specs.Had.{front_calls, HadFront}
-use Rattle.mg_node.proofs.CallsHad.{finish_if, boxed_one, bench_is, first_of, none_more}
+use Rattle.mg_node.proofs.CallsHad.{finish_if, boxed_one, context_is, first_of, none_more}
 use Rattle.mg_node.proofs.Closing.{no_fault, second_not}
 use Rattle.mg_node.proofs.Making.{some_same}
-use Rattle.mg_node.proofs.OneCalculator.{one_handed, one_bench, handed_there}
+use Rattle.mg_node.proofs.OneCalculator.{one_handed, one_context, handed_there}
 use Rattle.mg_node.proofs.RestingEnds.{of_these}
 use Rattle.mg_node.proofs.StageCounts.{one_more_counted}
 use Rattle.mg_node.proofs.StatesKept.{next_state, finish_state, come_state, opened_state}
@@ -91,7 +91,7 @@ phase_front job streams number node held n Close set answer solves there outer f
     front_by job streams node held n true outer fits le log (finish_state node.law (stage job.job streams node n).state held.state answer answered)
 
 abbrev pub AtWork : LoggedJob → OutcomeView → List (StreamPrefix Plain) → PlanNode → Type 0
-AtWork job o streams node = FitsHolder node o.work.bench.told × IsTask job.job streams node o.work.number o.work.phase o.work.bench.set × IsAtWork job streams node o.work o.answer
+AtWork job o streams node = FitsHolder node o.work.context.told × IsTask job.job streams node o.work.number o.work.phase o.work.context.set × IsAtWork job streams node o.work o.answer
 
 pub at_work : (job : LoggedJob) (streams : List (StreamPrefix Plain)) (number : ℕ) (node : PlanNode) (o : OutcomeView) → Solves job streams → slice_get job.job.plan.nodes number ≡ Some node → IsWorkOf job o → o.work.node ≡ number → AtWork job o streams node
 at_work job streams number node o solves there w at =
@@ -101,26 +101,26 @@ at_work job streams number node o solves there w at =
 
 work_front : (job : LoggedJob) (streams : List (StreamPrefix Plain)) (number : ℕ) (node : PlanNode) (work : WorkView) (answer : Option (Result (List Laid) Cause)) → Solves job streams → slice_get job.job.plan.nodes number ≡ Some node → IsOuter node.law
     → AtWork job (record { work = work; answer = answer }) streams node → work.number ≤ count_of job.job streams node
-    → (work.number < count_of_all streams node → work.number + 1 ≤ count_of job.job streams node) → (stage job.job streams node work.number).fault ≡ None → HadFront job streams node (told_by work.bench.told)
+    → (work.number < count_of_all streams node → work.number + 1 ≤ count_of job.job streams node) → (stage job.job streams node work.number).fault ≡ None → HadFront job streams node (told_by work.context.told)
 work_front job streams number node work None solves there outer w le more good =
-    front_by job streams node work.bench.told work.number false outer w.0 le (w.2.1 ∙ ap (log_after job node) (sym (append-nil (calls_before streams node work.number)))) w.2.0
+    front_by job streams node work.context.told work.number false outer w.0 le (w.2.1 ∙ ap (log_after job node) (sym (append-nil (calls_before streams node work.number)))) w.2.0
 work_front job streams number node work (Some answer) solves there outer w le more good =
-    phase_front job streams number node work.bench.told work.number work.phase work.bench.set answer solves there outer w.0 w.1 le more good w.2.0 w.2.1
+    phase_front job streams number node work.context.told work.number work.phase work.context.set answer solves there outer w.0 w.1 le more good w.2.0 w.2.1
 
 -- One in the engine of a node.
 
 pub found_is : (engine : EngineView) (held : HolderView) (told : CalculatorTold) → first_handed engine ≡ Some (told_by held) → first_handed engine ≡ Some told → told_by held ≡ told
 found_is engine held told here found = (let same : Some (told_by held) ≡ Some told = sym here ∙ found in cc)
 
-idle_front : (job : LoggedJob) (number : ℕ) (engine : EngineView) (h : IsEngineOf job number engine) (told : CalculatorTold) (bench : BenchView) → is_some h.node.box_number ≡ true → IsOuter h.node.law → engine.idle ≡ bench ∷ [] → engine.window ≡ []
+idle_front : (job : LoggedJob) (number : ℕ) (engine : EngineView) (h : IsEngineOf job number engine) (told : CalculatorTold) (context : ContextView) → is_some h.node.box_number ≡ true → IsOuter h.node.law → engine.idle ≡ context ∷ [] → engine.window ≡ []
     → first_handed engine ≡ Some told → HadFront job h.streams h.node told
-idle_front job number engine h told bench boxed outer idle window found =
-    let one = bench_is job number engine h bench idle window in
-    subst (HadFront job h.streams h.node) (found_is engine one.bench.told told (first_of engine one.bench one.idle one.window (one.is.fits.same_handed ∙ boxed)) found)
-    (front_by job h.streams h.node one.bench.told engine.laid engine.closed outer one.is.fits h.taken one.is.log
+idle_front job number engine h told context boxed outer idle window found =
+    let one = context_is job number engine h context idle window in
+    subst (HadFront job h.streams h.node) (found_is engine one.context.told told (first_of engine one.context one.idle one.window (one.is.fits.same_handed ∙ boxed)) found)
+    (front_by job h.streams h.node one.context.told engine.laid engine.closed outer one.is.fits h.taken one.is.log
     (one.is.state ∙ come_state job h.streams h.node engine.laid engine.closed outer h.closed))
 
--- an engine whose one bench is with a work hasn't failed, and goes on
+-- an engine whose one context is with a work hasn't failed, and goes on
 pub goes_well : (job : LoggedJob) (number : ℕ) (engine : EngineView) (h : IsEngineOf job number engine) → engine.idle ≡ [] → (stage job.job h.streams h.node engine.laid).fault ≡ None
 goes_well job number engine h idle = elim (cases_Bool (has_ended engine)) [
   | inl ended ↦ absurd (let some = h.ended ended in let none = ap length idle in omega (arith, some, none))
@@ -138,13 +138,13 @@ window_front : (job : LoggedJob) (number : ℕ) (engine : EngineView) (h : IsEng
 unfolding LawfulOutcome
 window_front job number engine h told entry None boxed outer idle window out found =
     let only : calculators_in engine ≡ [] =
-    ap₂ (λ (bs : List BenchView) (es : List EntryView). map (λ b. b.told) bs ++ filter_map calculator_in es) idle window
+    ap₂ (λ (bs : List ContextView) (es : List EntryView). map (λ b. b.told) bs ++ filter_map calculator_in es) idle window
     ∙ ap (λ (x : Option OutcomeView). filter_map calculator_in (record { phase = entry.phase; outcome = x; committed = entry.committed } ∷ [])) out in
     absurd (let clash : None ≡ Some told = ap (λ (hs : List HolderView). slice_get (filter_map handed_told hs) 0) (sym only) ∙ found in cc)
 window_front job number engine h told entry (Some o) boxed outer idle window out found =
-    let held = o.work.bench.told in
+    let held = o.work.context.told in
     let only : calculators_in engine ≡ held ∷ [] =
-    ap₂ (λ (bs : List BenchView) (es : List EntryView). map (λ b. b.told) bs ++ filter_map calculator_in es) idle window
+    ap₂ (λ (bs : List ContextView) (es : List EntryView). map (λ b. b.told) bs ++ filter_map calculator_in es) idle window
     ∙ ap (λ (x : Option OutcomeView). filter_map calculator_in (record { phase = entry.phase; outcome = x; committed = entry.committed } ∷ [])) out in
     let e : IsEntry job h.streams h.node engine.laid (engine.laid + 0) number entry = h.entries 0 entry (ap (λ (es : List EntryView). slice_get es 0) window) in
     let stands : StandsAt job number (engine.laid + 0) entry.phase o = subst (λ (x : Option OutcomeView). IfSome x (λ y. StandsAt job number (engine.laid + 0) entry.phase y)) out e.outcome in
@@ -158,7 +158,7 @@ window_front job number engine h told entry (Some o) boxed outer idle window out
     (let there : engine.laid ≡ o.work.number = omega (arith, at) in subst (λ (m : ℕ). (stage job.job h.streams h.node m).fault ≡ None) there (goes_well job number engine h idle)))
 
 engine_by : (job : LoggedJob) (number : ℕ) (engine : EngineView) (h : IsEngineOf job number engine) (told : CalculatorTold) → is_some h.node.box_number ≡ true → IsOuter h.node.law → first_handed engine ≡ Some told → HadFront job h.streams h.node told
-engine_by job number engine h told boxed outer found = elim (one_bench engine.idle engine.window (boxed_one job number engine h boxed)) [
+engine_by job number engine h told boxed outer found = elim (one_context engine.idle engine.window (boxed_one job number engine h boxed)) [
   | inl b ↦ idle_front job number engine h told b.0 boxed outer b.1 b.2 found
   | inr e ↦ window_front job number engine h told e.0 e.0.outcome boxed outer e.1 e.2 refl found
 ]
@@ -204,9 +204,9 @@ unbegun_front job number node engine solution told solves there boxed outer unbe
 -- One whose work is out.
 
 out_front : (job : LoggedJob) (number : ℕ) (engine : EngineView) (work : WorkView) (h : IsEngineOf job number engine) (told : CalculatorTold) → is_some h.node.box_number ≡ true → IsOuter h.node.law → IsWorkOf job (record { work = work; answer = None }) → work.node ≡ number
-    → IsOut engine work → handed_told work.bench.told ≡ Some told → HadFront job h.streams h.node told
+    → IsOut engine work → handed_told work.context.told ≡ Some told → HadFront job h.streams h.node told
 out_front job number engine work h told boxed outer w at out found =
-    let held = work.bench.told in
+    let held = work.context.told in
     let is : AtWork job (record { work = work; answer = None }) h.streams h.node = at_work job h.streams number h.node (record { work = work; answer = None }) h.solves h.there w at in
     let laid = out.laid in
     let taken = h.taken in
@@ -218,7 +218,7 @@ out_front job number engine work h told boxed outer w at out found =
     subst (HadFront job h.streams h.node) same (front_by job h.streams h.node held work.number false outer is.0 le (is.2.1 ∙ ap (log_after job h.node) (sym (append-nil (calls_before h.streams h.node work.number)))) is.2.0)
 
 pub work_out_front : (job : LoggedJob) (number : ℕ) (node : PlanNode) (engine : EngineView) (work : WorkView) (solution : List (StreamPrefix Plain)) (told : CalculatorTold) → Solves job solution → slice_get job.job.plan.nodes number ≡ Some node → is_some node.box_number ≡ true → IsOuter node.law
-    → LawfulEngine job (of_node number) engine → LawfulWork job work → work.node ≡ number → IsOut engine work → handed_told work.bench.told ≡ Some told → HadFront job solution node told
+    → LawfulEngine job (of_node number) engine → LawfulWork job work → work.node ≡ number → IsOut engine work → handed_told work.context.told ≡ Some told → HadFront job solution node told
 unfolding LawfulEngine LawfulWork
 work_out_front job number node engine work solution told solves there boxed outer h w at out found =
     of_these (IfBoxed job told) job number node engine solution h solves there (λ b o. out_front job number engine work h told b o w at out found) boxed outer

@@ -49,7 +49,7 @@ given_node job number engine output got there le h = record {
   order = h.order;
   entries = h.entries;
   idle = h.idle;
-  benches = h.benches;
+  contexts = h.contexts;
   waits = h.waits;
   ended = h.ended;
 }

@@ -5,7 +5,7 @@ use Rattle.mg_value.specs.Payload.{Plain}
 use Rattle.mg_stream.specs.Queue.{Waiting}
 use Rattle.mg_stream.specs.Pool.{Backlog, queue_of, empty_backlog}
 use Rattle.mg_node.specs.declared.pending.Pending.{Pending}
-use Rattle.mg_node.specs.Views.{BenchView, PerformedView, EntryView, EngineView}
+use Rattle.mg_node.specs.Views.{ContextView, PerformedView, EntryView, EngineView}
 use Rattle.mg_node.specs.Outputs.{without_first}
 use Rattle.mg_node.specs.Advances.{raised_output, advance_bound, advanced}
 use Rattle.mg_node.specs.Shelves.{Unshelves}
@@ -42,8 +42,8 @@ engine_further e f g one two = record {
   outputs = (λ output. grown_further _ _ _ (one.outputs output) (two.outputs output));
 }
 
--- where the window and the benches alone are others
-pub window_grows : (e : EngineView) (window : List EntryView) (idle : List BenchView) → EngineGrows e (record e { window = window; idle = idle })
+-- where the window and the contexts alone are others
+pub window_grows : (e : EngineView) (window : List EntryView) (idle : List ContextView) → EngineGrows e (record e { window = window; idle = idle })
 window_grows e window idle = record { laid = omega arith; claimed = omega arith; ended = (λ h. h); outputs = (λ output. grown_by_itself _) }
 
 pub begun_grows : (e : EngineView) → EngineGrows e (record e { begun = true })

@@ -8,7 +8,7 @@ use Rattle.mg_value.specs.Prefix.{Stamped, StreamPrefix}
 use Rattle.mg_calc.specs.declared.node_fault.Phase.{Phase}
 use Rattle.mg_calc.specs.declared.node_fault.Phase.TheVariants.{Open, Call as SourceCall, Process, Close}
 use Rattle.mg_calc.specs.declared.plan_node.PlanNode.{PlanNode}
-use Rattle.mg_node.specs.Views.{BenchView, EntryView, EngineView}
+use Rattle.mg_node.specs.Views.{ContextView, EntryView, EngineView}
 use Rattle.mg_node.specs.Job.{LoggedJob, IsTask, IsLastWork, count_of_all, stage, log_after, calls_before}
 use Rattle.mg_node.specs.Windows.{has_ended}
 use Rattle.mg_node.specs.Lawful.{is_close, IsIdle, IsEntry, come_to, calls_by, IsEngineOf, LawfulWork}
@@ -67,19 +67,19 @@ none_closes job number engine h more = none_number (λ (e : EntryView). is_close
     absurd (omega (arith, all, here, claimed, more))))
 
 -- the engine, with a further work that is out
-abbrev pub handed : EngineView → Phase → ℕ → List BenchView → EngineView
+abbrev pub handed : EngineView → Phase → ℕ → List ContextView → EngineView
 handed engine phase more idle = record engine { claimed = engine.claimed + more; window = engine.window ++ record { phase = phase; outcome = None; committed = false } ∷ []; idle = idle }
 
-pub handed_engine : (job : LoggedJob) (number : ℕ) (engine : EngineView) (phase : Phase) (more : ℕ) (bench : BenchView) (idle : List BenchView) (set : List (Option (Stamped Plain))) (h : IsEngineOf job number engine)
-    → has_ended engine ≡ false → engine.idle ≡ idle ++ bench ∷ [] → IsTask job.job h.streams h.node engine.claimed phase set → number_of (λ e. is_close e.phase) engine.window ≡ 0 → more + (if is_close phase then 1 else 0) ≡ 1 → (phase ≡ Close → engine.claimed ≡ engine.laid)
+pub handed_engine : (job : LoggedJob) (number : ℕ) (engine : EngineView) (phase : Phase) (more : ℕ) (context : ContextView) (idle : List ContextView) (set : List (Option (Stamped Plain))) (h : IsEngineOf job number engine)
+    → has_ended engine ≡ false → engine.idle ≡ idle ++ context ∷ [] → IsTask job.job h.streams h.node engine.claimed phase set → number_of (λ e. is_close e.phase) engine.window ≡ 0 → more + (if is_close phase then 1 else 0) ≡ 1 → (phase ≡ Close → engine.claimed ≡ engine.laid)
     → IsEngineOf job number (handed engine phase more idle)
-handed_engine job number engine phase more bench idle set h goes_on idle_is task none one close =
+handed_engine job number engine phase more context idle set h goes_on idle_is task none one close =
     let e : EntryView = record { phase = phase; outcome = None; committed = false } in
     let order = h.order in
     let here : engine.laid + length engine.window ≡ engine.claimed = omega (arith, order, none) in
-    let P : BenchView → Type 0 = IsIdle job h.streams h.node engine.laid engine.closed in
-    let all_idle : AllByRecursion P (idle ++ bench ∷ []) = subst (AllByRecursion P) idle_is (recursion_from_All P engine.idle h.idle) in
-    let benches = h.benches in
+    let P : ContextView → Type 0 = IsIdle job h.streams h.node engine.laid engine.closed in
+    let all_idle : AllByRecursion P (idle ++ context ∷ []) = subst (AllByRecursion P) idle_is (recursion_from_All P engine.idle h.idle) in
+    let contexts = h.contexts in
     let claimed = h.claimed in
     record {
       streams = h.streams;
@@ -109,8 +109,8 @@ handed_engine job number engine phase more bench idle set h goes_on idle_is task
               close = (λ is. number_is ∙ close is);
             }))
       ]);
-      idle = All-from_recursion P idle (first_have P idle (bench ∷ []) all_idle);
-      benches = omega (arith, benches, ap length idle_is, length-append idle (bench ∷ []), length-append engine.window (e ∷ []));
+      idle = All-from_recursion P idle (first_have P idle (context ∷ []) all_idle);
+      contexts = omega (arith, contexts, ap length idle_is, length-append idle (context ∷ []), length-append engine.window (e ∷ []));
       waits = (λ goes. snoc_waits engine.window e refl (h.waits goes));
       ended = (λ ended. absurd (let clash : true ≡ false = sym ended ∙ goes_on in cc));
     }
@@ -120,16 +120,16 @@ one_or_none : {X : Type 0} (xs : List X) → (xs ≡ []) ⊎ (0 < length xs)
 one_or_none [] = inl refl
 one_or_none (x ∷ xs) = inr (omega arith)
 
-pub record KeepsAll (job : LoggedJob) (streams : List (StreamPrefix Plain)) (node : PlanNode) (claimed : ℕ) (bench : BenchView) : Type 0 where
-  pub state : bench.told.state ≡ (stage job.job streams node claimed).state
-  pub log : bench.told.log ≡ log_after job node (calls_before streams node claimed)
+pub record KeepsAll (job : LoggedJob) (streams : List (StreamPrefix Plain)) (node : PlanNode) (claimed : ℕ) (context : ContextView) : Type 0 where
+  pub state : context.told.state ≡ (stage job.job streams node claimed).state
+  pub log : context.told.log ≡ log_after job node (calls_before streams node claimed)
 
-keeps_all : (job : LoggedJob) (number : ℕ) (engine : EngineView) (bench : BenchView) (h : IsEngineOf job number engine) → engine.closed ≡ false → length engine.window < engine.in_flight → number_of (λ e. is_close e.phase) engine.window ≡ 0
-    → IsIdle job h.streams h.node engine.laid engine.closed bench → KeepsAll job h.streams h.node engine.claimed bench
-keeps_all job number engine bench h going room none idle =
+keeps_all : (job : LoggedJob) (number : ℕ) (engine : EngineView) (context : ContextView) (h : IsEngineOf job number engine) → engine.closed ≡ false → length engine.window < engine.in_flight → number_of (λ e. is_close e.phase) engine.window ≡ 0
+    → IsIdle job h.streams h.node engine.laid engine.closed context → KeepsAll job h.streams h.node engine.claimed context
+keeps_all job number engine context h going room none idle =
     let order = h.order in
-    let state : bench.told.state ≡ (stage job.job h.streams h.node engine.laid).state = idle.state ∙ ap (λ (b : Bool). (come_to job h.streams h.node engine.laid b).state) going in
-    let log : bench.told.log ≡ log_after job h.node (calls_before h.streams h.node engine.laid) =
+    let state : context.told.state ≡ (stage job.job h.streams h.node engine.laid).state = idle.state ∙ ap (λ (b : Bool). (come_to job h.streams h.node engine.laid b).state) going in
+    let log : context.told.log ≡ log_after job h.node (calls_before h.streams h.node engine.laid) =
     idle.log ∙ ap (λ (b : Bool). log_after job h.node (calls_by h.streams h.node engine.laid b)) going ∙ ap (log_after job h.node) (append-nil (calls_before h.streams h.node engine.laid)) in
     elim (one_or_none engine.window) [
       | inl empty ↦
@@ -149,14 +149,14 @@ keeps_all job number engine bench h going room none idle =
           })
     ]
 
-pub handed_work : (job : LoggedJob) (number : ℕ) (engine : EngineView) (phase : Phase) (bench : BenchView) (idle : List BenchView) (set : List (Option (Stamped Plain))) (h : IsEngineOf job number engine)
-    → engine.idle ≡ idle ++ bench ∷ [] → engine.closed ≡ false → length engine.window < engine.in_flight → number_of (λ e. is_close e.phase) engine.window ≡ 0 → length set ≡ length h.node.inputs → IsTask job.job h.streams h.node engine.claimed phase set
-    → LawfulWork job (record { node = engine.node; number = engine.claimed; phase = phase; bench = record { told = bench.told; set = set } })
+pub handed_work : (job : LoggedJob) (number : ℕ) (engine : EngineView) (phase : Phase) (context : ContextView) (idle : List ContextView) (set : List (Option (Stamped Plain))) (h : IsEngineOf job number engine)
+    → engine.idle ≡ idle ++ context ∷ [] → engine.closed ≡ false → length engine.window < engine.in_flight → number_of (λ e. is_close e.phase) engine.window ≡ 0 → length set ≡ length h.node.inputs → IsTask job.job h.streams h.node engine.claimed phase set
+    → LawfulWork job (record { node = engine.node; number = engine.claimed; phase = phase; context = record { told = context.told; set = set } })
 unfolding LawfulWork
-handed_work job number engine phase bench idle set h idle_is going room none places task =
-    let P : BenchView → Type 0 = IsIdle job h.streams h.node engine.laid engine.closed in
-    let last : AllByRecursion P (bench ∷ []) = last_have P idle (bench ∷ []) (subst (AllByRecursion P) idle_is (recursion_from_All P engine.idle h.idle)) in
-    let keeps = keeps_all job number engine bench h going room none last.0 in
+handed_work job number engine phase context idle set h idle_is going room none places task =
+    let P : ContextView → Type 0 = IsIdle job h.streams h.node engine.laid engine.closed in
+    let last : AllByRecursion P (context ∷ []) = last_have P idle (context ∷ []) (subst (AllByRecursion P) idle_is (recursion_from_All P engine.idle h.idle)) in
+    let keeps = keeps_all job number engine context h going room none last.0 in
     record {
       streams = h.streams;
       solves = h.solves;

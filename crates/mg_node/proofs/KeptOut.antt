@@ -11,7 +11,7 @@ use Rattle.mg_calc.specs.declared.node_fault.Phase.TheVariants.{Call, Process, C
 use Rattle.mg_node.specs.declared.pending.Pending.{Pending}
 use Rattle.mg_node.specs.declared.claimed.Claimed.{Claimed}
 use Rattle.mg_node.specs.declared.claimed.Claimed.TheVariants.{Work, Answered, NotReady, InFlightFull, Draining, Ended, OutOfMemory}
-use Rattle.mg_node.specs.Views.{IntakeView, BenchView, WorkView, PerformedView, OutcomeView, EntryView, EngineView}
+use Rattle.mg_node.specs.Views.{IntakeView, ContextView, WorkView, PerformedView, OutcomeView, EntryView, EngineView}
 use Rattle.mg_node.specs.Job.{LoggedJob}
 use Rattle.mg_node.specs.Lawful.{of_node, LawfulEngine, AreCell}
 use Rattle.mg_node.specs.IntakeStanding.{Stays}
@@ -33,7 +33,7 @@ gones outputs = map (λ (b : Backlog Plain). b.gone) outputs
 -- How it is set up.
 
 -- where other things alone are others
-others_kept : (e : EngineView) (outputs : List (Backlog Plain)) (laid claimed : ℕ) (window : List EntryView) (idle : List BenchView) → gones outputs ≡ gones e.outputs
+others_kept : (e : EngineView) (outputs : List (Backlog Plain)) (laid claimed : ℕ) (window : List EntryView) (idle : List ContextView) → gones outputs ≡ gones e.outputs
     → KeepsSetUp e (record e { outputs = outputs; laid = laid; claimed = claimed; window = window; idle = idle })
 others_kept e outputs laid claimed window idle gone = record { role = refl; node_is = refl; first = refl; in_flight = refl; given_up = gone }
 
@@ -46,8 +46,8 @@ set_up_same e f is = set_up_by e e f is (others_kept e e.outputs e.laid e.claime
 pub window_set_up : (e : EngineView) (window : List EntryView) → KeepsSetUp e (record e { window = window })
 window_set_up e window = others_kept e e.outputs e.laid e.claimed window e.idle refl
 
-hands_set_up : (e f : EngineView) (phase : Phase) (more : ℕ) (bench : BenchView) → Hands e f phase more bench → KeepsSetUp e f
-hands_set_up e f phase more bench t = set_up_by e _ f t.now (others_kept e e.outputs e.laid _ _ f.idle refl)
+hands_set_up : (e f : EngineView) (phase : Phase) (more : ℕ) (context : ContextView) → Hands e f phase more context → KeepsSetUp e f
+hands_set_up e f phase more context t = set_up_by e _ f t.now (others_kept e e.outputs e.laid _ _ f.idle refl)
 
 answer_gone : (answer : Option (Stamped Plain)) (outputs : List (Backlog Plain)) → gones (with_answer answer outputs) ≡ gones outputs
 answer_gone answer [] = refl
@@ -144,10 +144,10 @@ work_goes : (X : Type 0) (job : LoggedJob) (n : ℕ) (work : WorkView) (e f : En
 work_goes X job n work e f i k h now out claims = elim claims [
   | inl unrun ↦ unrun_goes job n e f work h unrun.1 out
   | inr further ↦ elim further.1 [
-    | inl called ↦ (let t = called.0 in further_goes job n e f (Call e.claimed) 1 t.bench work h now t.hands (ap (λ (w : WorkView). w.number) t.work_is) out)
+    | inl called ↦ (let t = called.0 in further_goes job n e f (Call e.claimed) 1 t.context work h now t.hands (ap (λ (w : WorkView). w.number) t.work_is) out)
     | inr other ↦ elim other [
-      | inl closes ↦ (let t = closes.0 in further_goes job n e f Close 0 t.bench work h now t.hands (ap (λ (w : WorkView). w.number) t.work_is) out)
-      | inr t ↦ further_goes job n e f (Process t.at) 1 t.bench work h now t.hands (ap (λ (w : WorkView). w.number) t.work_is) out
+      | inl closes ↦ (let t = closes.0 in further_goes job n e f Close 0 t.context work h now t.hands (ap (λ (w : WorkView). w.number) t.work_is) out)
+      | inr t ↦ further_goes job n e f (Process t.at) 1 t.context work h now t.hands (ap (λ (w : WorkView). w.number) t.work_is) out
     ]
   ]
 ]

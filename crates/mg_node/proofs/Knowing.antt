@@ -34,7 +34,7 @@ engine_known job number engine node h there =
       outputs = zip_long (λ b s. StandsFor (queue_of 0 b) s) engine.outputs h.whole h.kept
           ∙ zip_long IsExtendedBy h.whole (streams_at h.streams h.node.outputs) h.extended ∙ length-map h.node.outputs (λ number. get_or h.streams number empty_prefix);
       few = h.claimed;
-      benches = h.benches;
+      contexts = h.contexts;
     })
 
 pub nothing_ready : (job : LoggedJob) (number : ℕ) (engine : EngineView) → LawfulEngine job (of_node number) engine → has_ended engine ≡ false → starts_ready engine.window ≡ false

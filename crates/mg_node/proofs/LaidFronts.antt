@@ -12,7 +12,7 @@ use Rattle.mg_calc.specs.declared.emission.Laid.{Laid}
 use Rattle.mg_calc.specs.declared.node_fault.Phase.{Phase}
 use Rattle.mg_calc.specs.declared.plan_node.PlanNode.{PlanNode}
 use Rattle.mg_calc.specs.Meaning.{count_of}
-use Rattle.mg_node.specs.Views.{BenchView, EntryView}
+use Rattle.mg_node.specs.Views.{ContextView, EntryView}
 use Rattle.mg_node.specs.Job.{LoggedJob, streams_at, stage, IsLastWork, first_log, log_after}
 use Rattle.mg_node.specs.Lawful.{IsRaised, IsIdle, IsEntry, is_close, come_to, calls_by}
 use Rattle.mg_node.specs.Commits.{Front, calls_in_phase, answer_laid, has_stopped}
@@ -30,7 +30,7 @@ pub record IsFrontOf (job : LoggedJob) (streams : List (StreamPrefix Plain)) (no
   pub order : front.laid + length front.window ≡ claimed + number_of (λ e. is_close e.phase) front.window
   pub entries : (i : ℕ) (entry : EntryView) → slice_get front.window i ≡ Some entry → IsEntry job streams node front.laid (front.laid + i) number entry
   pub free : All (IsIdle job streams node front.laid front.closed) front.idle
-  pub benches : length front.idle + length front.window ≡ node.in_flight
+  pub contexts : length front.idle + length front.window ≡ node.in_flight
   pub ended : has_stopped front ≡ true → 0 < length front.idle
 
 -- the entries behind the first
@@ -43,25 +43,25 @@ next_entry job streams node owner n m k entry later e = record {
   close = (λ c. absurd (let no = e.close c in omega (arith, no, later)));
 }
 
-entry_by : (job : LoggedJob) (streams : List (StreamPrefix Plain)) (node : PlanNode) (owner n i : ℕ) (phase : Phase) (bench : BenchView) (answer : Result (List Laid) Cause) (entry : EntryView) (closes : Bool) → is_close phase ≡ closes → Turns job streams node n phase bench answer
+entry_by : (job : LoggedJob) (streams : List (StreamPrefix Plain)) (node : PlanNode) (owner n i : ℕ) (phase : Phase) (context : ContextView) (answer : Result (List Laid) Cause) (entry : EntryView) (closes : Bool) → is_close phase ≡ closes → Turns job streams node n phase context answer
     → IsEntry job streams node n (n + suc i) owner entry → IsEntry job streams node (n + calls_in_phase phase) (n + calls_in_phase phase + i) owner entry
-entry_by job streams node owner n i phase bench answer entry true is t e = absurd (t.none is (n + suc i) entry.phase e.set (omega arith) e.task)
-entry_by job streams node owner n i phase bench answer entry false is t e =
+entry_by job streams node owner n i phase context answer entry true is t e = absurd (t.none is (n + suc i) entry.phase e.set (omega arith) e.task)
+entry_by job streams node owner n i phase context answer entry false is t e =
     let one : calls_in_phase phase + 0 ≡ 1 = subst (λ (b : Bool). calls_in_phase phase + (if b then 1 else 0) ≡ 1) is t.one in
     subst (λ (k : ℕ). IsEntry job streams node (n + calls_in_phase phase) k owner entry) (let same : n + suc i ≡ n + calls_in_phase phase + i = omega (arith, one) in same)
     (next_entry job streams node owner n (n + calls_in_phase phase) (n + suc i) entry (omega arith) e)
 
--- the benches that are free: the one that comes back, and the others, whose calculators keep nothing and have no log
-bench_free : (job : LoggedJob) (streams : List (StreamPrefix Plain)) (node : PlanNode) (n : ℕ) (phase : Phase) (bench : BenchView) (answer : Result (List Laid) Cause) → IsDone job streams node n phase bench answer → Turns job streams node n phase bench answer
-    → IsIdle job streams node (n + calls_in_phase phase) (is_close phase) bench
-bench_free job streams node n phase bench answer d t = record {
+-- the contexts that are free: the one that comes back, and the others, whose calculators keep nothing and have no log
+context_free : (job : LoggedJob) (streams : List (StreamPrefix Plain)) (node : PlanNode) (n : ℕ) (phase : Phase) (context : ContextView) (answer : Result (List Laid) Cause) → IsDone job streams node n phase context answer → Turns job streams node n phase context answer
+    → IsIdle job streams node (n + calls_in_phase phase) (is_close phase) context
+context_free job streams node n phase context answer d t = record {
   fits = d.fits;
   places = d.places;
   state = t.state;
   log = d.log ∙ ap (log_after job node) t.log;
 }
 
-other_free : (job : LoggedJob) (streams : List (StreamPrefix Plain)) (node : PlanNode) (n : ℕ) (phase : Phase) (done other : BenchView) (answer : Result (List Laid) Cause) → Turns job streams node n phase done answer
+other_free : (job : LoggedJob) (streams : List (StreamPrefix Plain)) (node : PlanNode) (n : ℕ) (phase : Phase) (done other : ContextView) (answer : Result (List Laid) Cause) → Turns job streams node n phase done answer
     → node.shape.stateless ≡ true → first_log job node ≡ None → IsIdle job streams node n false other → IsIdle job streams node (n + calls_in_phase phase) (is_close phase) other
 other_free job streams node n phase done other answer t stateless none free = record {
   fits = free.fits;
@@ -70,7 +70,7 @@ other_free job streams node n phase done other answer t stateless none free = re
   log = free.log ∙ ap (option_map (λ c. c ++ calls_by streams node n false)) none ∙ sym (ap (option_map (λ c. c ++ calls_by streams node (n + calls_in_phase phase) (is_close phase))) none);
 }
 
-others_free : (job : LoggedJob) (streams : List (StreamPrefix Plain)) (node : PlanNode) (n : ℕ) (phase : Phase) (done : BenchView) (answer : Result (List Laid) Cause) (idle : List BenchView) (works : ℕ) → Turns job streams node n phase done answer → (1 < node.in_flight → KeepsNothing job node)
+others_free : (job : LoggedJob) (streams : List (StreamPrefix Plain)) (node : PlanNode) (n : ℕ) (phase : Phase) (done : ContextView) (answer : Result (List Laid) Cause) (idle : List ContextView) (works : ℕ) → Turns job streams node n phase done answer → (1 < node.in_flight → KeepsNothing job node)
     → length idle + suc works ≡ node.in_flight → All (IsIdle job streams node n false) idle → All (IsIdle job streams node (n + calls_in_phase phase) (is_close phase)) idle
 others_free job streams node n phase done answer [] works t alone many free = All-nil (IsIdle job streams node (n + calls_in_phase phase) (is_close phase))
 others_free job streams node n phase done answer (b ∷ idle) works t alone many free =
@@ -79,10 +79,10 @@ others_free job streams node n phase done answer (b ∷ idle) works t alone many
     (λ other. other_free job streams node n phase done other answer t nothing.stateless nothing.unlogged) (b ∷ idle) free
 
 -- the next front
-pub next_front : (job : LoggedJob) (streams : List (StreamPrefix Plain)) (node : PlanNode) (number claimed : ℕ) (front : Front) (entry : EntryView) (entries : List EntryView) (bench : BenchView) (answer : Result (List Laid) Cause) → IsFrontOf job streams node number claimed front
-    → front.window ≡ entry ∷ entries → front.closed ≡ false → (1 < node.in_flight → KeepsNothing job node) → IsDone job streams node front.laid entry.phase bench answer → Turns job streams node front.laid entry.phase bench answer
-    → IsFrontOf job streams node number claimed (answer_laid node.shape.offset entry.phase bench answer entries front)
-next_front job streams node number claimed front entry entries bench answer h window going alone d t =
+pub next_front : (job : LoggedJob) (streams : List (StreamPrefix Plain)) (node : PlanNode) (number claimed : ℕ) (front : Front) (entry : EntryView) (entries : List EntryView) (context : ContextView) (answer : Result (List Laid) Cause) → IsFrontOf job streams node number claimed front
+    → front.window ≡ entry ∷ entries → front.closed ≡ false → (1 < node.in_flight → KeepsNothing job node) → IsDone job streams node front.laid entry.phase context answer → Turns job streams node front.laid entry.phase context answer
+    → IsFrontOf job streams node number claimed (answer_laid node.shape.offset entry.phase context answer entries front)
+next_front job streams node number claimed front entry entries context answer h window going alone d t =
     let n = front.laid in
     let phase = entry.phase in
     let offset = node.shape.offset in
@@ -95,7 +95,7 @@ next_front job streams node number claimed front entry entries bench answer h wi
     let first : closes (entry ∷ entries) ≡ (if is_close phase then 1 else 0) + closes entries = sum_by-cons (λ (e : EntryView). cond (is_close e.phase) 1 0) entry entries in
     let now : n + calls_in_phase phase + length entries ≡ claimed + closes entries = (let one = t.one in omega (arith, order, first, one)) in
     let most = count_by-le-length (λ (e : EntryView). is_close e.phase) entries in
-    let benches : length front.idle + suc (length entries) ≡ node.in_flight = subst (λ (w : List EntryView). length front.idle + length w ≡ node.in_flight) window h.benches in
+    let contexts : length front.idle + suc (length entries) ≡ node.in_flight = subst (λ (w : List EntryView). length front.idle + length w ≡ node.in_flight) window h.contexts in
     let free : All (IsIdle job streams node n false) front.idle = subst (λ (b : Bool). All (IsIdle job streams node n b) front.idle) going h.free in
     record {
       few = omega (arith, now, most);
@@ -105,8 +105,8 @@ next_front job streams node number claimed front entry entries bench answer h wi
       extended = comes.extended;
       same_fault = comes.same_fault ∙ sym t.fault;
       order = now;
-      entries = (λ i e at. entry_by job streams node number n i phase bench answer e (is_close phase) refl t (h.entries (suc i) e (ap (λ (w : List EntryView). slice_get w (suc i)) window ∙ at)));
-      free = All-push (IsIdle job streams node (n + calls_in_phase phase) (is_close phase)) front.idle bench (others_free job streams node n phase bench answer front.idle (length entries) t alone benches free) (bench_free job streams node n phase bench answer d t);
-      benches = omega (arith, benches, length-append front.idle (bench ∷ []));
-      ended = (λ stops. omega (arith, length-append front.idle (bench ∷ [])));
+      entries = (λ i e at. entry_by job streams node number n i phase context answer e (is_close phase) refl t (h.entries (suc i) e (ap (λ (w : List EntryView). slice_get w (suc i)) window ∙ at)));
+      free = All-push (IsIdle job streams node (n + calls_in_phase phase) (is_close phase)) front.idle context (others_free job streams node n phase context answer front.idle (length entries) t alone contexts free) (context_free job streams node n phase context answer d t);
+      contexts = omega (arith, contexts, length-append front.idle (context ∷ []));
+      ended = (λ stops. omega (arith, length-append front.idle (context ∷ [])));
     }

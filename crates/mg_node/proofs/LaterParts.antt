@@ -27,7 +27,7 @@ use Rattle.mg_calc.proofs.Rounds.{streams_extend, streams_are_prefixes}
 use Rattle.mg_calc.proofs.Solutions.{solution_keeps}
 use Rattle.mg_node.specs.declared.pending.Pending.{Pending}
 use Rattle.mg_node.specs.declared.pending.Pending.TheVariants.{Sets, Loop}
-use Rattle.mg_node.specs.Views.{IntakeView, BenchView, WorkView, PerformedView, OutcomeView, EntryView, EngineView}
+use Rattle.mg_node.specs.Views.{IntakeView, ContextView, WorkView, PerformedView, OutcomeView, EntryView, EngineView}
 use Rattle.mg_node.specs.Job.{LoggedJob, Solves, ports_of, streams_at, stage, IsLastWork, log_after, calls_before, calls_in}
 use Rattle.mg_node.specs.Lawful.{HoldsWaits, IsIntakeOf, LawfulIntake, HasAnswered, answer_in, IsAtWork, IsWorkOf, LawfulWork, LawfulPerformed, LawfulOutcome, IsRaised, come_to, calls_by, IsIdle, StandsAt, IsEntry, IsEngineOf, of_node, LawfulEngine}
 use Rattle.mg_node.specs.Begun.{IsUnbegun, IsUnbegunOf, LawfulUnbegun}
@@ -124,15 +124,15 @@ at_work_later : (job : LoggedJob) (more : Inputs) (streams later : List (StreamP
     → IsAtWork job streams node work answer → IsAtWork (with_inputs job more) later node work answer
 at_work_later job more streams later node work None same calls h = (h.0 ∙ ap (λ (o : Outcome). o.state) same, h.1 ∙ ap (λ (cs : List Call). log_after job node cs) calls)
 at_work_later job more streams later node work (Some answer) same calls h = (
-  subst (λ (o : Outcome). HasAnswered answer o.state work.bench.told.state (answer_in node.law o.state work.phase work.bench.set)) same h.0,
-  h.1 ∙ ap (λ (cs : List Call). log_after job node (cs ++ calls_in work.phase work.bench.set)) calls,
+  subst (λ (o : Outcome). HasAnswered answer o.state work.context.told.state (answer_in node.law o.state work.phase work.context.set)) same h.0,
+  h.1 ∙ ap (λ (cs : List Call). log_after job node (cs ++ calls_in work.phase work.context.set)) calls,
 )
 
 work_later : (job : LoggedJob) (more : Inputs) → IsMore job more → (view : OutcomeView) → IsWorkOf job view → IsWorkOf (with_inputs job more) view
 work_later job more m view h =
     let l = later_solution job more m h.streams h.solves in
     let on = node_goes_on job more m h.streams view.work.node h.node h.solves l h.there in
-    let most = task_most job h.streams h.node view.work.number view.work.phase view.work.bench.set h.task in
+    let most = task_most job h.streams h.node view.work.number view.work.phase view.work.context.set h.task in
     record {
       streams = l.later;
       solves = l.solves;
@@ -140,7 +140,7 @@ work_later job more m view h =
       there = h.there;
       fits = h.fits;
       places = h.places;
-      task = task_stays on view.work.number view.work.phase view.work.bench.set h.task;
+      task = task_stays on view.work.number view.work.phase view.work.context.set h.task;
       at_work = at_work_later job more h.streams l.later h.node view.work view.answer
           (stage_stays on view.work.number (λ never. most)) (calls_stay on view.work.number (λ never. most)) h.at_work;
     }
@@ -156,8 +156,8 @@ module _ {job : LoggedJob} {more : Inputs} (m : IsMore job more) {streams later 
   calls_by_later n closed stood = ap (λ (cs : List Call). cs ++ (if closed then Finished ∷ [] else [])) (calls_stay on n stood)
 
   idle_later : (n : ℕ) (closed : Bool) → come_to job streams node n closed ≡ come_to (with_inputs job more) later node n closed → calls_by streams node n closed ≡ calls_by later node n closed
-      → (bench : BenchView) → IsIdle job streams node n closed bench → IsIdle (with_inputs job more) later node n closed bench
-  idle_later n closed same calls bench h = record {
+      → (context : ContextView) → IsIdle job streams node n closed context → IsIdle (with_inputs job more) later node n closed context
+  idle_later n closed same calls context h = record {
     fits = h.fits;
     places = h.places;
     state = h.state ∙ ap (λ (o : Outcome). o.state) same;
@@ -208,7 +208,7 @@ engine_later job more m number view h =
       entries = (λ i entry at. entry_later m on view.laid (view.laid + i) number entry (h.entries i entry at));
       idle = All-weaker (IsIdle job h.streams h.node view.laid view.closed) (IsIdle (with_inputs job more) l.later h.node view.laid view.closed)
           (idle_later m on view.laid view.closed same calls) view.idle h.idle;
-      benches = h.benches;
+      contexts = h.contexts;
       waits = h.waits;
       ended = h.ended;
     }

@@ -7,9 +7,9 @@ use Rattle.mg_calc.specs.declared.plan_node.PlanNode.{PlanNode}
 use Rattle.mg_route.specs.HolderView.{HolderView}
 use Rattle.mg_calc.proofs.Earlier.{get_or_some}
 use Rattle.mg_node.specs.declared.role.Role.{Role}
-use Rattle.mg_node.specs.Views.{BenchView, EntryView, EngineView}
+use Rattle.mg_node.specs.Views.{ContextView, EntryView, EngineView}
 use Rattle.mg_node.specs.Job.{role_of, LoggedJob}
-use Rattle.mg_node.specs.Fresh.{own_told, bench_of, benches_of, fresh_engine}
+use Rattle.mg_node.specs.Fresh.{own_told, context_of, contexts_of, fresh_engine}
 use Rattle.mg_node.specs.Begun.{IsHanded, LawfulUnbegun}
 
 -- what is read of a list at a place is there
@@ -21,7 +21,7 @@ pub some_same : {X : Type 0} (o : Option X) (x y : X) → o ≡ Some x → o ≡
 some_same {X} o x y a b = (let same : Some x ≡ Some y = sym a ∙ b in cc)
 
 -- the engine of such parts
-abbrev pub engine_of : PlanNode → ℕ → Role → ℕ → ℕ → List (Backlog Plain) → List EntryView → List BenchView → EngineView
+abbrev pub engine_of : PlanNode → ℕ → Role → ℕ → ℕ → List (Backlog Plain) → List EntryView → List ContextView → EngineView
 engine_of node number role first inputs outputs window idle = record {
   role = role;
   node = number;
@@ -39,17 +39,17 @@ engine_of node number role first inputs outputs window idle = record {
   fault = None;
 }
 
--- the benches: those of the node's own calculators, and the one of what is handed in
-pub benches_made : (node : PlanNode) (told : HolderView) (count : ℕ) (own idle : List BenchView) (bench : BenchView) (set : List (Option (Stamped Plain))) (ports : ℕ) → count ≡ node.in_flight - 1
-    → own ≡ replicate count (bench_of node (own_told node)) → set ≡ replicate ports None → ports ≡ length node.inputs → bench ≡ record { told = told; set = set } → idle ≡ own ++ bench ∷ [] → idle ≡ benches_of node told
-benches_made node told count own idle bench set ports counted own_is set_is ports_is bench_is idle_is =
+-- the contexts: those of the node's own calculators, and the one of what is handed in
+pub contexts_made : (node : PlanNode) (told : HolderView) (count : ℕ) (own idle : List ContextView) (context : ContextView) (set : List (Option (Stamped Plain))) (ports : ℕ) → count ≡ node.in_flight - 1
+    → own ≡ replicate count (context_of node (own_told node)) → set ≡ replicate ports None → ports ≡ length node.inputs → context ≡ record { told = told; set = set } → idle ≡ own ++ context ∷ [] → idle ≡ contexts_of node told
+contexts_made node told count own idle context set ports counted own_is set_is ports_is context_is idle_is =
     let nothing : Option (Stamped Plain) = None in
-    let whole : bench ≡ bench_of node told = bench_is ∙ (λ i. record { told = told; set = (set_is ∙ ap (λ (n : ℕ). replicate n nothing) ports_is) i }) in
-    idle_is ∙ ap (λ (bs : List BenchView). bs ++ bench ∷ []) (own_is ∙ ap (λ (n : ℕ). replicate n (bench_of node (own_told node))) counted)
-    ∙ ap (λ (b : BenchView). replicate (node.in_flight - 1) (bench_of node (own_told node)) ++ b ∷ []) whole
+    let whole : context ≡ context_of node told = context_is ∙ (λ i. record { told = told; set = (set_is ∙ ap (λ (n : ℕ). replicate n nothing) ports_is) i }) in
+    idle_is ∙ ap (λ (bs : List ContextView). bs ++ context ∷ []) (own_is ∙ ap (λ (n : ℕ). replicate n (context_of node (own_told node))) counted)
+    ∙ ap (λ (b : ContextView). replicate (node.in_flight - 1) (context_of node (own_told node)) ++ b ∷ []) whole
 
-pub engine_made : (node planned : PlanNode) (number : ℕ) (told : HolderView) (role : Role) (first inputs outs : ℕ) (outputs : List (Backlog Plain)) (window : List EntryView) (idle : List BenchView) → node ≡ planned
-    → role ≡ role_of node.law → first ≡ get_or node.outputs 0 0 → inputs ≡ length node.inputs → outs ≡ length node.outputs → outputs ≡ replicate outs empty_backlog → window ≡ [] → idle ≡ benches_of node told
+pub engine_made : (node planned : PlanNode) (number : ℕ) (told : HolderView) (role : Role) (first inputs outs : ℕ) (outputs : List (Backlog Plain)) (window : List EntryView) (idle : List ContextView) → node ≡ planned
+    → role ≡ role_of node.law → first ≡ get_or node.outputs 0 0 → inputs ≡ length node.inputs → outs ≡ length node.outputs → outputs ≡ replicate outs empty_backlog → window ≡ [] → idle ≡ contexts_of node told
     → engine_of node number role first inputs outputs window idle ≡ fresh_engine planned number told
 engine_made node planned number told role first inputs outs outputs window idle same role_is first_is inputs_is outs_is outputs_is window_is idle_is =
     let made : engine_of node number role first inputs outputs window idle ≡ fresh_engine node number told =

@@ -15,7 +15,7 @@ use Rattle.mg_calc.specs.declared.node_fault.Phase.TheVariants.{Open, Call as So
 use Rattle.mg_calc.specs.declared.shape.Shape.{Shape}
 use Rattle.mg_calc.specs.Plan.{HasNumbers}
 use Rattle.mg_calc.specs.Shape.{IsOuter, IsSource, calls_of}
-use Rattle.mg_node.specs.Views.{BenchView, WorkView, OutcomeView}
+use Rattle.mg_node.specs.Views.{ContextView, WorkView, OutcomeView}
 use Rattle.mg_node.specs.Job.{LoggedJob, IsTask, stage, calls_before, calls_in, log_after, first_log}
 use Rattle.mg_node.specs.Lawful.{IsWorkOf, LawfulWork, LawfulPerformed, HasAnswered, answer_in}
 use Rattle.mg_node.specs.Running.{MayRun, LogsPhase, HasRun, SomeJobHas, IsPerformed}
@@ -29,21 +29,21 @@ of_node {X} P xs i x all there = go xs i (recursion_from_All P xs all) there
     go (y ∷ ys) zero a there = (let same : y ≡ x = cc in subst P same a.0)
     go (y ∷ ys) (suc j) a there = go ys j a.1 there
 
-may_run_by : (job : LoggedJob) (o : OutcomeView) (w : IsWorkOf job o) (phase : Phase) → IsTask job.job w.streams w.node o.work.number phase o.work.bench.set → MayRun phase o.work.bench
+may_run_by : (job : LoggedJob) (o : OutcomeView) (w : IsWorkOf job o) (phase : Phase) → IsTask job.job w.streams w.node o.work.number phase o.work.context.set → MayRun phase o.work.context
 may_run_by job o w Open task = absurd task
 may_run_by job o w (SourceCall number) task =
-    let law : w.node.law ≡ o.work.bench.told.law = sym w.fits.same_law in
-    (subst IsSource law task.0, subst (λ (n : ℕ). n < calls_of o.work.bench.told.law) (sym task.1) (subst (λ (l : Law). o.work.number < calls_of l) law task.2))
+    let law : w.node.law ≡ o.work.context.told.law = sym w.fits.same_law in
+    (subst IsSource law task.0, subst (λ (n : ℕ). n < calls_of o.work.context.told.law) (sym task.1) (subst (λ (l : Law). o.work.number < calls_of l) law task.2))
 may_run_by job o w (Process at) task =
     let has : HasNumbers w.node = of_node HasNumbers job.job.plan.nodes o.work.node w.node w.solves.is_job.plan.ports w.there in
     (subst IsOuter (sym w.fits.same_law) task.0, w.places ∙ has.inputs ∙ ap (λ (s : Shape). length s.inputs) (sym w.fits.same_shape))
 may_run_by job o w Close task = tt
 
-may_run_of : (job : LoggedJob) (work : WorkView) → LawfulWork job work → MayRun work.phase work.bench
+may_run_of : (job : LoggedJob) (work : WorkView) → LawfulWork job work → MayRun work.phase work.context
 unfolding LawfulWork
 may_run_of job work w = may_run_by job (record { work = work; answer = None }) w work.phase w.task
 
-pub may_run : (work : WorkView) → SomeJobHas work → MayRun work.phase work.bench
+pub may_run : (work : WorkView) → SomeJobHas work → MayRun work.phase work.context
 may_run work h = may_run_of h.job work h.lawful
 
 -- the log after a run that found memory
@@ -51,43 +51,43 @@ no_call : (log : Option (List Call)) → log ≡ option_map (λ calls. calls ++ 
 no_call None = refl
 no_call (Some calls) = ap Some (sym (append-nil calls))
 
-pub logged_well : (e : List Laid) (bench : BenchView) (now : Option (List Call)) (phase : Phase) → MayRun phase bench → LogsPhase (let r : Result (List Laid) CalcFault = Ok e in r) bench.told.log now phase bench.set
-    → now ≡ option_map (λ calls. calls ++ calls_in phase bench.set) bench.told.log
-logged_well e bench now Open may h = absurd may
-logged_well e bench now (SourceCall number) may h = h ∙ no_call bench.told.log
-logged_well e bench now (Process at) may h = h
-logged_well e bench now Close may h = h
+pub logged_well : (e : List Laid) (context : ContextView) (now : Option (List Call)) (phase : Phase) → MayRun phase context → LogsPhase (let r : Result (List Laid) CalcFault = Ok e in r) context.told.log now phase context.set
+    → now ≡ option_map (λ calls. calls ++ calls_in phase context.set) context.told.log
+logged_well e context now Open may h = absurd may
+logged_well e context now (SourceCall number) may h = h ∙ no_call context.told.log
+logged_well e context now (Process at) may h = h
+logged_well e context now Close may h = h
 
-pub logged_fault : (cause : Cause) (bench : BenchView) (now : Option (List Call)) (phase : Phase) → MayRun phase bench → LogsPhase (let r : Result (List Laid) CalcFault = Err (Fault cause) in r) bench.told.log now phase bench.set
-    → now ≡ option_map (λ calls. calls ++ calls_in phase bench.set) bench.told.log
-logged_fault cause bench now Open may h = absurd may
-logged_fault cause bench now (SourceCall number) may h = h ∙ no_call bench.told.log
-logged_fault cause bench now (Process at) may h = h
-logged_fault cause bench now Close may h = h
+pub logged_fault : (cause : Cause) (context : ContextView) (now : Option (List Call)) (phase : Phase) → MayRun phase context → LogsPhase (let r : Result (List Laid) CalcFault = Err (Fault cause) in r) context.told.log now phase context.set
+    → now ≡ option_map (λ calls. calls ++ calls_in phase context.set) context.told.log
+logged_fault cause context now Open may h = absurd may
+logged_fault cause context now (SourceCall number) may h = h ∙ no_call context.told.log
+logged_fault cause context now (Process at) may h = h
+logged_fault cause context now Close may h = h
 
-logged_none : (bench : BenchView) (now : Option (List Call)) (phase : Phase) → MayRun phase bench → LogsPhase (let r : Result (List Laid) CalcFault = Err OutOfMemory in r) bench.told.log now phase bench.set → now ≡ bench.told.log
-logged_none bench now Open may h = absurd may
-logged_none bench now (SourceCall number) may h = h
-logged_none bench now (Process at) may h = h
-logged_none bench now Close may h = h
+logged_none : (context : ContextView) (now : Option (List Call)) (phase : Phase) → MayRun phase context → LogsPhase (let r : Result (List Laid) CalcFault = Err OutOfMemory in r) context.told.log now phase context.set → now ≡ context.told.log
+logged_none context now Open may h = absurd may
+logged_none context now (SourceCall number) may h = h
+logged_none context now (Process at) may h = h
+logged_none context now Close may h = h
 
 -- a work is done, with an emission or a cause
-pub performed_well : (work now : WorkView) (e : List Laid) → MayRun work.phase work.bench → HasRun (Ok e) work.phase work.bench now.bench → now ≡ record work { bench = now.bench } → IsPerformed work (record { work = now; answer = Ok e })
+pub performed_well : (work now : WorkView) (e : List Laid) → MayRun work.phase work.context → HasRun (Ok e) work.phase work.context now.context → now ≡ record work { context = now.context } → IsPerformed work (record { work = now; answer = Ok e })
 performed_well work now e may h same = record {
   same = same;
   answer = h.answer;
-  log = logged_well e work.bench now.bench.told.log work.phase may h.log;
+  log = logged_well e work.context now.context.told.log work.phase may h.log;
   law = h.law;
   shape = h.shape;
   same_handed = h.same_handed;
   set = h.set;
 }
 
-pub performed_fault : (work now : WorkView) (cause : Cause) → MayRun work.phase work.bench → HasRun (Err (Fault cause)) work.phase work.bench now.bench → now ≡ record work { bench = now.bench } → IsPerformed work (record { work = now; answer = Err cause })
+pub performed_fault : (work now : WorkView) (cause : Cause) → MayRun work.phase work.context → HasRun (Err (Fault cause)) work.phase work.context now.context → now ≡ record work { context = now.context } → IsPerformed work (record { work = now; answer = Err cause })
 performed_fault work now cause may h same = record {
   same = same;
   answer = (h.answer, h.kept);
-  log = logged_fault cause work.bench now.bench.told.log work.phase may h.log;
+  log = logged_fault cause work.context now.context.told.log work.phase may h.log;
   law = h.law;
   shape = h.shape;
   same_handed = h.same_handed;
@@ -95,13 +95,13 @@ performed_fault work now cause may h same = record {
 }
 
 -- and after want of memory it is as it was
-same_bench : (a b : BenchView) → a.told.law ≡ b.told.law → a.told.shape ≡ b.told.shape → a.told.state ≡ b.told.state → a.told.log ≡ b.told.log → a.told.handed ≡ b.told.handed → a.set ≡ b.set → a ≡ b
-same_bench a b law shape state log handed set = λ i. record { told = record { law = law i; shape = shape i; state = state i; log = log i; handed = handed i }; set = set i }
+same_context : (a b : ContextView) → a.told.law ≡ b.told.law → a.told.shape ≡ b.told.shape → a.told.state ≡ b.told.state → a.told.log ≡ b.told.log → a.told.handed ≡ b.told.handed → a.set ≡ b.set → a ≡ b
+same_context a b law shape state log handed set = λ i. record { told = record { law = law i; shape = shape i; state = state i; log = log i; handed = handed i }; set = set i }
 
-pub unchanged : (work now : WorkView) → MayRun work.phase work.bench → HasRun (Err OutOfMemory) work.phase work.bench now.bench → now ≡ record work { bench = now.bench } → now ≡ work
+pub unchanged : (work now : WorkView) → MayRun work.phase work.context → HasRun (Err OutOfMemory) work.phase work.context now.context → now ≡ record work { context = now.context } → now ≡ work
 unchanged work now may h same =
-    let bench : now.bench ≡ work.bench = same_bench now.bench work.bench h.law h.shape h.kept (logged_none work.bench now.bench.told.log work.phase may h.log) h.same_handed h.set in
-    same ∙ ap (λ (b : BenchView). (let w : WorkView = record work { bench = b } in w)) bench
+    let context : now.context ≡ work.context = same_context now.context work.context h.law h.shape h.kept (logged_none work.context now.context.told.log work.phase may h.log) h.same_handed h.set in
+    same ∙ ap (λ (b : ContextView). (let w : WorkView = record work { context = b } in w)) context
 
 -- Lawful.
 
@@ -113,10 +113,10 @@ answered_from : (answer : Result (List Laid) Cause) (a b now : List Plain) (l m 
 answered_from answer a b now l m phase set same law h =
     subst (λ (s : List Plain). HasAnswered answer s now (answer_in m s phase set)) same (subst (λ (k : Law). HasAnswered answer a now (answer_in k a phase set)) law h)
 
-performed_at : (job : LoggedJob) (work : WorkView) (bench : BenchView) (answer : Result (List Laid) Cause) → LawfulWork job work → IsPerformed work (record { work = record work { bench = bench }; answer = answer })
-    → LawfulPerformed job (record { work = record work { bench = bench }; answer = answer })
+performed_at : (job : LoggedJob) (work : WorkView) (context : ContextView) (answer : Result (List Laid) Cause) → LawfulWork job work → IsPerformed work (record { work = record work { context = context }; answer = answer })
+    → LawfulPerformed job (record { work = record work { context = context }; answer = answer })
 unfolding LawfulWork LawfulPerformed
-performed_at job work bench answer w p = record {
+performed_at job work context answer w p = record {
   streams = w.streams;
   solves = w.solves;
   node = w.node;
@@ -125,9 +125,9 @@ performed_at job work bench answer w p = record {
   places = ap length p.set ∙ w.places;
   task = subst (λ (set : List (Option (Stamped Plain))). IsTask job.job w.streams w.node work.number work.phase set) (sym p.set) w.task;
   at_work = (
-    subst (λ (set : List (Option (Stamped Plain))). HasAnswered answer (stage job.job w.streams w.node work.number).state bench.told.state (answer_in w.node.law (stage job.job w.streams w.node work.number).state work.phase set)) (sym p.set)
-        (answered_from answer work.bench.told.state (stage job.job w.streams w.node work.number).state bench.told.state work.bench.told.law w.node.law work.phase work.bench.set w.at_work.0 w.fits.same_law p.answer),
-    p.log ∙ ap (option_map (λ calls. calls ++ calls_in work.phase work.bench.set)) w.at_work.1 ∙ log_further (first_log job w.node) (calls_before w.streams w.node work.number) (calls_in work.phase work.bench.set)
+    subst (λ (set : List (Option (Stamped Plain))). HasAnswered answer (stage job.job w.streams w.node work.number).state context.told.state (answer_in w.node.law (stage job.job w.streams w.node work.number).state work.phase set)) (sym p.set)
+        (answered_from answer work.context.told.state (stage job.job w.streams w.node work.number).state context.told.state work.context.told.law w.node.law work.phase work.context.set w.at_work.0 w.fits.same_law p.answer),
+    p.log ∙ ap (option_map (λ calls. calls ++ calls_in work.phase work.context.set)) w.at_work.1 ∙ log_further (first_log job w.node) (calls_before w.streams w.node work.number) (calls_in work.phase work.context.set)
         ∙ ap (λ (set : List (Option (Stamped Plain))). log_after job w.node (calls_before w.streams w.node work.number ++ calls_in work.phase set)) (sym p.set),
   );
 }
@@ -136,4 +136,4 @@ pub performed_lawful : (job : LoggedJob) (work now : WorkView) (answer : Result 
 performed_lawful job work now answer w p =
     let At : WorkView → Type 0 = λ v. IsPerformed work (record { work = v; answer = answer }) in
     subst (λ (v : WorkView). LawfulPerformed job (record { work = v; answer = answer })) (sym p.same)
-    (performed_at job work now.bench answer w (subst At p.same p))
+    (performed_at job work now.context answer w (subst At p.same p))

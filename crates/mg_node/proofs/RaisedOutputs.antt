@@ -91,7 +91,7 @@ raised_engine job number engine b h may = record {
   order = h.order;
   entries = h.entries;
   idle = h.idle;
-  benches = h.benches;
+  contexts = h.contexts;
   waits = h.waits;
   ended = h.ended;
 }

@@ -18,8 +18,8 @@ use Rattle.mg_batch.proofs.Sent.{emission}
 use Rattle.mg_route.proofs.Sent.{holder_field}
 use Rattle.mg_route.specs.contracts.holder.Holder as Holder
 use Rattle.mg_node.proofs.role.Role.TheSendSync.{the_field_send as role}
-use Rattle.mg_node.specs.contracts.bench.Bench as Bench
-use Rattle.mg_node.specs.contracts.bench.Bench.TheInside as BenchInside
+use Rattle.mg_node.specs.contracts.context.Context as Context
+use Rattle.mg_node.specs.contracts.context.Context.TheInside as ContextInside
 use Rattle.mg_node.specs.contracts.work.Work as Work
 use Rattle.mg_node.specs.contracts.work.Work.TheInside as WorkInside
 use Rattle.mg_node.specs.contracts.performed.Performed as Performed
@@ -62,14 +62,14 @@ module _ (C : RattleType) (g : Ghosts C.Denot) (s : IsSend C) where
   holder : IsSend (Holder.the_field C g).row
   holder = holder_field C g s
 
-  bench_inside : IsSend (BenchInside.the_row C g)
-  bench_inside = search (holder, set, sendable, crosses) depth 40 fits 20000
+  context_inside : IsSend (ContextInside.the_row C g)
+  context_inside = search (holder, set, sendable, crosses) depth 40 fits 20000
 
-  pub bench : IsSend (Bench.the_field C g).row
-  bench = search (bench_inside, sendable) depth 40 fits 20000
+  pub context : IsSend (Context.the_field C g).row
+  context = search (context_inside, sendable) depth 40 fits 20000
 
   work_inside : IsSend (WorkInside.the_row C g)
-  work_inside = search (bench, phase, sendable) depth 40 fits 20000
+  work_inside = search (context, phase, sendable) depth 40 fits 20000
 
   pub work : IsSend (Work.the_row C g)
   work = search (work_inside, sendable) depth 40 fits 20000
@@ -99,7 +99,7 @@ module _ (C : RattleType) (g : Ghosts C.Denot) (s : IsSend C) where
   entry = search (entry_inside, sendable) depth 40 fits 20000
 
   engine_inside : IsSend (EngineInside.the_row C g)
-  engine_inside = search (entry, bench, queue, role, fault, sendable, crosses) depth 40 fits 20000
+  engine_inside = search (entry, context, queue, role, fault, sendable, crosses) depth 40 fits 20000
 
   pub engine : IsSend (Engine.the_row C g)
   engine = search (engine_inside, sendable) depth 40 fits 20000

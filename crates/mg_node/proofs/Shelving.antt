@@ -19,7 +19,7 @@ use Rattle.mg_node.proofs.FrontWaits.{set_waits}
 pub record HasWindow (job : LoggedJob) (streams : List (StreamPrefix Plain)) (node : PlanNode) (number : ℕ) (engine : EngineView) (window : List EntryView) : Type 0 where
   pub order : engine.laid + length window ≡ engine.claimed + number_of (λ e. is_close e.phase) window
   pub entries : (i : ℕ) (entry : EntryView) → slice_get window i ≡ Some entry → IsEntry job streams node engine.laid (engine.laid + i) number entry
-  pub benches : length engine.idle + length window ≡ engine.in_flight
+  pub contexts : length engine.idle + length window ≡ engine.in_flight
 
 -- an entry is put in place of one of the same phase: its outcome, if there is one, stands there, and it is committed only with an
 -- answer
@@ -27,7 +27,7 @@ pub entry_window : (job : LoggedJob) (number : ℕ) (engine : EngineView) (place
     → IfSome now.outcome (λ o. StandsAt job number (engine.laid + place) now.phase o) → HasWindow job h.streams h.node number engine (set engine.window place now)
 entry_window job number engine place entry now h there phase committed stands =
     let order = h.order in
-    let benches = h.benches in
+    let contexts = h.contexts in
     record {
       order = omega (arith, order, length-set engine.window place now, number_set engine.window place entry now there (ap is_close phase));
       entries = (λ i x at. elim (set_get engine.window place i now x at) [
@@ -36,7 +36,7 @@ entry_window job number engine place entry now h there phase committed stands =
             subst (λ (y : EntryView). IsEntry job h.streams h.node engine.laid (engine.laid + i) number y) here.1
             (subst (λ (k : ℕ). IsEntry job h.streams h.node engine.laid (engine.laid + k) number now) (sym here.0) (there_now (h.entries place entry there)))
       ]);
-      benches = omega (arith, benches, length-set engine.window place now);
+      contexts = omega (arith, contexts, length-set engine.window place now);
     }
   where
     there_now : IsEntry job h.streams h.node engine.laid (engine.laid + place) number entry → IsEntry job h.streams h.node engine.laid (engine.laid + place) number now
@@ -71,7 +71,7 @@ entry_engine job number engine place entry now h there phase open_yet stands =
       order = has.order;
       entries = has.entries;
       idle = h.idle;
-      benches = has.benches;
+      contexts = has.contexts;
       waits = (λ goes. set_waits engine.window place now open_yet (h.waits goes));
       ended = h.ended;
     }

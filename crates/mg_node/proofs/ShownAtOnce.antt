@@ -20,7 +20,7 @@ use Rattle.mg_node.specs.declared.claimed.Claimed.TheVariants.{Work, NotReady}
 use Rattle.mg_node.specs.declared.pending.Pending.{Pending}
 use Rattle.mg_node.specs.declared.pending.Pending.TheVariants.{Sets, Loop}
 use Rattle.mg_node.specs.Intakes.{HasSets}
-use Rattle.mg_node.specs.Views.{IntakeView, BenchView, WorkView, PerformedView, OutcomeView, EntryView, EngineView}
+use Rattle.mg_node.specs.Views.{IntakeView, ContextView, WorkView, PerformedView, OutcomeView, EntryView, EngineView}
 use Rattle.mg_node.specs.Ports.{IsNext}
 use Rattle.mg_node.specs.Job.{LoggedJob}
 use Rattle.mg_node.specs.Lawful.{StandForAll, LawfulEngine, of_node, is_close, AreCell}
@@ -52,10 +52,10 @@ snoc_same {X} (z ∷ xs) (w ∷ ys) x y e =
 
 room_by : (job : LoggedJob) (number : ℕ) (e : EngineView) → LawfulEngine job (of_node number) e → 0 < length e.idle → length e.window < e.in_flight
 unfolding LawfulEngine
-room_by job number e h some = (let benches = h.benches in omega (arith, benches, some))
+room_by job number e h some = (let contexts = h.contexts in omega (arith, contexts, some))
 
 show_room : (e : EngineView) (i : IntakeView) → AreCell e i → MayShow e → length e.window < e.in_flight
-show_room e i cell may = room_by cell.job cell.number e cell.lawful_engine may.bench
+show_room e i cell may = room_by cell.job cell.number e cell.lawful_engine may.context
 
 all_laid : (job : LoggedJob) (number : ℕ) (e : EngineView) → LawfulEngine job (of_node number) e → e.window ≡ [] → e.laid ≡ e.claimed
 unfolding LawfulEngine
@@ -67,40 +67,40 @@ all_laid job number e h none =
 
 -- Once the set is shown.
 
--- an engine of which another bench stands behind the others
-abbrev pub with_bench : EngineView → List BenchView → BenchView → EngineView
-with_bench e rest bench = record e { idle = rest ++ bench ∷ [] }
+-- an engine of which another context stands behind the others
+abbrev pub with_context : EngineView → List ContextView → ContextView → EngineView
+with_context e rest context = record e { idle = rest ++ context ∷ [] }
 
-pub shown_whole : (e e1 : EngineView) (i : IntakeView) (rest : List BenchView) (bench : BenchView) → AreCell e i → e1 ≡ with_bench e rest bench → HasWhole e1
-shown_whole e e1 i rest bench cell is =
+pub shown_whole : (e e1 : EngineView) (i : IntakeView) (rest : List ContextView) (context : ContextView) → AreCell e i → e1 ≡ with_context e rest context → HasWhole e1
+shown_whole e e1 i rest context cell is =
     let has = (whole_by cell.job cell.number e e.window cell.lawful_engine).1 in
-    let here : HasWhole (with_bench e rest bench) = record { whole = has.whole; stand = has.stand; own = has.own } in
+    let here : HasWhole (with_context e rest context) = record { whole = has.whole; stand = has.stand; own = has.own } in
     subst HasWhole (sym is) here
 
-pub shown_goes : (e e1 : EngineView) (rest : List BenchView) (bench : BenchView) → MayShow e → e1 ≡ with_bench e rest bench → e1.fault ≡ None
-shown_goes e e1 rest bench may is = ap (λ (v : EngineView). v.fault) is ∙ (not_ended e.closed e.fault may.goes).1
+pub shown_goes : (e e1 : EngineView) (rest : List ContextView) (context : ContextView) → MayShow e → e1 ≡ with_context e rest context → e1.fault ≡ None
+shown_goes e e1 rest context may is = ap (λ (v : EngineView). v.fault) is ∙ (not_ended e.closed e.fault may.goes).1
 
-pub shown_laid : (e e1 : EngineView) (i : IntakeView) (rest : List BenchView) (bench : BenchView) → AreCell e i → MayShow e → e1 ≡ with_bench e rest bench → e1.laid ≤ e1.claimed
-shown_laid e e1 i rest bench cell may is =
+pub shown_laid : (e e1 : EngineView) (i : IntakeView) (rest : List ContextView) (context : ContextView) → AreCell e i → MayShow e → e1 ≡ with_context e rest context → e1.laid ≤ e1.claimed
+shown_laid e e1 i rest context cell may is =
     let all = all_laid cell.job cell.number e cell.lawful_engine may.none in
     let laid : e1.laid ≡ e.laid = ap (λ (v : EngineView). v.laid) is in
     let claimed : e1.claimed ≡ e.claimed = ap (λ (v : EngineView). v.claimed) is in
     omega (arith, all, laid, claimed)
 
-pub shown_few : (e e1 : EngineView) (i : IntakeView) (at : ℕ) (rest : List BenchView) (bench : BenchView) → AreCell e i → MayShow e → IsNext i.waits (Ready at) → e1 ≡ with_bench e rest bench → e1.claimed + 1 < 2 ^ 64
-shown_few e e1 i at rest bench cell may next is =
+pub shown_few : (e e1 : EngineView) (i : IntakeView) (at : ℕ) (rest : List ContextView) (context : ContextView) → AreCell e i → MayShow e → IsNext i.waits (Ready at) → e1 ≡ with_context e rest context → e1.claimed + 1 < 2 ^ 64
+shown_few e e1 i at rest context cell may next is =
     let few : e.claimed + 1 ≤ done = cell_fits e i at cell may.role next in
     let claimed : e1.claimed ≡ e.claimed = ap (λ (v : EngineView). v.claimed) is in
     omega (arith, few, claimed)
 
-pub shown_bench : (e e1 : EngineView) (rest : List BenchView) (bench : BenchView) → e1 ≡ with_bench e rest bench → 0 < length e1.idle
-shown_bench e e1 rest bench is =
-    let long : length e1.idle ≡ length (rest ++ bench ∷ []) = ap (λ (v : EngineView). length v.idle) is in
-    let more = length-append rest (bench ∷ []) in
+pub shown_context : (e e1 : EngineView) (rest : List ContextView) (context : ContextView) → e1 ≡ with_context e rest context → 0 < length e1.idle
+shown_context e e1 rest context is =
+    let long : length e1.idle ≡ length (rest ++ context ∷ []) = ap (λ (v : EngineView). length v.idle) is in
+    let more = length-append rest (context ∷ []) in
     omega (arith, long, more)
 
-pub shown_room : (e e1 : EngineView) (i : IntakeView) (rest : List BenchView) (bench : BenchView) → AreCell e i → MayShow e → e1 ≡ with_bench e rest bench → length e1.window < e1.in_flight
-shown_room e e1 i rest bench cell may is = subst (λ (v : EngineView). length v.window < v.in_flight) (sym is) (show_room e i cell may)
+pub shown_room : (e e1 : EngineView) (i : IntakeView) (rest : List ContextView) (context : ContextView) → AreCell e i → MayShow e → e1 ≡ with_context e rest context → length e1.window < e1.in_flight
+shown_room e e1 i rest context cell may is = subst (λ (v : EngineView). length v.window < v.in_flight) (sym is) (show_room e i cell may)
 
 -- The claim.
 
@@ -108,15 +108,15 @@ abbrev out_entry : ℕ → EntryView
 out_entry at = record { phase = Process at; outcome = None; committed = false }
 
 -- an engine once the set is claimed
-abbrev pub between_of : EngineView → ℕ → List BenchView → EngineView
+abbrev pub between_of : EngineView → ℕ → List ContextView → EngineView
 between_of e at rest = record e { claimed = e.claimed + 1; window = e.window ++ out_entry at ∷ []; idle = rest }
 
-module _ (C : Type 0) (e : EngineView) (i i1 : IntakeView) (at : ℕ) (rest : List BenchView) (bench filled : BenchView) (cell : AreCell e i) (may : MayShow e) (next : IsNext i.waits (Ready at)) (idle : e.idle ≡ rest ++ bench ∷ [])
-    (told : filled.told ≡ bench.told) (takes : Takes i i1 filled.set) where
+module _ (C : Type 0) (e : EngineView) (i i1 : IntakeView) (at : ℕ) (rest : List ContextView) (context filled : ContextView) (cell : AreCell e i) (may : MayShow e) (next : IsNext i.waits (Ready at)) (idle : e.idle ≡ rest ++ context ∷ [])
+    (told : filled.told ≡ context.told) (takes : Takes i i1 filled.set) where
   abbrev claimed_work : WorkView
   claimed_work = work_at e.node e.claimed at filled
 
-  hands_last : Hands e (between_of e at rest) (Process at) 1 bench
+  hands_last : Hands e (between_of e at rest) (Process at) 1 context
   hands_last = record { idle = idle; now = refl }
 
   pub shown_claims : Claims {C = C} (Work claimed_work) e (between_of e at rest) i i1
@@ -127,9 +127,9 @@ module _ (C : Type 0) (e : EngineView) (i i1 : IntakeView) (at : ℕ) (rest : Li
           role = may.role;
           at = at;
           next = next;
-          bench = bench;
+          context = context;
           hands = hands_last;
-          work_is = ap (λ t. work_at e.node e.claimed at (let b : BenchView = record { told = t; set = filled.set } in b)) told;
+          work_is = ap (λ t. work_at e.node e.claimed at (let b : ContextView = record { told = t; set = filled.set } in b)) told;
           takes = takes;
         })),
       )
@@ -144,26 +144,26 @@ module _ (C : Type 0) (e : EngineView) (i i1 : IntakeView) (at : ℕ) (rest : Li
 
 -- The work of the set is handed out.
 
-handed : (e e1 e2 : EngineView) (at : ℕ) (rest : List BenchView) (bench : BenchView) (work : WorkView) → e1 ≡ with_bench e rest bench → HandsShown at work e1 e2 → (e2 ≡ between_of e at rest) × (work ≡ work_at e.node e.claimed at bench)
-handed e e1 e2 at rest bench work is h =
-    let idle : rest ++ bench ∷ [] ≡ e2.idle ++ work.bench ∷ [] = sym (ap (λ (v : EngineView). v.idle) is) ∙ h.hands.idle in
-    let ends = snoc_same rest e2.idle bench work.bench idle in (
+handed : (e e1 e2 : EngineView) (at : ℕ) (rest : List ContextView) (context : ContextView) (work : WorkView) → e1 ≡ with_context e rest context → HandsShown at work e1 e2 → (e2 ≡ between_of e at rest) × (work ≡ work_at e.node e.claimed at context)
+handed e e1 e2 at rest context work is h =
+    let idle : rest ++ context ∷ [] ≡ e2.idle ++ work.context ∷ [] = sym (ap (λ (v : EngineView). v.idle) is) ∙ h.hands.idle in
+    let ends = snoc_same rest e2.idle context work.context idle in (
       h.hands.now
           ∙ ap (λ (v : EngineView). (let w : EngineView = record v { claimed = v.claimed + 1; window = v.window ++ out_entry at ∷ []; idle = e2.idle } in w)) is
           ∙ ap (between_of e at) (sym ends.0),
-      h.work_is ∙ ap (λ (v : EngineView). work_of v (Process at) work.bench) is ∙ ap (work_at e.node e.claimed at) (sym ends.1),
+      h.work_is ∙ ap (λ (v : EngineView). work_of v (Process at) work.context) is ∙ ap (work_at e.node e.claimed at) (sym ends.1),
     )
 
 pub handed_claims : (C : Type 0) (e e1 e2 : EngineView) (i i1 : IntakeView) (at : ℕ) (work : WorkView) → AreCell e i → MayShow e → IsNext i.waits (Ready at) → Shows None at e e1 i i1 → HandsShown at work e1 e2 → Claims {C = C} (Work work) e e2 i i1
 handed_claims C e e1 e2 i i1 at work cell may next s h =
-    let is = handed e e1 e2 at s.rest s.bench_now work s.now_is h in
-    let claims = shown_claims C e i i1 at s.rest s.bench s.filled cell may next s.idle s.told s.takes in
+    let is = handed e e1 e2 at s.rest s.context_now work s.now_is h in
+    let claims = shown_claims C e i i1 at s.rest s.context s.filled cell may next s.idle s.told s.takes in
     subst (λ (w : WorkView). Claims {C = C} (Work w) e e2 i i1) (sym (is.1 ∙ ap (work_at e.node e.claimed at) s.unchanged))
     (subst (λ (v : EngineView). Claims {C = C} (Work (work_at e.node e.claimed at s.filled)) e v i i1) (sym is.0) claims)
 
 module _ (C : Type 0) (answer : Result (List Laid) Cause) (e e1 : EngineView) (i i1 : IntakeView) (at : ℕ) (cell : AreCell e i) (may : MayShow e) (next : IsNext i.waits (Ready at)) (s : Shows (Some answer) at e e1 i i1) where
   abbrev done_work : WorkView
-  done_work = work_at e.node e.claimed at s.bench_now
+  done_work = work_at e.node e.claimed at s.context_now
 
   abbrev done_of : PerformedView
   done_of = record { work = done_work; answer = answer }
@@ -171,25 +171,25 @@ module _ (C : Type 0) (answer : Result (List Laid) Cause) (e e1 : EngineView) (i
   abbrev done_between : (number : ℕ) → number ≡ e.claimed → IsDoneBetween C number e (between_of e at s.rest) i i1
   done_between number is = record {
     work = work_at e.node e.claimed at s.filled;
-    claims = shown_claims C e i i1 at s.rest s.bench s.filled cell may next s.idle s.told s.takes;
+    claims = shown_claims C e i i1 at s.rest s.context s.filled cell may next s.idle s.told s.takes;
     performed = done_of;
     done = s.shown e.node e.claimed;
     number_is = is;
   }
 
   out_at : IsOut (between_of e at s.rest) done_work
-  out_at = (let o = shown_out C e i i1 at s.rest s.bench s.filled cell may next s.idle s.told s.takes in record { node_is = o.node_is; laid = o.laid; entry = o.entry; there = o.there; out = o.out; phase_is = o.phase_is })
+  out_at = (let o = shown_out C e i i1 at s.rest s.context s.filled cell may next s.idle s.told s.takes in record { node_is = o.node_is; laid = o.laid; entry = o.entry; there = o.there; out = o.out; phase_is = o.phase_is })
 
   -- it is out, and put back as performed
   pub handed_out_at : (v e2 : EngineView) (work : WorkView) (outcome : OutcomeView) → v ≡ e1 → HandsShown at work v e2 → outcome.work ≡ work → IsOut e2 outcome.work
   handed_out_at v e2 work outcome same h is =
-      let it = handed e v e2 at s.rest s.bench_now work (same ∙ s.now_is) h in
+      let it = handed e v e2 at s.rest s.context_now work (same ∙ s.now_is) h in
       subst (λ (w : WorkView). IsOut e2 w) (sym (is ∙ it.1)) (subst (λ (x : EngineView). IsOut x done_work) (sym it.0) out_at)
 
   pub left_performed : (v e2 e3 : EngineView) (work : WorkView) (outcome : OutcomeView) (number : ℕ) → number ≡ e.claimed → v ≡ e1 → HandsShown at work v e2 → outcome ≡ outcome_of (record { work = work; answer = answer }) → e3 ≡ shelved e2 outcome
       → IsLeftPerformed C number e e3 i i1
   left_performed v e2 e3 work outcome number number_is same h is e3_is =
-      let it = handed e v e2 at s.rest s.bench_now work (same ∙ s.now_is) h in
+      let it = handed e v e2 at s.rest s.context_now work (same ∙ s.now_is) h in
       let outcome_is : outcome ≡ outcome_of done_of = is ∙ ap (λ (w : WorkView). outcome_of (record { work = w; answer = answer })) it.1 in
       record {
         between = between_of e at s.rest;
@@ -214,16 +214,16 @@ module _ (C : Type 0) (answer : Result (List Laid) Cause) (e e1 : EngineView) (i
   goes_on = not_ended e.closed e.fault may.goes
 
   front_is : (whole : List (StreamPrefix Plain)) → front_laid e.offset (window_with (between_of e at s.rest) (outcome_of done_of)) (front_of (between_of e at s.rest) (window_with (between_of e at s.rest) (outcome_of done_of)) whole)
-      ≡ answer_laid e.offset (Process at) s.bench_now answer [] (start whole false None)
+      ≡ answer_laid e.offset (Process at) s.context_now answer [] (start whole false None)
   front_is whole =
       ap (λ (w : List EntryView). front_laid e.offset w (front_of (between_of e at s.rest) w whole)) window_is
       ∙ ap₂ (λ (c : Bool) (f : Option NodeFault). front_laid e.offset (ready ∷ []) (start whole c (option_map (λ g. (let h : Failure = record { phase = g.phase; cause = g.cause } in h)) f))) goes_on.0 goes_on.1
 
   pub left_committed : (e3 : EngineView) (number : ℕ) → number ≡ e.claimed → LaysAnswer at answer e1 e3 → IsLeftCommitted C number e e3 i i1
   left_committed e3 number number_is lays =
-      let l : LaysAnswer at answer (with_bench e s.rest s.bench_now) e3 = subst (λ (v : EngineView). LaysAnswer at answer v e3) s.now_is lays in
+      let l : LaysAnswer at answer (with_context e s.rest s.context_now) e3 = subst (λ (v : EngineView). LaysAnswer at answer v e3) s.now_is lays in
       let mid = between_of e at s.rest in
-      let full : e3 ≡ record e { outputs = e3.outputs; laid = e.laid + 1; claimed = e.claimed + 1; idle = s.rest ++ s.bench_now ∷ []; fault = e3.fault } = l.now_is in
+      let full : e3 ≡ record e { outputs = e3.outputs; laid = e.laid + 1; claimed = e.claimed + 1; idle = s.rest ++ s.context_now ∷ []; fault = e3.fault } = l.now_is in
       record {
         between = mid;
         done = done_between number number_is;
@@ -251,7 +251,7 @@ module _ (C : Type 0) (answer : Result (List Laid) Cause) (e e1 : EngineView) (i
                   laid = e.laid + 1;
                   claimed = e.claimed + 1;
                   window = may.none k;
-                  idle = s.rest ++ s.bench_now ∷ [];
+                  idle = s.rest ++ s.context_now ∷ [];
                   closed = goes_on.0 k;
                   fault = it.1 k;
                 });
@@ -302,12 +302,12 @@ IsOfNone NoneYet = ⊤
 pub no_next : (e : EngineView) (i : IntakeView) (at : ℕ) (readiness : Readiness) → AreCell e i → MayShow e → IsNext i.waits readiness → IsNext i.waits (Ready at) → IsOfNone readiness → ⊥
 no_next e i at readiness cell may is next none = subst IsOfNone (one_next i.waits readiness (Ready at) (cell_sets e i cell may.role) is next) none
 
--- A bench's calculator is shown the set that lies there.
-pub shown_well : (at : ℕ) (emission : List Laid) (before now : BenchView) → MayRun (Process at) before → HasRun (Ok emission) (Process at) before now → HasShown at (Ok emission) before now
+-- A context's calculator is shown the set that lies there.
+pub shown_well : (at : ℕ) (emission : List Laid) (before now : ContextView) → MayRun (Process at) before → HasRun (Ok emission) (Process at) before now → HasShown at (Ok emission) before now
 shown_well at emission before now may run = λ node number. performed_well (work_at node number at before) (work_at node number at now) emission may run refl
 
-pub shown_fault : (at : ℕ) (cause : Cause) (before now : BenchView) → MayRun (Process at) before → HasRun (Err (Fault cause)) (Process at) before now → HasShown at (Err cause) before now
+pub shown_fault : (at : ℕ) (cause : Cause) (before now : ContextView) → MayRun (Process at) before → HasRun (Err (Fault cause)) (Process at) before now → HasShown at (Err cause) before now
 shown_fault at cause before now may run = λ node number. performed_fault (work_at node number at before) (work_at node number at now) cause may run refl
 
-pub shown_none : (at : ℕ) (before now : BenchView) → MayRun (Process at) before → HasRun (Err OutOfMemory) (Process at) before now → now ≡ before
-shown_none at before now may run = ap (λ (w : WorkView). w.bench) (unchanged (work_at 0 0 at before) (work_at 0 0 at now) may run refl)
+pub shown_none : (at : ℕ) (before now : ContextView) → MayRun (Process at) before → HasRun (Err OutOfMemory) (Process at) before now → now ≡ before
+shown_none at before now may run = ap (λ (w : WorkView). w.context) (unchanged (work_at 0 0 at before) (work_at 0 0 at now) may run refl)

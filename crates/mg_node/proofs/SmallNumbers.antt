@@ -142,9 +142,9 @@ claimed_by : (job : LoggedJob) (number : ℕ) (engine : EngineView) (h : IsEngin
 claimed_by job number engine h =
     let order = h.order in
     let taken = h.taken in
-    let benches = h.benches in
+    let contexts = h.contexts in
     let flight = h.set_up.in_flight in
-    omega (arith, order, taken, benches, flight)
+    omega (arith, order, taken, contexts, flight)
 
 pub claims_counted : (job : LoggedJob) (number : ℕ) (node : PlanNode) (engine : EngineView) (solution : List (StreamPrefix Plain)) → Solves job solution → slice_get job.job.plan.nodes number ≡ Some node → LawfulEngine job (of_node number) engine
     → engine.claimed ≤ count_of_node job.job solution node + node.in_flight

@@ -8,7 +8,7 @@ use Rattle.mg_calc.specs.declared.node_fault.Phase.{Phase}
 use Rattle.mg_calc.specs.declared.node_fault.Phase.TheVariants.{Open, Call, Process, Close}
 use Rattle.mg_calc.specs.declared.plan_node.PlanNode.{PlanNode}
 use Rattle.mg_calc.proofs.Earlier.{behind}
-use Rattle.mg_node.specs.Views.{BenchView, PerformedView, WorkView, OutcomeView, EntryView, EngineView}
+use Rattle.mg_node.specs.Views.{ContextView, PerformedView, WorkView, OutcomeView, EntryView, EngineView}
 use Rattle.mg_node.specs.Job.{LoggedJob, IsTask, count_of_all}
 use Rattle.mg_node.specs.Lawful.{of_node, is_close, StandsAt, IsEngineOf, LawfulEngine}
 use Rattle.mg_node.specs.Claims.{TakesUnrun, Hands}
@@ -169,11 +169,11 @@ lays_none entries front window = record {
 
 lays_next : (offset : Option ℤ) (entry : EntryView) (entries : List EntryView) (front : Front) → front.window ≡ entry ∷ entries → ((next : Front) → next.window ≡ entries → LaysFirst entries next (front_laid offset entries next))
     → (stops : Bool) (ready : Option PerformedView) → ready_of entry ≡ ready
-    → LaysFirst (entry ∷ entries) front (if stops then front else with_ready ready front (λ p. front_laid offset entries (answer_laid offset entry.phase p.work.bench p.answer entries front)))
+    → LaysFirst (entry ∷ entries) front (if stops then front else with_ready ready front (λ p. front_laid offset entries (answer_laid offset entry.phase p.work.context p.answer entries front)))
 lays_next offset entry entries front window go_on true ready is = lays_none (entry ∷ entries) front window
 lays_next offset entry entries front window go_on false None is = lays_none (entry ∷ entries) front window
 lays_next offset entry entries front window go_on false (Some p) is =
-    let next = answer_laid offset entry.phase p.work.bench p.answer entries front in
+    let next = answer_laid offset entry.phase p.work.context p.answer entries front in
     let r = go_on next refl in
     let r_few = r.few in
     record {
@@ -260,10 +260,10 @@ counted_open (Call n) is = refl
 counted_open (Process at) is = refl
 counted_open Close is = absurd (omega (arith, is))
 
-pub further_goes : (job : LoggedJob) (number : ℕ) (engine engine_now : EngineView) (phase : Phase) (more : ℕ) (bench : BenchView) (work : WorkView) → LawfulEngine job (of_node number) engine → LawfulEngine job (of_node number) engine_now
-    → Hands engine engine_now phase more bench → work.number ≡ engine.claimed → IsOut engine_now work → GoesOut engine engine_now work
+pub further_goes : (job : LoggedJob) (number : ℕ) (engine engine_now : EngineView) (phase : Phase) (more : ℕ) (context : ContextView) (work : WorkView) → LawfulEngine job (of_node number) engine → LawfulEngine job (of_node number) engine_now
+    → Hands engine engine_now phase more context → work.number ≡ engine.claimed → IsOut engine_now work → GoesOut engine engine_now work
 unfolding LawfulEngine
-further_goes job number engine engine_now phase more bench work h now t number_is out =
+further_goes job number engine engine_now phase more context work h now t number_is out =
     let y : EntryView = record { phase = phase; outcome = None; committed = false } in
     let window : engine_now.window ≡ engine.window ++ y ∷ [] = ap (λ (v : EngineView). v.window) t.now in
     let last : slice_get engine_now.window (length engine.window) ≡ Some y = ap (λ (w : List EntryView). slice_get w (length engine.window)) window ∙ behind engine.window [] y in

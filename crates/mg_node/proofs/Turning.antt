@@ -19,7 +19,7 @@ use Rattle.mg_calc.specs.Outcome.{Outcome, after_call}
 use Rattle.mg_calc.specs.Shape.{IsShapeOf, offset_of}
 use Rattle.mg_calc.specs.Equations.{outcome_of}
 use Rattle.mg_calc.proofs.Outcomes.{call_extends, goes_on}
-use Rattle.mg_node.specs.Views.{BenchView}
+use Rattle.mg_node.specs.Views.{ContextView}
 use Rattle.mg_node.specs.Job.{LoggedJob, Solves, streams_at, sets_of, stage, IsLastWork, IsTask, calls_before, calls_in}
 use Rattle.mg_node.specs.Lawful.{answer_in, is_close, calls_by}
 use Rattle.mg_node.specs.Commits.{raised_before, calls_in_phase}
@@ -45,16 +45,16 @@ module _ (job : LoggedJob) (streams : List (StreamPrefix Plain)) (number : ℕ) 
       next_stage job streams number node n phase set solves there task more ∙ goes_on before.fault before (after_call node.shape.offset phase up given) good in
       subst (λ (o : Outcome). AreExtendedBy raised o.outputs) (sym next) (call_extends node.shape.offset phase up given)
 
-  further : (phase : Phase) (bench : BenchView) (answer : Result (List Laid) Cause) → IsDone job streams node n phase bench answer → is_close phase ≡ false → behind_work job streams node n phase ≡ stage job.job streams node (n + 1) → n + calls_in_phase phase ≡ n + 1
-      → calls_before streams node n ++ calls_in phase bench.set ≡ calls_by streams node (n + calls_in_phase phase) (is_close phase) → calls_in_phase phase + (if is_close phase then 1 else 0) ≡ 1 → Turns job streams node n phase bench answer
-  further phase bench answer d more next counts log one =
+  further : (phase : Phase) (context : ContextView) (answer : Result (List Laid) Cause) → IsDone job streams node n phase context answer → is_close phase ≡ false → behind_work job streams node n phase ≡ stage job.job streams node (n + 1) → n + calls_in_phase phase ≡ n + 1
+      → calls_before streams node n ++ calls_in phase context.set ≡ calls_by streams node (n + calls_in_phase phase) (is_close phase) → calls_in_phase phase + (if is_close phase then 1 else 0) ≡ 1 → Turns job streams node n phase context answer
+  further phase context answer d more next counts log one =
       let ts = streams_at streams node.outputs in
-      let less = task_within job streams node n phase bench.set more d.task in
+      let less = task_within job streams node n phase context.set more d.task in
       let extended = stage_extended job streams number node (n + 1) solves there (omega (arith, less)) in
-      let laid = stage_laid job streams number node n phase bench.set answer bench.told.state solves there d.task more good d.answered in
+      let laid = stage_laid job streams number node n phase context.set answer context.told.state solves there d.task more good d.answered in
       let count = one_more_counted job.job streams node n less good in
       record {
-        before = all_further (raised_before node.shape.offset phase (stage job.job streams node n).outputs) (stage job.job streams node (n + 1)).outputs ts (raised_next phase bench.set d.task more) extended;
+        before = all_further (raised_before node.shape.offset phase (stage job.job streams node n).outputs) (stage job.job streams node (n + 1)).outputs ts (raised_next phase context.set d.task more) extended;
         extended = subst (λ (o : Outcome). AreExtendedBy o.outputs ts) (sym next) extended;
         frozen = (λ f failed. node_streams job streams number node solves there
             ∙ ap (λ (o : Outcome). o.outputs) (failed_is_all job.job streams node (n + 1) f (omega (arith, less)) (ap (λ (o : Outcome). o.fault) (sym next) ∙ failed) ∙ sym next));
@@ -92,13 +92,13 @@ module _ (job : LoggedJob) (streams : List (StreamPrefix Plain)) (number : ℕ) 
             subst (λ (o : Option ℤ). AreExtendedBy (all_raised o done outputs) ts) (sym offset) (stage_extended job streams number node n solves there (omega (arith, all))))
       ]
 
-  closing : (bench : BenchView) (answer : Result (List Laid) Cause) → IsDone job streams node n Close bench answer → Turns job streams node n Close bench answer
-  closing bench answer d =
+  closing : (context : ContextView) (answer : Result (List Laid) Cause) → IsDone job streams node n Close context answer → Turns job streams node n Close context answer
+  closing context answer d =
       let last : IsLastWork job.job streams node n = d.task in
       let ts = streams_at streams node.outputs in
       let same : n ≡ n + 0 = omega arith in
       let end = node_streams job streams number node solves there in
-      let laid = closed_stage job streams number node n answer bench.told.state solves there last d.answered in
+      let laid = closed_stage job streams number node n answer context.told.state solves there last d.answered in
       record {
         before = raised_last last;
         extended = subst (λ (xs : List (StreamPrefix Plain)). AreExtendedBy (outcome_of job.job streams node).outputs xs) (sym end) (all_by_themselves (outcome_of job.job streams node).outputs);
@@ -107,19 +107,19 @@ module _ (job : LoggedJob) (streams : List (StreamPrefix Plain)) (number : ℕ) 
         fault = laid.fault;
         state = sym laid.state_is;
         log = ap (λ (k : ℕ). calls_by streams node k true) same;
-        nothing = (λ stateless. laid.state_is ∙ sym (state_stays node.law (stage job.job streams node n).state bench.told.state answer d.answered));
+        nothing = (λ stateless. laid.state_is ∙ sym (state_stays node.law (stage job.job streams node n).state context.told.state answer d.answered));
         taken = (λ le. omega (arith, le));
         last = (λ closes. subst (IsLastWork job.job streams node) same last);
         none = (λ closes k f set later task. (let all = last.all in let most = task_most job streams node k f set task in omega (arith, all, most, later)));
         one = refl;
       }
 
-  turns_by : (phase : Phase) (bench : BenchView) (answer : Result (List Laid) Cause) → IsDone job streams node n phase bench answer → Turns job streams node n phase bench answer
-  turns_by Open bench answer d = absurd d.task
-  turns_by Close bench answer d = closing bench answer d
-  turns_by (SourceCall number_of_call) bench answer d = further (SourceCall number_of_call) bench answer d refl refl refl (call_logged job streams number node n solves there d.task.0) refl
-  turns_by (Process at) bench answer d = further (Process at) bench answer d refl refl refl (set_logged streams node n (record { at = at; set = bench.set }) d.task.0 d.task.1) refl
+  turns_by : (phase : Phase) (context : ContextView) (answer : Result (List Laid) Cause) → IsDone job streams node n phase context answer → Turns job streams node n phase context answer
+  turns_by Open context answer d = absurd d.task
+  turns_by Close context answer d = closing context answer d
+  turns_by (SourceCall number_of_call) context answer d = further (SourceCall number_of_call) context answer d refl refl refl (call_logged job streams number node n solves there d.task.0) refl
+  turns_by (Process at) context answer d = further (Process at) context answer d refl refl refl (set_logged streams node n (record { at = at; set = context.set }) d.task.0 d.task.1) refl
 
-pub work_turns : (job : LoggedJob) (streams : List (StreamPrefix Plain)) (number : ℕ) (node : PlanNode) (n : ℕ) (phase : Phase) (bench : BenchView) (answer : Result (List Laid) Cause) → Solves job streams → slice_get job.job.plan.nodes number ≡ Some node
-    → (stage job.job streams node n).fault ≡ None → IsDone job streams node n phase bench answer → Turns job streams node n phase bench answer
-work_turns job streams number node n phase bench answer solves there good d = turns_by job streams number node n solves there good phase bench answer d
+pub work_turns : (job : LoggedJob) (streams : List (StreamPrefix Plain)) (number : ℕ) (node : PlanNode) (n : ℕ) (phase : Phase) (context : ContextView) (answer : Result (List Laid) Cause) → Solves job streams → slice_get job.job.plan.nodes number ≡ Some node
+    → (stage job.job streams node n).fault ≡ None → IsDone job streams node n phase context answer → Turns job streams node n phase context answer
+work_turns job streams number node n phase context answer solves there good d = turns_by job streams number node n solves there good phase context answer d

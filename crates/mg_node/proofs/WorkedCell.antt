@@ -21,7 +21,7 @@ use Rattle.mg_calc.specs.Shape.{untagged}
 use Rattle.mg_route.specs.HolderView.{HolderView}
 use Rattle.mg_node.specs.declared.role.Role.TheVariants.{Sets as SetsRole}
 use Rattle.mg_node.specs.declared.pending.Pending.TheVariants.{Sets}
-use Rattle.mg_node.specs.Views.{IntakeView, BenchView, WorkView, EntryView, EngineView}
+use Rattle.mg_node.specs.Views.{IntakeView, ContextView, WorkView, EntryView, EngineView}
 use Rattle.mg_node.specs.Job.{LoggedJob, Solves}
 use Rattle.mg_node.specs.Lawful.{LawfulIntake, LawfulWork, LawfulPerformed, LawfulEngine, IsEntry, IsIdle, of_node}
 
@@ -109,21 +109,21 @@ gone_one = record {
     }
     each (suc i) le = absurd (omega (arith, le))
 
--- the calculator, and the bench with the set
+-- the calculator, and the context with the set
 abbrev told : HolderView
 told = record { law = Pass; shape = node.shape; state = []; log = None; handed = false }
 
-abbrev bench : BenchView
-bench = record { told = told; set = Some seven ∷ [] }
+abbrev context : ContextView
+context = record { told = told; set = Some seven ∷ [] }
 
 abbrev work : WorkView
-work = record { node = 0; number = 0; phase = Process five; bench = bench }
+work = record { node = 0; number = 0; phase = Process five; context = context }
 
 abbrev emission : List Laid
 emission = record { packets = seven ∷ []; bound = None } ∷ []
 
--- the engine, with so many packets laid, and with its window and its idle benches
-abbrev engine : List (Stamped Plain) → ℕ → ℕ → ℕ → List EntryView → List BenchView → Bool → EngineView
+-- the engine, with so many packets laid, and with its window and its idle contexts
+abbrev engine : List (Stamped Plain) → ℕ → ℕ → ℕ → List EntryView → List ContextView → Bool → EngineView
 engine packets bound laid claimed window idle closed = record {
   role = SetsRole;
   node = 0;
@@ -202,8 +202,8 @@ module _ (solves : Solves job streams) where
   unfolding LawfulPerformed
   performed_lawful = record { streams = streams; solves = solves; node = node; there = refl; fits = record { same_law = refl; same_shape = refl; same_handed = refl }; places = refl; task = (tt, refl); at_work = (refl, refl) }
 
-  -- begun: nothing is laid, and the bench is idle
-  begun_lawful : LawfulEngine job (of_node 0) (engine [] pre_stream 0 0 [] (bench ∷ []) false)
+  -- begun: nothing is laid, and the context is idle
+  begun_lawful : LawfulEngine job (of_node 0) (engine [] pre_stream 0 0 [] (context ∷ []) false)
   unfolding LawfulEngine
   begun_lawful = record {
     streams = streams;
@@ -222,8 +222,8 @@ module _ (solves : Solves job streams) where
     fault = refl;
     order = refl;
     entries = (λ i entry h. absurd (cc));
-    idle = all (IsIdle job streams node 0 false) (bench ∷ []) (record { fits = record { same_law = refl; same_shape = refl; same_handed = refl }; places = refl; state = refl; log = refl }, tt);
-    benches = refl;
+    idle = all (IsIdle job streams node 0 false) (context ∷ []) (record { fits = record { same_law = refl; same_shape = refl; same_handed = refl }; places = refl; state = refl; log = refl }, tt);
+    contexts = refl;
     waits = (λ goes. refl);
     ended = (λ e. absurd cc);
   }
@@ -259,13 +259,13 @@ module _ (solves : Solves job streams) where
     order = refl;
     entries = entry_at_five;
     idle = All-nil (IsIdle job streams node 0 false);
-    benches = refl;
+    contexts = refl;
     waits = (λ goes. refl);
     ended = (λ e. absurd cc);
   }
 
   -- committed: 7 is laid at 5
-  laid_lawful : LawfulEngine job (of_node 0) (engine (seven ∷ []) (next five) 1 1 [] (bench ∷ []) false)
+  laid_lawful : LawfulEngine job (of_node 0) (engine (seven ∷ []) (next five) 1 1 [] (context ∷ []) false)
   unfolding LawfulEngine
   laid_lawful = record {
     streams = streams;
@@ -284,8 +284,8 @@ module _ (solves : Solves job streams) where
     fault = refl;
     order = refl;
     entries = (λ i entry h. absurd (cc));
-    idle = all (IsIdle job streams node 1 false) (bench ∷ []) (record { fits = record { same_law = refl; same_shape = refl; same_handed = refl }; places = refl; state = refl; log = refl }, tt);
-    benches = refl;
+    idle = all (IsIdle job streams node 1 false) (context ∷ []) (record { fits = record { same_law = refl; same_shape = refl; same_handed = refl }; places = refl; state = refl; log = refl }, tt);
+    contexts = refl;
     waits = (λ goes. refl);
     ended = (λ e. absurd cc);
   }
@@ -321,13 +321,13 @@ module _ (solves : Solves job streams) where
     order = refl;
     entries = entry_for_close;
     idle = All-nil (IsIdle job streams node 1 false);
-    benches = refl;
+    contexts = refl;
     waits = (λ goes. refl);
     ended = (λ e. absurd cc);
   }
 
   -- Close is laid: the output is the solution's stream
-  closed_lawful : LawfulEngine job (of_node 0) (engine (seven ∷ []) done 1 1 [] (bench ∷ []) true)
+  closed_lawful : LawfulEngine job (of_node 0) (engine (seven ∷ []) done 1 1 [] (context ∷ []) true)
   unfolding LawfulEngine
   closed_lawful = record {
     streams = streams;
@@ -346,8 +346,8 @@ module _ (solves : Solves job streams) where
     fault = refl;
     order = refl;
     entries = (λ i entry h. absurd (cc));
-    idle = all (IsIdle job streams node 1 true) (bench ∷ []) (record { fits = record { same_law = refl; same_shape = refl; same_handed = refl }; places = refl; state = refl; log = refl }, tt);
-    benches = refl;
+    idle = all (IsIdle job streams node 1 true) (context ∷ []) (record { fits = record { same_law = refl; same_shape = refl; same_handed = refl }; places = refl; state = refl; log = refl }, tt);
+    contexts = refl;
     waits = (λ goes. refl);
     ended = (λ e. omega arith);
   }

@@ -8,7 +8,7 @@ use Rattle.mg_calc.specs.declared.plan_node.PlanNode.{PlanNode}
 use Rattle.mg_calc.proofs.Solutions.{one_solution}
 use Rattle.mg_node.specs.declared.claimed.Claimed.{Claimed}
 use Rattle.mg_node.specs.declared.claimed.Claimed.TheVariants.{Work, Answered, NotReady, InFlightFull, Draining, Ended, OutOfMemory}
-use Rattle.mg_node.specs.Views.{IntakeView, BenchView, WorkView, PerformedView, OutcomeView, EntryView, EngineView}
+use Rattle.mg_node.specs.Views.{IntakeView, ContextView, WorkView, PerformedView, OutcomeView, EntryView, EngineView}
 use Rattle.mg_node.specs.Job.{LoggedJob, count_of_all}
 use Rattle.mg_node.specs.Lawful.{of_node, is_close, StandsAt, LawfulEngine, AreCell}
 use Rattle.mg_node.specs.Claims.{Claims, TakesUnrun, TakesCall, TakesSet, TakesClose, Hands, GivesOut}
@@ -50,9 +50,9 @@ unrun_out job number engine engine_now work h t =
     }
 
 -- A further work is out.
-handed_out : (engine engine_now : EngineView) (phase : Phase) (more : ℕ) (bench : BenchView) (work : WorkView) → Hands engine engine_now phase more bench → engine.laid + length engine.window ≡ engine.claimed
+handed_out : (engine engine_now : EngineView) (phase : Phase) (more : ℕ) (context : ContextView) (work : WorkView) → Hands engine engine_now phase more context → engine.laid + length engine.window ≡ engine.claimed
     → work.node ≡ engine.node → work.number ≡ engine.claimed → work.phase ≡ phase → IsOut engine_now work
-handed_out engine engine_now phase more bench work t order node_is number_is phase_is =
+handed_out engine engine_now phase more context work t order node_is number_is phase_is =
     let laid : engine_now.laid ≡ engine.laid = ap (λ (v : EngineView). v.laid) t.now in
     let place : work.number - engine_now.laid ≡ length engine.window = omega (arith, number_is, laid, order) in
     record {
@@ -65,10 +65,10 @@ handed_out engine engine_now phase more bench work t order node_is number_is pha
     }
 
 -- where a further set or call comes, no Close is claimed
-none_before : (job : LoggedJob) (number : ℕ) (engine engine_now : EngineView) (phase : Phase) (more : ℕ) (bench : BenchView) → LawfulEngine job (of_node number) engine → LawfulEngine job (of_node number) engine_now → is_close phase ≡ false
-    → Hands engine engine_now phase more bench → engine.laid + length engine.window ≡ engine.claimed
+none_before : (job : LoggedJob) (number : ℕ) (engine engine_now : EngineView) (phase : Phase) (more : ℕ) (context : ContextView) → LawfulEngine job (of_node number) engine → LawfulEngine job (of_node number) engine_now → is_close phase ≡ false
+    → Hands engine engine_now phase more context → engine.laid + length engine.window ≡ engine.claimed
 unfolding LawfulEngine
-none_before job number engine engine_now phase more bench h now open_is t =
+none_before job number engine engine_now phase more context h now open_is t =
     let laid : engine_now.laid ≡ engine.laid = ap (λ (v : EngineView). v.laid) t.now in
     let there : slice_get engine_now.window (length engine.window) ≡ Some (out_entry phase) = ap (λ (v : EngineView). slice_get v.window (length engine.window)) t.now ∙ last_get engine.window (out_entry phase) in
     let e = now.entries (length engine.window) (out_entry phase) there in
@@ -83,12 +83,12 @@ none_before job number engine engine_now phase more bench h now open_is t =
 
 call_out : (job : LoggedJob) (number : ℕ) (engine engine_now : EngineView) (work : WorkView) → LawfulEngine job (of_node number) engine → LawfulEngine job (of_node number) engine_now → TakesCall engine engine_now work → IsOut engine_now work
 call_out job number engine engine_now work h now t =
-    handed_out engine engine_now (Call engine.claimed) 1 t.bench work t.hands (none_before job number engine engine_now (Call engine.claimed) 1 t.bench h now refl t.hands)
+    handed_out engine engine_now (Call engine.claimed) 1 t.context work t.hands (none_before job number engine engine_now (Call engine.claimed) 1 t.context h now refl t.hands)
     (ap (λ (w : WorkView). w.node) t.work_is) (ap (λ (w : WorkView). w.number) t.work_is) (ap (λ (w : WorkView). w.phase) t.work_is)
 
 set_out : (job : LoggedJob) (number : ℕ) (engine engine_now : EngineView) (intake intake_now : IntakeView) (work : WorkView) → LawfulEngine job (of_node number) engine → LawfulEngine job (of_node number) engine_now → TakesSet engine engine_now intake intake_now work → IsOut engine_now work
 set_out job number engine engine_now intake intake_now work h now t =
-    handed_out engine engine_now (Process t.at) 1 t.bench work t.hands (none_before job number engine engine_now (Process t.at) 1 t.bench h now refl t.hands)
+    handed_out engine engine_now (Process t.at) 1 t.context work t.hands (none_before job number engine engine_now (Process t.at) 1 t.context h now refl t.hands)
     (ap (λ (w : WorkView). w.node) t.work_is) (ap (λ (w : WorkView). w.number) t.work_is) (ap (λ (w : WorkView). w.phase) t.work_is)
 
 close_out : (job : LoggedJob) (number : ℕ) (engine engine_now : EngineView) (intake : IntakeView) (work : WorkView) → LawfulEngine job (of_node number) engine → TakesClose engine engine_now intake.waits work → IsOut engine_now work
@@ -96,7 +96,7 @@ unfolding LawfulEngine
 close_out job number engine engine_now intake work h t =
     let order = h.order in
     let none : number_of (λ (e : EntryView). is_close e.phase) engine.window ≡ 0 = ap (number_of (λ (e : EntryView). is_close e.phase)) t.laid in
-    handed_out engine engine_now Close 0 t.bench work t.hands (omega (arith, order, none))
+    handed_out engine engine_now Close 0 t.context work t.hands (omega (arith, order, none))
     (ap (λ (w : WorkView). w.node) t.work_is) (ap (λ (w : WorkView). w.number) t.work_is) (ap (λ (w : WorkView). w.phase) t.work_is)
 
 -- A work that a claim gives is out.

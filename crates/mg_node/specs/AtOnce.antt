@@ -12,12 +12,12 @@ use Rattle.mg_node.specs.Running.{IsPerformed}
 use Rattle.mg_node.specs.Claims.{AreSame, Claims}
 use Rattle.mg_node.specs.Commits.{Commits}
 
--- an engine may do a set at once: it is shown sets and goes on, no work is under way, and a bench is idle
+-- an engine may do a set at once: it is shown sets and goes on, no work is under way, and a context is idle
 pub record MayShow (engine : EngineView) : Type 0 where
   pub role : engine.role ≡ Sets
   pub goes : has_ended engine ≡ false
   pub none : engine.window ≡ []
-  pub bench : 0 < length engine.idle
+  pub context : 0 < length engine.idle
 
 -- the work of a number is claimed, which leaves the engine `between` and the intake `intake_now`, and is then performed
 pub record IsDoneBetween (C : Type 0) (number : ℕ) (engine between : EngineView) (intake intake_now : IntakeView) : Type 0 where

@@ -14,11 +14,11 @@ use Rattle.mg_calc.specs.Plan.{FitsNode}
 use Rattle.mg_calc.specs.Shape.{IsOuter}
 use Rattle.mg_calc.specs.Told.{with_call}
 use Rattle.mg_route.specs.HolderView.{HolderView, FitsHolder}
-use Rattle.mg_node.specs.Views.{BenchView, EntryView, EngineView}
+use Rattle.mg_node.specs.Views.{ContextView, EntryView, EngineView}
 use Rattle.mg_node.specs.Job.{LoggedJob, first_log, KeepsFirst}
 use Rattle.mg_node.specs.Lawful.{HasAnswered}
 use Rattle.mg_node.specs.Outputs.{kept_whole}
-use Rattle.mg_node.specs.Fresh.{own_told, bench_of, fresh_engine}
+use Rattle.mg_node.specs.Fresh.{own_told, context_of, fresh_engine}
 
 -- a calculator was opened with side packets: it has answered what its law gives, kept the new state, and has the call in its log
 pub record IsOpened (before now : HolderView) (sides : List (Option Plain)) (answer : Result (List Laid) Cause) : Type 0 where
@@ -29,23 +29,23 @@ pub record IsOpened (before now : HolderView) (sides : List (Option Plain)) (ans
   pub same_handed : now.handed ≡ before.handed
 
 -- the window's entry for the answer of a calculator that was opened
-abbrev pub opened_entry : ℕ → BenchView → Result (List Laid) Cause → EntryView
-opened_entry number bench answer = record {
+abbrev pub opened_entry : ℕ → ContextView → Result (List Laid) Cause → EntryView
+opened_entry number context answer = record {
   phase = Open;
-  outcome = Some (record { work = record { node = number; number = 0; phase = Open; bench = bench }; answer = Some answer });
+  outcome = Some (record { work = record { node = number; number = 0; phase = Open; context = context }; answer = Some answer });
   committed = true;
 }
 
--- the benches with the calculators that the node makes itself; these aren't opened and keep nothing
-abbrev pub own_benches : PlanNode → List BenchView
-own_benches node = replicate (node.in_flight - 1) (bench_of node (own_told node))
+-- the contexts with the calculators that the node makes itself; these aren't opened and keep nothing
+abbrev pub own_contexts : PlanNode → List ContextView
+own_contexts node = replicate (node.in_flight - 1) (context_of node (own_told node))
 
 -- an engine's calculator was opened, and what that emitted isn't laid
 pub record HasOpened (node : PlanNode) (number : ℕ) (told : HolderView) (sides : List (Option Plain)) (view : EngineView) : Type 0 where
   pub now : HolderView
   pub answer : Result (List Laid) Cause
   pub opened : IsOpened told now sides answer
-  pub is : view ≡ record (fresh_engine node number told) { window = opened_entry number (bench_of node now) answer ∷ []; idle = own_benches node }
+  pub is : view ≡ record (fresh_engine node number told) { window = opened_entry number (context_of node now) answer ∷ []; idle = own_contexts node }
 
 -- an engine isn't begun: it is as it was made, or its calculator was opened and what that emitted isn't laid
 abbrev pub IsUnbegun : PlanNode → ℕ → HolderView → List (Option Plain) → EngineView → Type 0
@@ -65,7 +65,7 @@ pub record HasBegun (node : PlanNode) (number : ℕ) (told : HolderView) (sides 
   pub same_handed : now.handed ≡ told.handed
   pub is : view ≡ record (fresh_engine node number told) {
     outputs = map kept_whole (opened_node node sides).outputs;
-    idle = own_benches node ++ bench_of node now ∷ [];
+    idle = own_contexts node ++ context_of node now ∷ [];
     begun = true;
     fault = option_map (λ f. record { node = number; phase = f.phase; cause = f.cause }) (opened_node node sides).fault;
   }

@@ -17,7 +17,7 @@ use Rattle.mg_node.specs.declared.pending.Pending.{Pending}
 use Rattle.mg_node.specs.declared.pending.Pending.TheVariants.{Loop as WaitsLoop}
 use Rattle.mg_node.specs.declared.claimed.Claimed.{Claimed}
 use Rattle.mg_node.specs.declared.claimed.Claimed.TheVariants.{Work, Answered, NotReady, InFlightFull, Draining, Ended, OutOfMemory}
-use Rattle.mg_node.specs.Views.{IntakeView, BenchView, WorkView, OutcomeView, EntryView, EngineView}
+use Rattle.mg_node.specs.Views.{IntakeView, ContextView, WorkView, OutcomeView, EntryView, EngineView}
 use Rattle.mg_node.specs.Ports.{ports_in, port_queue, IsNext}
 pub use Rattle.mg_node.specs.Windows.{has_ended}
 use Rattle.mg_node.specs.Intakes.{next_set_of, IsLeft, HasSet}
@@ -99,46 +99,46 @@ pub record TakesUnrun (engine engine_now : EngineView) (work : WorkView) : Type 
   pub hands : HandsOut engine.window engine_now.window place work
   pub now : engine_now ≡ record engine { window = engine_now.window }
 
--- a work is claimed, with the last idle bench: it has the next number, and its entry stands behind the others in the window. The count of
+-- a work is claimed, with the last idle context: it has the next number, and its entry stands behind the others in the window. The count of
 -- claims grows by `more`, which is 0 for Close.
-pub record Hands (engine engine_now : EngineView) (phase : Phase) (more : ℕ) (bench : BenchView) : Type 0 where
-  pub idle : engine.idle ≡ engine_now.idle ++ bench ∷ []
+pub record Hands (engine engine_now : EngineView) (phase : Phase) (more : ℕ) (context : ContextView) : Type 0 where
+  pub idle : engine.idle ≡ engine_now.idle ++ context ∷ []
   pub now : engine_now ≡ record engine {
     claimed = engine.claimed + more;
     window = engine.window ++ record { phase = phase; outcome = None; committed = false } ∷ [];
     idle = engine_now.idle;
   }
 
--- the next work of an engine, in a phase, with this bench
-abbrev pub work_of : EngineView → Phase → BenchView → WorkView
-work_of engine phase bench = record { node = engine.node; number = engine.claimed; phase = phase; bench = bench }
+-- the next work of an engine, in a phase, with this context
+abbrev pub work_of : EngineView → Phase → ContextView → WorkView
+work_of engine phase context = record { node = engine.node; number = engine.claimed; phase = phase; context = context }
 
 -- the next call of a source is handed out
 pub record TakesCall (engine engine_now : EngineView) (work : WorkView) : Type 0 where
   pub calls : ℕ
   pub role : engine.role ≡ Source calls
   pub more : engine.claimed < calls
-  pub bench : BenchView
-  pub hands : Hands engine engine_now (Call engine.claimed) 1 bench
-  pub work_is : work ≡ work_of engine (Call engine.claimed) bench
+  pub context : ContextView
+  pub hands : Hands engine engine_now (Call engine.claimed) 1 context
+  pub work_is : work ≡ work_of engine (Call engine.claimed) context
 
 -- the next input set is handed out, and leaves the intake
 pub record TakesSet (engine engine_now : EngineView) (intake intake_now : IntakeView) (work : WorkView) : Type 0 where
   pub role : engine.role ≡ Sets
   pub at : ℕ
   pub next : IsNext intake.waits (Ready at)
-  pub bench : BenchView
-  pub hands : Hands engine engine_now (Process at) 1 bench
-  pub work_is : work ≡ work_of engine (Process at) (record { told = bench.told; set = work.bench.set })
-  pub takes : Takes intake intake_now work.bench.set
+  pub context : ContextView
+  pub hands : Hands engine engine_now (Process at) 1 context
+  pub work_is : work ≡ work_of engine (Process at) (record { told = context.told; set = work.context.set })
+  pub takes : Takes intake intake_now work.context.set
 
 -- Close is handed out: no set comes any more, and all that was claimed is laid
 pub record TakesClose (engine engine_now : EngineView) (waits : Pending) (work : WorkView) : Type 0 where
   pub over : IsOver engine.role engine.claimed waits
   pub laid : engine.window ≡ []
-  pub bench : BenchView
-  pub hands : Hands engine engine_now Close 0 bench
-  pub work_is : work ≡ work_of engine Close bench
+  pub context : ContextView
+  pub hands : Hands engine engine_now Close 0 context
+  pub work_is : work ≡ work_of engine Close context
 
 -- the next packet of MAIN is answered: its answer is laid at once
 pub record TakesAnswer (engine engine_now : EngineView) (intake intake_now : IntakeView) : Type 0 where

@@ -20,14 +20,14 @@ use Rattle.mg_node.specs.declared.role.Role.{Role}
 use Rattle.mg_node.specs.declared.pending.Pending.{Pending}
 use Rattle.mg_node.specs.contracts.role.Role as role
 use Rattle.mg_node.specs.contracts.pending.Pending as waits
-use Rattle.mg_node.specs.Views.{IntakeView, BenchView, WorkView, PerformedView, OutcomeView, EntryView, EngineView}
+use Rattle.mg_node.specs.Views.{IntakeView, ContextView, WorkView, PerformedView, OutcomeView, EntryView, EngineView}
 
 abbrev pub intake_code : Coded IntakeView
 intake_code =
     code_by (ℕ × Pending) (coded× coded_ℕ waits.the_row.coded) (λ i. (i.claimed, i.waits)) (λ p. record { claimed = p.0; waits = p.1 }) (λ _. refl)
 
-abbrev pub bench_code : Coded BenchView
-bench_code =
+abbrev pub context_code : Coded ContextView
+context_code =
     code_by (HolderView × List (Option (Stamped Plain))) (coded× holder_code set_code)
     (λ b. (b.told, b.set)) (λ p. record { told = p.0; set = p.1 }) (λ _. refl)
 
@@ -36,8 +36,8 @@ phase_code = phase.the_row.coded
 
 abbrev pub work_code : Coded WorkView
 work_code =
-    code_by ((ℕ × ℕ) × (Phase × BenchView)) (coded× (coded× coded_ℕ coded_ℕ) (coded× phase_code bench_code))
-    (λ w. ((w.node, w.number), (w.phase, w.bench))) (λ p. record { node = p.0.0; number = p.0.1; phase = p.1.0; bench = p.1.1 }) (λ _. refl)
+    code_by ((ℕ × ℕ) × (Phase × ContextView)) (coded× (coded× coded_ℕ coded_ℕ) (coded× phase_code context_code))
+    (λ w. ((w.node, w.number), (w.phase, w.context))) (λ p. record { node = p.0.0; number = p.0.1; phase = p.1.0; context = p.1.1 }) (λ _. refl)
 
 abbrev pub answer_code : Coded (Result (List Laid) Cause)
 answer_code = coded_result emission_code cause.the_row.coded
@@ -58,10 +58,10 @@ entry_code =
 
 abbrev pub engine_code : Coded EngineView
 engine_code =
-    code_by (((Role × (ℕ × ℕ)) × (Option ℤ × (ℕ × ℕ))) × ((List (Backlog Plain) × (ℕ × ℕ)) × ((List EntryView × List BenchView) × (Bool × (Bool × Option NodeFault)))))
+    code_by (((Role × (ℕ × ℕ)) × (Option ℤ × (ℕ × ℕ))) × ((List (Backlog Plain) × (ℕ × ℕ)) × ((List EntryView × List ContextView) × (Bool × (Bool × Option NodeFault)))))
     (coded× (coded× (coded× role.the_row.coded (coded× coded_ℕ coded_ℕ)) (coded× (coded_option coded_ℤ) (coded× coded_ℕ coded_ℕ)))
     (coded× (coded× (coded_list backlog_code) (coded× coded_ℕ coded_ℕ))
-    (coded× (coded× (coded_list entry_code) (coded_list bench_code)) (coded× coded_bool (coded× coded_bool (coded_option node_fault.the_row.coded))))))
+    (coded× (coded× (coded_list entry_code) (coded_list context_code)) (coded× coded_bool (coded× coded_bool (coded_option node_fault.the_row.coded))))))
     (λ e. (((e.role, (e.node, e.first)), (e.offset, (e.in_flight, e.inputs))), ((e.outputs, (e.laid, e.claimed)), ((e.window, e.idle), (e.begun, (e.closed, e.fault))))))
     (λ p. record {
       role = p.0.0.0;

@@ -11,7 +11,7 @@ use Rattle.mg_calc.specs.declared.node_fault.Phase.{Phase}
 use Rattle.mg_calc.specs.declared.node_fault.Phase.TheVariants.{Call, Process, Close}
 use Rattle.mg_calc.specs.Laying.{all_raised, laid_behind, after}
 use Rattle.mg_calc.specs.Outcome.{Failure}
-use Rattle.mg_node.specs.Views.{BenchView, PerformedView, OutcomeView, EntryView, EngineView}
+use Rattle.mg_node.specs.Views.{ContextView, PerformedView, OutcomeView, EntryView, EngineView}
 use Rattle.mg_node.specs.Job.{LoggedJob}
 use Rattle.mg_node.specs.Lawful.{of_node, LawfulEngine, StandForAll, is_close}
 use Rattle.mg_node.specs.Shelves.{back}
@@ -51,22 +51,22 @@ calls_in_phase (Process at) = 1
 calls_in_phase phase = 0
 
 -- what laying changes of an engine: its outputs in whole, how many sets or calls were laid, what is claimed and isn't laid, the
--- benches that no work has, whether Close was laid, and the fault
+-- contexts that no work has, whether Close was laid, and the fault
 pub record Front : Type 0 where
   pub outputs : List (StreamPrefix Plain)
   pub laid : ℕ
   pub window : List EntryView
-  pub idle : List BenchView
+  pub idle : List ContextView
   pub closed : Bool
   pub fault : Option Failure
 
--- a front once an answer is laid: its bench is idle again, and these entries are left in the window
-abbrev pub answer_laid : Option ℤ → Phase → BenchView → Result (List Laid) Cause → List EntryView → Front → Front
-answer_laid offset phase bench answer rest front = record {
+-- a front once an answer is laid: its context is idle again, and these entries are left in the window
+abbrev pub answer_laid : Option ℤ → Phase → ContextView → Result (List Laid) Cause → List EntryView → Front → Front
+answer_laid offset phase context answer rest front = record {
   outputs = outputs_by (raised_before offset phase front.outputs) (laid_by offset phase (raised_before offset phase front.outputs) answer);
   laid = front.laid + calls_in_phase phase;
   window = rest;
-  idle = front.idle ++ bench ∷ [];
+  idle = front.idle ++ context ∷ [];
   closed = is_close phase;
   fault = failure_by phase (laid_by offset phase (raised_before offset phase front.outputs) answer);
 }
@@ -86,7 +86,7 @@ abbrev pub front_laid : Option ℤ → List EntryView → Front → Front
 front_laid offset [] front = front
 front_laid offset (entry ∷ entries) front =
     if has_stopped front then front
-    else with_ready (ready_of entry) front (λ p. front_laid offset entries (answer_laid offset entry.phase p.work.bench p.answer entries front))
+    else with_ready (ready_of entry) front (λ p. front_laid offset entries (answer_laid offset entry.phase p.work.context p.answer entries front))
 
 -- the entry of a work that comes back: committed, where the work was performed
 abbrev pub committed_entry : OutcomeView → EntryView

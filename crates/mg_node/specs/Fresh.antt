@@ -4,20 +4,20 @@ use Rattle.std.specs.Prelude.{ℕ, ◌-◌, List, [], ◌∷◌, ◌++◌, lengt
 use Rattle.mg_stream.specs.Pool.{empty_backlog}
 use Rattle.mg_calc.specs.declared.plan_node.PlanNode.{PlanNode}
 use Rattle.mg_route.specs.HolderView.{HolderView}
-use Rattle.mg_node.specs.Views.{BenchView, EngineView}
+use Rattle.mg_node.specs.Views.{ContextView, EngineView}
 use Rattle.mg_node.specs.Job.{role_of}
 
 -- a calculator of the node's own kind, before it is opened: it wasn't handed in
 abbrev pub own_told : PlanNode → HolderView
 own_told node = record { law = node.law; shape = node.shape; state = []; log = None; handed = false }
 
--- a bench that was not worked at: its set is empty
-abbrev pub bench_of : PlanNode → HolderView → BenchView
-bench_of node told = record { told = told; set = replicate (length node.inputs) None }
+-- a context that was not worked at: its set is empty
+abbrev pub context_of : PlanNode → HolderView → ContextView
+context_of node told = record { told = told; set = replicate (length node.inputs) None }
 
--- the benches of a node: as many as works may be claimed, the last one with the calculator that is handed in
-abbrev pub benches_of : PlanNode → HolderView → List BenchView
-benches_of node told = replicate (node.in_flight - 1) (bench_of node (own_told node)) ++ bench_of node told ∷ []
+-- the contexts of a node: as many as works may be claimed, the last one with the calculator that is handed in
+abbrev pub contexts_of : PlanNode → HolderView → List ContextView
+contexts_of node told = replicate (node.in_flight - 1) (context_of node (own_told node)) ++ context_of node told ∷ []
 
 -- the engine of a node, by its number and its calculator, before it is begun
 abbrev pub fresh_engine : PlanNode → ℕ → HolderView → EngineView
@@ -32,7 +32,7 @@ fresh_engine node number told = record {
   laid = 0;
   claimed = 0;
   window = [];
-  idle = benches_of node told;
+  idle = contexts_of node told;
   begun = false;
   closed = false;
   fault = None;

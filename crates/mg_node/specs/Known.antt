@@ -7,13 +7,13 @@ use Rattle.mg_node.specs.Job.{LoggedJob}
 use Rattle.mg_node.specs.Lawful.{IsSetUp}
 
 -- the engine of a node: it is set up by the node and begun, it has an output for each of the node's, no more is laid than is claimed,
--- and each of its benches is idle or with a work
+-- and each of its contexts is idle or with a work
 pub record IsKnown (node : PlanNode) (number : ℕ) (view : EngineView) : Type 0 where
   pub set_up : IsSetUp node number view
   pub begun : view.begun ≡ true
   pub outputs : length view.outputs ≡ length node.outputs
   pub few : view.laid ≤ view.claimed
-  pub benches : length view.idle + length view.window ≡ view.in_flight
+  pub contexts : length view.idle + length view.window ≡ view.in_flight
 
 -- the engine of a graph input: it has its number, one output, and no works
 pub record IsKnownInput (job : LoggedJob) (number : ℕ) (view : EngineView) : Type 0 where

@@ -29,7 +29,7 @@ use Rattle.mg_node.specs.declared.role.Role.{Role}
 use Rattle.mg_node.specs.declared.role.Role.TheVariants.{Input, Source}
 use Rattle.mg_node.specs.declared.pending.Pending.{Pending}
 use Rattle.mg_node.specs.declared.pending.Pending.TheVariants.{Sets as WaitingSets, Loop as WaitingLoop}
-use Rattle.mg_node.specs.Views.{IntakeView, BenchView, WorkView, PerformedView, OutcomeView, EntryView, EngineView}
+use Rattle.mg_node.specs.Views.{IntakeView, ContextView, WorkView, PerformedView, OutcomeView, EntryView, EngineView}
 use Rattle.mg_node.specs.Windows.{has_ended, starts_ready}
 use Rattle.mg_node.specs.Job.{LoggedJob, Solves, ports_of, policy_of, law_of, streams_at, role_of, stage, IsLastWork, IsTask, log_after, calls_before, calls_in}
 
@@ -84,12 +84,12 @@ HasAnswered (Err cause) before now answer = (answer ≡ Err cause) × (now ≡ b
 -- what a calculator keeps, and what its log has, before a work (with no answer) and after it (with its answer)
 abbrev pub IsAtWork : LoggedJob → List (StreamPrefix Plain) → PlanNode → WorkView → Option (Result (List Laid) Cause) → Type 0
 IsAtWork job streams node work None =
-    (work.bench.told.state ≡ (stage job.job streams node work.number).state)
-    × (work.bench.told.log ≡ log_after job node (calls_before streams node work.number))
+    (work.context.told.state ≡ (stage job.job streams node work.number).state)
+    × (work.context.told.log ≡ log_after job node (calls_before streams node work.number))
 IsAtWork job streams node work (Some answer) =
-    HasAnswered answer (stage job.job streams node work.number).state work.bench.told.state
-    (answer_in node.law (stage job.job streams node work.number).state work.phase work.bench.set)
-    × (work.bench.told.log ≡ log_after job node (calls_before streams node work.number ++ calls_in work.phase work.bench.set))
+    HasAnswered answer (stage job.job streams node work.number).state work.context.told.state
+    (answer_in node.law (stage job.job streams node work.number).state work.phase work.context.set)
+    × (work.context.told.log ≡ log_after job node (calls_before streams node work.number ++ calls_in work.phase work.context.set))
 
 -- a work of a job, perhaps with its answer: its calculator fits the node, it is one of the node's works, and its set is the one of its
 -- number
@@ -98,9 +98,9 @@ pub record IsWorkOf (job : LoggedJob) (view : OutcomeView) : Type 0 where
   pub solves : Solves job streams
   pub node : PlanNode
   pub there : slice_get job.job.plan.nodes view.work.node ≡ Some node
-  pub fits : FitsHolder node view.work.bench.told
-  pub places : length view.work.bench.set ≡ length node.inputs
-  pub task : IsTask job.job streams node view.work.number view.work.phase view.work.bench.set
+  pub fits : FitsHolder node view.work.context.told
+  pub places : length view.work.context.set ≡ length node.inputs
+  pub task : IsTask job.job streams node view.work.number view.work.phase view.work.context.set
   pub at_work : IsAtWork job streams node view.work view.answer
 
 -- an outcome is lawful for a job
@@ -148,12 +148,12 @@ come_to job streams node laid closed = if closed then outcome_of job.job streams
 abbrev pub calls_by : List (StreamPrefix Plain) → PlanNode → ℕ → Bool → List Call
 calls_by streams node laid closed = calls_before streams node laid ++ (if closed then Finished ∷ [] else [])
 
--- a bench that no work has: its calculator fits the node and has the state that what is laid gives, and its log ends there
-pub record IsIdle (job : LoggedJob) (streams : List (StreamPrefix Plain)) (node : PlanNode) (laid : ℕ) (closed : Bool) (bench : BenchView) : Type 0 where
-  pub fits : FitsHolder node bench.told
-  pub places : length bench.set ≡ length node.inputs
-  pub state : bench.told.state ≡ (come_to job streams node laid closed).state
-  pub log : bench.told.log ≡ log_after job node (calls_by streams node laid closed)
+-- a context that no work has: its calculator fits the node and has the state that what is laid gives, and its log ends there
+pub record IsIdle (job : LoggedJob) (streams : List (StreamPrefix Plain)) (node : PlanNode) (laid : ℕ) (closed : Bool) (context : ContextView) : Type 0 where
+  pub fits : FitsHolder node context.told
+  pub places : length context.set ≡ length node.inputs
+  pub state : context.told.state ≡ (come_to job streams node laid closed).state
+  pub log : context.told.log ≡ log_after job node (calls_by streams node laid closed)
 
 -- whether a phase is Close
 abbrev pub is_close : Phase → Bool
@@ -195,14 +195,14 @@ pub record IsEngineOf (job : LoggedJob) (number : ℕ) (view : EngineView) : Typ
   pub raised : AllZip IsRaised (come_to job streams node view.laid view.closed).outputs whole
   pub extended : AreExtendedBy whole (streams_at streams node.outputs)
   pub fault : view.fault ≡ option_map (λ f. record { node = number; phase = f.phase; cause = f.cause }) (come_to job streams node view.laid view.closed).fault
-  -- the window has what is claimed and isn't laid, in order; each bench is with a work or idle
+  -- the window has what is claimed and isn't laid, in order; each context is with a work or idle
   pub order : view.laid + length view.window ≡ view.claimed + number_of (λ e. is_close e.phase) view.window
   pub entries : (i : ℕ) (entry : EntryView) → slice_get view.window i ≡ Some entry → IsEntry job streams node view.laid (view.laid + i) number entry
   pub idle : All (IsIdle job streams node view.laid view.closed) view.idle
-  pub benches : length view.idle + length view.window ≡ view.in_flight
+  pub contexts : length view.idle + length view.window ≡ view.in_flight
   -- while the node goes on, all that is ready at the front of the window is laid
   pub waits : has_ended view ≡ false → starts_ready view.window ≡ false
-  -- a node that has ended keeps a bench that no work has: the one whose answer was laid last
+  -- a node that has ended keeps a context that no work has: the one whose answer was laid last
   pub ended : has_ended view ≡ true → 0 < length view.idle
 
 -- an engine is that of a graph input of a job: its one output is the solution's stream of that input

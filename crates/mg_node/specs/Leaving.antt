@@ -17,9 +17,9 @@ use Rattle.mg_node.specs.Begun.{IsHanded, IsOpened}
 
 -- the calculator of the outcome in an entry, if there is one
 abbrev pub calculator_in : EntryView → Option HolderView
-calculator_in entry = option_map (λ o. o.work.bench.told) entry.outcome
+calculator_in entry = option_map (λ o. o.work.context.told) entry.outcome
 
--- the calculators in an engine: in the benches that no work has, and then in the outcomes that stand in its window
+-- the calculators in an engine: in the contexts that no work has, and then in the outcomes that stand in its window
 abbrev pub calculators_in : EngineView → List HolderView
 calculators_in engine = map (λ b. b.told) engine.idle ++ filter_map calculator_in engine.window
 
@@ -53,7 +53,7 @@ pub record IsInWindow (job : LoggedJob) (engine : EngineView) (held : HolderView
   pub outcome : OutcomeView
   pub window : engine.window ≡ entry ∷ []
   pub there : entry.outcome ≡ Some outcome
-  pub held_is : held ≡ outcome.work.bench.told
+  pub held_is : held ≡ outcome.work.context.told
   pub lawful : LawfulOutcome job outcome
 
 -- an engine has one calculator, which was handed in for its node; it is at rest, or stands in the window

@@ -16,18 +16,18 @@ pub record IntakeView : Type 0 where
   pub claimed : ℕ
   pub waits : Pending
 
--- a bench: what its calculator tells of itself and whether it was handed in, and what its set has
-pub record BenchView : Type 0 where
+-- a context: what its calculator tells of itself and whether it was handed in, and what its set has
+pub record ContextView : Type 0 where
   pub told : HolderView
   pub set : List (Option (Stamped Plain))
 
--- a work: whose it is, its number, what is to be done, and the bench where it is done. A source's calls and Close have no set;
--- what the bench's set has then is left over.
+-- a work: whose it is, its number, what is to be done, and the context where it is done. A source's calls and Close have no set;
+-- what the context's set has then is left over.
 pub record WorkView : Type 0 where
   pub node : ℕ
   pub number : ℕ
   pub phase : Phase
-  pub bench : BenchView
+  pub context : ContextView
 
 -- a work that is done, with the calculator's answer
 pub record PerformedView : Type 0 where
@@ -62,8 +62,8 @@ pub record EngineView : Type 0 where
   pub claimed : ℕ
   -- the works that were claimed and aren't laid, in order, from number `laid` on
   pub window : List EntryView
-  -- the benches that no work has
-  pub idle : List BenchView
+  -- the contexts that no work has
+  pub idle : List ContextView
   -- whether it was begun, whether Close was laid, and its node's fault
   pub begun : Bool
   pub closed : Bool

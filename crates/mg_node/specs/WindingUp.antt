@@ -6,7 +6,7 @@ use Rattle.mg_calc.specs.declared.node_fault.Phase.{Phase}
 use Rattle.mg_calc.specs.declared.node_fault.Phase.TheVariants.{Open, Call, Process, Close}
 use Rattle.mg_calc.specs.declared.node_fault.NodeFault.{NodeFault}
 use Rattle.mg_calc.specs.Told.{with_call}
-use Rattle.mg_node.specs.Views.{BenchView, OutcomeView, EntryView, EngineView}
+use Rattle.mg_node.specs.Views.{ContextView, OutcomeView, EntryView, EngineView}
 use Rattle.mg_node.specs.Lawful.{is_close}
 
 -- whether a node that failed in this phase is still to be closed: not where Open or Close itself failed
@@ -25,8 +25,8 @@ closes_despite (Some fault) = closes_after fault.phase
 abbrev pub lacks_close : EngineView → Bool
 lacks_close engine = engine.begun && not engine.closed && closes_despite engine.fault
 
--- a bench's calculator is closed: the call is in its log, and it keeps what it kept
-pub record IsFinished (before now : BenchView) : Type 0 where
+-- a context's calculator is closed: the call is in its log, and it keeps what it kept
+pub record IsFinished (before now : ContextView) : Type 0 where
   pub log : now.told.log ≡ with_call before.told.log Finished
   pub state : now.told.state ≡ before.told.state
   pub law : now.told.law ≡ before.told.law
@@ -34,13 +34,13 @@ pub record IsFinished (before now : BenchView) : Type 0 where
   pub same_handed : now.told.handed ≡ before.told.handed
   pub set : now.set ≡ before.set
 
--- the calculator of the last idle bench is closed, and nothing else changes
+-- the calculator of the last idle context is closed, and nothing else changes
 pub record FinishesLast (before now : EngineView) : Type 0 where
-  pub others : List BenchView
-  pub bench : BenchView
-  pub idle : before.idle ≡ others ++ bench ∷ []
-  pub finished : BenchView
-  pub is_finished : IsFinished bench finished
+  pub others : List ContextView
+  pub context : ContextView
+  pub idle : before.idle ≡ others ++ context ∷ []
+  pub finished : ContextView
+  pub is_finished : IsFinished context finished
   pub is : now ≡ record before { idle = others ++ finished ∷ [] }
 
 -- whether the work of an outcome was Close and was performed
@@ -49,9 +49,9 @@ was_closed outcome = is_close outcome.work.phase && is_some outcome.answer
 
 -- the calculator of a work that came back is closed, and nothing else of it changes
 pub record ClosesWork (before now : OutcomeView) : Type 0 where
-  pub finished : BenchView
-  pub is_finished : IsFinished before.work.bench finished
-  pub is : now ≡ record { work = record before.work { bench = finished }; answer = before.answer }
+  pub finished : ContextView
+  pub is_finished : IsFinished before.work.context finished
+  pub is : now ≡ record { work = record before.work { context = finished }; answer = before.answer }
 
 -- the calculator of a work that came back is closed, unless that work was Close and was performed
 pub record FinishesWork (before now : OutcomeView) : Type 0 where
@@ -80,7 +80,7 @@ pub record FinishesFront (before now : EngineView) : Type 0 where
   pub finishes : FinishesFirst before.window window
   pub is : now ≡ record before { window = window }
 
--- an engine is wound up: where it lacks Close, the calculator of its last idle bench is closed, and where no bench is idle, that of the
+-- an engine is wound up: where it lacks Close, the calculator of its last idle context is closed, and where no context is idle, that of the
 -- first work in its window; otherwise nothing changes
 pub record WindsUp (before now : EngineView) : Type 0 where
   pub finishes : lacks_close before ≡ true → 0 < length before.idle → FinishesLast before now

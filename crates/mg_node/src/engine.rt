@@ -17,7 +17,7 @@ mod winding;
 
 use crate::counting::held_at;
 use crate::entry::Entry;
-use crate::{Bench, Role};
+use crate::{Context, Role};
 use mg_calc::{Calculator, NodeFault};
 use mg_stream::Queue;
 use mg_time::Timestamp;
@@ -46,8 +46,8 @@ pub struct Engine<C: Calculator> {
     claimed: u64,
     // The works that are claimed and not laid, in order.
     window: VecDeque<Entry<C>>,
-    // The benches that no work has.
-    idle: Vec<Bench<C>>,
+    // The contexts that no work has.
+    idle: Vec<Context<C>>,
     begun: bool,
     closed: bool,
     fault: Option<NodeFault>,

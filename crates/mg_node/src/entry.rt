@@ -9,7 +9,7 @@ ghost use Rattle.mg_node.specs.Leaving.{calculator_in, handed_told};
 ghost use Rattle.mg_node.specs.WindingUp.{FinishesBack, FinishesEntry};
 ghost use Rattle.mg_node.specs.Code.QueueLaying.{packets_by};
 
-use crate::{Bench, Outcome, Performed, Work};
+use crate::{Context, Outcome, Performed, Work};
 use mg_calc::{Calculator, Cause, Emission, Phase};
 use std::alloc::{AllocError, Global};
 use std::marker::Model;
@@ -112,10 +112,14 @@ impl<C: Calculator> Entry<C> {
     }
 
     /// The entry of a calculator that was opened, with its answer, committed.
-    pub(crate) fn opened(node: u32, bench: Bench<C>, answer: Result<Emission, Cause>) -> Entry<C>
-        ensures { result ≡ opened_entry node bench answer }
+    pub(crate) fn opened(
+        node: u32,
+        context: Context<C>,
+        answer: Result<Emission, Cause>,
+    ) -> Entry<C>
+        ensures { result ≡ opened_entry node context answer }
     {
-        let work = Work::new(node, 0, Phase::Open, bench);
+        let work = Work::new(node, 0, Phase::Open, context);
         Entry::committed(Outcome::ran(Performed::new(work, answer)))
     }
 
@@ -208,7 +212,7 @@ impl<C: Calculator> Entry<C> {
     {
         let Entry { outcome, .. } = self;
         match outcome {
-            Some(outcome) => outcome.into_bench().into_calculator(),
+            Some(outcome) => outcome.into_context().into_calculator(),
             None => None,
         }
     }

@@ -8,7 +8,7 @@ ghost use Rattle.mg_node.specs.Code.QueueLaying.{StandForSome, HasRoomFor, packe
 ghost use Rattle.mg_node.specs.Code.FrontLaying.{needed as needed_at, HasRoom, counted_in, front_end_of, IsFirstLaid, IsFrontLaid};
 ghost use Rattle.mg_node.specs.Windows.{starts_ready};
 
-use crate::Bench;
+use crate::Context;
 use crate::entry::Entry;
 use crate::laying::{lay, packets_in};
 use crate::window::is_ready;
@@ -122,22 +122,22 @@ fn needed<C: Calculator>(window: &VecDeque<Entry<C>>, output: u32) -> Result<u32
     Ok(sum)
 }
 
-/// Lays the entries that are ready at the front of a window, up to the one at which the node fails or closes. Their benches are idle
+/// Lays the entries that are ready at the front of a window, up to the one at which the node fails or closes. Their contexts are idle
 /// afterwards. It takes no memory.
 pub(crate) fn lay_front<C: Calculator>(
     offset: Option<i64>,
     node: u32,
     outputs: &mut [Queue],
     window: &mut VecDeque<Entry<C>>,
-    idle: &mut Vec<Bench<C>>,
+    idle: &mut Vec<Context<C>>,
 ) -> FrontEnd
     requires stands { StandForSome outputs.old }
     requires room { HasRoom outputs.old window.old.items }
-    requires benches { vec_len idle.old + deque_len window.old ≤ vec_capacity idle.old }
+    requires contexts { vec_len idle.old + deque_len window.old ≤ vec_capacity idle.old }
     requires few { deque_len window.old < 2 ^ 32 }
     ensures front { IsFrontLaid offset node outputs.old outputs.new window.old.items window.new.items idle.old.items idle.new.items result }
     ensures count { result.laid + counted_in window.new.items ≡ counted_in window.old.items }
-    ensures benches { vec_len idle.new + deque_len window.new ≡ vec_len idle.old + deque_len window.old }
+    ensures contexts { vec_len idle.new + deque_len window.new ≡ vec_len idle.old + deque_len window.old }
     ensures idle { vec_capacity idle.new ≡ vec_capacity idle.old }
     ensures window { deque_capacity window.new ≡ deque_capacity window.old }
 {
@@ -166,12 +166,12 @@ fn lay_first<C: Calculator>(
     node: u32,
     outputs: &mut [Queue],
     window: &mut VecDeque<Entry<C>>,
-    idle: &mut Vec<Bench<C>>,
+    idle: &mut Vec<Context<C>>,
 ) -> FrontEnd
     requires stands { StandForSome outputs.old }
     requires room { HasRoom outputs.old window.old.items }
     requires ready { starts_ready window.old.items ≡ true }
-    requires bench { vec_len idle.old < vec_capacity idle.old }
+    requires context { vec_len idle.old < vec_capacity idle.old }
     ensures first { IsFirstLaid offset node outputs.old outputs.new window.old.items window.new.items idle.old.items idle.new.items result }
     ensures gone { deque_len window.new + 1 ≡ deque_len window.old }
     ensures window { deque_capacity window.new ≡ deque_capacity window.old }
@@ -184,7 +184,7 @@ fn lay_first<C: Calculator>(
     let phase = entry.phase();
     let (work, answer) = entry.into_performed().into_parts();
     let cause = lay(offset, &phase, outputs, answer);
-    idle.push_reserved(work.into_bench());
+    idle.push_reserved(work.into_context());
     end(node, &phase, cause)
 }
 

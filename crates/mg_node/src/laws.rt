@@ -248,7 +248,7 @@ pub fn what_is_under_way_had_a_front()
         → first_handed engine ≡ Some told → HadFront job solution node told }
     ensures work { (job : LoggedJob) (number : ℕ) (node : PlanNode) (engine : EngineView) (work : WorkView) (solution : List (StreamPrefix Plain)) (told : CalculatorTold) → Solves job solution
         → slice_get job.job.plan.nodes number ≡ Some node → is_some node.box_number ≡ true → IsOuter node.law → LawfulEngine job (of_node number) engine → LawfulWork job work
-        → work.node ≡ number → IsOut engine work → handed_told work.bench.told ≡ Some told → HadFront job solution node told }
+        → work.node ≡ number → IsOut engine work → handed_told work.context.told ≡ Some told → HadFront job solution node told }
     ensures wound { (job : LoggedJob) (number : ℕ) (node : PlanNode) (engine engine_now : EngineView) (solution : List (StreamPrefix Plain)) (told : CalculatorTold) → Solves job solution
         → slice_get job.job.plan.nodes number ≡ Some node → is_some node.box_number ≡ true → IsOuter node.law → LawfulEngine job (of_node number) engine → WindsUp engine engine_now
         → first_handed engine_now ≡ Some told → HadFront job solution node told }

@@ -1,19 +1,19 @@
-//! Calculators that were handed in, as they leave the benches and the window where they stand.
+//! Calculators that were handed in, as they leave the contexts and the window where they stand.
 ghost use Rattle.std.specs.Prelude.{◌≡◌, map, option_map, slice_get};
 ghost use Rattle.std.specs.List.{filter_map};
 ghost use Rattle.mg_node.specs.Leaving.{calculator_in, handed_told};
 
-use crate::Bench;
+use crate::Context;
 use crate::entry::Entry;
 use mg_calc::Calculator;
 use std::collections::VecDeque;
 
-/// The first calculator that was handed in, of those in some benches.
-pub(crate) fn from_benches<C: Calculator>(benches: Vec<Bench<C>>) -> Option<C>
-    ensures { option_map C.told result ≡ slice_get (filter_map handed_told (map (λ b. b.told) benches.items)) 0 }
+/// The first calculator that was handed in, of those in some contexts.
+pub(crate) fn from_contexts<C: Calculator>(contexts: Vec<Context<C>>) -> Option<C>
+    ensures { option_map C.told result ≡ slice_get (filter_map handed_told (map (λ b. b.told) contexts.items)) 0 }
 {
-    for bench in benches {
-        if let Some(calculator) = bench.into_calculator() {
+    for context in contexts {
+        if let Some(calculator) = context.into_calculator() {
             return Some(calculator);
         }
     }

@@ -4,8 +4,8 @@
 #![tactic(auto)]
 
 mod at_once;
-mod bench;
 mod claimed;
+mod context;
 mod counting;
 mod delivered;
 mod delivery;
@@ -29,8 +29,8 @@ mod window;
 mod work;
 
 pub use at_once::AtOnce;
-pub use bench::Bench;
 pub use claimed::Claimed;
+pub use context::Context;
 pub use delivered::Delivered;
 pub use doing::perform;
 pub use engine::Engine;

@@ -8,7 +8,7 @@ ghost use Rattle.mg_node.specs.WindingUp.{was_closed, FinishesWork};
 ghost use Rattle.mg_node.specs.Code.QueueLaying.{packets_by};
 
 use crate::laying::packets_in;
-use crate::{Bench, Performed, Work};
+use crate::{Context, Performed, Work};
 use mg_calc::{Calculator, Cause, Emission, Phase};
 use std::alloc::{AllocError, Global};
 use std::marker::Model;
@@ -140,11 +140,11 @@ impl<C: Calculator> Outcome<C> {
         }
     }
 
-    /// The bench of the work.
-    pub(crate) fn into_bench(self) -> Bench<C>
-        ensures { result ≡ self.work.bench }
+    /// The context of the work.
+    pub(crate) fn into_context(self) -> Context<C>
+        ensures { result ≡ self.work.context }
     {
         let Outcome { work, .. } = self;
-        work.into_bench()
+        work.into_context()
     }
 }

@@ -3,9 +3,9 @@ ghost use Rattle.std.specs.Prelude.{◌≡◌, ◌<◌, map, replicate, IfOk, sl
 ghost use Rattle.mg_stream.specs.Pool.{backlog_of, empty_backlog};
 ghost use Rattle.mg_calc.specs.Shape.{ParametersFit, IsShapeOf, IsServed};
 ghost use Rattle.mg_node.specs.Job.{role_of as role_by};
-ghost use Rattle.mg_node.specs.Fresh.{own_told, bench_of};
+ghost use Rattle.mg_node.specs.Fresh.{own_told, context_of};
 
-use crate::{Bench, Role};
+use crate::{Context, Role};
 use mg_calc::{Calculator, Law, PlanNode};
 use mg_route::{Builtin, Holder};
 use mg_stream::Queue;
@@ -47,37 +47,37 @@ pub(crate) fn empty_outputs(alloc: Global, count: u32) -> Result<Vec<Queue>, All
     Ok(outputs)
 }
 
-// Returns a bench with a calculator that is made by a node's law and shape.
-fn own_bench<C: Calculator>(alloc: Global, node: &PlanNode) -> Result<Bench<C>, AllocError>
+// Returns a context with a calculator that is made by a node's law and shape.
+fn own_context<C: Calculator>(alloc: Global, node: &PlanNode) -> Result<Context<C>, AllocError>
     requires ranges { ParametersFit node.now.law }
     requires of_law { IsShapeOf node.now.law node.now.shape }
     requires served { IsServed node.now.law }
-    ensures { IfOk result (λ b. b ≡ bench_of node.now (own_told node.now)) }
+    ensures { IfOk result (λ b. b ≡ context_of node.now (own_told node.now)) }
 {
     let builtin = Builtin::new(alloc, &node.law, &node.shape)?;
     let set = InputSet::new(alloc, node.inputs.len())?;
-    match Bench::new(alloc, Holder::own(builtin), set) {
-        Ok(bench) => Ok(bench),
+    match Context::new(alloc, Holder::own(builtin), set) {
+        Ok(context) => Ok(context),
         Err(_) => Err(AllocError),
     }
 }
 
-/// Returns `count` benches with calculators that are made by a node's law and shape, with room for one more bench.
-pub(crate) fn own_benches<C: Calculator>(
+/// Returns `count` contexts with calculators that are made by a node's law and shape, with room for one more context.
+pub(crate) fn own_contexts<C: Calculator>(
     alloc: Global,
     node: &PlanNode,
     count: u32,
-) -> Result<Vec<Bench<C>>, AllocError>
+) -> Result<Vec<Context<C>>, AllocError>
     requires ranges { ParametersFit node.now.law }
     requires of_law { IsShapeOf node.now.law node.now.shape }
     requires served { IsServed node.now.law }
-    ensures items { IfOk result (λ v. v.items ≡ replicate count (bench_of node.now (own_told node.now))) }
+    ensures items { IfOk result (λ v. v.items ≡ replicate count (context_of node.now (own_told node.now))) }
     ensures len { IfOk result (λ v. vec_len v ≡ count) }
     ensures room { IfOk result (λ v. count < vec_capacity v) }
 {
-    let mut benches = Vec::with_capacity(alloc, count as usize + 1)?;
+    let mut contexts = Vec::with_capacity(alloc, count as usize + 1)?;
     for _ in 0..count {
-        benches.push_reserved(own_bench(alloc, node)?);
+        contexts.push_reserved(own_context(alloc, node)?);
     }
-    Ok(benches)
+    Ok(contexts)
 }

@@ -3,7 +3,7 @@ ghost use Rattle.mg_route.specs.HolderView.{told_by};
 ghost use Rattle.mg_node.specs.Running.{MayRun, HasRun};
 ghost use Rattle.mg_node.specs.WindingUp.{IsFinished};
 
-use crate::Bench;
+use crate::Context;
 use mg_calc::{CalcFault, Calculator, Emission, Phase};
 use mg_edge::Gate;
 use std::alloc::{AllocError, Global};
@@ -15,7 +15,7 @@ pub struct Work<C: Calculator> {
     node: u32,
     number: u64,
     phase: Phase,
-    bench: Bench<C>,
+    context: Context<C>,
 }
 
 impl<C: Calculator> Model for Work<C> {
@@ -26,19 +26,19 @@ impl<C: Calculator> Model for Work<C> {
 
     ghost coded = { work_code };
 
-    ghost view = { λ w. record { node = w.node; number = w.number; phase = w.phase; bench = w.bench } };
+    ghost view = { λ w. record { node = w.node; number = w.number; phase = w.phase; context = w.context } };
 }
 
 impl<C: Calculator> Work<C> {
-    /// The work of a node with this number, to be done in a phase on a bench.
-    pub(crate) fn new(node: u32, number: u64, phase: Phase, bench: Bench<C>) -> Work<C>
-        ensures { result ≡ record { node = node; number = number; phase = phase; bench = bench } }
+    /// The work of a node with this number, to be done in a phase on a context.
+    pub(crate) fn new(node: u32, number: u64, phase: Phase, context: Context<C>) -> Work<C>
+        ensures { result ≡ record { node = node; number = number; phase = phase; context = context } }
     {
         Work {
             node,
             number,
             phase,
-            bench,
+            context,
         }
     }
 
@@ -63,43 +63,43 @@ impl<C: Calculator> Work<C> {
         self.phase
     }
 
-    /// The bench of the work.
-    pub(crate) fn into_bench(self) -> Bench<C>
-        ensures { result ≡ self.bench }
+    /// The context of the work.
+    pub(crate) fn into_context(self) -> Context<C>
+        ensures { result ≡ self.context }
     {
-        let Work { bench, .. } = self;
-        bench
+        let Work { context, .. } = self;
+        context
     }
 
     /// Runs the work's calculator in its phase, with the gate round each call but Close. Want of memory changes nothing.
     pub(crate) fn run<G: Gate>(&mut self, alloc: Global, gate: &G) -> Result<Emission, CalcFault>
-        requires { MayRun self.old.phase self.old.bench }
-        ensures ran { HasRun result self.old.phase self.old.bench self.new.bench }
-        ensures same { self.new ≡ record self.old { bench = self.new.bench } }
+        requires { MayRun self.old.phase self.old.context }
+        ensures ran { HasRun result self.old.phase self.old.context self.new.context }
+        ensures same { self.new ≡ record self.old { context = self.new.context } }
     {
         if let Phase::Close = self.phase {
-            return self.bench.run(alloc, self.phase);
+            return self.context.run(alloc, self.phase);
         }
         gate.enter(self.node, self.number);
-        let answer = self.bench.run(alloc, self.phase);
+        let answer = self.context.run(alloc, self.phase);
         gate.leave(self.node, self.number);
         answer
     }
 
     /// Closes the work's calculator, and drops its answer. Want of memory changes nothing.
     pub(crate) fn finish(&mut self, alloc: Global) -> Result<(), AllocError>
-        ensures finished { OnOk result (IsFinished self.old.bench self.new.bench) }
-        ensures same { self.new ≡ record self.old { bench = self.new.bench } }
+        ensures finished { OnOk result (IsFinished self.old.context self.new.context) }
+        ensures same { self.new ≡ record self.old { context = self.new.context } }
         ensures unchanged { OnErr result (self.new ≡ self.old) }
     {
-        self.bench.finish(alloc)
+        self.context.finish(alloc)
     }
 
     /// The work's calculator, if it was handed in. The work itself is dropped undone.
     pub fn into_calculator(self) -> Option<C>
-        ensures there { is_some result ≡ self.bench.told.handed }
-        ensures told { IfSome result (λ c. C.told c ≡ told_by self.bench.told) }
+        ensures there { is_some result ≡ self.context.told.handed }
+        ensures told { IfSome result (λ c. C.told c ≡ told_by self.context.told) }
     {
-        self.into_bench().into_calculator()
+        self.into_context().into_calculator()
     }
 }

@@ -14,9 +14,9 @@ use Rattle.mg_answer.specs.declared.status.Status.{Status}
 use Rattle.mg_node.specs.Views.{EngineView}
 use Rattle.mg_node.specs.Job.{LoggedJob}
 use Rattle.mg_node.specs.Had.{HadClose}
-use Rattle.mg_sched.specs.Views.{DeskView, NetView}
+use Rattle.mg_sched.specs.Views.{WorkQueueView, NetView}
 use Rattle.mg_sched.specs.StandsFor.{StandsFor, IsRunning}
-use Rattle.mg_sched.specs.ComesApart.{NoneOnDesks}
+use Rattle.mg_sched.specs.ComesApart.{NoneOnWorkQueues}
 use Rattle.mg_sched.specs.WindsUp.{WindsUpNet}
 use Rattle.mg_sched.specs.Made.{BoxesFit, job_of}
 use Rattle.mg_sched.specs.GivesBack.{given_back, StoodFor}
@@ -38,8 +38,8 @@ use Rattle.mg_replay.specs.declared.trace_end.TraceEnd.TheVariants.{Accepted, Re
 -- A run that breaks off --
 
 -- a net whose works were put back, and that was wound up, keeps its plan and the places of the calculators
-pub back_keeps : (before back wound : NetView) (engines : List EngineView) (desks : List DeskView) → back ≡ record before { engines = engines; desks = desks } → WindsUpNet back wound → Keeps before wound
-back_keeps before back wound engines desks is winds = record {
+pub back_keeps : (before back wound : NetView) (engines : List EngineView) (work_queues : List WorkQueueView) → back ≡ record before { engines = engines; work_queues = work_queues } → WindsUpNet back wound → Keeps before wound
+back_keeps before back wound engines work_queues is winds = record {
   plan = ap (λ (v : NetView). v.plan) winds.parts ∙ ap (λ (v : NetView). v.plan) is;
   spare = ap (λ (v : NetView). v.spare) winds.parts ∙ ap (λ (v : NetView). v.spare) is;
 }
@@ -47,19 +47,19 @@ back_keeps before back wound engines desks is winds = record {
 pub back_wound : (job : LoggedJob) (back wound : NetView) → StandsFor job back → WindsUpNet back wound → StoodFor job wound
 back_wound job back wound stands winds = record { before = back; stands = stands; since = inr winds }
 
-back_running : (before back : NetView) (engines : List EngineView) (desks : List DeskView) → back ≡ record before { engines = engines; desks = desks } → IsRunning before → IsRunning back
-back_running before back engines desks is running = ap (λ (v : NetView). v.begun) is ∙ running ∙ sym (ap (λ (v : NetView). length v.plan.nodes) is)
+back_running : (before back : NetView) (engines : List EngineView) (work_queues : List WorkQueueView) → back ≡ record before { engines = engines; work_queues = work_queues } → IsRunning before → IsRunning back
+back_running before back engines work_queues is running = ap (λ (v : NetView). v.begun) is ∙ running ∙ sym (ap (λ (v : NetView). length v.plan.nodes) is)
 
 -- each of its calculators that a node uses was closed
-pub closed_where : (job : LoggedJob) (before back wound : NetView) (engines : List EngineView) (desks : List DeskView) → IsRunning before → back ≡ record before { engines = engines; desks = desks } → StandsFor job back → NoneOnDesks back
+pub closed_where : (job : LoggedJob) (before back wound : NetView) (engines : List EngineView) (work_queues : List WorkQueueView) → IsRunning before → back ≡ record before { engines = engines; work_queues = work_queues } → StandsFor job back → NoneOnWorkQueues back
     → WindsUpNet back wound → wound.wound ≡ length back.plan.nodes → ClosedAllOf job wound
-closed_where job before back wound engines desks running is stands none winds all =
+closed_where job before back wound engines work_queues running is stands none winds all =
     let found = solved job (valid_plan job back stands) in
     record {
       streams = found.0;
       solution = found.1.solution;
       each = λ number place node there has outer.
-          closed_back job back wound found.0 number place node stands (back_running before back engines desks is running) none winds all found.1
+          closed_back job back wound found.0 number place node stands (back_running before back engines work_queues is running) none winds all found.1
           (ap (λ (p : Plan). slice_get p.nodes number) (plan_stood job back stands) ∙ there) has outer;
     }
 

@@ -17,10 +17,10 @@ use Rattle.mg_check.specs.declared.fault.CheckFault.{CheckFault}
 use Rattle.mg_subgraph.specs.Expansion.{expansion_of}
 use Rattle.mg_subgraph.specs.declared.fault.ExpandFault.{ExpandFault}
 use Rattle.mg_files.specs.Files.{Files, graphs, no_graphs}
-use Rattle.mg_run.specs.Task.{Task}
+use Rattle.mg_run.specs.Invocation.{Invocation}
 use Rattle.mg_run.specs.Answer.{RunAnswer, Action, with_limit, with_workers, limit_or, way_action, live_action, used_action, plan_action, verb_action, expanded_action, files_action, action_of, AnswersAction, Records, Replays}
 use Rattle.mg_words.specs.declared.limits.TheConstants.{MOST_WORKERS}
-use Rattle.mg_words.specs.declared.words.Order.{Order}
+use Rattle.mg_words.specs.declared.words.Instruction.{Instruction}
 use Rattle.mg_words.specs.declared.words.Verb.{Verb}
 use Rattle.mg_words.specs.declared.words.Verb.TheVariants.{Check, Expand, Use}
 use Rattle.mg_words.specs.declared.words.Way.{Way}
@@ -55,49 +55,49 @@ made_asked report number None (Some workers) plan a answers = unlimited_answer (
 made_asked report number (Some limit) (Some workers) plan a answers =
     unlimited_answer (by_summary report) (generated_job plan number) (limit_or limit plan.limit) (min workers MOST_WORKERS) Ended a answers
 
--- an order that asks for neither
-abbrev free : Order → Order
-free order = record order { limit = None; workers = None }
+-- an instruction that asks for neither
+abbrev free : Instruction → Instruction
+free instruction = record instruction { limit = None; workers = None }
 
-way_same : (way : Way) (order : Order) (plan : Plan) → Answers (way_action way order plan) (way_action way (free order) plan)
-way_same Run order plan boxes input a unrecorded given answers = ended_asked order.report order.limit order.workers plan input a answers
-way_same Solve order plan boxes input a unrecorded given answers = answers
-way_same Generate order plan boxes input a unrecorded given answers = made_asked order.report order.number order.limit order.workers plan a answers
-way_same Trace order plan boxes input a unrecorded given answers = absurd (unrecorded tt)
-way_same Replay order plan boxes input a unrecorded given answers = absurd (given tt)
+way_same : (way : Way) (instruction : Instruction) (plan : Plan) → Answers (way_action way instruction plan) (way_action way (free instruction) plan)
+way_same Run instruction plan boxes input a unrecorded given answers = ended_asked instruction.report instruction.limit instruction.workers plan input a answers
+way_same Solve instruction plan boxes input a unrecorded given answers = answers
+way_same Generate instruction plan boxes input a unrecorded given answers = made_asked instruction.report instruction.number instruction.limit instruction.workers plan a answers
+way_same Trace instruction plan boxes input a unrecorded given answers = absurd (unrecorded tt)
+way_same Replay instruction plan boxes input a unrecorded given answers = absurd (given tt)
 
-way_same_live : (way : Way) (order : Order) (first : ℕ) (plan : Plan) → Answers (live_action way order first plan) (live_action way (free order) first plan)
-way_same_live Run order first plan boxes input a unrecorded given answers = live_asked order.report order.limit order.workers plan input a answers
-way_same_live Solve order first plan boxes input a unrecorded given answers = answers
-way_same_live Generate order first plan boxes input a unrecorded given answers = live_made_asked order.report order.number order.limit order.workers plan a answers
-way_same_live Trace order first plan boxes input a unrecorded given answers = answers
-way_same_live Replay order first plan boxes input a unrecorded given answers = answers
+way_same_live : (way : Way) (instruction : Instruction) (first : ℕ) (plan : Plan) → Answers (live_action way instruction first plan) (live_action way (free instruction) first plan)
+way_same_live Run instruction first plan boxes input a unrecorded given answers = live_asked instruction.report instruction.limit instruction.workers plan input a answers
+way_same_live Solve instruction first plan boxes input a unrecorded given answers = answers
+way_same_live Generate instruction first plan boxes input a unrecorded given answers = live_made_asked instruction.report instruction.number instruction.limit instruction.workers plan a answers
+way_same_live Trace instruction first plan boxes input a unrecorded given answers = answers
+way_same_live Replay instruction first plan boxes input a unrecorded given answers = answers
 
-used_same : (first : Option ℕ) (way : Way) (order : Order) (plan : Plan) → Answers (used_action first way order plan) (used_action first way (free order) plan)
-used_same None way order plan = way_same way order plan
-used_same (Some first) way order plan = way_same_live way order first plan
+used_same : (first : Option ℕ) (way : Way) (instruction : Instruction) (plan : Plan) → Answers (used_action first way instruction plan) (used_action first way (free instruction) plan)
+used_same None way instruction plan = way_same way instruction plan
+used_same (Some first) way instruction plan = way_same_live way instruction first plan
 
-plan_same : (way : Way) (order : Order) (checked : Result Plan CheckFault) → Answers (plan_action way order checked) (plan_action way (free order) checked)
-plan_same way order (Ok plan) = used_same (first_free plan) way order plan
-plan_same way order (Err fault) = same (plan_action way order (Err fault))
+plan_same : (way : Way) (instruction : Instruction) (checked : Result Plan CheckFault) → Answers (plan_action way instruction checked) (plan_action way (free instruction) checked)
+plan_same way instruction (Ok plan) = used_same (first_free plan) way instruction plan
+plan_same way instruction (Err fault) = same (plan_action way instruction (Err fault))
 
-by_verb : (verb : Verb) (order : Order) (outers : List OuterShape) (g : GraphView) → Answers (verb_action verb order outers g) (verb_action verb (free order) outers g)
-by_verb Check order outers g = same (verb_action Check order outers g)
-by_verb Expand order outers g = same (verb_action Expand order outers g)
-by_verb (Use way) order outers g = plan_same way order (check_of outers g)
+by_verb : (verb : Verb) (instruction : Instruction) (outers : List OuterShape) (g : GraphView) → Answers (verb_action verb instruction outers g) (verb_action verb (free instruction) outers g)
+by_verb Check instruction outers g = same (verb_action Check instruction outers g)
+by_verb Expand instruction outers g = same (verb_action Expand instruction outers g)
+by_verb (Use way) instruction outers g = plan_same way instruction (check_of outers g)
 
-expanded_same : (order : Order) (outers : List OuterShape) (expanded : Result GraphView ExpandFault) → Answers (expanded_action order outers expanded) (expanded_action (free order) outers expanded)
-expanded_same order outers (Ok g) = by_verb order.verb order outers g
-expanded_same order outers (Err fault) = same (expanded_action order outers (Err fault))
+expanded_same : (instruction : Instruction) (outers : List OuterShape) (expanded : Result GraphView ExpandFault) → Answers (expanded_action instruction outers expanded) (expanded_action (free instruction) outers expanded)
+expanded_same instruction outers (Ok g) = by_verb instruction.verb instruction outers g
+expanded_same instruction outers (Err fault) = same (expanded_action instruction outers (Err fault))
 
-files_same : (order : Order) (outers : List OuterShape) (files : Files) → Answers (files_action order outers files) (files_action (free order) outers files)
-files_same order outers (graphs []) = same (files_action order outers (graphs []))
-files_same order outers (graphs (main ∷ library)) = expanded_same order outers (expansion_of main library)
-files_same order outers (no_graphs note) = same (files_action order outers (no_graphs note))
+files_same : (instruction : Instruction) (outers : List OuterShape) (files : Files) → Answers (files_action instruction outers files) (files_action (free instruction) outers files)
+files_same instruction outers (graphs []) = same (files_action instruction outers (graphs []))
+files_same instruction outers (graphs (main ∷ library)) = expanded_same instruction outers (expansion_of main library)
+files_same instruction outers (no_graphs note) = same (files_action instruction outers (no_graphs note))
 
-pub words_same : (task : Task) (files : Files) (boxes : List CalculatorTold) (input : List ℕ) (a : RunAnswer) → ¬ Records (action_of task files) → ¬ Replays (action_of task files)
-    → AnswersAction (action_of task files) boxes input a → AnswersAction (action_of (record task { order = free task.order }) files) boxes input a
-words_same task files boxes input a unrecorded given answers = files_same task.order task.outers files boxes input a unrecorded given answers
+pub words_same : (invocation : Invocation) (files : Files) (boxes : List CalculatorTold) (input : List ℕ) (a : RunAnswer) → ¬ Records (action_of invocation files) → ¬ Replays (action_of invocation files)
+    → AnswersAction (action_of invocation files) boxes input a → AnswersAction (action_of (record invocation { instruction = free invocation.instruction }) files) boxes input a
+words_same invocation files boxes input a unrecorded given answers = files_same invocation.instruction invocation.outers files boxes input a unrecorded given answers
 
 -- of a recorded run the end is that of the run without a limit of the words
 pub limit_ends : (report : Bool) (limit : Option ℤ) (plan : Plan) (boxes : List CalculatorTold) (input : List ℕ) (a b : RunAnswer) → TracesEnded report (with_limit limit plan) boxes input a → AnswersEnded report plan input b → EndAlike a b

@@ -6,7 +6,7 @@ use Rattle.mg_edge.proofs.Runs.{TookAll-start}
 use Rattle.mg_run.proofs.Readings.{no-status, lines-no-store, lines-no-usage, packets-no-store, packets-no-usage, lines-noted, packets-noted, lines-answered, packets-answered}
 use Rattle.mg_run.proofs.LiveReadings.{live-no-other, live-made-no-other, live-noted, live-made-noted, live-answered, live-made-answered}
 use Rattle.mg_files.proofs.Loading.{of-loads}
-use Rattle.mg_run.specs.Task.{Task}
+use Rattle.mg_run.specs.Invocation.{Invocation}
 use Rattle.mg_files.specs.Files.{Files, AreFiles}
 use Rattle.mg_files.specs.Loads.{LoadedAll}
 use Rattle.mg_calc.specs.declared.plan.Plan.{Plan}
@@ -35,15 +35,15 @@ if-any : {X : Type 0} (o : Option X) (P : X → Type 0) → ((x : X) → P x) �
 if-any None P all = tt
 if-any (Some x) P all = all x
 
-pub short-nothing : (task : Task) (store : Device StoreTold) (input : SourceTold) (output : SinkTold) (notes : Device SinkTold) (boxes : List CalculatorTold)
-    → TookNotes notes memory_note → CallShort task (devices store (device input input) (device output output) notes (device boxes boxes))
-short-nothing task store input output notes boxes noted = record { noted = noted; by = inl (record { unread = refl; unwritten = refl; uncalled = refl }) }
+pub short-nothing : (invocation : Invocation) (store : Device StoreTold) (input : SourceTold) (output : SinkTold) (notes : Device SinkTold) (boxes : List CalculatorTold)
+    → TookNotes notes memory_note → CallShort invocation (devices store (device input input) (device output output) notes (device boxes boxes))
+short-nothing invocation store input output notes boxes noted = record { noted = noted; by = inl (record { unread = refl; unwritten = refl; uncalled = refl }) }
 
-pub called-short : (task : Task) (status : Status) (store : Device StoreTold) (input : SourceTold) (output : SinkTold) (notes : Device SinkTold) (boxes : List CalculatorTold)
-    → status ≡ OutOfMemory → TookNotes notes memory_note → Called status task (devices store (device input input) (device output output) notes (device boxes boxes))
-called-short task status store input output notes boxes is noted =
-    subst (λ (s : Status). Called s task (devices store (device input input) (device output output) notes (device boxes boxes))) (sym is)
-    (short-nothing task store input output notes boxes noted)
+pub called-short : (invocation : Invocation) (status : Status) (store : Device StoreTold) (input : SourceTold) (output : SinkTold) (notes : Device SinkTold) (boxes : List CalculatorTold)
+    → status ≡ OutOfMemory → TookNotes notes memory_note → Called status invocation (devices store (device input input) (device output output) notes (device boxes boxes))
+called-short invocation status store input output notes boxes is noted =
+    subst (λ (s : Status). Called s invocation (devices store (device input input) (device output output) notes (device boxes boxes))) (sym is)
+    (short-nothing invocation store input output notes boxes noted)
 
 -- The statuses of what was done.
 not-shown : (text : List ℕ) (status : Status) (all : CallDevices) → status ≢ Good → status ≢ WriteFault → WasShown text status all → ⊥
@@ -98,18 +98,18 @@ did-noted (generate_live report number plan) all did = live-made-noted report pl
 did-noted (trace report plan) all did = did.ran.1
 did-noted (replay report plan) all did = did.replayed.1
 
-pub called-did : (action : Action) (status : Status) (task : Task) (contents : List (List ℕ)) (all : CallDevices)
-    → LoadedAll task.files contents all.store → IsActionOf task contents action → DidAction action status all → Called status task all
-called-did action Good task contents all loaded due did = record { contents = contents; loaded = loaded; action = action; due = due; did = did }
-called-did action StoreFault task contents all loaded due did = absurd (did-store action all did)
-called-did action Usage task contents all loaded due did = absurd (did-usage action all did)
-called-did action GraphRefused task contents all loaded due did = record { contents = contents; loaded = loaded; action = action; due = due; did = did }
-called-did action LineRefused task contents all loaded due did = record { contents = contents; loaded = loaded; action = action; due = due; did = did }
-called-did action NodeFault task contents all loaded due did = record { contents = contents; loaded = loaded; action = action; due = due; did = did }
-called-did action Stalled task contents all loaded due did = record { contents = contents; loaded = loaded; action = action; due = due; did = did }
-called-did action ReadFault task contents all loaded due did = record { contents = contents; loaded = loaded; action = action; due = due; did = did }
-called-did action WriteFault task contents all loaded due did = record { contents = contents; loaded = loaded; action = action; due = due; did = did }
-called-did action OutOfMemory task contents all loaded due did =
+pub called-did : (action : Action) (status : Status) (invocation : Invocation) (contents : List (List ℕ)) (all : CallDevices)
+    → LoadedAll invocation.files contents all.store → IsActionOf invocation contents action → DidAction action status all → Called status invocation all
+called-did action Good invocation contents all loaded due did = record { contents = contents; loaded = loaded; action = action; due = due; did = did }
+called-did action StoreFault invocation contents all loaded due did = absurd (did-store action all did)
+called-did action Usage invocation contents all loaded due did = absurd (did-usage action all did)
+called-did action GraphRefused invocation contents all loaded due did = record { contents = contents; loaded = loaded; action = action; due = due; did = did }
+called-did action LineRefused invocation contents all loaded due did = record { contents = contents; loaded = loaded; action = action; due = due; did = did }
+called-did action NodeFault invocation contents all loaded due did = record { contents = contents; loaded = loaded; action = action; due = due; did = did }
+called-did action Stalled invocation contents all loaded due did = record { contents = contents; loaded = loaded; action = action; due = due; did = did }
+called-did action ReadFault invocation contents all loaded due did = record { contents = contents; loaded = loaded; action = action; due = due; did = did }
+called-did action WriteFault invocation contents all loaded due did = record { contents = contents; loaded = loaded; action = action; due = due; did = did }
+called-did action OutOfMemory invocation contents all loaded due did =
     record { noted = did-noted action all did; by = inr (record { contents = contents; loaded = loaded; action = action; due = due; did = did }) }
 
 -- What follows --
@@ -166,27 +166,27 @@ did-answer (replay report plan) status all did none some =
     replayed_answered report plan status (run_devices_of all) all.boxes did.replayed (none-run all none) some
 
 -- The answer of the action is that of the files' bytes and the input's.
-action-answered : (task : Task) (contents : List (List ℕ)) (status : Status) (action : Action) (input : Option (List ℕ)) (all : CallDevices) → IsActionOf task contents action
+action-answered : (invocation : Invocation) (contents : List (List ℕ)) (status : Status) (action : Action) (input : Option (List ℕ)) (all : CallDevices) → IsActionOf invocation contents action
     → IfSome input (λ read. MetAnswer action read status all)
-    → IfSome input (λ read. (files : Files) × AreFiles task.files contents files × MetAnswer (action_of task files) read status all)
-action-answered task contents status action None all due meets = tt
-action-answered task contents status action (Some read) all (files, are, same) meets = (files, are, subst (λ (j : Action). MetAnswer j read status all) same meets)
+    → IfSome input (λ read. (files : Files) × AreFiles invocation.files contents files × MetAnswer (action_of invocation files) read status all)
+action-answered invocation contents status action None all due meets = tt
+action-answered invocation contents status action (Some read) all (files, are, same) meets = (files, are, subst (λ (j : Action). MetAnswer j read status all) same meets)
 
-call-answered : (status : Status) (task : Task) (all : CallDevices) → CallDid status task all → NoneFailed all → status ≢ OutOfMemory → IsAnswered status task all
-call-answered status task all called none some =
-    of-loads all.store.before.content task.files called.contents
-    (λ known. IfSome all.input.before.left (λ read. (files : Files) × AreFiles task.files known files × MetAnswer (action_of task files) read status all))
+call-answered : (status : Status) (invocation : Invocation) (all : CallDevices) → CallDid status invocation all → NoneFailed all → status ≢ OutOfMemory → IsAnswered status invocation all
+call-answered status invocation all called none some =
+    of-loads all.store.before.content invocation.files called.contents
+    (λ known. IfSome all.input.before.left (λ read. (files : Files) × AreFiles invocation.files known files × MetAnswer (action_of invocation files) read status all))
     called.loaded.given
-    (action-answered task called.contents status called.action all.input.before.left all called.due (did-answer called.action status all called.did none some))
+    (action-answered invocation called.contents status called.action all.input.before.left all called.due (did-answer called.action status all called.did none some))
 
-pub answered-from : (status : Status) (task : Task) (all : CallDevices) → Called status task all → NoneFailed all → status ≢ OutOfMemory → IsAnswered status task all
-answered-from Good task all called none some = call-answered Good task all called none some
-answered-from StoreFault task all called none some = absurd (unrisen-rose all.store.before.faults all.store.now.faults none.store (rose-after all.store.before.faults all.store.before.faults all.store.now.faults refl called.failed.once))
-answered-from Usage task all called none some = elim called [ ]
-answered-from GraphRefused task all called none some = call-answered GraphRefused task all called none some
-answered-from LineRefused task all called none some = call-answered LineRefused task all called none some
-answered-from NodeFault task all called none some = call-answered NodeFault task all called none some
-answered-from Stalled task all called none some = call-answered Stalled task all called none some
-answered-from ReadFault task all called none some = call-answered ReadFault task all called none some
-answered-from WriteFault task all called none some = call-answered WriteFault task all called none some
-answered-from OutOfMemory task all called none some = absurd (some refl)
+pub answered-from : (status : Status) (invocation : Invocation) (all : CallDevices) → Called status invocation all → NoneFailed all → status ≢ OutOfMemory → IsAnswered status invocation all
+answered-from Good invocation all called none some = call-answered Good invocation all called none some
+answered-from StoreFault invocation all called none some = absurd (unrisen-rose all.store.before.faults all.store.now.faults none.store (rose-after all.store.before.faults all.store.before.faults all.store.now.faults refl called.failed.once))
+answered-from Usage invocation all called none some = elim called [ ]
+answered-from GraphRefused invocation all called none some = call-answered GraphRefused invocation all called none some
+answered-from LineRefused invocation all called none some = call-answered LineRefused invocation all called none some
+answered-from NodeFault invocation all called none some = call-answered NodeFault invocation all called none some
+answered-from Stalled invocation all called none some = call-answered Stalled invocation all called none some
+answered-from ReadFault invocation all called none some = call-answered ReadFault invocation all called none some
+answered-from WriteFault invocation all called none some = call-answered WriteFault invocation all called none some
+answered-from OutOfMemory invocation all called none some = absurd (some refl)

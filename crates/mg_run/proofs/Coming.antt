@@ -11,17 +11,17 @@ use Rattle.mg_subgraph.specs.declared.fault.ExpandFault.{ExpandFault}
 use Rattle.mg_edge.specs.Edge.{SourceTold, SinkTold, StoreTold}
 use Rattle.mg_calc.specs.declared.shape.OuterShape.{OuterShape}
 use Rattle.mg_calc.specs.Told.{CalculatorTold}
-use Rattle.mg_run.specs.Task.{Task, task}
+use Rattle.mg_run.specs.Invocation.{Invocation, invocation}
 use Rattle.mg_files.specs.Files.{Files, graphs, no_graphs}
 use Rattle.mg_run.specs.Answer.{Action, refuse, show, run_plan, run_live, solve, generate, generate_live, trace, replay, check_action, way_action, live_action, verb_action, expanded_action, files_action}
-use Rattle.mg_words.specs.Words.{Asked, asks_usage, asks_text, asks_command, command_by}
+use Rattle.mg_words.specs.Words.{Request, asks_usage, asks_text, asks_command, command_by}
 use Rattle.mg_run.specs.Devices.{Device, device, CallDevices, devices, run_devices_of, Untouched, InputHasEnded, HasRisen, NoneFailed, TookNotes}
 use Rattle.mg_answer.specs.Notes.{memory_note}
 use Rattle.mg_answer.proofs.Answering.{noted-from}
 use Rattle.mg_words.specs.Help.{usage_note}
 use Rattle.mg_run.specs.Call.{Written, WasUsage, WasTold, DidAction, IsActionOf, CallDid, DidNothing, CallEnded, Called, IsAnswered, IsOneOf}
 use Rattle.mg_words.specs.Command.{Command, reads_input, calls_boxes}
-use Rattle.mg_words.specs.declared.words.Order.{Order}
+use Rattle.mg_words.specs.declared.words.Instruction.{Instruction}
 use Rattle.mg_words.specs.declared.words.Verb.{Verb}
 use Rattle.mg_words.specs.declared.words.Verb.TheVariants.{Check, Expand, Use}
 use Rattle.mg_words.specs.declared.words.Way.{Way}
@@ -37,23 +37,23 @@ use Rattle.mg_run.proofs.Ending.{ended_statuses, called-ended}
 use Rattle.mg_run.proofs.Risen.{store-risen, read-risen, write-risen, risen-steady}
 
 -- There was no memory to judge the words.
-came-short : (outers : List OuterShape) (asked : Asked) (store : StoreTold) (input : SourceTold) (output : SinkTold) (notes : Device SinkTold) (boxes : List CalculatorTold) → TookNotes notes memory_note
+came-short : (outers : List OuterShape) (asked : Request) (store : StoreTold) (input : SourceTold) (output : SinkTold) (notes : Device SinkTold) (boxes : List CalculatorTold) → TookNotes notes memory_note
     → CallEnded outers asked OutOfMemory (devices (device store store) (device input input) (device output output) notes (device boxes boxes))
 came-short outers asks_usage store input output notes boxes noted = record { noted = inr (refl, noted); unloaded = refl; unread = refl; unwritten = refl; uncalled = refl }
 came-short outers (asks_text text) store input output notes boxes noted = record { written = inr (refl, refl, noted); unloaded = refl; unread = refl; uncalled = refl }
-came-short outers (asks_command command) store input output notes boxes noted = short-nothing (task command outers) (device store store) input output notes boxes noted
+came-short outers (asks_command command) store input output notes boxes noted = short-nothing (invocation command outers) (device store store) input output notes boxes noted
 
-pub came-nothing : (outers : List OuterShape) (asked : Asked) (status : Status) (store : StoreTold) (input : SourceTold) (output : SinkTold) (notes : Device SinkTold) (boxes : List CalculatorTold)
+pub came-nothing : (outers : List OuterShape) (asked : Request) (status : Status) (store : StoreTold) (input : SourceTold) (output : SinkTold) (notes : Device SinkTold) (boxes : List CalculatorTold)
     → status ≡ OutOfMemory → TookNotes notes memory_note → CallEnded outers asked status (devices (device store store) (device input input) (device output output) notes (device boxes boxes))
 came-nothing outers asked status store input output notes boxes is noted =
     subst (λ (s : Status). CallEnded outers asked s (devices (device store store) (device input input) (device output output) notes (device boxes boxes))) (sym is)
     (came-short outers asked store input output notes boxes noted)
 
 -- The words were no command, and the note says so.
-pub usage-came : (outers : List OuterShape) (asked : Asked) (all : CallDevices) (done : Bool) → asked ≡ asks_usage → Sent done all.notes.before all.notes.now usage_note
+pub usage-came : (outers : List OuterShape) (asked : Request) (all : CallDevices) (done : Bool) → request ≡ asks_usage → Sent done all.notes.before all.notes.now usage_note
     → Untouched all.store → Untouched all.input → Untouched all.output → Untouched all.boxes → CallEnded outers asked Usage all
 usage-came outers asked all done is sent unloaded unread unwritten uncalled =
-    subst (λ (a : Asked). CallEnded outers a Usage all) (sym is)
+    subst (λ (a : Request). CallEnded outers a Usage all) (sym is)
     (record { noted = inl (refl, noted-from done all.notes usage_note sent); unloaded = unloaded; unread = unread; unwritten = unwritten; uncalled = uncalled })
 
 -- Usage --
@@ -66,10 +66,10 @@ told-status text all told = by told.written
     by (inl (inr failed)) = let e = failed.0 in cc
     by (inr short) = let e = short.0 in cc
 
-asks-by-status : (outers : List OuterShape) (asked : Asked) (status : Status) (all : CallDevices) → CallEnded outers asked status all → status ≡ Usage → asked ≡ asks_usage
+asks-by-status : (outers : List OuterShape) (asked : Request) (status : Status) (all : CallDevices) → CallEnded outers asked status all → status ≡ Usage → request ≡ asks_usage
 asks-by-status outers asks_usage status all came is = refl
 asks-by-status outers (asks_text text) status all came is = absurd (told-status text all (subst (λ (s : Status). WasTold text s all) is came))
-asks-by-status outers (asks_command command) status all came is = absurd (subst (λ (s : Status). Called s (task command outers) all) is came)
+asks-by-status outers (asks_command command) status all came is = absurd (subst (λ (s : Status). Called s (invocation command outers) all) is came)
 
 usage-status : (status : Status) (all : CallDevices) → WasUsage status all → status ≢ OutOfMemory → status ≡ Usage
 usage-status status all was some = by was.noted
@@ -78,53 +78,53 @@ usage-status status all was some = by was.noted
     by (inl noted) = noted.0
     by (inr short) = absurd (some short.0)
 
-pub came-note : (outers : List OuterShape) (asked : Asked) (status : Status) (all : CallDevices) → CallEnded outers asked status all → asked ≡ asks_usage → WasUsage status all
-came-note outers asked status all came is = subst (λ (a : Asked). CallEnded outers a status all) is came
+pub came-note : (outers : List OuterShape) (asked : Request) (status : Status) (all : CallDevices) → CallEnded outers asked status all → request ≡ asks_usage → WasUsage status all
+came-note outers asked status all came is = subst (λ (a : Request). CallEnded outers a status all) is came
 
-pub came-usage : (outers : List OuterShape) (asked : Asked) (status : Status) (all : CallDevices) → CallEnded outers asked status all → status ≢ OutOfMemory → (status ≡ Usage) ↔ (asked ≡ asks_usage)
+pub came-usage : (outers : List OuterShape) (asked : Request) (status : Status) (all : CallDevices) → CallEnded outers asked status all → status ≢ OutOfMemory → (status ≡ Usage) ↔ (request ≡ asks_usage)
 came-usage outers asked status all came some = (asks-by-status outers asked status all came, λ is. usage-status status all (came-note outers asked status all came is) some)
 
-pub came-told : (outers : List OuterShape) (asked : Asked) (status : Status) (all : CallDevices) → CallEnded outers asked status all → (text : List ℕ) → asked ≡ asks_text text → WasTold text status all
-came-told outers asked status all came text is = subst (λ (a : Asked). CallEnded outers a status all) is came
+pub came-told : (outers : List OuterShape) (asked : Request) (status : Status) (all : CallDevices) → CallEnded outers asked status all → (text : List ℕ) → request ≡ asks_text text → WasTold text status all
+came-told outers asked status all came text is = subst (λ (a : Request). CallEnded outers a status all) is came
 
 -- A command --
 
-pub came-called : (outers : List OuterShape) (asked : Asked) (status : Status) (all : CallDevices) → CallEnded outers asked status all → IfSome (command_by asked) (λ command. Called status (task command outers) all)
+pub came-called : (outers : List OuterShape) (asked : Request) (status : Status) (all : CallDevices) → CallEnded outers asked status all → IfSome (command_by request) (λ command. Called status (invocation command outers) all)
 came-called outers asks_usage status all came = tt
 came-called outers (asks_text text) status all came = tt
 came-called outers (asks_command command) status all came = came
 
-pub came-answered : (outers : List OuterShape) (asked : Asked) (status : Status) (all : CallDevices) → CallEnded outers asked status all
-    → IfSome (command_by asked) (λ command. NoneFailed all → status ≢ OutOfMemory → IsAnswered status (task command outers) all)
+pub came-answered : (outers : List OuterShape) (asked : Request) (status : Status) (all : CallDevices) → CallEnded outers asked status all
+    → IfSome (command_by request) (λ command. NoneFailed all → status ≢ OutOfMemory → IsAnswered status (invocation command outers) all)
 came-answered outers asks_usage status all came = tt
 came-answered outers (asks_text text) status all came = tt
-came-answered outers (asks_command command) status all came = answered-from status (task command outers) all came
+came-answered outers (asks_command command) status all came = answered-from status (invocation command outers) all came
 
-pub unread-nothing : (asked : Asked) (input : SourceTold) → IfSome (command_by asked) (λ command. reads_input command.order.verb ≡ false → Untouched (device input input))
+pub unread-nothing : (asked : Request) (input : SourceTold) → IfSome (command_by request) (λ command. reads_input command.instruction.verb ≡ false → Untouched (device input input))
 unread-nothing asks_usage input = tt
 unread-nothing (asks_text text) input = tt
 unread-nothing (asks_command command) input = λ is. refl
 
 -- The input's end --
 
-pub came-ended : (outers : List OuterShape) (asked : Asked) (status : Status) (all : CallDevices) → CallEnded outers asked status all
-    → IfSome (command_by asked) (λ command. reads_input command.order.verb ≡ true → IsOneOf status ended_statuses → InputHasEnded all.input)
+pub came-ended : (outers : List OuterShape) (asked : Request) (status : Status) (all : CallDevices) → CallEnded outers asked status all
+    → IfSome (command_by request) (λ command. reads_input command.instruction.verb ≡ true → IsOneOf status ended_statuses → InputHasEnded all.input)
 came-ended outers asks_usage status all came = tt
 came-ended outers (asks_text text) status all came = tt
-came-ended outers (asks_command command) status all came = called-ended status (task command outers) all came
+came-ended outers (asks_command command) status all came = called-ended status (invocation command outers) all came
 
 -- Faults --
 
-pub came-store : (outers : List OuterShape) (asked : Asked) (status : Status) (all : CallDevices) → CallEnded outers asked status all → HasRisen all.store.before.faults all.store.now.faults → IsOneOf status (StoreFault ∷ OutOfMemory ∷ [])
+pub came-store : (outers : List OuterShape) (asked : Request) (status : Status) (all : CallDevices) → CallEnded outers asked status all → HasRisen all.store.before.faults all.store.now.faults → IsOneOf status (StoreFault ∷ OutOfMemory ∷ [])
 came-store outers asks_usage status all came risen = absurd (risen-steady _ _ risen (ap (λ s. s.faults) came.unloaded))
 came-store outers (asks_text text) status all came risen = absurd (risen-steady _ _ risen (ap (λ s. s.faults) came.unloaded))
-came-store outers (asks_command command) status all came risen = store-risen status (task command outers) all came risen
+came-store outers (asks_command command) status all came risen = store-risen status (invocation command outers) all came risen
 
-pub came-read : (outers : List OuterShape) (asked : Asked) (status : Status) (all : CallDevices) → CallEnded outers asked status all → HasRisen all.input.before.faults all.input.now.faults
+pub came-read : (outers : List OuterShape) (asked : Request) (status : Status) (all : CallDevices) → CallEnded outers asked status all → HasRisen all.input.before.faults all.input.now.faults
     → IsOneOf status (ReadFault ∷ WriteFault ∷ OutOfMemory ∷ [])
 came-read outers asks_usage status all came risen = absurd (risen-steady _ _ risen (ap (λ s. s.faults) came.unread))
 came-read outers (asks_text text) status all came risen = absurd (risen-steady _ _ risen (ap (λ s. s.faults) came.unread))
-came-read outers (asks_command command) status all came risen = read-risen status (task command outers) all came risen
+came-read outers (asks_command command) status all came risen = read-risen status (invocation command outers) all came risen
 
 abbrev EitherRisen : CallDevices → Type 0
 EitherRisen all = HasRisen all.output.before.faults all.output.now.faults ⊎ HasRisen all.notes.before.faults all.notes.now.faults
@@ -148,10 +148,10 @@ told-write text status all told risen = by told.written risen
     by (inl (inl good)) (inl risen) = absurd (risen-steady _ _ risen good.1.steady)
     by (inl (inl good)) (inr risen) = absurd (risen-steady _ _ risen (ap (λ s. s.faults) good.2))
 
-pub came-write : (outers : List OuterShape) (asked : Asked) (status : Status) (all : CallDevices) → CallEnded outers asked status all → EitherRisen all → IsOneOf status write_statuses
+pub came-write : (outers : List OuterShape) (asked : Request) (status : Status) (all : CallDevices) → CallEnded outers asked status all → EitherRisen all → IsOneOf status write_statuses
 came-write outers asks_usage status all came risen = usage-write status all came
 came-write outers (asks_text text) status all came risen = told-write text status all came risen
-came-write outers (asks_command command) status all came risen = inr (write-risen status (task command outers) all came risen)
+came-write outers (asks_command command) status all came risen = inr (write-risen status (invocation command outers) all came risen)
 
 -- Want of memory --
 
@@ -170,12 +170,12 @@ told-noted text all told = by told.written
     by (inl (inr failed)) = let e = failed.0 in cc
     by (inr short) = short.2
 
-noted-by : (outers : List OuterShape) (asked : Asked) (all : CallDevices) → CallEnded outers asked OutOfMemory all → TookNotes all.notes memory_note
+noted-by : (outers : List OuterShape) (asked : Request) (all : CallDevices) → CallEnded outers asked OutOfMemory all → TookNotes all.notes memory_note
 noted-by outers asks_usage all came = usage-noted all came
 noted-by outers (asks_text text) all came = told-noted text all came
 noted-by outers (asks_command command) all came = came.noted
 
-pub came-noted : (outers : List OuterShape) (asked : Asked) (status : Status) (all : CallDevices) → CallEnded outers asked status all → status ≡ OutOfMemory → TookNotes all.notes memory_note
+pub came-noted : (outers : List OuterShape) (asked : Request) (status : Status) (all : CallDevices) → CallEnded outers asked status all → status ≡ OutOfMemory → TookNotes all.notes memory_note
 came-noted outers asked status all came is = noted-by outers asked all (subst (λ (s : Status). CallEnded outers asked s all) is came)
 
 -- The calculators --
@@ -191,32 +191,32 @@ did-boxes (generate_live report number plan) status all did = live-made-boxes re
 did-boxes (trace report plan) status all did = did.left.count
 did-boxes (replay report plan) status all did = did.left.count
 
-short-boxes : (task : Task) (all : CallDevices) → DidNothing all ⊎ CallDid OutOfMemory task all → length all.boxes.now ≡ length all.boxes.before
-short-boxes task all (inl nothing) = ap length nothing.uncalled
-short-boxes task all (inr called) = did-boxes called.action OutOfMemory all called.did
+short-boxes : (invocation : Invocation) (all : CallDevices) → DidNothing all ⊎ CallDid OutOfMemory invocation all → length all.boxes.now ≡ length all.boxes.before
+short-boxes invocation all (inl nothing) = ap length nothing.uncalled
+short-boxes invocation all (inr called) = did-boxes called.action OutOfMemory all called.did
 
-called-boxes : (status : Status) (task : Task) (all : CallDevices) → Called status task all → length all.boxes.now ≡ length all.boxes.before
-called-boxes StoreFault task all called = ap length called.uncalled
-called-boxes Usage task all called = elim called [ ]
-called-boxes OutOfMemory task all called = short-boxes task all called.by
-called-boxes Good task all called = did-boxes called.action Good all called.did
-called-boxes GraphRefused task all called = did-boxes called.action GraphRefused all called.did
-called-boxes LineRefused task all called = did-boxes called.action LineRefused all called.did
-called-boxes NodeFault task all called = did-boxes called.action NodeFault all called.did
-called-boxes Stalled task all called = did-boxes called.action Stalled all called.did
-called-boxes ReadFault task all called = did-boxes called.action ReadFault all called.did
-called-boxes WriteFault task all called = did-boxes called.action WriteFault all called.did
+called-boxes : (status : Status) (invocation : Invocation) (all : CallDevices) → Called status invocation all → length all.boxes.now ≡ length all.boxes.before
+called-boxes StoreFault invocation all called = ap length called.uncalled
+called-boxes Usage invocation all called = elim called [ ]
+called-boxes OutOfMemory invocation all called = short-boxes invocation all called.by
+called-boxes Good invocation all called = did-boxes called.action Good all called.did
+called-boxes GraphRefused invocation all called = did-boxes called.action GraphRefused all called.did
+called-boxes LineRefused invocation all called = did-boxes called.action LineRefused all called.did
+called-boxes NodeFault invocation all called = did-boxes called.action NodeFault all called.did
+called-boxes Stalled invocation all called = did-boxes called.action Stalled all called.did
+called-boxes ReadFault invocation all called = did-boxes called.action ReadFault all called.did
+called-boxes WriteFault invocation all called = did-boxes called.action WriteFault all called.did
 
-pub came-boxes : (outers : List OuterShape) (asked : Asked) (status : Status) (all : CallDevices) → CallEnded outers asked status all → length all.boxes.now ≡ length all.boxes.before
+pub came-boxes : (outers : List OuterShape) (asked : Request) (status : Status) (all : CallDevices) → CallEnded outers asked status all → length all.boxes.now ≡ length all.boxes.before
 came-boxes outers asks_usage status all came = ap length came.uncalled
 came-boxes outers (asks_text text) status all came = ap length came.uncalled
-came-boxes outers (asks_command command) status all came = called-boxes status (task command outers) all came
+came-boxes outers (asks_command command) status all came = called-boxes status (invocation command outers) all came
 
 -- as many things have as many images
 pub count-of : {X Y : Type 0} (f : X → Y) (xs ys : List X) → length (map f xs) ≡ length (map f ys) → length xs ≡ length ys
 count-of f xs ys same = sym (length-map f xs) ∙ (same ∙ length-map f ys)
 
--- An action that is due of a task with another verb runs no graph.
+-- An action that is due of an invocation with another verb runs no graph.
 abbrev IsRun : Action → Type 0
 IsRun (refuse note) = ⊥
 IsRun (show text) = ⊥
@@ -232,37 +232,37 @@ check-no-run : (checked : Result Plan CheckFault) → IsRun (check_action checke
 check-no-run (Ok plan) runs = runs
 check-no-run (Err fault) runs = runs
 
-way-no-run : (way : Way) (order : Order) (plan : Plan) → calls_boxes (Use way) ≡ false → IsRun (way_action way order plan) → ⊥
-way-no-run Run order plan is runs = false≢true (sym is)
-way-no-run Solve order plan is runs = runs
-way-no-run Generate order plan is runs = false≢true (sym is)
-way-no-run Trace order plan is runs = false≢true (sym is)
-way-no-run Replay order plan is runs = false≢true (sym is)
+way-no-run : (way : Way) (instruction : Instruction) (plan : Plan) → calls_boxes (Use way) ≡ false → IsRun (way_action way instruction plan) → ⊥
+way-no-run Run instruction plan is runs = false≢true (sym is)
+way-no-run Solve instruction plan is runs = runs
+way-no-run Generate instruction plan is runs = false≢true (sym is)
+way-no-run Trace instruction plan is runs = false≢true (sym is)
+way-no-run Replay instruction plan is runs = false≢true (sym is)
 
-live-no-run : (way : Way) (order : Order) (first : ℕ) (plan : Plan) → calls_boxes (Use way) ≡ false → IsRun (live_action way order first plan) → ⊥
-live-no-run Run order first plan is runs = false≢true (sym is)
-live-no-run Solve order first plan is runs = runs
-live-no-run Generate order first plan is runs = false≢true (sym is)
-live-no-run Trace order first plan is runs = runs
-live-no-run Replay order first plan is runs = runs
+live-no-run : (way : Way) (instruction : Instruction) (first : ℕ) (plan : Plan) → calls_boxes (Use way) ≡ false → IsRun (live_action way instruction first plan) → ⊥
+live-no-run Run instruction first plan is runs = false≢true (sym is)
+live-no-run Solve instruction first plan is runs = runs
+live-no-run Generate instruction first plan is runs = false≢true (sym is)
+live-no-run Trace instruction first plan is runs = runs
+live-no-run Replay instruction first plan is runs = runs
 
-verb-no-run : (verb : Verb) (order : Order) (outers : List OuterShape) (g : GraphView) → calls_boxes verb ≡ false → IsRun (verb_action verb order outers g) → ⊥
-verb-no-run Check order outers g is runs = check-no-run (check_of outers g) runs
-verb-no-run Expand order outers g is runs = runs
-verb-no-run (Use way) order outers g is runs =
-    planned (λ action. IsRun action → ⊥) way order (check_of outers g) (λ note calls. calls) (λ plan calls. way-no-run way order plan is calls) (λ first plan calls. live-no-run way order first plan is calls) runs
+verb-no-run : (verb : Verb) (instruction : Instruction) (outers : List OuterShape) (g : GraphView) → calls_boxes verb ≡ false → IsRun (verb_action verb instruction outers g) → ⊥
+verb-no-run Check instruction outers g is runs = check-no-run (check_of outers g) runs
+verb-no-run Expand instruction outers g is runs = runs
+verb-no-run (Use way) instruction outers g is runs =
+    planned (λ action. IsRun action → ⊥) way instruction (check_of outers g) (λ note calls. calls) (λ plan calls. way-no-run way instruction plan is calls) (λ first plan calls. live-no-run way instruction first plan is calls) runs
 
-expanded-no-run : (order : Order) (outers : List OuterShape) (expanded : Result GraphView ExpandFault) → calls_boxes order.verb ≡ false → IsRun (expanded_action order outers expanded) → ⊥
-expanded-no-run order outers (Ok g) is runs = verb-no-run order.verb order outers g is runs
-expanded-no-run order outers (Err fault) is runs = runs
+expanded-no-run : (instruction : Instruction) (outers : List OuterShape) (expanded : Result GraphView ExpandFault) → calls_boxes instruction.verb ≡ false → IsRun (expanded_action instruction outers expanded) → ⊥
+expanded-no-run instruction outers (Ok g) is runs = verb-no-run instruction.verb instruction outers g is runs
+expanded-no-run instruction outers (Err fault) is runs = runs
 
-files-no-run : (order : Order) (outers : List OuterShape) (files : Files) → calls_boxes order.verb ≡ false → IsRun (files_action order outers files) → ⊥
-files-no-run order outers (graphs []) is runs = runs
-files-no-run order outers (graphs (main ∷ library)) is runs = expanded-no-run order outers (expansion_of main library) is runs
-files-no-run order outers (no_graphs note) is runs = runs
+files-no-run : (instruction : Instruction) (outers : List OuterShape) (files : Files) → calls_boxes instruction.verb ≡ false → IsRun (files_action instruction outers files) → ⊥
+files-no-run instruction outers (graphs []) is runs = runs
+files-no-run instruction outers (graphs (main ∷ library)) is runs = expanded-no-run instruction outers (expansion_of main library) is runs
+files-no-run instruction outers (no_graphs note) is runs = runs
 
-due-no-run : (task : Task) (contents : List (List ℕ)) (action : Action) → calls_boxes task.order.verb ≡ false → IsActionOf task contents action → IsRun action → ⊥
-due-no-run task contents action is (files, are, same) runs = files-no-run task.order task.outers files is (subst IsRun same runs)
+due-no-run : (invocation : Invocation) (contents : List (List ℕ)) (action : Action) → calls_boxes invocation.instruction.verb ≡ false → IsActionOf invocation contents action → IsRun action → ⊥
+due-no-run invocation contents action is (files, are, same) runs = files-no-run invocation.instruction invocation.outers files is (subst IsRun same runs)
 
 did-uncalled : (action : Action) (status : Status) (all : CallDevices) → (IsRun action → ⊥) → DidAction action status all → Untouched all.boxes
 did-uncalled (refuse note) status all none did = did.uncalled
@@ -275,38 +275,38 @@ did-uncalled (generate_live report number plan) status all none did = absurd (no
 did-uncalled (trace report plan) status all none did = absurd (none tt)
 did-uncalled (replay report plan) status all none did = absurd (none tt)
 
-call-uncalled : (status : Status) (task : Task) (all : CallDevices) → calls_boxes task.order.verb ≡ false → CallDid status task all → Untouched all.boxes
-call-uncalled status task all is called = did-uncalled called.action status all (due-no-run task called.contents called.action is called.due) called.did
+call-uncalled : (status : Status) (invocation : Invocation) (all : CallDevices) → calls_boxes invocation.instruction.verb ≡ false → CallDid status invocation all → Untouched all.boxes
+call-uncalled status invocation all is called = did-uncalled called.action status all (due-no-run invocation called.contents called.action is called.due) called.did
 
-short-uncalled : (task : Task) (all : CallDevices) → calls_boxes task.order.verb ≡ false → DidNothing all ⊎ CallDid OutOfMemory task all → Untouched all.boxes
-short-uncalled task all is (inl nothing) = nothing.uncalled
-short-uncalled task all is (inr called) = call-uncalled OutOfMemory task all is called
+short-uncalled : (invocation : Invocation) (all : CallDevices) → calls_boxes invocation.instruction.verb ≡ false → DidNothing all ⊎ CallDid OutOfMemory invocation all → Untouched all.boxes
+short-uncalled invocation all is (inl nothing) = nothing.uncalled
+short-uncalled invocation all is (inr called) = call-uncalled OutOfMemory invocation all is called
 
-called-uncalled : (status : Status) (task : Task) (all : CallDevices) → calls_boxes task.order.verb ≡ false → Called status task all → Untouched all.boxes
-called-uncalled StoreFault task all is called = called.uncalled
-called-uncalled Usage task all is called = elim called [ ]
-called-uncalled OutOfMemory task all is called = short-uncalled task all is called.by
-called-uncalled Good task all is called = call-uncalled Good task all is called
-called-uncalled GraphRefused task all is called = call-uncalled GraphRefused task all is called
-called-uncalled LineRefused task all is called = call-uncalled LineRefused task all is called
-called-uncalled NodeFault task all is called = call-uncalled NodeFault task all is called
-called-uncalled Stalled task all is called = call-uncalled Stalled task all is called
-called-uncalled ReadFault task all is called = call-uncalled ReadFault task all is called
-called-uncalled WriteFault task all is called = call-uncalled WriteFault task all is called
+called-uncalled : (status : Status) (invocation : Invocation) (all : CallDevices) → calls_boxes invocation.instruction.verb ≡ false → Called status invocation all → Untouched all.boxes
+called-uncalled StoreFault invocation all is called = called.uncalled
+called-uncalled Usage invocation all is called = elim called [ ]
+called-uncalled OutOfMemory invocation all is called = short-uncalled invocation all is called.by
+called-uncalled Good invocation all is called = call-uncalled Good invocation all is called
+called-uncalled GraphRefused invocation all is called = call-uncalled GraphRefused invocation all is called
+called-uncalled LineRefused invocation all is called = call-uncalled LineRefused invocation all is called
+called-uncalled NodeFault invocation all is called = call-uncalled NodeFault invocation all is called
+called-uncalled Stalled invocation all is called = call-uncalled Stalled invocation all is called
+called-uncalled ReadFault invocation all is called = call-uncalled ReadFault invocation all is called
+called-uncalled WriteFault invocation all is called = call-uncalled WriteFault invocation all is called
 
-pub came-uncalled : (outers : List OuterShape) (asked : Asked) (status : Status) (all : CallDevices) → CallEnded outers asked status all
-    → IfSome (command_by asked) (λ command. calls_boxes command.order.verb ≡ false → Untouched all.boxes)
+pub came-uncalled : (outers : List OuterShape) (asked : Request) (status : Status) (all : CallDevices) → CallEnded outers asked status all
+    → IfSome (command_by request) (λ command. calls_boxes command.instruction.verb ≡ false → Untouched all.boxes)
 came-uncalled outers asks_usage status all came = tt
 came-uncalled outers (asks_text text) status all came = tt
-came-uncalled outers (asks_command command) status all came = λ is. called-uncalled status (task command outers) all is came
+came-uncalled outers (asks_command command) status all came = λ is. called-uncalled status (invocation command outers) all is came
 
 -- The devices apart: what each tells is what those told that were held together.
-pub came_apart : (outers : List OuterShape) (asked : Asked) (status : Status) (store : Device StoreTold) (ib ia : SourceTold) (ob oa nb na : SinkTold) (boxes : Device (List CalculatorTold)) (i : SourceTold) (o n : SinkTold) → i ≡ ia → o ≡ oa → n ≡ na
+pub came_apart : (outers : List OuterShape) (asked : Request) (status : Status) (store : Device StoreTold) (ib ia : SourceTold) (ob oa nb na : SinkTold) (boxes : Device (List CalculatorTold)) (i : SourceTold) (o n : SinkTold) → i ≡ ia → o ≡ oa → n ≡ na
     → CallEnded outers asked status (devices store (device ib ia) (device ob oa) (device nb na) boxes) → CallEnded outers asked status (devices store (device ib i) (device ob o) (device nb n) boxes)
 came_apart outers asked status store ib ia ob oa nb na boxes i o n same_i same_o same_n came =
     subst (λ (s : SourceTold). CallEnded outers asked status (devices store (device ib s) (device ob o) (device nb n) boxes)) (sym same_i)
     (subst (λ (k : SinkTold). CallEnded outers asked status (devices store (device ib ia) (device ob k) (device nb n) boxes)) (sym same_o)
     (subst (λ (e : SinkTold). CallEnded outers asked status (devices store (device ib ia) (device ob oa) (device nb e) boxes)) (sym same_n) came))
 
-pub unread_apart : (command : Option Command) (ib ia i : SourceTold) → i ≡ ia → IfSome command (λ c. reads_input c.order.verb ≡ false → Untouched (device ib ia)) → IfSome command (λ c. reads_input c.order.verb ≡ false → Untouched (device ib i))
-unread_apart command ib ia i same unread = subst (λ (s : SourceTold). IfSome command (λ c. reads_input c.order.verb ≡ false → Untouched (device ib s))) (sym same) unread
+pub unread_apart : (command : Option Command) (ib ia i : SourceTold) → i ≡ ia → IfSome command (λ c. reads_input c.instruction.verb ≡ false → Untouched (device ib ia)) → IfSome command (λ c. reads_input c.instruction.verb ≡ false → Untouched (device ib i))
+unread_apart command ib ia i same unread = subst (λ (s : SourceTold). IfSome command (λ c. reads_input c.instruction.verb ≡ false → Untouched (device ib s))) (sym same) unread

@@ -5,7 +5,7 @@ use Rattle.mg_calc.specs.declared.shape.OuterShape.{OuterShape}
 use Rattle.mg_calc.specs.Told.{CalculatorTold}
 use Rattle.mg_words.specs.Command.{Command}
 use Rattle.mg_files.specs.Loads.{LoadedAll}
-use Rattle.mg_run.specs.Task.{task}
+use Rattle.mg_run.specs.Invocation.{invocation}
 use Rattle.mg_run.specs.Boxes.{outers_told}
 use Rattle.mg_run.specs.Devices.{Device}
 use Rattle.mg_run.specs.Answer.{Action}
@@ -13,10 +13,10 @@ use Rattle.mg_run.specs.Call.{IsActionOf}
 use Rattle.mg_run.specs.Code.Action.{IsDue}
 
 pub due_by : (asked : Command) (known outers : List OuterShape) (contents : List (List ℕ)) (store : Device StoreTold) (action : Action) → known ≡ outers
-    → LoadedAll asked.files contents store → IsActionOf (task asked known) contents action → IsDue (task asked outers) store action
+    → LoadedAll request.files contents store → IsActionOf (invocation asked known) contents action → IsDue (invocation asked outers) store action
 due_by asked known outers contents store action same loaded due =
-    record { contents = contents; loaded = loaded; due = subst (λ (o : List OuterShape). IsActionOf (task asked o) contents action) same due }
+    record { contents = contents; loaded = loaded; due = subst (λ (o : List OuterShape). IsActionOf (invocation asked o) contents action) same due }
 
-pub due_among : (asked : Command) (handed boxes : List CalculatorTold) (store : Device StoreTold) (action : Action) → handed ≡ boxes → IsDue (task asked (outers_told handed)) store action
-    → IsDue (task asked (outers_told boxes)) store action
-due_among asked handed boxes store action same due = subst (λ (bs : List CalculatorTold). IsDue (task asked (outers_told bs)) store action) same due
+pub due_among : (asked : Command) (handed boxes : List CalculatorTold) (store : Device StoreTold) (action : Action) → handed ≡ boxes → IsDue (invocation asked (outers_told handed)) store action
+    → IsDue (invocation asked (outers_told boxes)) store action
+due_among asked handed boxes store action same due = subst (λ (bs : List CalculatorTold). IsDue (invocation asked (outers_told bs)) store action) same due

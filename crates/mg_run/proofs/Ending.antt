@@ -16,14 +16,14 @@ use Rattle.mg_run.proofs.LiveReadings.{live-ended}
 use Rattle.mg_drive.proofs.TracesRan.{traced_ended}
 use Rattle.mg_replay.proofs.Answered.{replayed_ended}
 use Rattle.mg_words.specs.Command.{reads_input}
-use Rattle.mg_run.specs.Task.{Task}
+use Rattle.mg_run.specs.Invocation.{Invocation}
 use Rattle.mg_files.specs.Files.{Files, graphs, no_graphs}
 use Rattle.mg_run.specs.Answer.{Action, refuse, show, run_plan, run_live, solve, generate, generate_live, trace, replay, check_action, way_action, live_action, verb_action, expanded_action, files_action}
 use Rattle.mg_run.specs.Devices.{Device, CallDevices, run_devices_of, Untouched, InputHasEnded}
 use Rattle.mg_run.specs.Call.{DidAction, IsActionOf, CallDid, Called, IsOneOf}
 use Rattle.mg_run.specs.Code.Action.{MayRead}
 use Rattle.mg_run.proofs.Planned.{planned}
-use Rattle.mg_words.specs.declared.words.Order.{Order}
+use Rattle.mg_words.specs.declared.words.Instruction.{Instruction}
 use Rattle.mg_words.specs.declared.words.Verb.{Verb}
 use Rattle.mg_words.specs.declared.words.Verb.TheVariants.{Check, Expand, Use}
 use Rattle.mg_words.specs.declared.words.Way.{Way}
@@ -36,39 +36,39 @@ check-unread : (checked : Result Plan CheckFault) → MayRead (check_action chec
 check-unread (Ok plan) may = may
 check-unread (Err fault) may = may
 
-way-unread : (way : Way) (order : Order) (plan : Plan) → reads_input (Use way) ≡ false → MayRead (way_action way order plan) → ⊥
-way-unread Run order plan is may = false≢true (sym is)
-way-unread Solve order plan is may = false≢true (sym is)
-way-unread Generate order plan is may = may
-way-unread Trace order plan is may = false≢true (sym is)
-way-unread Replay order plan is may = false≢true (sym is)
+way-unread : (way : Way) (instruction : Instruction) (plan : Plan) → reads_input (Use way) ≡ false → MayRead (way_action way instruction plan) → ⊥
+way-unread Run instruction plan is may = false≢true (sym is)
+way-unread Solve instruction plan is may = false≢true (sym is)
+way-unread Generate instruction plan is may = may
+way-unread Trace instruction plan is may = false≢true (sym is)
+way-unread Replay instruction plan is may = false≢true (sym is)
 
-live-unread : (way : Way) (order : Order) (first : ℕ) (plan : Plan) → reads_input (Use way) ≡ false → MayRead (live_action way order first plan) → ⊥
-live-unread Run order first plan is may = false≢true (sym is)
-live-unread Solve order first plan is may = may
-live-unread Generate order first plan is may = may
-live-unread Trace order first plan is may = may
-live-unread Replay order first plan is may = may
+live-unread : (way : Way) (instruction : Instruction) (first : ℕ) (plan : Plan) → reads_input (Use way) ≡ false → MayRead (live_action way instruction first plan) → ⊥
+live-unread Run instruction first plan is may = false≢true (sym is)
+live-unread Solve instruction first plan is may = may
+live-unread Generate instruction first plan is may = may
+live-unread Trace instruction first plan is may = may
+live-unread Replay instruction first plan is may = may
 
-graph-unread : (verb : Verb) (order : Order) (outers : List OuterShape) (g : GraphView) → reads_input verb ≡ false → MayRead (verb_action verb order outers g) → ⊥
-graph-unread Check order outers g is may = check-unread (check_of outers g) may
-graph-unread Expand order outers g is may = may
-graph-unread (Use way) order outers g is may =
-    planned (λ action. MayRead action → ⊥) way order (check_of outers g) (λ note reads. reads) (λ plan reads. way-unread way order plan is reads) (λ first plan reads. live-unread way order first plan is reads) may
+graph-unread : (verb : Verb) (instruction : Instruction) (outers : List OuterShape) (g : GraphView) → reads_input verb ≡ false → MayRead (verb_action verb instruction outers g) → ⊥
+graph-unread Check instruction outers g is may = check-unread (check_of outers g) may
+graph-unread Expand instruction outers g is may = may
+graph-unread (Use way) instruction outers g is may =
+    planned (λ action. MayRead action → ⊥) way instruction (check_of outers g) (λ note reads. reads) (λ plan reads. way-unread way instruction plan is reads) (λ first plan reads. live-unread way instruction first plan is reads) may
 
-expanded-unread : (order : Order) (outers : List OuterShape) (expanded : Result GraphView ExpandFault) → reads_input order.verb ≡ false → MayRead (expanded_action order outers expanded) → ⊥
-expanded-unread order outers (Ok g) is may = graph-unread order.verb order outers g is may
-expanded-unread order outers (Err fault) is may = may
+expanded-unread : (instruction : Instruction) (outers : List OuterShape) (expanded : Result GraphView ExpandFault) → reads_input instruction.verb ≡ false → MayRead (expanded_action instruction outers expanded) → ⊥
+expanded-unread instruction outers (Ok g) is may = graph-unread instruction.verb instruction outers g is may
+expanded-unread instruction outers (Err fault) is may = may
 
-files-unread : (order : Order) (outers : List OuterShape) (files : Files) → reads_input order.verb ≡ false → MayRead (files_action order outers files) → ⊥
-files-unread order outers (graphs []) is may = may
-files-unread order outers (graphs (main ∷ library)) is may = expanded-unread order outers (expansion_of main library) is may
-files-unread order outers (no_graphs note) is may = may
+files-unread : (instruction : Instruction) (outers : List OuterShape) (files : Files) → reads_input instruction.verb ≡ false → MayRead (files_action instruction outers files) → ⊥
+files-unread instruction outers (graphs []) is may = may
+files-unread instruction outers (graphs (main ∷ library)) is may = expanded-unread instruction outers (expansion_of main library) is may
+files-unread instruction outers (no_graphs note) is may = may
 
-pub unread-by : (task : Task) (contents : List (List ℕ)) (action : Action) (input : Device SourceTold) → IsActionOf task contents action → MayRead action ⊎ Untouched input → reads_input task.order.verb ≡ false
+pub unread-by : (invocation : Invocation) (contents : List (List ℕ)) (action : Action) (input : Device SourceTold) → IsActionOf invocation contents action → MayRead action ⊎ Untouched input → reads_input invocation.instruction.verb ≡ false
     → Untouched input
-unread-by task contents action input due (inr untouched) is = untouched
-unread-by task contents action input (files, are, same) (inl may) is = absurd (files-unread task.order task.outers files is (subst MayRead same may))
+unread-by invocation contents action input due (inr untouched) is = untouched
+unread-by invocation contents action input (files, are, same) (inl may) is = absurd (files-unread invocation.instruction invocation.outers files is (subst MayRead same may))
 
 -- What reads it is refused, or reads: it shows no text, and no packets are made.
 abbrev NeedsNone : Action → Type 0
@@ -82,37 +82,37 @@ NeedsNone (generate_live report number plan) = Unit {0}
 NeedsNone (trace report plan) = ⊥
 NeedsNone (replay report plan) = ⊥
 
-way-reads : (way : Way) (order : Order) (plan : Plan) → reads_input (Use way) ≡ true → NeedsNone (way_action way order plan) → ⊥
-way-reads Run order plan is none = none
-way-reads Solve order plan is none = none
-way-reads Generate order plan is none = false≢true is
-way-reads Trace order plan is none = none
-way-reads Replay order plan is none = none
+way-reads : (way : Way) (instruction : Instruction) (plan : Plan) → reads_input (Use way) ≡ true → NeedsNone (way_action way instruction plan) → ⊥
+way-reads Run instruction plan is none = none
+way-reads Solve instruction plan is none = none
+way-reads Generate instruction plan is none = false≢true is
+way-reads Trace instruction plan is none = none
+way-reads Replay instruction plan is none = none
 
-live-reads : (way : Way) (order : Order) (first : ℕ) (plan : Plan) → reads_input (Use way) ≡ true → NeedsNone (live_action way order first plan) → ⊥
-live-reads Run order first plan is none = none
-live-reads Solve order first plan is none = none
-live-reads Generate order first plan is none = false≢true is
-live-reads Trace order first plan is none = none
-live-reads Replay order first plan is none = none
+live-reads : (way : Way) (instruction : Instruction) (first : ℕ) (plan : Plan) → reads_input (Use way) ≡ true → NeedsNone (live_action way instruction first plan) → ⊥
+live-reads Run instruction first plan is none = none
+live-reads Solve instruction first plan is none = none
+live-reads Generate instruction first plan is none = false≢true is
+live-reads Trace instruction first plan is none = none
+live-reads Replay instruction first plan is none = none
 
-graph-reads : (verb : Verb) (order : Order) (outers : List OuterShape) (g : GraphView) → reads_input verb ≡ true → NeedsNone (verb_action verb order outers g) → ⊥
-graph-reads Check order outers g is none = false≢true is
-graph-reads Expand order outers g is none = false≢true is
-graph-reads (Use way) order outers g is none =
-    planned (λ action. NeedsNone action → ⊥) way order (check_of outers g) (λ note needs. needs) (λ plan needs. way-reads way order plan is needs) (λ first plan needs. live-reads way order first plan is needs) none
+graph-reads : (verb : Verb) (instruction : Instruction) (outers : List OuterShape) (g : GraphView) → reads_input verb ≡ true → NeedsNone (verb_action verb instruction outers g) → ⊥
+graph-reads Check instruction outers g is none = false≢true is
+graph-reads Expand instruction outers g is none = false≢true is
+graph-reads (Use way) instruction outers g is none =
+    planned (λ action. NeedsNone action → ⊥) way instruction (check_of outers g) (λ note needs. needs) (λ plan needs. way-reads way instruction plan is needs) (λ first plan needs. live-reads way instruction first plan is needs) none
 
-expanded-reads : (order : Order) (outers : List OuterShape) (expanded : Result GraphView ExpandFault) → reads_input order.verb ≡ true → NeedsNone (expanded_action order outers expanded) → ⊥
-expanded-reads order outers (Ok g) is none = graph-reads order.verb order outers g is none
-expanded-reads order outers (Err fault) is none = none
+expanded-reads : (instruction : Instruction) (outers : List OuterShape) (expanded : Result GraphView ExpandFault) → reads_input instruction.verb ≡ true → NeedsNone (expanded_action instruction outers expanded) → ⊥
+expanded-reads instruction outers (Ok g) is none = graph-reads instruction.verb instruction outers g is none
+expanded-reads instruction outers (Err fault) is none = none
 
-files-read : (order : Order) (outers : List OuterShape) (files : Files) → reads_input order.verb ≡ true → NeedsNone (files_action order outers files) → ⊥
-files-read order outers (graphs []) is none = none
-files-read order outers (graphs (main ∷ library)) is none = expanded-reads order outers (expansion_of main library) is none
-files-read order outers (no_graphs note) is none = none
+files-read : (instruction : Instruction) (outers : List OuterShape) (files : Files) → reads_input instruction.verb ≡ true → NeedsNone (files_action instruction outers files) → ⊥
+files-read instruction outers (graphs []) is none = none
+files-read instruction outers (graphs (main ∷ library)) is none = expanded-reads instruction outers (expansion_of main library) is none
+files-read instruction outers (no_graphs note) is none = none
 
-due-reads : (task : Task) (contents : List (List ℕ)) (action : Action) → IsActionOf task contents action → reads_input task.order.verb ≡ true → NeedsNone action → ⊥
-due-reads task contents action (files, are, same) reads none = files-read task.order task.outers files reads (subst NeedsNone same none)
+due-reads : (invocation : Invocation) (contents : List (List ℕ)) (action : Action) → IsActionOf invocation contents action → reads_input invocation.instruction.verb ≡ true → NeedsNone action → ⊥
+due-reads invocation contents action (files, are, same) reads none = files-read invocation.instruction invocation.outers files reads (subst NeedsNone same none)
 
 -- The input's end --
 
@@ -134,25 +134,25 @@ short-ended status is (inr (inr (inr e))) = e
 end-came : (input : Device SourceTold) → EndCame input.before input.now → InputHasEnded input
 end-came input came = record { rose = let more = came.rose in omega (arith, more); none = came.none }
 
-did-ended : (task : Task) (contents : List (List ℕ)) (action : Action) (status : Status) (all : CallDevices) → IsActionOf task contents action → DidAction action status all → reads_input task.order.verb ≡ true
+did-ended : (invocation : Invocation) (contents : List (List ℕ)) (action : Action) (status : Status) (all : CallDevices) → IsActionOf invocation contents action → DidAction action status all → reads_input invocation.instruction.verb ≡ true
     → IsOneOf status ended_statuses → InputHasEnded all.input
-did-ended task contents (refuse note) status all due did reads one = absurd (refused-ended status did.ended one)
-did-ended task contents (show text) status all due did reads one = absurd (due-reads task contents (show text) due reads tt)
-did-ended task contents (run_plan report plan) status all due did reads one =
+did-ended invocation contents (refuse note) status all due did reads one = absurd (refused-ended status did.ended one)
+did-ended invocation contents (show text) status all due did reads one = absurd (due-reads invocation contents (show text) due reads tt)
+did-ended invocation contents (run_plan report plan) status all due did reads one =
     end-came all.input (lines-ended report plan status (run_devices_of all) all.boxes did (short-ended status) one)
-did-ended task contents (run_live report plan) status all due did reads one =
+did-ended invocation contents (run_live report plan) status all due did reads one =
     end-came all.input (live-ended report plan status (run_devices_of all) all.boxes did (short-ended status) one)
-did-ended task contents (solve report plan) status all due did reads one =
+did-ended invocation contents (solve report plan) status all due did reads one =
     end-came all.input (ran-ended report plan status (run_devices_of all) did.ran one)
-did-ended task contents (generate report number plan) status all due did reads one = absurd (due-reads task contents (generate report number plan) due reads tt)
-did-ended task contents (generate_live report number plan) status all due did reads one = absurd (due-reads task contents (generate_live report number plan) due reads tt)
-did-ended task contents (trace report plan) status all due did reads one =
+did-ended invocation contents (generate report number plan) status all due did reads one = absurd (due-reads invocation contents (generate report number plan) due reads tt)
+did-ended invocation contents (generate_live report number plan) status all due did reads one = absurd (due-reads invocation contents (generate_live report number plan) due reads tt)
+did-ended invocation contents (trace report plan) status all due did reads one =
     end-came all.input (traced_ended report plan all.boxes.before status (run_devices_of all) did.ran one)
-did-ended task contents (replay report plan) status all due did reads one =
+did-ended invocation contents (replay report plan) status all due did reads one =
     end-came all.input (replayed_ended report plan status (run_devices_of all) all.boxes did.replayed one)
 
-call-ended : (status : Status) (task : Task) (all : CallDevices) → CallDid status task all → reads_input task.order.verb ≡ true → IsOneOf status ended_statuses → InputHasEnded all.input
-call-ended status task all called reads one = did-ended task called.contents called.action status all called.due called.did reads one
+call-ended : (status : Status) (invocation : Invocation) (all : CallDevices) → CallDid status invocation all → reads_input invocation.instruction.verb ≡ true → IsOneOf status ended_statuses → InputHasEnded all.input
+call-ended status invocation all called reads one = did-ended invocation called.contents called.action status all called.due called.did reads one
 
 store-ended : IsOneOf StoreFault ended_statuses → ⊥
 store-ended (inl e) = cc
@@ -160,14 +160,14 @@ store-ended (inr (inl e)) = cc
 store-ended (inr (inr (inl e))) = cc
 store-ended (inr (inr (inr e))) = e
 
-pub called-ended : (status : Status) (task : Task) (all : CallDevices) → Called status task all → reads_input task.order.verb ≡ true → IsOneOf status ended_statuses → InputHasEnded all.input
-called-ended Good task all called reads one = call-ended Good task all called reads one
-called-ended StoreFault task all called reads one = absurd (store-ended one)
-called-ended Usage task all called reads one = elim called [ ]
-called-ended GraphRefused task all called reads one = call-ended GraphRefused task all called reads one
-called-ended LineRefused task all called reads one = call-ended LineRefused task all called reads one
-called-ended NodeFault task all called reads one = call-ended NodeFault task all called reads one
-called-ended Stalled task all called reads one = call-ended Stalled task all called reads one
-called-ended ReadFault task all called reads one = call-ended ReadFault task all called reads one
-called-ended WriteFault task all called reads one = call-ended WriteFault task all called reads one
-called-ended OutOfMemory task all called reads one = absurd (short-ended OutOfMemory refl one)
+pub called-ended : (status : Status) (invocation : Invocation) (all : CallDevices) → Called status invocation all → reads_input invocation.instruction.verb ≡ true → IsOneOf status ended_statuses → InputHasEnded all.input
+called-ended Good invocation all called reads one = call-ended Good invocation all called reads one
+called-ended StoreFault invocation all called reads one = absurd (store-ended one)
+called-ended Usage invocation all called reads one = elim called [ ]
+called-ended GraphRefused invocation all called reads one = call-ended GraphRefused invocation all called reads one
+called-ended LineRefused invocation all called reads one = call-ended LineRefused invocation all called reads one
+called-ended NodeFault invocation all called reads one = call-ended NodeFault invocation all called reads one
+called-ended Stalled invocation all called reads one = call-ended Stalled invocation all called reads one
+called-ended ReadFault invocation all called reads one = call-ended ReadFault invocation all called reads one
+called-ended WriteFault invocation all called reads one = call-ended WriteFault invocation all called reads one
+called-ended OutOfMemory invocation all called reads one = absurd (short-ended OutOfMemory refl one)

@@ -23,8 +23,8 @@ use Rattle.mg_answer.specs.declared.status.Status.{Status}
 use Rattle.mg_answer.specs.declared.status.Status.TheVariants.{Good, StoreFault, Usage, GraphRefused, LineRefused, NodeFault, Stalled, ReadFault, WriteFault, OutOfMemory}
 use Rattle.mg_drive.specs.OneRun.{OneRun, RanOverLines, RanOverPackets}
 use Rattle.mg_drive.specs.OneLive.{OneLive, AreBatchesOf, RanLive, RanLiveMade}
-use Rattle.mg_run.specs.Task.{Task, task}
-use Rattle.mg_words.specs.Words.{Asked, asks_usage, asks_text, asks_command, command_by}
+use Rattle.mg_run.specs.Invocation.{Invocation, invocation}
+use Rattle.mg_words.specs.Words.{Request, asks_usage, asks_text, asks_command, command_by}
 use Rattle.mg_files.specs.Notes.{expand_note}
 use Rattle.mg_files.specs.CheckNotes.{check_note}
 use Rattle.mg_files.specs.Files.{Files, graphs, no_graphs, AreGraphs, AreFiles}
@@ -33,7 +33,7 @@ use Rattle.mg_run.specs.Devices.{Device, CallDevices, run_devices_of, Untouched,
 use Rattle.mg_run.specs.Answer.{Action, refuse, run_plan, run_live, generate, generate_live, with_limit, with_workers, as_asked, way_action, live_action, used_action, plan_action, verb_action, expanded_action, action_of}
 use Rattle.mg_run.specs.Call.{GeneratedGraph, GeneratedLive, DidAction, IsActionOf, CallDid, Called, CallEnded, IsOneOf}
 use Rattle.mg_run.specs.Headline.{RunsGraph, ran_statuses, IsGraph, Origin, from_input, from_number, IsOrigin, job_from, end_from, telling_from, bare, Headline, IsLiveGraph, form_from, LiveHeadline, RanGraph}
-use Rattle.mg_words.specs.declared.words.Order.{Order}
+use Rattle.mg_words.specs.declared.words.Instruction.{Instruction}
 use Rattle.mg_words.specs.declared.words.Verb.{Verb}
 use Rattle.mg_words.specs.declared.words.Verb.TheVariants.{Use}
 use Rattle.mg_words.specs.declared.words.Way.{Way}
@@ -46,83 +46,83 @@ use Rattle.mg_run.proofs.LiveUnlimited.{batches_same, unlimited_live}
 -- What there is to do is a refusal, or the graph of the files is used so --
 
 -- a graph is found, and this is to be done with its plan
-record Finds (task : Task) (contents : List (List ℕ)) (way : Way) (job : Action) : Type 0 where
+record Finds (invocation : Invocation) (contents : List (List ℕ)) (way : Way) (job : Action) : Type 0 where
   plan : Plan
-  graph : IsGraph task contents plan
-  is : job ≡ way_action way task.order plan
+  graph : IsGraph invocation contents plan
+  is : job ≡ way_action way invocation.instruction plan
 
 -- or one with a free node
-record FindsLive (task : Task) (contents : List (List ℕ)) (way : Way) (job : Action) : Type 0 where
+record FindsLive (invocation : Invocation) (contents : List (List ℕ)) (way : Way) (job : Action) : Type 0 where
   plan : Plan
-  graph : IsLiveGraph task contents plan
-  is : job ≡ live_action way task.order graph.first plan
+  graph : IsLiveGraph invocation contents plan
+  is : job ≡ live_action way invocation.instruction graph.first plan
 
-abbrev Due : Task → List (List ℕ) → Way → Action → Type 0
-Due task contents way job = ((note : List ℕ) × (job ≡ refuse note)) ⊎ (Finds task contents way job ⊎ FindsLive task contents way job)
+abbrev Due : Invocation → List (List ℕ) → Way → Action → Type 0
+Due invocation contents way job = ((note : List ℕ) × (job ≡ refuse note)) ⊎ (Finds invocation contents way job ⊎ FindsLive invocation contents way job)
 
 -- by whether a node is free
-by_free : (task : Task) (contents : List (List ℕ)) (way : Way) (plan : Plan) (o : Option ℕ) → first_free plan ≡ o → (first_free plan ≡ None → IsGraph task contents plan)
-    → ((first : ℕ) → first_free plan ≡ Some first → (graph : IsLiveGraph task contents plan) × (graph.first ≡ first)) → Due task contents way (used_action o way task.order plan)
-by_free task contents way plan None is found live = inr (inl (record { plan = plan; graph = found is; is = refl }))
-by_free task contents way plan (Some node) is found live =
+by_free : (invocation : Invocation) (contents : List (List ℕ)) (way : Way) (plan : Plan) (o : Option ℕ) → first_free plan ≡ o → (first_free plan ≡ None → IsGraph invocation contents plan)
+    → ((first : ℕ) → first_free plan ≡ Some first → (graph : IsLiveGraph invocation contents plan) × (graph.first ≡ first)) → Due invocation contents way (used_action o way invocation.instruction plan)
+by_free invocation contents way plan None is found live = inr (inl (record { plan = plan; graph = found is; is = refl }))
+by_free invocation contents way plan (Some node) is found live =
     let graph = live node is in
-    inr (inr (record { plan = plan; graph = graph.0; is = ap (λ (first : ℕ). live_action way task.order first plan) (sym graph.1) }))
+    inr (inr (record { plan = plan; graph = graph.0; is = ap (λ (first : ℕ). live_action way invocation.instruction first plan) (sym graph.1) }))
 
 -- by what the check answers
-by_check : (task : Task) (contents : List (List ℕ)) (way : Way) (g : GraphView) (checked : Result Plan CheckFault) → check_of task.outers g ≡ checked
-    → ((plan : Plan) → check_of task.outers g ≡ Ok plan → first_free plan ≡ None → IsGraph task contents plan)
-    → ((plan : Plan) → check_of task.outers g ≡ Ok plan → (first : ℕ) → first_free plan ≡ Some first → (graph : IsLiveGraph task contents plan) × (graph.first ≡ first)) → Due task contents way (plan_action way task.order checked)
-by_check task contents way g (Ok plan) is found live = by_free task contents way plan (first_free plan) refl (found plan is) (live plan is)
-by_check task contents way g (Err fault) is found live = inl (check_note fault, refl)
+by_check : (invocation : Invocation) (contents : List (List ℕ)) (way : Way) (g : GraphView) (checked : Result Plan CheckFault) → check_of invocation.outers g ≡ checked
+    → ((plan : Plan) → check_of invocation.outers g ≡ Ok plan → first_free plan ≡ None → IsGraph invocation contents plan)
+    → ((plan : Plan) → check_of invocation.outers g ≡ Ok plan → (first : ℕ) → first_free plan ≡ Some first → (graph : IsLiveGraph invocation contents plan) × (graph.first ≡ first)) → Due invocation contents way (plan_action way invocation.instruction checked)
+by_check invocation contents way g (Ok plan) is found live = by_free invocation contents way plan (first_free plan) refl (found plan is) (live plan is)
+by_check invocation contents way g (Err fault) is found live = inl (check_note fault, refl)
 
 -- by what the expansion answers
-by_expansion : (task : Task) (contents : List (List ℕ)) (way : Way) (main : GraphView) (library : List GraphView) (expanded : Result GraphView ExpandFault) → task.order.verb ≡ Use way → AreGraphs contents (main ∷ library) → expansion_of main library ≡ expanded
-    → Due task contents way (expanded_action task.order task.outers expanded)
-by_expansion task contents way main library (Ok g) verb are is =
-    subst (λ (v : Verb). Due task contents way (verb_action v task.order task.outers g)) (sym verb)
-    (by_check task contents way g (check_of task.outers g) refl
+by_expansion : (invocation : Invocation) (contents : List (List ℕ)) (way : Way) (main : GraphView) (library : List GraphView) (expanded : Result GraphView ExpandFault) → invocation.instruction.verb ≡ Use way → AreGraphs contents (main ∷ library) → expansion_of main library ≡ expanded
+    → Due invocation contents way (expanded_action invocation.instruction invocation.outers expanded)
+by_expansion invocation contents way main library (Ok g) verb are is =
+    subst (λ (v : Verb). Due invocation contents way (verb_action v invocation.instruction invocation.outers g)) (sym verb)
+    (by_check invocation contents way g (check_of invocation.outers g) refl
     (λ plan checked bound. record { main = main; library = library; files = are; graph = g; expanded = is; checked = checked; bound = bound })
     (λ plan checked first free. (record { main = main; library = library; files = are; graph = g; expanded = is; checked = checked; first = first; free = free }, refl)))
-by_expansion task contents way main library (Err fault) verb are is = inl (expand_note fault, refl)
+by_expansion invocation contents way main library (Err fault) verb are is = inl (expand_note fault, refl)
 
 -- by what the files are
-by_files : (task : Task) (contents : List (List ℕ)) (way : Way) (files : Files) → task.order.verb ≡ Use way → AreFiles task.files contents files → Due task contents way (action_of task files)
-by_files task contents way (graphs []) verb are = inl ([], refl)
-by_files task contents way (graphs (main ∷ library)) verb are = by_expansion task contents way main library (expansion_of main library) verb are refl
-by_files task contents way (no_graphs note) verb are = inl (note, refl)
+by_files : (invocation : Invocation) (contents : List (List ℕ)) (way : Way) (files : Files) → invocation.instruction.verb ≡ Use way → AreFiles invocation.files contents files → Due invocation contents way (action_of invocation files)
+by_files invocation contents way (graphs []) verb are = inl ([], refl)
+by_files invocation contents way (graphs (main ∷ library)) verb are = by_expansion invocation contents way main library (expansion_of main library) verb are refl
+by_files invocation contents way (no_graphs note) verb are = inl (note, refl)
 
-due_by : (task : Task) (contents : List (List ℕ)) (way : Way) (job : Action) → task.order.verb ≡ Use way → IsActionOf task contents job → Due task contents way job
-due_by task contents way job verb (files, are, same) = subst (Due task contents way) (sym same) (by_files task contents way files verb are)
+due_by : (invocation : Invocation) (contents : List (List ℕ)) (way : Way) (job : Action) → invocation.instruction.verb ≡ Use way → IsActionOf invocation contents job → Due invocation contents way job
+due_by invocation contents way job verb (files, are, same) = subst (Due invocation contents way) (sym same) (by_files invocation contents way files verb are)
 
 -- The plan's limit and workers have no part in it --
 
-asked_is : (order : Order) (limit : Option ℤ) (workers : Option ℕ) (plan : Plan)
+request_is : (instruction : Instruction) (limit : Option ℤ) (workers : Option ℕ) (plan : Plan)
     → with_workers workers (with_limit limit plan) ≡ limited_plan (bare plan) (with_workers workers (with_limit limit plan)).limit (with_workers workers (with_limit limit plan)).workers
-asked_is order None None plan = refl
-asked_is order None (Some workers) plan = refl
-asked_is order (Some limit) None plan = refl
-asked_is order (Some limit) (Some workers) plan = refl
+request_is instruction None None plan = refl
+request_is instruction None (Some workers) plan = refl
+request_is instruction (Some limit) None plan = refl
+request_is instruction (Some limit) (Some workers) plan = refl
 
-bare_run : (order : Order) (plan : Plan) (from : Origin) (status : Status) (output notes : Device SinkTold) (boxes : Device (List CalculatorTold))
-    → OneRun (telling_from order.report from) (job_from (as_asked order plan) from) (end_from from) status output notes boxes
-    → OneRun (telling_from order.report from) (job_from (bare plan) from) (end_from from) status output notes boxes
-bare_run order plan from status output notes boxes run =
-    by from (subst (λ (p : Plan). OneRun (telling_from order.report from) (job_from p from) (end_from from) status output notes boxes) (asked_is order order.limit order.workers plan) run)
+bare_run : (instruction : Instruction) (plan : Plan) (from : Origin) (status : Status) (output notes : Device SinkTold) (boxes : Device (List CalculatorTold))
+    → OneRun (telling_from instruction.report from) (job_from (as_asked instruction plan) from) (end_from from) status output notes boxes
+    → OneRun (telling_from instruction.report from) (job_from (bare plan) from) (end_from from) status output notes boxes
+bare_run instruction plan from status output notes boxes run =
+    by from (subst (λ (p : Plan). OneRun (telling_from instruction.report from) (job_from p from) (end_from from) status output notes boxes) (request_is instruction instruction.limit instruction.workers plan) run)
   where
-    by : (from : Origin) → OneRun (telling_from order.report from) (job_from (limited_plan (bare plan) (as_asked order plan).limit (as_asked order plan).workers) from) (end_from from) status output notes boxes
-        → OneRun (telling_from order.report from) (job_from (bare plan) from) (end_from from) status output notes boxes
-    by (from_input read) run = unlimited_run (by_lines order.report) (answers.job_of (bare plan) read) (as_asked order plan).limit (as_asked order plan).workers read.end status output notes boxes run
-    by (from_number number) run = unlimited_run (by_summary order.report) (generated_job (bare plan) number) (as_asked order plan).limit (as_asked order plan).workers Ended status output notes boxes run
+    by : (from : Origin) → OneRun (telling_from instruction.report from) (job_from (limited_plan (bare plan) (as_asked instruction plan).limit (as_asked instruction plan).workers) from) (end_from from) status output notes boxes
+        → OneRun (telling_from instruction.report from) (job_from (bare plan) from) (end_from from) status output notes boxes
+    by (from_input read) run = unlimited_run (by_lines instruction.report) (answers.job_of (bare plan) read) (as_asked instruction plan).limit (as_asked instruction plan).workers read.end status output notes boxes run
+    by (from_number number) run = unlimited_run (by_summary instruction.report) (generated_job (bare plan) number) (as_asked instruction plan).limit (as_asked instruction plan).workers Ended status output notes boxes run
 
-bare_live : (order : Order) (plan : Plan) (from : Origin) (first : Inputs) (later : List Inputs) (status : Status) (output notes : Device SinkTold) (boxes : Device (List CalculatorTold))
-    → OneLive (form_from from) order.report (as_asked order plan) first later (end_from from) status output notes boxes → OneLive (form_from from) order.report (bare plan) first later (end_from from) status output notes boxes
-bare_live order plan from first later status output notes boxes run =
-    unlimited_live (form_from from) order.report (bare plan) (as_asked order plan).limit (as_asked order plan).workers first later (end_from from) status output notes boxes
-    (subst (λ (p : Plan). OneLive (form_from from) order.report p first later (end_from from) status output notes boxes) (asked_is order order.limit order.workers plan) run)
+bare_live : (instruction : Instruction) (plan : Plan) (from : Origin) (first : Inputs) (later : List Inputs) (status : Status) (output notes : Device SinkTold) (boxes : Device (List CalculatorTold))
+    → OneLive (form_from from) instruction.report (as_asked instruction plan) first later (end_from from) status output notes boxes → OneLive (form_from from) instruction.report (bare plan) first later (end_from from) status output notes boxes
+bare_live instruction plan from first later status output notes boxes run =
+    unlimited_live (form_from from) instruction.report (bare plan) (as_asked instruction plan).limit (as_asked instruction plan).workers first later (end_from from) status output notes boxes
+    (subst (λ (p : Plan). OneLive (form_from from) instruction.report p first later (end_from from) status output notes boxes) (request_is instruction instruction.limit instruction.workers plan) run)
 
-bare_batches : (order : Order) (plan : Plan) (read : Read) (batches : List Inputs) → AreBatchesOf (as_asked order plan) read batches → AreBatchesOf (bare plan) read batches
-bare_batches order plan read batches are =
-    batches_same (bare plan) (as_asked order plan).limit (as_asked order plan).workers read batches (subst (λ (p : Plan). AreBatchesOf p read batches) (asked_is order order.limit order.workers plan) are)
+bare_batches : (instruction : Instruction) (plan : Plan) (read : Read) (batches : List Inputs) → AreBatchesOf (as_asked instruction plan) read batches → AreBatchesOf (bare plan) read batches
+bare_batches instruction plan read batches are =
+    batches_same (bare plan) (as_asked instruction plan).limit (as_asked instruction plan).workers read batches (subst (λ (p : Plan). AreBatchesOf p read batches) (request_is instruction instruction.limit instruction.workers plan) are)
 
 -- what is made for a plan doesn't ask for its limit and workers
 made_asked : (limit : Option ℤ) (workers : Option ℕ) (plan : Plan) (number : ℕ) → (generated_job (with_workers workers (with_limit limit plan)) number).inputs ≡ (generated_job (bare plan) number).inputs
@@ -134,16 +134,16 @@ made_asked (Some limit) (Some workers) plan number = refl
 -- The headline --
 
 -- a graph was found, and its run came from this
-headline : (task : Task) (contents : List (List ℕ)) (plan : Plan) (status : Status) (all : CallDevices) (from : Origin) → LoadedAll task.files contents all.store → IsGraph task contents plan → IsOrigin task.order plan all.input from
-    → OneRun (telling_from task.order.report from) (job_from (as_asked task.order plan) from) (end_from from) status all.output all.notes all.boxes → Headline task status all
-headline task contents plan status all from loaded graph origin run = record {
+headline : (invocation : Invocation) (contents : List (List ℕ)) (plan : Plan) (status : Status) (all : CallDevices) (from : Origin) → LoadedAll invocation.files contents all.store → IsGraph invocation contents plan → IsOrigin invocation.instruction plan all.input from
+    → OneRun (telling_from invocation.instruction.report from) (job_from (as_asked invocation.instruction plan) from) (end_from from) status all.output all.notes all.boxes → Headline invocation status all
+headline invocation contents plan status all from loaded graph origin run = record {
   contents = contents;
   loaded = loaded;
   plan = plan;
   graph = graph;
   from = from;
   origin = origin;
-  run = bare_run task.order plan from status all.output all.notes all.boxes run;
+  run = bare_run invocation.instruction plan from status all.output all.notes all.boxes run;
 }
 
 -- what the inputs of a plan's graph are doesn't ask for its limit and workers
@@ -153,73 +153,73 @@ came_asked None (Some workers) plan input read came = came
 came_asked (Some limit) None plan input read came = came
 came_asked (Some limit) (Some workers) plan input read came = came
 
-lines_headline : (task : Task) (contents : List (List ℕ)) (plan : Plan) (status : Status) (all : CallDevices) → task.order.verb ≡ Use Run → status ≢ OutOfMemory → LoadedAll task.files contents all.store → IsGraph task contents plan
-    → RanOverLines task.order.report (as_asked task.order plan) status (run_devices_of all) all.boxes → Headline task status all
-lines_headline task contents plan status all verb some loaded graph (inl one) =
-    headline task contents plan status all (from_input one.read) loaded graph (verb, came_asked task.order.limit task.order.workers plan all.input one.read one.came) one.run
-lines_headline task contents plan status all verb some loaded graph (inr short) = absurd (some short.is)
+lines_headline : (invocation : Invocation) (contents : List (List ℕ)) (plan : Plan) (status : Status) (all : CallDevices) → invocation.instruction.verb ≡ Use Run → status ≢ OutOfMemory → LoadedAll invocation.files contents all.store → IsGraph invocation contents plan
+    → RanOverLines invocation.instruction.report (as_asked invocation.instruction plan) status (run_devices_of all) all.boxes → Headline invocation status all
+lines_headline invocation contents plan status all verb some loaded graph (inl one) =
+    headline invocation contents plan status all (from_input one.read) loaded graph (verb, came_asked invocation.instruction.limit invocation.instruction.workers plan all.input one.read one.came) one.run
+lines_headline invocation contents plan status all verb some loaded graph (inr short) = absurd (some short.is)
 
-packets_headline : (task : Task) (contents : List (List ℕ)) (plan : Plan) (status : Status) (all : CallDevices) → task.order.verb ≡ Use Generate → status ≢ OutOfMemory → LoadedAll task.files contents all.store → IsGraph task contents plan
-    → Untouched all.input → RanOverPackets task.order.report (as_asked task.order plan) task.order.number status all.output all.notes all.boxes → Headline task status all
-packets_headline task contents plan status all verb some loaded graph unread (inl one) = headline task contents plan status all (from_number task.order.number) loaded graph (verb, refl, unread) one
-packets_headline task contents plan status all verb some loaded graph unread (inr short) = absurd (some short.is)
+packets_headline : (invocation : Invocation) (contents : List (List ℕ)) (plan : Plan) (status : Status) (all : CallDevices) → invocation.instruction.verb ≡ Use Generate → status ≢ OutOfMemory → LoadedAll invocation.files contents all.store → IsGraph invocation contents plan
+    → Untouched all.input → RanOverPackets invocation.instruction.report (as_asked invocation.instruction plan) invocation.instruction.number status all.output all.notes all.boxes → Headline invocation status all
+packets_headline invocation contents plan status all verb some loaded graph unread (inl one) = headline invocation contents plan status all (from_number invocation.instruction.number) loaded graph (verb, refl, unread) one
+packets_headline invocation contents plan status all verb some loaded graph unread (inr short) = absurd (some short.is)
 
-live_lines_headline : (task : Task) (contents : List (List ℕ)) (plan : Plan) (status : Status) (all : CallDevices) → task.order.verb ≡ Use Run → status ≢ OutOfMemory → LoadedAll task.files contents all.store → IsLiveGraph task contents plan
-    → RanLive task.order.report (as_asked task.order plan) status (run_devices_of all) all.boxes → LiveHeadline task status all
-live_lines_headline task contents plan status all verb some loaded graph (inl one) = record {
+live_lines_headline : (invocation : Invocation) (contents : List (List ℕ)) (plan : Plan) (status : Status) (all : CallDevices) → invocation.instruction.verb ≡ Use Run → status ≢ OutOfMemory → LoadedAll invocation.files contents all.store → IsLiveGraph invocation contents plan
+    → RanLive invocation.instruction.report (as_asked invocation.instruction plan) status (run_devices_of all) all.boxes → LiveHeadline invocation status all
+live_lines_headline invocation contents plan status all verb some loaded graph (inl one) = record {
   contents = contents;
   loaded = loaded;
   plan = plan;
   graph = graph;
   from = from_input one.read;
-  origin = (verb, came_asked task.order.limit task.order.workers plan all.input one.read one.came);
+  origin = (verb, came_asked invocation.instruction.limit invocation.instruction.workers plan all.input one.read one.came);
   first = one.first;
   later = one.later;
-  batches = bare_batches task.order plan one.read (one.first ∷ one.later) one.batches;
-  run = bare_live task.order plan (from_input one.read) one.first one.later status all.output all.notes all.boxes one.run;
+  batches = bare_batches invocation.instruction plan one.read (one.first ∷ one.later) one.batches;
+  run = bare_live invocation.instruction plan (from_input one.read) one.first one.later status all.output all.notes all.boxes one.run;
 }
-live_lines_headline task contents plan status all verb some loaded graph (inr short) = absurd (some short.is)
+live_lines_headline invocation contents plan status all verb some loaded graph (inr short) = absurd (some short.is)
 
-live_packets_headline : (task : Task) (contents : List (List ℕ)) (plan : Plan) (status : Status) (all : CallDevices) → task.order.verb ≡ Use Generate → status ≢ OutOfMemory → LoadedAll task.files contents all.store → IsLiveGraph task contents plan
-    → Untouched all.input → RanLiveMade task.order.report (as_asked task.order plan) task.order.number status all.output all.notes all.boxes → LiveHeadline task status all
-live_packets_headline task contents plan status all verb some loaded graph unread (inl one) = record {
+live_packets_headline : (invocation : Invocation) (contents : List (List ℕ)) (plan : Plan) (status : Status) (all : CallDevices) → invocation.instruction.verb ≡ Use Generate → status ≢ OutOfMemory → LoadedAll invocation.files contents all.store → IsLiveGraph invocation contents plan
+    → Untouched all.input → RanLiveMade invocation.instruction.report (as_asked invocation.instruction plan) invocation.instruction.number status all.output all.notes all.boxes → LiveHeadline invocation status all
+live_packets_headline invocation contents plan status all verb some loaded graph unread (inl one) = record {
   contents = contents;
   loaded = loaded;
   plan = plan;
   graph = graph;
-  from = from_number task.order.number;
+  from = from_number invocation.instruction.number;
   origin = (verb, refl, unread);
-  first = (generated_job (as_asked task.order plan) task.order.number).inputs;
+  first = (generated_job (as_asked invocation.instruction plan) invocation.instruction.number).inputs;
   later = [];
-  batches = ap (λ (i : Inputs). i ∷ []) (made_asked task.order.limit task.order.workers plan task.order.number);
-  run = bare_live task.order plan (from_number task.order.number) (generated_job (as_asked task.order plan) task.order.number).inputs [] status all.output all.notes all.boxes one;
+  batches = ap (λ (i : Inputs). i ∷ []) (made_asked invocation.instruction.limit invocation.instruction.workers plan invocation.instruction.number);
+  run = bare_live invocation.instruction plan (from_number invocation.instruction.number) (generated_job (as_asked invocation.instruction plan) invocation.instruction.number).inputs [] status all.output all.notes all.boxes one;
 }
-live_packets_headline task contents plan status all verb some loaded graph unread (inr short) = absurd (some short.is)
+live_packets_headline invocation contents plan status all verb some loaded graph unread (inr short) = absurd (some short.is)
 
 -- a call did what there was to do, and the graph wasn't refused
-did_headline : (task : Task) (status : Status) (all : CallDevices) (called : CallDid status task all) (way : Way) → (way ≡ Run) ⊎ (way ≡ Generate) → task.order.verb ≡ Use way → status ≢ GraphRefused → status ≢ OutOfMemory
-    → Due task called.contents way called.action → RanGraph task status all
-did_headline task status all called way used verb good some (inl refused) = absurd (good (let d : DidAction (refuse refused.0) status all = subst (λ (j : Action). DidAction j status all) refused.1 called.did in d.ended))
-did_headline task status all called way (inl is) verb good some (inr (inl found)) =
-    let same : called.action ≡ run_plan task.order.report (as_asked task.order found.plan) = found.is ∙ ap (λ (w : Way). way_action w task.order found.plan) is in
-    inl (lines_headline task called.contents found.plan status all (verb ∙ ap Use is) some called.loaded found.graph (subst (λ (j : Action). DidAction j status all) same called.did))
-did_headline task status all called way (inr is) verb good some (inr (inl found)) =
-    let same : called.action ≡ generate task.order.report task.order.number (as_asked task.order found.plan) = found.is ∙ ap (λ (w : Way). way_action w task.order found.plan) is in
-    let d : GeneratedGraph task.order.report task.order.number (as_asked task.order found.plan) status all = subst (λ (j : Action). DidAction j status all) same called.did in
-    inl (packets_headline task called.contents found.plan status all (verb ∙ ap Use is) some called.loaded found.graph d.unread d.ran)
-did_headline task status all called way (inl is) verb good some (inr (inr found)) =
-    let same : called.action ≡ run_live task.order.report (as_asked task.order found.plan) = found.is ∙ ap (λ (w : Way). live_action w task.order found.graph.first found.plan) is in
-    inr (live_lines_headline task called.contents found.plan status all (verb ∙ ap Use is) some called.loaded found.graph (subst (λ (j : Action). DidAction j status all) same called.did))
-did_headline task status all called way (inr is) verb good some (inr (inr found)) =
-    let same : called.action ≡ generate_live task.order.report task.order.number (as_asked task.order found.plan) = found.is ∙ ap (λ (w : Way). live_action w task.order found.graph.first found.plan) is in
-    let d : GeneratedLive task.order.report task.order.number (as_asked task.order found.plan) status all = subst (λ (j : Action). DidAction j status all) same called.did in
-    inr (live_packets_headline task called.contents found.plan status all (verb ∙ ap Use is) some called.loaded found.graph d.unread d.ran)
+did_headline : (invocation : Invocation) (status : Status) (all : CallDevices) (called : CallDid status invocation all) (way : Way) → (way ≡ Run) ⊎ (way ≡ Generate) → invocation.instruction.verb ≡ Use way → status ≢ GraphRefused → status ≢ OutOfMemory
+    → Due invocation called.contents way called.action → RanGraph invocation status all
+did_headline invocation status all called way used verb good some (inl refused) = absurd (good (let d : DidAction (refuse refused.0) status all = subst (λ (j : Action). DidAction j status all) refused.1 called.did in d.ended))
+did_headline invocation status all called way (inl is) verb good some (inr (inl found)) =
+    let same : called.action ≡ run_plan invocation.instruction.report (as_asked invocation.instruction found.plan) = found.is ∙ ap (λ (w : Way). way_action w invocation.instruction found.plan) is in
+    inl (lines_headline invocation called.contents found.plan status all (verb ∙ ap Use is) some called.loaded found.graph (subst (λ (j : Action). DidAction j status all) same called.did))
+did_headline invocation status all called way (inr is) verb good some (inr (inl found)) =
+    let same : called.action ≡ generate invocation.instruction.report invocation.instruction.number (as_asked invocation.instruction found.plan) = found.is ∙ ap (λ (w : Way). way_action w invocation.instruction found.plan) is in
+    let d : GeneratedGraph invocation.instruction.report invocation.instruction.number (as_asked invocation.instruction found.plan) status all = subst (λ (j : Action). DidAction j status all) same called.did in
+    inl (packets_headline invocation called.contents found.plan status all (verb ∙ ap Use is) some called.loaded found.graph d.unread d.ran)
+did_headline invocation status all called way (inl is) verb good some (inr (inr found)) =
+    let same : called.action ≡ run_live invocation.instruction.report (as_asked invocation.instruction found.plan) = found.is ∙ ap (λ (w : Way). live_action w invocation.instruction found.graph.first found.plan) is in
+    inr (live_lines_headline invocation called.contents found.plan status all (verb ∙ ap Use is) some called.loaded found.graph (subst (λ (j : Action). DidAction j status all) same called.did))
+did_headline invocation status all called way (inr is) verb good some (inr (inr found)) =
+    let same : called.action ≡ generate_live invocation.instruction.report invocation.instruction.number (as_asked invocation.instruction found.plan) = found.is ∙ ap (λ (w : Way). live_action w invocation.instruction found.graph.first found.plan) is in
+    let d : GeneratedLive invocation.instruction.report invocation.instruction.number (as_asked invocation.instruction found.plan) status all = subst (λ (j : Action). DidAction j status all) same called.did in
+    inr (live_packets_headline invocation called.contents found.plan status all (verb ∙ ap Use is) some called.loaded found.graph d.unread d.ran)
 
-call_headline : (status : Status) (task : Task) (all : CallDevices) → CallDid status task all → RunsGraph task.order.verb → status ≢ GraphRefused → status ≢ OutOfMemory → RanGraph task status all
-call_headline status task all called (inl verb) good some =
-    did_headline task status all called Run (inl refl) verb good some (due_by task called.contents Run called.action verb called.due)
-call_headline status task all called (inr verb) good some =
-    did_headline task status all called Generate (inr refl) verb good some (due_by task called.contents Generate called.action verb called.due)
+call_headline : (status : Status) (invocation : Invocation) (all : CallDevices) → CallDid status invocation all → RunsGraph invocation.instruction.verb → status ≢ GraphRefused → status ≢ OutOfMemory → RanGraph invocation status all
+call_headline status invocation all called (inl verb) good some =
+    did_headline invocation status all called Run (inl refl) verb good some (due_by invocation called.contents Run called.action verb called.due)
+call_headline status invocation all called (inr verb) good some =
+    did_headline invocation status all called Generate (inr refl) verb good some (due_by invocation called.contents Generate called.action verb called.due)
 
 -- no run ends so
 store_ran : IsOneOf StoreFault ran_statuses → ⊥
@@ -249,23 +249,23 @@ memory_ran (inr (inr (inr (inr (inl e))))) = cc
 memory_ran (inr (inr (inr (inr (inr (inl e)))))) = cc
 memory_ran (inr (inr (inr (inr (inr (inr none)))))) = none
 
-called_headline : (status : Status) (task : Task) (all : CallDevices) → Called status task all → RunsGraph task.order.verb → IsOneOf status ran_statuses → RanGraph task status all
-called_headline Good task all called runs one = call_headline Good task all called runs (λ e. cc) (λ e. cc)
-called_headline StoreFault task all called runs one = absurd (store_ran one)
-called_headline Usage task all called runs one = elim called [ ]
-called_headline GraphRefused task all called runs one = absurd (refused_ran one)
-called_headline LineRefused task all called runs one = call_headline LineRefused task all called runs (λ e. cc) (λ e. cc)
-called_headline NodeFault task all called runs one = call_headline NodeFault task all called runs (λ e. cc) (λ e. cc)
-called_headline Stalled task all called runs one = call_headline Stalled task all called runs (λ e. cc) (λ e. cc)
-called_headline ReadFault task all called runs one = call_headline ReadFault task all called runs (λ e. cc) (λ e. cc)
-called_headline WriteFault task all called runs one = call_headline WriteFault task all called runs (λ e. cc) (λ e. cc)
-called_headline OutOfMemory task all called runs one = absurd (memory_ran one)
+called_headline : (status : Status) (invocation : Invocation) (all : CallDevices) → Called status invocation all → RunsGraph invocation.instruction.verb → IsOneOf status ran_statuses → RanGraph invocation status all
+called_headline Good invocation all called runs one = call_headline Good invocation all called runs (λ e. cc) (λ e. cc)
+called_headline StoreFault invocation all called runs one = absurd (store_ran one)
+called_headline Usage invocation all called runs one = elim called [ ]
+called_headline GraphRefused invocation all called runs one = absurd (refused_ran one)
+called_headline LineRefused invocation all called runs one = call_headline LineRefused invocation all called runs (λ e. cc) (λ e. cc)
+called_headline NodeFault invocation all called runs one = call_headline NodeFault invocation all called runs (λ e. cc) (λ e. cc)
+called_headline Stalled invocation all called runs one = call_headline Stalled invocation all called runs (λ e. cc) (λ e. cc)
+called_headline ReadFault invocation all called runs one = call_headline ReadFault invocation all called runs (λ e. cc) (λ e. cc)
+called_headline WriteFault invocation all called runs one = call_headline WriteFault invocation all called runs (λ e. cc) (λ e. cc)
+called_headline OutOfMemory invocation all called runs one = absurd (memory_ran one)
 
-pub came-headline : (outers : List OuterShape) (asked : Asked) (status : Status) (all : CallDevices) → CallEnded outers asked status all
-    → IfSome (command_by asked) (λ command. RunsGraph command.order.verb → IsOneOf status ran_statuses → RanGraph (task command outers) status all)
+pub came-headline : (outers : List OuterShape) (asked : Request) (status : Status) (all : CallDevices) → CallEnded outers asked status all
+    → IfSome (command_by request) (λ command. RunsGraph command.instruction.verb → IsOneOf status ran_statuses → RanGraph (invocation command outers) status all)
 came-headline outers asks_usage status all came = tt
 came-headline outers (asks_text text) status all came = tt
-came-headline outers (asks_command command) status all came = called_headline status (task command outers) all came
+came-headline outers (asks_command command) status all came = called_headline status (invocation command outers) all came
 
 -- There is one headline --
 
@@ -297,34 +297,34 @@ same_check : (p q : Plan) → checks_as p ≡ checks_as q → p ≡ q
 same_check p q e = cc
 
 -- of the same contents there is one graph, and one plan
-pub one_plan : (task : Task) (contents : List (List ℕ)) (plan other : Plan) → IsGraph task contents plan → IsGraph task contents other → plan ≡ other
-one_plan task contents plan other a b =
-    let files = same_graphs a.main b.main a.library b.library (one-reading task.files contents (graphs (a.main ∷ a.library)) (graphs (b.main ∷ b.library)) a.files b.files) in
+pub one_plan : (invocation : Invocation) (contents : List (List ℕ)) (plan other : Plan) → IsGraph invocation contents plan → IsGraph invocation contents other → plan ≡ other
+one_plan invocation contents plan other a b =
+    let files = same_graphs a.main b.main a.library b.library (one-reading invocation.files contents (graphs (a.main ∷ a.library)) (graphs (b.main ∷ b.library)) a.files b.files) in
     let expansion : expansion_of a.main a.library ≡ expansion_of b.main b.library = ap (λ (m : GraphView). expansion_of m a.library) files.0 ∙ ap (expansion_of b.main) files.1 in
     let graph = same_expansion a.graph b.graph (sym a.expanded ∙ expansion ∙ b.expanded) in
-    same_check plan other (sym a.checked ∙ ap (check_of task.outers) graph ∙ b.checked)
+    same_check plan other (sym a.checked ∙ ap (check_of invocation.outers) graph ∙ b.checked)
 
-not_both : (order : Order) → order.verb ≡ Use Run → order.verb ≡ Use Generate → ⊥
-not_both order run made = (let e : Use Run ≡ Use Generate = sym run ∙ made in cc)
+not_both : (instruction : Instruction) → instruction.verb ≡ Use Run → instruction.verb ≡ Use Generate → ⊥
+not_both instruction run made = (let e : Use Run ≡ Use Generate = sym run ∙ made in cc)
 
 -- over an input that tells its bytes, of which no read failed, there is one origin
-pub one_origin : (order : Order) (plan : Plan) (input other : Device SourceTold) (bytes : List ℕ) (a b : Origin) → input.before.left ≡ Some bytes → other.before.left ≡ Some bytes → Unrisen input.before.faults input.now.faults
-    → Unrisen other.before.faults other.now.faults → IsOrigin order plan input a → IsOrigin order plan other b → a ≡ b
-one_origin order plan input other bytes (from_input read) (from_input again) left left_too un un_too one two =
+pub one_origin : (instruction : Instruction) (plan : Plan) (input other : Device SourceTold) (bytes : List ℕ) (a b : Origin) → input.before.left ≡ Some bytes → other.before.left ≡ Some bytes → Unrisen input.before.faults input.now.faults
+    → Unrisen other.before.faults other.now.faults → IsOrigin instruction plan input a → IsOrigin instruction plan other b → a ≡ b
+one_origin instruction plan input other bytes (from_input read) (from_input again) left left_too un un_too one two =
     ap from_input (told_reading plan input read bytes one.1 left un ∙ sym (told_reading plan other again bytes two.1 left_too un_too))
-one_origin order plan input other bytes (from_input read) (from_number number) left left_too un un_too one two = absurd (not_both order one.0 two.0)
-one_origin order plan input other bytes (from_number number) (from_input read) left left_too un un_too one two = absurd (not_both order two.0 one.0)
-one_origin order plan input other bytes (from_number number) (from_number again) left left_too un un_too one two = ap from_number (one.1 ∙ sym two.1)
+one_origin instruction plan input other bytes (from_input read) (from_number number) left left_too un un_too one two = absurd (not_both instruction one.0 two.0)
+one_origin instruction plan input other bytes (from_number number) (from_input read) left left_too un un_too one two = absurd (not_both instruction two.0 one.0)
+one_origin instruction plan input other bytes (from_number number) (from_number again) left left_too un un_too one two = ap from_number (one.1 ∙ sym two.1)
 
-pub one_headline : (task : Task) (status other_status : Status) (all other : CallDevices) (contents : List (List ℕ)) (bytes : List ℕ) (a : Headline task status all) (b : Headline task other_status other)
-    → loads_of all.store.before.content task.files ≡ Some contents → loads_of other.store.before.content task.files ≡ Some contents → all.input.before.left ≡ Some bytes → other.input.before.left ≡ Some bytes
+pub one_headline : (invocation : Invocation) (status other_status : Status) (all other : CallDevices) (contents : List (List ℕ)) (bytes : List ℕ) (a : Headline invocation status all) (b : Headline invocation other_status other)
+    → loads_of all.store.before.content invocation.files ≡ Some contents → loads_of other.store.before.content invocation.files ≡ Some contents → all.input.before.left ≡ Some bytes → other.input.before.left ≡ Some bytes
     → Unrisen all.input.before.faults all.input.now.faults → Unrisen other.input.before.faults other.input.now.faults → (a.plan ≡ b.plan) × (a.from ≡ b.from) × (a.run.streams ≡ b.run.streams)
-one_headline task status other_status all other contents bytes a b loads loads_too left left_too un un_too =
-    let in_a : IsGraph task contents a.plan = subst (λ (cs : List (List ℕ)). IsGraph task cs a.plan) (told_contents task.files a.contents contents all.store a.loaded loads) a.graph in
-    let in_b : IsGraph task contents b.plan = subst (λ (cs : List (List ℕ)). IsGraph task cs b.plan) (told_contents task.files b.contents contents other.store b.loaded loads_too) b.graph in
-    let plans = one_plan task contents a.plan b.plan in_a in_b in
-    let origin : IsOrigin task.order b.plan all.input a.from = subst (λ (p : Plan). IsOrigin task.order p all.input a.from) plans a.origin in
-    let origins = one_origin task.order b.plan all.input other.input bytes a.from b.from left left_too un un_too origin b.origin in
+one_headline invocation status other_status all other contents bytes a b loads loads_too left left_too un un_too =
+    let in_a : IsGraph invocation contents a.plan = subst (λ (cs : List (List ℕ)). IsGraph invocation cs a.plan) (told_contents invocation.files a.contents contents all.store a.loaded loads) a.graph in
+    let in_b : IsGraph invocation contents b.plan = subst (λ (cs : List (List ℕ)). IsGraph invocation cs b.plan) (told_contents invocation.files b.contents contents other.store b.loaded loads_too) b.graph in
+    let plans = one_plan invocation contents a.plan b.plan in_a in_b in
+    let origin : IsOrigin invocation.instruction b.plan all.input a.from = subst (λ (p : Plan). IsOrigin invocation.instruction p all.input a.from) plans a.origin in
+    let origins = one_origin invocation.instruction b.plan all.input other.input bytes a.from b.from left left_too un un_too origin b.origin in
     let jobs : job_from (bare a.plan) a.from ≡ job_from (bare b.plan) b.from = ap (λ (p : Plan). job_from (bare p) a.from) plans ∙ ap (job_from (bare b.plan)) origins in (
       plans,
       origins,

@@ -5,15 +5,15 @@ use Rattle.mg_check.specs.declared.fault.CheckFault.{CheckFault}
 use Rattle.mg_free.specs.Core.{first_free}
 use Rattle.mg_run.specs.Answer.{Action, refuse, way_action, live_action, used_action, plan_action}
 use Rattle.mg_files.specs.CheckNotes.{check_note}
-use Rattle.mg_words.specs.declared.words.Order.{Order}
+use Rattle.mg_words.specs.declared.words.Instruction.{Instruction}
 use Rattle.mg_words.specs.declared.words.Way.{Way}
 
-used : (P : Action → Type 0) (first : Option ℕ) (way : Way) (order : Order) (plan : Plan) → P (way_action way order plan) → ((number : ℕ) → P (live_action way order number plan)) → P (used_action first way order plan)
-used P None way order plan done live = done
-used P (Some number) way order plan done live = live number
+used : (P : Action → Type 0) (first : Option ℕ) (way : Way) (instruction : Instruction) (plan : Plan) → P (way_action way instruction plan) → ((number : ℕ) → P (live_action way instruction number plan)) → P (used_action first way instruction plan)
+used P None way instruction plan done live = done
+used P (Some number) way instruction plan done live = live number
 
 -- what holds of each refusal, and of what there is to do with each plan, without and with free nodes, holds of it
-pub planned : (P : Action → Type 0) (way : Way) (order : Order) (checked : Result Plan CheckFault) → ((text : List ℕ) → P (refuse text)) → ((plan : Plan) → P (way_action way order plan))
-    → ((number : ℕ) (plan : Plan) → P (live_action way order number plan)) → P (plan_action way order checked)
-planned P way order (Ok plan) refused done live = used P (first_free plan) way order plan (done plan) (λ number. live number plan)
-planned P way order (Err fault) refused done live = refused (check_note fault)
+pub planned : (P : Action → Type 0) (way : Way) (instruction : Instruction) (checked : Result Plan CheckFault) → ((text : List ℕ) → P (refuse text)) → ((plan : Plan) → P (way_action way instruction plan))
+    → ((number : ℕ) (plan : Plan) → P (live_action way instruction number plan)) → P (plan_action way instruction checked)
+planned P way instruction (Ok plan) refused done live = used P (first_free plan) way instruction plan (done plan) (λ number. live number plan)
+planned P way instruction (Err fault) refused done live = refused (check_note fault)

@@ -1,7 +1,7 @@
 -- Which statuses a call may have whose devices failed.
 use Rattle.std.proofs.Common.{◌≡◌, ℕ, List, [], ◌∷◌, ◌⊎◌, inl, inr, refl, ap, arith}
 use Rattle.mg_edge.specs.Edge.{SourceTold, SinkTold}
-use Rattle.mg_run.specs.Task.{Task}
+use Rattle.mg_run.specs.Invocation.{Invocation}
 use Rattle.mg_answer.proofs.Answering.{read-risen as run-read-risen, write-risen as run-write-risen}
 use Rattle.mg_run.proofs.Readings.{lines-read-risen, lines-write-risen, packets-write-risen}
 use Rattle.mg_run.proofs.LiveReadings.{live-read-risen, live-write-risen, live-made-write-risen}
@@ -23,17 +23,17 @@ risen-unwritten : (sink : Device SinkTold) → HasRisen sink.before.faults sink.
 risen-unwritten sink risen untouched = risen-steady _ _ risen (ap (λ s. s.faults) untouched)
 
 -- The store's count rose.
-pub store-risen : (status : Status) (task : Task) (all : CallDevices) → Called status task all → HasRisen all.store.before.faults all.store.now.faults → IsOneOf status (StoreFault ∷ OutOfMemory ∷ [])
-store-risen Good task all called risen = absurd (risen-steady _ _ risen called.loaded.steady)
-store-risen StoreFault task all called risen = inl refl
-store-risen Usage task all called risen = elim called [ ]
-store-risen GraphRefused task all called risen = absurd (risen-steady _ _ risen called.loaded.steady)
-store-risen LineRefused task all called risen = absurd (risen-steady _ _ risen called.loaded.steady)
-store-risen NodeFault task all called risen = absurd (risen-steady _ _ risen called.loaded.steady)
-store-risen Stalled task all called risen = absurd (risen-steady _ _ risen called.loaded.steady)
-store-risen ReadFault task all called risen = absurd (risen-steady _ _ risen called.loaded.steady)
-store-risen WriteFault task all called risen = absurd (risen-steady _ _ risen called.loaded.steady)
-store-risen OutOfMemory task all called risen = inr (inl refl)
+pub store-risen : (status : Status) (invocation : Invocation) (all : CallDevices) → Called status invocation all → HasRisen all.store.before.faults all.store.now.faults → IsOneOf status (StoreFault ∷ OutOfMemory ∷ [])
+store-risen Good invocation all called risen = absurd (risen-steady _ _ risen called.loaded.steady)
+store-risen StoreFault invocation all called risen = inl refl
+store-risen Usage invocation all called risen = elim called [ ]
+store-risen GraphRefused invocation all called risen = absurd (risen-steady _ _ risen called.loaded.steady)
+store-risen LineRefused invocation all called risen = absurd (risen-steady _ _ risen called.loaded.steady)
+store-risen NodeFault invocation all called risen = absurd (risen-steady _ _ risen called.loaded.steady)
+store-risen Stalled invocation all called risen = absurd (risen-steady _ _ risen called.loaded.steady)
+store-risen ReadFault invocation all called risen = absurd (risen-steady _ _ risen called.loaded.steady)
+store-risen WriteFault invocation all called risen = absurd (risen-steady _ _ risen called.loaded.steady)
+store-risen OutOfMemory invocation all called risen = inr (inl refl)
 
 -- The input's count rose.
 abbrev read_statuses : List Status
@@ -50,17 +50,17 @@ read-did (generate_live report number plan) status all did risen = absurd (risen
 read-did (trace report plan) status all did risen = traced_read_risen report plan all.boxes.before status (run_devices_of all) did.ran risen
 read-did (replay report plan) status all did risen = replayed_read_risen report plan status (run_devices_of all) all.boxes did.replayed risen
 
-pub read-risen : (status : Status) (task : Task) (all : CallDevices) → Called status task all → HasRisen all.input.before.faults all.input.now.faults → IsOneOf status read_statuses
-read-risen Good task all called risen = read-did called.action Good all called.did risen
-read-risen StoreFault task all called risen = absurd (risen-unread all.input risen called.unread)
-read-risen Usage task all called risen = elim called [ ]
-read-risen GraphRefused task all called risen = read-did called.action GraphRefused all called.did risen
-read-risen LineRefused task all called risen = read-did called.action LineRefused all called.did risen
-read-risen NodeFault task all called risen = read-did called.action NodeFault all called.did risen
-read-risen Stalled task all called risen = read-did called.action Stalled all called.did risen
-read-risen ReadFault task all called risen = inl refl
-read-risen WriteFault task all called risen = inr (inl refl)
-read-risen OutOfMemory task all called risen = inr (inr (inl refl))
+pub read-risen : (status : Status) (invocation : Invocation) (all : CallDevices) → Called status invocation all → HasRisen all.input.before.faults all.input.now.faults → IsOneOf status read_statuses
+read-risen Good invocation all called risen = read-did called.action Good all called.did risen
+read-risen StoreFault invocation all called risen = absurd (risen-unread all.input risen called.unread)
+read-risen Usage invocation all called risen = elim called [ ]
+read-risen GraphRefused invocation all called risen = read-did called.action GraphRefused all called.did risen
+read-risen LineRefused invocation all called risen = read-did called.action LineRefused all called.did risen
+read-risen NodeFault invocation all called risen = read-did called.action NodeFault all called.did risen
+read-risen Stalled invocation all called risen = read-did called.action Stalled all called.did risen
+read-risen ReadFault invocation all called risen = inl refl
+read-risen WriteFault invocation all called risen = inr (inl refl)
+read-risen OutOfMemory invocation all called risen = inr (inr (inl refl))
 
 -- The output's count or the notes' rose.
 abbrev write_statuses : List Status
@@ -93,14 +93,14 @@ write-did (generate_live report number plan) status all did risen =
 write-did (trace report plan) status all did risen = write-status status (traced_write_risen report plan all.boxes.before status (run_devices_of all) did.ran risen)
 write-did (replay report plan) status all did risen = write-status status (replayed_write_risen report plan status (run_devices_of all) all.boxes did.replayed risen)
 
-pub write-risen : (status : Status) (task : Task) (all : CallDevices) → Called status task all → EitherRisen all → IsOneOf status write_statuses
-write-risen Good task all called risen = write-did called.action Good all called.did risen
-write-risen StoreFault task all called risen = inl refl
-write-risen Usage task all called risen = elim called [ ]
-write-risen GraphRefused task all called risen = write-did called.action GraphRefused all called.did risen
-write-risen LineRefused task all called risen = write-did called.action LineRefused all called.did risen
-write-risen NodeFault task all called risen = write-did called.action NodeFault all called.did risen
-write-risen Stalled task all called risen = write-did called.action Stalled all called.did risen
-write-risen ReadFault task all called risen = write-did called.action ReadFault all called.did risen
-write-risen WriteFault task all called risen = inr (inr (inl refl))
-write-risen OutOfMemory task all called risen = inr (inr (inr (inl refl)))
+pub write-risen : (status : Status) (invocation : Invocation) (all : CallDevices) → Called status invocation all → EitherRisen all → IsOneOf status write_statuses
+write-risen Good invocation all called risen = write-did called.action Good all called.did risen
+write-risen StoreFault invocation all called risen = inl refl
+write-risen Usage invocation all called risen = elim called [ ]
+write-risen GraphRefused invocation all called risen = write-did called.action GraphRefused all called.did risen
+write-risen LineRefused invocation all called risen = write-did called.action LineRefused all called.did risen
+write-risen NodeFault invocation all called risen = write-did called.action NodeFault all called.did risen
+write-risen Stalled invocation all called risen = write-did called.action Stalled all called.did risen
+write-risen ReadFault invocation all called risen = write-did called.action ReadFault all called.did risen
+write-risen WriteFault invocation all called risen = inr (inr (inl refl))
+write-risen OutOfMemory invocation all called risen = inr (inr (inr (inl refl)))

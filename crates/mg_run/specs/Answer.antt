@@ -7,7 +7,7 @@ use Rattle.mg_calc.specs.declared.shape.OuterShape.{OuterShape}
 use Rattle.mg_calc.specs.Told.{CalculatorTold}
 use Rattle.mg_check.specs.Check.{check_of}
 use Rattle.mg_check.specs.declared.fault.CheckFault.{CheckFault}
-use Rattle.mg_run.specs.Task.{Task}
+use Rattle.mg_run.specs.Invocation.{Invocation}
 use Rattle.mg_subgraph.specs.Expansion.{expansion_of}
 use Rattle.mg_subgraph.specs.declared.fault.ExpandFault.{ExpandFault}
 use Rattle.mg_files.specs.File.{graph_text}
@@ -22,7 +22,7 @@ use Rattle.mg_replay.specs.Replayed.{AnswersTrace}
 use Rattle.mg_free.specs.Core.{first_free}
 use Rattle.mg_files.specs.Notes.{expand_note, free_note}
 use Rattle.mg_words.specs.declared.limits.TheConstants.{MOST_WORKERS}
-use Rattle.mg_words.specs.declared.words.Order.{Order}
+use Rattle.mg_words.specs.declared.words.Instruction.{Instruction}
 use Rattle.mg_words.specs.declared.words.Verb.{Verb}
 use Rattle.mg_words.specs.declared.words.Verb.TheVariants.{Check, Expand, Use}
 use Rattle.mg_words.specs.declared.words.Way.{Way}
@@ -66,9 +66,9 @@ abbrev pub with_workers : Option ℕ → Plan → Plan
 with_workers None plan = plan
 with_workers (Some workers) plan = record plan { workers = min workers MOST_WORKERS }
 
--- a plan with the limit of queues and the number of workers that an order asks for
-abbrev pub as_asked : Order → Plan → Plan
-as_asked order plan = with_workers order.workers (with_limit order.limit plan)
+-- a plan with the limit of queues and the number of workers that an instruction asks for
+abbrev pub as_asked : Instruction → Plan → Plan
+as_asked instruction plan = with_workers instruction.workers (with_limit instruction.limit plan)
 
 -- The word of a way to use a plan, which the note of a refusal names.
 abbrev pub way_word : Way → List ℕ
@@ -79,60 +79,60 @@ way_word Trace = codes "trace"
 way_word Replay = codes "replay"
 
 -- the action of using a plan without free nodes in a way; for a run that is recorded or made again the number of workers doesn't count
-abbrev pub way_action : Way → Order → Plan → Action
-way_action Run order plan = run_plan order.report (as_asked order plan)
-way_action Solve order plan = solve order.report plan
-way_action Generate order plan = generate order.report order.number (as_asked order plan)
-way_action Trace order plan = trace order.report (with_limit order.limit plan)
-way_action Replay order plan = replay order.report (with_limit order.limit plan)
+abbrev pub way_action : Way → Instruction → Plan → Action
+way_action Run instruction plan = run_plan instruction.report (as_asked instruction plan)
+way_action Solve instruction plan = solve instruction.report plan
+way_action Generate instruction plan = generate instruction.report instruction.number (as_asked instruction plan)
+way_action Trace instruction plan = trace instruction.report (with_limit instruction.limit plan)
+way_action Replay instruction plan = replay instruction.report (with_limit instruction.limit plan)
 
 -- The action of using a graph with free nodes in a way, of which `first` is the first: it is run, over the input or over packets that are
 -- made, and refused in each other way.
-abbrev pub live_action : Way → Order → ℕ → Plan → Action
-live_action Run order first plan = run_live order.report (as_asked order plan)
-live_action Solve order first plan = refuse (free_note (way_word Solve) first)
-live_action Generate order first plan = generate_live order.report order.number (as_asked order plan)
-live_action Trace order first plan = refuse (free_note (way_word Trace) first)
-live_action Replay order first plan = refuse (free_note (way_word Replay) first)
+abbrev pub live_action : Way → Instruction → ℕ → Plan → Action
+live_action Run instruction first plan = run_live instruction.report (as_asked instruction plan)
+live_action Solve instruction first plan = refuse (free_note (way_word Solve) first)
+live_action Generate instruction first plan = generate_live instruction.report instruction.number (as_asked instruction plan)
+live_action Trace instruction first plan = refuse (free_note (way_word Trace) first)
+live_action Replay instruction first plan = refuse (free_note (way_word Replay) first)
 
 -- the action of using a plan in a way, by its first free node, if it has one
-abbrev pub used_action : Option ℕ → Way → Order → Plan → Action
-used_action None way order plan = way_action way order plan
-used_action (Some first) way order plan = live_action way order first plan
+abbrev pub used_action : Option ℕ → Way → Instruction → Plan → Action
+used_action None way instruction plan = way_action way instruction plan
+used_action (Some first) way instruction plan = live_action way instruction first plan
 
 -- the action of using a graph in a way, by what the check says of it
-abbrev pub plan_action : Way → Order → Result Plan CheckFault → Action
-plan_action way order (Ok plan) = used_action (first_free plan) way order plan
-plan_action way order (Err fault) = refuse (check_note fault)
+abbrev pub plan_action : Way → Instruction → Result Plan CheckFault → Action
+plan_action way instruction (Ok plan) = used_action (first_free plan) way instruction plan
+plan_action way instruction (Err fault) = refuse (check_note fault)
 
 -- the action of a command with a graph whose subgraphs are expanded
-abbrev pub verb_action : Verb → Order → List OuterShape → GraphView → Action
-verb_action Check order outers g = check_action (check_of outers g)
-verb_action Expand order outers g = show (graph_text g)
-verb_action (Use way) order outers g = plan_action way order (check_of outers g)
+abbrev pub verb_action : Verb → Instruction → List OuterShape → GraphView → Action
+verb_action Check instruction outers g = check_action (check_of outers g)
+verb_action Expand instruction outers g = show (graph_text g)
+verb_action (Use way) instruction outers g = plan_action way instruction (check_of outers g)
 
-abbrev pub graph_action : Order → List OuterShape → GraphView → Action
-graph_action order outers g = verb_action order.verb order outers g
+abbrev pub graph_action : Instruction → List OuterShape → GraphView → Action
+graph_action instruction outers g = verb_action instruction.verb instruction outers g
 
 -- the action of a command, by what the expansion of its graph comes to
-abbrev pub expanded_action : Order → List OuterShape → Result GraphView ExpandFault → Action
-expanded_action order outers (Ok g) = graph_action order outers g
-expanded_action order outers (Err fault) = refuse (expand_note fault)
+abbrev pub expanded_action : Instruction → List OuterShape → Result GraphView ExpandFault → Action
+expanded_action instruction outers (Ok g) = graph_action instruction outers g
+expanded_action instruction outers (Err fault) = refuse (expand_note fault)
 
 -- The action of a command over graphs: the first is the main one, and it is expanded with the others as its library. A command always has a
 -- first.
-abbrev pub graphs_action : Order → List OuterShape → List GraphView → Action
-graphs_action order outers [] = refuse []
-graphs_action order outers (main ∷ library) = expanded_action order outers (expansion_of main library)
+abbrev pub graphs_action : Instruction → List OuterShape → List GraphView → Action
+graphs_action instruction outers [] = refuse []
+graphs_action instruction outers (main ∷ library) = expanded_action instruction outers (expansion_of main library)
 
 -- the action of a command, by what its files are
-abbrev pub files_action : Order → List OuterShape → Files → Action
-files_action order outers (graphs gs) = graphs_action order outers gs
-files_action order outers (no_graphs note) = refuse note
+abbrev pub files_action : Instruction → List OuterShape → Files → Action
+files_action instruction outers (graphs gs) = graphs_action instruction outers gs
+files_action instruction outers (no_graphs note) = refuse note
 
--- the action of a task, by what its files are
-abbrev pub action_of : Task → Files → Action
-action_of task files = files_action task.order task.outers files
+-- the action of an invocation, by what its files are
+abbrev pub action_of : Invocation → Files → Action
+action_of invocation files = files_action invocation.instruction invocation.outers files
 
 -- The answers --
 

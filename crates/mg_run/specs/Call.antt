@@ -2,8 +2,8 @@
 use Rattle.std.specs.Prelude.{◌≡◌, ℕ, ◌⊎◌, Bool, List, IfSome}
 use Rattle.mg_calc.specs.declared.plan.Plan.{Plan}
 use Rattle.mg_calc.specs.declared.shape.OuterShape.{OuterShape}
-use Rattle.mg_run.specs.Task.{Task, task}
-use Rattle.mg_words.specs.Words.{Asked, asks_usage, asks_text, asks_command}
+use Rattle.mg_run.specs.Invocation.{Invocation, invocation}
+use Rattle.mg_words.specs.Words.{Request, asks_usage, asks_text, asks_command}
 use Rattle.mg_files.specs.Files.{Files, AreFiles}
 use Rattle.mg_files.specs.Loads.{LoadedAll, FailedAt, loads_of}
 use Rattle.mg_files.specs.Notes.{store_note}
@@ -113,15 +113,15 @@ DidAction (trace report plan) status devices = TracedGraph report plan status de
 DidAction (replay report plan) status devices = ReplayedGraph report plan status devices
 
 -- what a command has to do with the contents of its files
-abbrev pub IsActionOf : Task → List (List ℕ) → Action → Type 0
-IsActionOf task contents action = (files : Files) × AreFiles task.files contents files × (action ≡ action_of task files)
+abbrev pub IsActionOf : Invocation → List (List ℕ) → Action → Type 0
+IsActionOf invocation contents action = (files : Files) × AreFiles invocation.files contents files × (action ≡ action_of invocation files)
 
 -- All files were loaded, and what the command has to do with their contents was done.
-pub record CallDid (status : Status) (task : Task) (devices : CallDevices) : Type 0 where
+pub record CallDid (status : Status) (invocation : Invocation) (devices : CallDevices) : Type 0 where
   pub contents : List (List ℕ)
-  pub loaded : LoadedAll task.files contents devices.store
+  pub loaded : LoadedAll invocation.files contents devices.store
   pub action : Action
-  pub due : IsActionOf task contents action
+  pub due : IsActionOf invocation contents action
   pub did : DidAction action status devices
 
 -- Nothing was read from the input, written to the output or called.
@@ -131,29 +131,29 @@ pub record DidNothing (devices : CallDevices) : Type 0 where
   pub uncalled : Untouched devices.boxes
 
 -- Memory ran out, before it was known what there is to do or while that was done. The only note says that.
-pub record CallShort (task : Task) (devices : CallDevices) : Type 0 where
+pub record CallShort (invocation : Invocation) (devices : CallDevices) : Type 0 where
   pub noted : TookNotes devices.notes memory_note
-  pub by : DidNothing devices ⊎ CallDid OutOfMemory task devices
+  pub by : DidNothing devices ⊎ CallDid OutOfMemory invocation devices
 
 -- A call with a command ended with this status.
-abbrev pub Called : Status → Task → CallDevices → Type 0
-Called StoreFault task devices = WasUnloaded task.files devices
-Called Usage task devices = ⊥
-Called OutOfMemory task devices = CallShort task devices
-Called status task devices = CallDid status task devices
+abbrev pub Called : Status → Invocation → CallDevices → Type 0
+Called StoreFault invocation devices = WasUnloaded invocation.files devices
+Called Usage invocation devices = ⊥
+Called OutOfMemory invocation devices = CallShort invocation devices
+Called status invocation devices = CallDid status invocation devices
 
 -- A call ended with this status, by what its words ask for and by the calculators that are handed in.
-abbrev pub CallEnded : List OuterShape → Asked → Status → CallDevices → Type 0
+abbrev pub CallEnded : List OuterShape → Request → Status → CallDevices → Type 0
 CallEnded outers asks_usage status devices = WasUsage status devices
 CallEnded outers (asks_text text) status devices = WasTold text status devices
-CallEnded outers (asks_command command) status devices = Called status (task command outers) devices
+CallEnded outers (asks_command command) status devices = Called status (invocation command outers) devices
 
 -- The call wrote the answer of an action over an input that ends after these bytes.
 abbrev pub MetAnswer : Action → List ℕ → Status → CallDevices → Type 0
 MetAnswer action read status devices = (given : RunAnswer) × AnswersAction action devices.boxes.before read given × Meets given status devices.output devices.notes
 
 -- Where the devices tell the files' bytes and the input's, the call wrote the answer to them.
-abbrev pub IsAnswered : Status → Task → CallDevices → Type 0
-IsAnswered status task devices =
-    IfSome (loads_of devices.store.before.content task.files) (λ contents. IfSome devices.input.before.left (λ read.
-    (files : Files) × AreFiles task.files contents files × MetAnswer (action_of task files) read status devices))
+abbrev pub IsAnswered : Status → Invocation → CallDevices → Type 0
+IsAnswered status invocation devices =
+    IfSome (loads_of devices.store.before.content invocation.files) (λ contents. IfSome devices.input.before.left (λ read.
+    (files : Files) × AreFiles invocation.files contents files × MetAnswer (action_of invocation files) read status devices))

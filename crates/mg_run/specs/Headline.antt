@@ -18,11 +18,11 @@ use Rattle.mg_answer.specs.declared.status.Status.{Status}
 use Rattle.mg_answer.specs.declared.status.Status.TheVariants.{Good, LineRefused, NodeFault, Stalled, ReadFault, WriteFault}
 use Rattle.mg_drive.specs.OneRun.{OneRun}
 use Rattle.mg_drive.specs.OneLive.{AreBatchesOf, OneLive}
-use Rattle.mg_run.specs.Task.{Task}
+use Rattle.mg_run.specs.Invocation.{Invocation}
 use Rattle.mg_files.specs.Files.{AreGraphs}
 use Rattle.mg_files.specs.Loads.{LoadedAll}
 use Rattle.mg_run.specs.Devices.{Device, CallDevices, Untouched}
-use Rattle.mg_words.specs.declared.words.Order.{Order}
+use Rattle.mg_words.specs.declared.words.Instruction.{Instruction}
 use Rattle.mg_words.specs.declared.words.Verb.{Verb}
 use Rattle.mg_words.specs.declared.words.Verb.TheVariants.{Use}
 use Rattle.mg_words.specs.declared.words.Way.TheVariants.{Run, Generate}
@@ -38,13 +38,13 @@ ran_statuses = Good ∷ LineRefused ∷ NodeFault ∷ Stalled ∷ ReadFault ∷ 
 
 -- The contents are graphs. The first expands with the others as its library to a valid graph with this plan, where the calculators that are
 -- handed in have these shapes and laws, and no node of it is free.
-pub record IsGraph (task : Task) (contents : List (List ℕ)) (plan : Plan) : Type 0 where
+pub record IsGraph (invocation : Invocation) (contents : List (List ℕ)) (plan : Plan) : Type 0 where
   pub main : GraphView
   pub library : List GraphView
   pub files : AreGraphs contents (main ∷ library)
   pub graph : GraphView
   pub expanded : expansion_of main library ≡ Ok graph
-  pub checked : check_of task.outers graph ≡ Ok plan
+  pub checked : check_of invocation.outers graph ≡ Ok plan
   pub bound : first_free plan ≡ None
 
 -- What a graph was run over: what the input came to, or a number of packets that are made.
@@ -54,9 +54,9 @@ pub data Origin : Type 0 where
 
 -- The graph was run over the input, which was read once, to its end, its first line that isn't good or its first failed read; or over
 -- packets that are made, and the input was left as it was.
-abbrev pub IsOrigin : Order → Plan → Device SourceTold → Origin → Type 0
-IsOrigin order plan input (from_input read) = (order.verb ≡ Use Run) × CameTo (inputs_of plan) input read
-IsOrigin order plan input (from_number number) = (order.verb ≡ Use Generate) × (number ≡ order.number) × Untouched input
+abbrev pub IsOrigin : Instruction → Plan → Device SourceTold → Origin → Type 0
+IsOrigin instruction plan input (from_input read) = (instruction.verb ≡ Use Run) × CameTo (inputs_of plan) input read
+IsOrigin instruction plan input (from_number number) = (instruction.verb ≡ Use Generate) × (number ≡ instruction.number) × Untouched input
 
 -- the job of a plan over what the input came to, or over packets that are made
 abbrev pub job_from : Plan → Origin → equations.Job
@@ -79,26 +79,26 @@ bare plan = record plan { limit = negsuc 0; workers = 0 }
 
 -- A call ran its graph, in which no node is free: there is one content of each file, one plan, one thing that it was run over, and one
 -- solution.
-pub record Headline (task : Task) (status : Status) (devices : CallDevices) : Type 0 where
+pub record Headline (invocation : Invocation) (status : Status) (devices : CallDevices) : Type 0 where
   pub contents : List (List ℕ)
-  pub loaded : LoadedAll task.files contents devices.store
+  pub loaded : LoadedAll invocation.files contents devices.store
   pub plan : Plan
-  pub graph : IsGraph task contents plan
+  pub graph : IsGraph invocation contents plan
   pub from : Origin
-  pub origin : IsOrigin task.order plan devices.input from
-  pub run : OneRun (telling_from task.order.report from) (job_from (bare plan) from) (end_from from) status devices.output devices.notes devices.boxes
+  pub origin : IsOrigin invocation.instruction plan devices.input from
+  pub run : OneRun (telling_from invocation.instruction.report from) (job_from (bare plan) from) (end_from from) status devices.output devices.notes devices.boxes
 
 -- Graphs with free nodes --
 
 -- The contents are graphs. The first expands with the others as its library to a valid graph with this plan, where the calculators that are
 -- handed in have these shapes and laws, and some node of it is free, of which this is the first.
-pub record IsLiveGraph (task : Task) (contents : List (List ℕ)) (plan : Plan) : Type 0 where
+pub record IsLiveGraph (invocation : Invocation) (contents : List (List ℕ)) (plan : Plan) : Type 0 where
   pub main : GraphView
   pub library : List GraphView
   pub files : AreGraphs contents (main ∷ library)
   pub graph : GraphView
   pub expanded : expansion_of main library ≡ Ok graph
-  pub checked : check_of task.outers graph ≡ Ok plan
+  pub checked : check_of invocation.outers graph ≡ Ok plan
   pub first : ℕ
   pub free : first_free plan ≡ Some first
 
@@ -114,18 +114,18 @@ form_from (from_number number) = totals
 
 -- A call ran its graph, which has free nodes: there is one content of each file, one plan, one thing that it was run over, the logs to
 -- which the free nodes' rounds over its batches come, and one solution of the core for these.
-pub record LiveHeadline (task : Task) (status : Status) (devices : CallDevices) : Type 0 where
+pub record LiveHeadline (invocation : Invocation) (status : Status) (devices : CallDevices) : Type 0 where
   pub contents : List (List ℕ)
-  pub loaded : LoadedAll task.files contents devices.store
+  pub loaded : LoadedAll invocation.files contents devices.store
   pub plan : Plan
-  pub graph : IsLiveGraph task contents plan
+  pub graph : IsLiveGraph invocation contents plan
   pub from : Origin
-  pub origin : IsOrigin task.order plan devices.input from
+  pub origin : IsOrigin invocation.instruction plan devices.input from
   pub first : Inputs
   pub later : List Inputs
   pub batches : AreBatchesFrom (bare plan) from (first ∷ later)
-  pub run : OneLive (form_from from) task.order.report (bare plan) first later (end_from from) status devices.output devices.notes devices.boxes
+  pub run : OneLive (form_from from) invocation.instruction.report (bare plan) first later (end_from from) status devices.output devices.notes devices.boxes
 
 -- a call ran its graph, without free nodes or with
-abbrev pub RanGraph : Task → Status → CallDevices → Type 0
-RanGraph task status devices = Headline task status devices ⊎ LiveHeadline task status devices
+abbrev pub RanGraph : Invocation → Status → CallDevices → Type 0
+RanGraph invocation status devices = Headline invocation status devices ⊎ LiveHeadline invocation status devices

@@ -1,5 +1,5 @@
 -- What the program means: whoever wants to know what is proved reads these files.
-pub mod Task
+pub mod Invocation
 pub mod Answer
 pub mod Devices
 pub mod Boxes

@@ -6,7 +6,7 @@ ghost use Rattle.mg_calc.specs.declared.shape.OuterShape.{OuterShape};
 ghost use Rattle.mg_check.specs.Check.{check_of, IsOuterShape};
 ghost use Rattle.mg_subgraph.specs.Expansion.{expansion_of};
 ghost use Rattle.mg_words.specs.Command.{command};
-ghost use Rattle.mg_run.specs.Task.{Task, task};
+ghost use Rattle.mg_run.specs.Invocation.{Invocation, invocation};
 ghost use Rattle.mg_run.specs.Answer as answers;
 ghost use Rattle.mg_run.specs.Code.Action.{action_view, CanBeDone};
 ghost use Rattle.mg_files.specs.Reads.{contents_of, AreNotedOf};
@@ -20,7 +20,7 @@ use mg_files::{Fault, check_note, check_text, expand_note, graph_text, graphs_of
 use mg_free::first_free;
 use mg_subgraph::expand_own;
 use mg_value::MgText;
-use mg_words::{Order, Verb, Way};
+use mg_words::{Instruction, Verb, Way};
 use std::alloc::{AllocError, Global};
 
 /// How the graph of a plan is used.
@@ -57,20 +57,20 @@ pub enum Action {
 /// calculators that are handed in.
 pub fn action_of(
     alloc: Global,
-    order: Order,
+    instruction: Instruction,
     outers: &[OuterShape],
     names: &[MgText],
     contents: Vec<Vec<u8>>,
 ) -> Result<Action, AllocError>
     requires each { length contents.items ≡ length names.now }
     requires outers { All IsOuterShape outers.now }
-    ensures due { IfOk result (λ action. IsActionOf (task (command order names.now) outers.now) (contents_of contents.items) (action_view action)) }
+    ensures due { IfOk result (λ action. IsActionOf (invocation (command instruction names.now) outers.now) (contents_of contents.items) (action_view action)) }
     ensures valid { IfOk result (λ action. CanBeDone outers.now (action_view action)) }
 {
     match graphs_of(alloc, names, &contents) {
         Ok(graphs) => {
             drop(contents);
-            graphs_action(alloc, order, outers, graphs)
+            graphs_action(alloc, instruction, outers, graphs)
         }
         Err(fault) => refused(fault),
     }
@@ -79,7 +79,7 @@ pub fn action_of(
 // Returns the action of refusing a file with its note, or an error where memory ran out.
 fn refused(fault: Fault) -> Result<Action, AllocError>
     ensures valid { IfOk result (λ action. (outers : List OuterShape) → CanBeDone outers (action_view action)) }
-    ensures due { IfOk result (λ action. (task : Task) (contents : List (List ℕ)) → AreNotedOf fault task.files contents → IsActionOf task contents (action_view action)) }
+    ensures due { IfOk result (λ action. (invocation : Invocation) (contents : List (List ℕ)) → AreNotedOf fault invocation.files contents → IsActionOf invocation contents (action_view action)) }
 {
     match fault {
         Fault::Noted(note) => Ok(Action::Refuse(note)),
@@ -90,14 +90,14 @@ fn refused(fault: Fault) -> Result<Action, AllocError>
 // Returns what there is to do with graphs, of which the first is the main one and the others are its library.
 fn graphs_action(
     alloc: Global,
-    order: Order,
+    instruction: Instruction,
     outers: &[OuterShape],
     graphs: Vec<GraphConfig>,
 ) -> Result<Action, AllocError>
     requires sound { All (λ graph. IsSound (graph_view graph)) graphs.items }
     requires printable { All (λ graph. IsPrintable (graph_view graph)) graphs.items }
     requires outers { All IsOuterShape outers.now }
-    ensures due { IfOk result (λ action. action_view action ≡ answers.graphs_action order outers.now (map graph_view graphs.items)) }
+    ensures due { IfOk result (λ action. action_view action ≡ answers.graphs_action instruction outers.now (map graph_view graphs.items)) }
     ensures valid { IfOk result (λ action. CanBeDone outers.now (action_view action)) }
 {
     if graphs.is_empty() {
@@ -105,12 +105,12 @@ fn graphs_action(
     }
     let mut library = graphs;
     let main = library.remove(0);
-    main_action(alloc, order, outers, main, library.as_slice())
+    main_action(alloc, instruction, outers, main, library.as_slice())
 }
 
 fn main_action(
     alloc: Global,
-    order: Order,
+    instruction: Instruction,
     outers: &[OuterShape],
     main: GraphConfig,
     library: &[GraphConfig],
@@ -121,17 +121,17 @@ fn main_action(
     requires printable_files { All (λ graph. IsPrintable (graph_view graph)) library.now }
     requires outers { All IsOuterShape outers.now }
     ensures valid { IfOk result (λ action. CanBeDone outers.now (action_view action)) }
-    ensures due { IfOk result (λ action. action_view action ≡ answers.expanded_action order outers.now (expansion_of (graph_view main) (map graph_view library.now))) }
+    ensures due { IfOk result (λ action. action_view action ≡ answers.expanded_action instruction outers.now (expansion_of (graph_view main) (map graph_view library.now))) }
 {
     match expand_own(alloc, main, library) {
-        Ok(graph) => graph_action(alloc, order, outers, graph),
+        Ok(graph) => graph_action(alloc, instruction, outers, graph),
         Err(fault) => Ok(Action::Refuse(expand_note(alloc, &fault)?)),
     }
 }
 
 fn graph_action(
     alloc: Global,
-    order: Order,
+    instruction: Instruction,
     outers: &[OuterShape],
     graph: GraphConfig,
 ) -> Result<Action, AllocError>
@@ -139,13 +139,13 @@ fn graph_action(
     requires printable { IsPrintable (graph_view graph) }
     requires few { length graph.nodes ≤ 4096 }
     requires outers { All IsOuterShape outers.now }
-    ensures due { IfOk result (λ action. action_view action ≡ answers.graph_action order outers.now (graph_view graph)) }
+    ensures due { IfOk result (λ action. action_view action ≡ answers.graph_action instruction outers.now (graph_view graph)) }
     ensures valid { IfOk result (λ action. CanBeDone outers.now (action_view action)) }
 {
-    match order.verb {
+    match instruction.verb {
         Verb::Check => check_action(alloc, outers, &graph),
         Verb::Expand => Ok(Action::Show(graph_text(alloc, graph)?)),
-        Verb::Use(way) => plan_action(alloc, way, order, outers, &graph),
+        Verb::Use(way) => plan_action(alloc, way, instruction, outers, &graph),
     }
 }
 
@@ -170,19 +170,19 @@ fn check_action(
 fn plan_action(
     alloc: Global,
     way: Way,
-    order: Order,
+    instruction: Instruction,
     outers: &[OuterShape],
     graph: &GraphConfig,
 ) -> Result<Action, AllocError>
     requires few { length graph.now.nodes ≤ 4096 }
     requires outers { All IsOuterShape outers.now }
-    ensures due { IfOk result (λ action. action_view action ≡ answers.plan_action way order (check_of outers.now (graph_view graph.now))) }
+    ensures due { IfOk result (λ action. action_view action ≡ answers.plan_action way instruction (check_of outers.now (graph_view graph.now))) }
     ensures valid { IfOk result (λ action. CanBeDone outers.now (action_view action)) }
 {
     match check(alloc, graph, outers) {
         Ok(plan) => match first_free(&plan) {
-            Some(node) => live_action(alloc, way, order, node, plan),
-            None => Ok(way_action(way, order, plan)),
+            Some(node) => live_action(alloc, way, instruction, node, plan),
+            None => Ok(way_action(way, instruction, plan)),
         },
         Err(fault) => Ok(Action::Refuse(check_note(alloc, &fault)?)),
     }

@@ -1,13 +1,13 @@
 ghost use Rattle.std.specs.Prelude.{◌≡◌, ◌≢◌, ◌↔◌, true, false, All, ◌⊎◌, ℕ, List, ◌∷◌, [], IfSome, IfOk, IfErr, length, map};
 ghost use Rattle.mg_words.specs.Command.{command, reads_input, calls_boxes};
 ghost use Rattle.mg_run.specs.Boxes.{outers_told, MayBeHandedIn};
-ghost use Rattle.mg_run.specs.Task.{task};
-ghost use Rattle.mg_words.specs.Words.{asks_usage, asks_text, asked_of, command_by, command_of};
+ghost use Rattle.mg_run.specs.Invocation.{invocation};
+ghost use Rattle.mg_words.specs.Words.{asks_usage, asks_text, request_of, command_by, command_of};
 ghost use Rattle.mg_run.specs.Devices.{Device, device, with_run, told_at, told_apart, told_by, SameDevices, Untouched, InputHasEnded, HasRisen, NoneFailed, TookText, TookPart, TookNotes};
 ghost use Rattle.mg_run.specs.Headline.{RunsGraph, ran_statuses, RanGraph};
 ghost use Rattle.mg_run.specs.Call.{WasUsage, WasTold, CallEnded, Called, DidAction, IsAnswered, IsOneOf};
 ghost use Rattle.mg_answer.specs.Notes.{write_note, memory_note};
-ghost use Rattle.mg_words.specs.Asked.{asked_view};
+ghost use Rattle.mg_words.specs.Request.{request_view};
 ghost use Rattle.mg_files.specs.Reads.{HasFailed};
 ghost use Rattle.mg_run.specs.Code.Action.{action_view, use_action, MayRead, CanBeDone, IsDue};
 ghost use Rattle.mg_edge.specs.Edge.{StoreTold};
@@ -22,7 +22,7 @@ use mg_feed::put_all;
 use mg_files::{Fault, load_all};
 use mg_replay::replay_lines;
 use mg_value::MgText;
-use mg_words::{Asked, Order, asked_of, help_text, usage_text, version_text};
+use mg_words::{Instruction, Request, help_text, request_of, usage_text, version_text};
 use std::alloc::Global;
 use std::sync::Wait;
 use std::thread::Threads;
@@ -42,24 +42,24 @@ pub fn run_words<R: Threads + Wait + Sync, S: Source, K: Sink, E: Sink, T: Store
     gate: &G,
 ) -> Status
     // Whether the words are a command is judged first, and depends on no device.
-    ensures usage { result ≢ Status.OutOfMemory → (result ≡ Status.Usage) ↔ (asked_of words.now ≡ asks_usage) }
-    ensures usage_note { asked_of words.now ≡ asks_usage → WasUsage result (told_apart T.told S.told K.told E.told (λ b. (Calculator-box b).told b.value)
+    ensures usage { result ≢ Status.OutOfMemory → (result ≡ Status.Usage) ↔ (request_of words.now ≡ asks_usage) }
+    ensures usage_note { request_of words.now ≡ asks_usage → WasUsage result (told_apart T.told S.told K.told E.told (λ b. (Calculator-box b).told b.value)
         store.old store.new input.old input.new output.old output.new notes.old notes.new boxes.old boxes.new) }
 
     // The help and the version are texts that are only written.
-    ensures told { (text : List ℕ) → asked_of words.now ≡ asks_text text → WasTold text result (told_apart T.told S.told K.told E.told (λ b. (Calculator-box b).told b.value)
+    ensures told { (text : List ℕ) → request_of words.now ≡ asks_text text → WasTold text result (told_apart T.told S.told K.told E.told (λ b. (Calculator-box b).told b.value)
         store.old store.new input.old input.new output.old output.new notes.old notes.new boxes.old boxes.new) }
 
     // A `run` or a `generate` that reached its graph is one thing: there is one content of each file, one graph and its plan, one reading
     // of the input and one solution, and the output, the notes, the status and the calls of every box are theirs. Where a node is free
     // there are also the logs to which the free nodes' rounds come over the batches of the input, and the notes tell these. Neither the
     // limit of queues nor the number of workers has a part in it.
-    ensures headline { IfSome (command_of words.now) (λ command. RunsGraph command.order.verb → IsOneOf result ran_statuses
-        → RanGraph (task command (outers_told (map (λ b. (Calculator-box b).told b.value) boxes.old.items))) result (told_apart T.told S.told K.told E.told (λ b. (Calculator-box b).told b.value)
+    ensures headline { IfSome (command_of words.now) (λ command. RunsGraph command.instruction.verb → IsOneOf result ran_statuses
+        → RanGraph (invocation command (outers_told (map (λ b. (Calculator-box b).told b.value) boxes.old.items))) result (told_apart T.told S.told K.told E.told (λ b. (Calculator-box b).told b.value)
         store.old store.new input.old input.new output.old output.new notes.old notes.new boxes.old boxes.new)) }
 
     // What a call with a command came to, by its status.
-    ensures called { IfSome (command_of words.now) (λ command. Called result (task command (outers_told (map (λ b. (Calculator-box b).told b.value) boxes.old.items))) (told_apart T.told S.told K.told E.told (λ b. (Calculator-box b).told b.value)
+    ensures called { IfSome (command_of words.now) (λ command. Called result (invocation command (outers_told (map (λ b. (Calculator-box b).told b.value) boxes.old.items))) (told_apart T.told S.told K.told E.told (λ b. (Calculator-box b).told b.value)
         store.old store.new input.old input.new output.old output.new notes.old notes.new boxes.old boxes.new)) }
 
     // Where no device failed and memory didn't run out, the output's text, the notes and the status are those of the answer to the files'
@@ -68,18 +68,18 @@ pub fn run_words<R: Threads + Wait + Sync, S: Source, K: Sink, E: Sink, T: Store
         NoneFailed (told_apart T.told S.told K.told E.told (λ b. (Calculator-box b).told b.value)
         store.old store.new input.old input.new output.old output.new notes.old notes.new boxes.old boxes.new)
         → result ≢ Status.OutOfMemory
-        → IsAnswered result (task command (outers_told (map (λ b. (Calculator-box b).told b.value) boxes.old.items))) (told_apart T.told S.told K.told E.told (λ b. (Calculator-box b).told b.value)
+        → IsAnswered result (invocation command (outers_told (map (λ b. (Calculator-box b).told b.value) boxes.old.items))) (told_apart T.told S.told K.told E.told (λ b. (Calculator-box b).told b.value)
         store.old store.new input.old input.new output.old output.new notes.old notes.new boxes.old boxes.new)) }
 
     // Where memory ran out the notes say that alone.
     ensures memory_noted { result ≡ Status.OutOfMemory → TookNotes (device (E.told notes.old) (E.told notes.new)) memory_note }
 
     // A `check`, an `expand` and a `generate` leave the input as it was.
-    ensures unread { IfSome (command_of words.now) (λ command. reads_input command.order.verb ≡ false
+    ensures unread { IfSome (command_of words.now) (λ command. reads_input command.instruction.verb ≡ false
         → Untouched (device (S.told input.old) (S.told input.new))) }
 
     // A call that read the input and went well, or in which a node failed or a stream never closed, met the input's end.
-    ensures ended { IfSome (command_of words.now) (λ command. reads_input command.order.verb ≡ true
+    ensures ended { IfSome (command_of words.now) (λ command. reads_input command.instruction.verb ≡ true
         → IsOneOf result (Status.Good ∷ Status.NodeFault ∷ Status.Stalled ∷ []) → InputHasEnded (device (S.told input.old) (S.told input.new))) }
 
     // No fault of a device hides behind another status.
@@ -92,7 +92,7 @@ pub fn run_words<R: Threads + Wait + Sync, S: Source, K: Sink, E: Sink, T: Store
 
     // As many boxes come back as were handed in, and a command that doesn't run its graph calls none.
     ensures boxes { length boxes.new.items ≡ length boxes.old.items }
-    ensures uncalled { IfSome (command_of words.now) (λ command. calls_boxes command.order.verb ≡ false
+    ensures uncalled { IfSome (command_of words.now) (λ command. calls_boxes command.instruction.verb ≡ false
         → map (λ b. (Calculator-box b).told b.value) boxes.new.items ≡ map (λ b. (Calculator-box b).told b.value) boxes.old.items) }
 {
     let mut devices = Devices {
@@ -120,18 +120,18 @@ fn do_words<
     store: &mut T,
     devices: &mut Devices<'_, '_, '_, S, K, E>,
 ) -> Status
-    ensures came { CallEnded (outers_told (map C.told boxes.old.items)) (asked_of words.now) result
+    ensures came { CallEnded (outers_told (map C.told boxes.old.items)) (request_of words.now) result
         (told_at T.told S.told K.told E.told C.told store.old store.new devices.old devices.new boxes.old boxes.new) }
-    ensures unread { IfSome (command_of words.now) (λ command. reads_input command.order.verb ≡ false → Untouched (told_by S.told K.told E.told devices.old devices.new).input) }
+    ensures unread { IfSome (command_of words.now) (λ command. reads_input command.instruction.verb ≡ false → Untouched (told_by S.told K.told E.told devices.old devices.new).input) }
     ensures same { SameDevices devices.old devices.new }
 {
-    match asked_of(alloc, words) {
-        Ok(asked) => do_asked(alloc, asked, crew, boxes, store, devices),
+    match request_of(alloc, words) {
+        Ok(request) => do_request(alloc, request, crew, boxes, store, devices),
         Err(_) => note_out_of_memory(devices.notes),
     }
 }
 
-fn do_asked<
+fn do_request<
     R: Threads + Wait + Sync,
     G: Gate + Sync,
     C: Calculator + Send,
@@ -141,28 +141,28 @@ fn do_asked<
     T: Store,
 >(
     alloc: Global,
-    asked: Asked,
+    request: Request,
     crew: &Crew<'_, R, G>,
     boxes: &mut Vec<C>,
     store: &mut T,
     devices: &mut Devices<'_, '_, '_, S, K, E>,
 ) -> Status
-    ensures came { CallEnded (outers_told (map C.told boxes.old.items)) (asked_view asked) result
+    ensures came { CallEnded (outers_told (map C.told boxes.old.items)) (request_view request) result
         (told_at T.told S.told K.told E.told C.told store.old store.new devices.old devices.new boxes.old boxes.new) }
-    ensures unread { IfSome (command_by (asked_view asked)) (λ command. reads_input command.order.verb ≡ false → Untouched (told_by S.told K.told E.told devices.old devices.new).input) }
+    ensures unread { IfSome (command_by (request_view request)) (λ command. reads_input command.instruction.verb ≡ false → Untouched (told_by S.told K.told E.told devices.old devices.new).input) }
     ensures same { SameDevices devices.old devices.new }
 {
-    match asked {
-        Asked::Command(order, files) => {
+    match request {
+        Request::Command(instruction, files) => {
             let ordered = Ordered {
-                order,
+                instruction,
                 files: &files,
             };
             do_command(alloc, &ordered, crew, boxes, store, devices)
         }
-        Asked::Help => told(devices.output, devices.notes, help_text()),
-        Asked::Version => told(devices.output, devices.notes, version_text()),
-        Asked::Usage => {
+        Request::Help => told(devices.output, devices.notes, help_text()),
+        Request::Version => told(devices.output, devices.notes, version_text()),
+        Request::Usage => {
             let _ = put_all(devices.notes, usage_text());
             Status::Usage
         }
@@ -184,7 +184,7 @@ fn told<K: Sink, E: Sink>(output: &mut K, notes: &mut E, text: &[u8]) -> Status
 // A command: what is to be done, and the names of the files.
 #[derive(Clone, Copy)]
 struct Ordered<'a> {
-    order: Order,
+    instruction: Instruction,
     files: &'a [MgText],
 }
 
@@ -205,9 +205,9 @@ fn do_command<
     store: &mut T,
     devices: &mut Devices<'_, '_, '_, S, K, E>,
 ) -> Status
-    ensures called { Called result (task (command ordered.now.order ordered.now.files.now) (outers_told (map C.told boxes.old.items)))
+    ensures called { Called result (invocation (command ordered.now.instruction ordered.now.files.now) (outers_told (map C.told boxes.old.items)))
         (told_at T.told S.told K.told E.told C.told store.old store.new devices.old devices.new boxes.old boxes.new) }
-    ensures unread { reads_input ordered.now.order.verb ≡ false → Untouched (told_by S.told K.told E.told devices.old devices.new).input }
+    ensures unread { reads_input ordered.now.instruction.verb ≡ false → Untouched (told_by S.told K.told E.told devices.old devices.new).input }
     ensures same { SameDevices devices.old devices.new }
 {
     match due_action(alloc, ordered, boxes.as_slice(), store) {
@@ -227,14 +227,14 @@ fn due_action<C: Calculator, T: Store>(
     boxes: &[C],
     store: &mut T,
 ) -> Result<Action, Fault>
-    ensures due { IfOk result (λ action. IsDue (task (command ordered.now.order ordered.now.files.now) (outers_told (map C.told boxes.now))) (device (T.told store.old) (T.told store.new)) (action_view action)) }
+    ensures due { IfOk result (λ action. IsDue (invocation (command ordered.now.instruction ordered.now.files.now) (outers_told (map C.told boxes.now))) (device (T.told store.old) (T.told store.new)) (action_view action)) }
     ensures can { IfOk result (λ action. CanBeDone (outers_told (map C.told boxes.now)) (action_view action)) }
     ensures lawful { IfOk result (λ action. All MayBeHandedIn (outers_told (map C.told boxes.now))) }
     ensures failed { IfErr result (λ fault. HasFailed fault ordered.now.files.now (device (T.told store.old) (T.told store.new))) }
 {
     let outers = outers_of(alloc, boxes)?;
     let contents = load_all(alloc, store, ordered.files)?;
-    let action = action_of(alloc, ordered.order, &outers, ordered.files, contents)?;
+    let action = action_of(alloc, ordered.instruction, &outers, ordered.files, contents)?;
     Ok(action)
 }
 

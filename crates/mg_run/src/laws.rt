@@ -8,7 +8,7 @@ ghost use Rattle.mg_feed.specs.Graph.{inputs_of};
 ghost use Rattle.mg_answer.specs.Answer.{Read, ended_input};
 ghost use Rattle.mg_answer.specs.Ran.{CameTo};
 ghost use Rattle.mg_answer.specs.declared.status.Status.{Status};
-ghost use Rattle.mg_run.specs.Task.{Task};
+ghost use Rattle.mg_run.specs.Invocation.{Invocation};
 ghost use Rattle.mg_run.specs.Devices.{Device, CallDevices, Unrisen};
 ghost use Rattle.mg_files.specs.Loads.{LoadedAll, loads_of};
 ghost use Rattle.mg_run.specs.Headline.{Headline};
@@ -28,8 +28,8 @@ pub fn one_answer()
 /// words without these options. Of a recorded run the notes and the status are the same. A recorded run that is made again isn't part of
 /// this law, since that is done under the limit that the words ask for.
 pub fn limits_and_workers_change_no_answer()
-    ensures words { (task : Task) (files : Files) (boxes : List CalculatorTold) (input : List ℕ) (a : RunAnswer) → ¬ Records (action_of task files) → ¬ Replays (action_of task files)
-        → AnswersAction (action_of task files) boxes input a → AnswersAction (action_of (record task { order = record task.order { limit = None; workers = None } }) files) boxes input a }
+    ensures words { (invocation : Invocation) (files : Files) (boxes : List CalculatorTold) (input : List ℕ) (a : RunAnswer) → ¬ Records (action_of invocation files) → ¬ Replays (action_of invocation files)
+        → AnswersAction (action_of invocation files) boxes input a → AnswersAction (action_of (record invocation { instruction = record invocation.instruction { limit = None; workers = None } }) files) boxes input a }
     ensures recorded { (report : Bool) (limit : Option ℤ) (plan : Plan) (boxes : List CalculatorTold) (input : List ℕ) (a b : RunAnswer)
         → AnswersAction (trace report (with_limit limit plan)) boxes input a → AnswersAction (run_plan report plan) boxes input b
         → (a.notes ≡ b.notes) × (a.status ≡ b.status) }
@@ -52,8 +52,8 @@ pub fn told_devices_pin_a_headline()
 /// Two calls have the same headline where no node is free: with the same words and boxes, and with stores and inputs that tell the same and
 /// of which no read failed, they have the same plan, the same reading and the same solution.
 pub fn one_headline()
-    ensures { (task : Task) (status other_status : Status) (devices other : CallDevices) (contents : List (List ℕ)) (bytes : List ℕ) (a : Headline task status devices) (b : Headline task other_status other)
-        → loads_of devices.store.before.content task.files ≡ Some contents → loads_of other.store.before.content task.files ≡ Some contents
+    ensures { (invocation : Invocation) (status other_status : Status) (devices other : CallDevices) (contents : List (List ℕ)) (bytes : List ℕ) (a : Headline invocation status devices) (b : Headline invocation other_status other)
+        → loads_of devices.store.before.content invocation.files ≡ Some contents → loads_of other.store.before.content invocation.files ≡ Some contents
         → devices.input.before.left ≡ Some bytes → other.input.before.left ≡ Some bytes
         → Unrisen devices.input.before.faults devices.input.now.faults → Unrisen other.input.before.faults other.input.now.faults
         → (a.plan ≡ b.plan) × (a.from ≡ b.from) × (a.run.streams ≡ b.run.streams) }

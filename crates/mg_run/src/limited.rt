@@ -5,7 +5,7 @@ ghost use Rattle.mg_calc.specs.Plan.{IsValid, IsValidWithFree, OutersFit};
 ghost use Rattle.mg_run.specs.Answer as answers;
 
 use mg_calc::Plan;
-use mg_words::{MOST_WORKERS, Order};
+use mg_words::{Instruction, MOST_WORKERS};
 
 /// Returns a plan with another limit of queues, where one is given; 0 leaves the plan's own.
 pub fn limited(limit: Option<i32>, plan: Plan) -> Plan
@@ -63,12 +63,12 @@ fn worked_by(workers: u32, plan: Plan) -> Plan
     plan
 }
 
-/// Returns a plan with the limit of queues and the number of workers that an order asks for.
-pub fn as_asked(order: Order, plan: Plan) -> Plan
-    ensures asked { result ≡ answers.as_asked order plan }
+/// Returns a plan with the limit of queues and the number of workers that an instruction asks for.
+pub fn as_asked(instruction: Instruction, plan: Plan) -> Plan
+    ensures request { result ≡ answers.as_asked instruction plan }
     ensures valid { IsValid plan → IsValid result }
     ensures valid_with_free { IsValidWithFree plan → IsValidWithFree result }
     ensures fit { (outers : List OuterShape) → OutersFit plan outers → OutersFit result outers }
 {
-    with_workers(order.workers, limited(order.limit, plan))
+    with_workers(instruction.workers, limited(instruction.limit, plan))
 }

@@ -10,7 +10,7 @@ use crate::action::{Action, Use};
 use crate::limited::{as_asked, limited};
 use mg_calc::Plan;
 use mg_files::free_note;
-use mg_words::{Order, Way};
+use mg_words::{Instruction, Way};
 use std::alloc::{AllocError, Global};
 
 /// Returns the word of a way on the command line.
@@ -28,20 +28,20 @@ pub fn way_word(way: Way) -> &'static str
 
 /// Returns the action of using a plan without free nodes in a way. For a run that is recorded or made again the number of workers in the words
 /// doesn't count.
-pub fn way_action(way: Way, order: Order, plan: Plan) -> Action
-    ensures due { action_view result ≡ answers.way_action way order plan }
+pub fn way_action(way: Way, instruction: Instruction, plan: Plan) -> Action
+    ensures due { action_view result ≡ answers.way_action way instruction plan }
     ensures valid { (outers : List OuterShape) → IsValid plan → OutersFit plan outers → CanBeDone outers (action_view result) }
 {
-    let report = order.report;
+    let report = instruction.report;
     match way {
-        Way::Run => Action::Graph(Use::Run, report, as_asked(order, plan)),
+        Way::Run => Action::Graph(Use::Run, report, as_asked(instruction, plan)),
         Way::Solve => Action::Graph(Use::Solve, report, plan),
         Way::Generate => {
-            let made = Use::Generate(order.number);
-            Action::Graph(made, report, as_asked(order, plan))
+            let made = Use::Generate(instruction.number);
+            Action::Graph(made, report, as_asked(instruction, plan))
         }
-        Way::Trace => Action::Graph(Use::Trace, report, limited(order.limit, plan)),
-        Way::Replay => Action::Graph(Use::Replay, report, limited(order.limit, plan)),
+        Way::Trace => Action::Graph(Use::Trace, report, limited(instruction.limit, plan)),
+        Way::Replay => Action::Graph(Use::Replay, report, limited(instruction.limit, plan)),
     }
 }
 
@@ -50,19 +50,19 @@ pub fn way_action(way: Way, order: Order, plan: Plan) -> Action
 pub fn live_action(
     alloc: Global,
     way: Way,
-    order: Order,
+    instruction: Instruction,
     first: u32,
     plan: Plan,
 ) -> Result<Action, AllocError>
-    ensures due { IfOk result (λ action. action_view action ≡ answers.live_action way order first plan) }
+    ensures due { IfOk result (λ action. action_view action ≡ answers.live_action way instruction first plan) }
     ensures valid { (outers : List OuterShape) → IsValidWithFree plan → OutersFit plan outers → IfOk result (λ action. CanBeDone outers (action_view action)) }
 {
-    let report = order.report;
+    let report = instruction.report;
     match way {
-        Way::Run => Ok(Action::Graph(Use::RunLive, report, as_asked(order, plan))),
+        Way::Run => Ok(Action::Graph(Use::RunLive, report, as_asked(instruction, plan))),
         Way::Generate => {
-            let made = Use::GenerateLive(order.number);
-            Ok(Action::Graph(made, report, as_asked(order, plan)))
+            let made = Use::GenerateLive(instruction.number);
+            Ok(Action::Graph(made, report, as_asked(instruction, plan)))
         }
         Way::Solve => refused(alloc, way, first),
         Way::Trace => refused(alloc, way, first),

@@ -6,17 +6,17 @@ use Rattle.mg_calc.specs.declared.event.Effect.{Effect}
 use Rattle.mg_calc.specs.declared.event.Effect.TheVariants.{Did, Idle, OutOfMemory}
 use Rattle.mg_node.specs.Views.{PerformedView, EngineView}
 use Rattle.mg_node.specs.Shelves.{shelf_at}
-use Rattle.mg_sched.specs.Views.{DeskView, NetView}
+use Rattle.mg_sched.specs.Views.{WorkQueueView, NetView}
 use Rattle.mg_sched.specs.StandsFor.{IsRunning}
 use Rattle.mg_sched.specs.Acts.{Rests, Performs, CommittedAt, Acts}
 
 rests_run : (effect : Effect) (before now : NetView) → IsRunning before → Rests effect before now → IsRunning now
 rests_run effect before now running r = subst IsRunning (sym r.same) running
 
-performs_run : (node number : ℕ) (effect : Effect) (desk : DeskView) (before now : NetView) → IsRunning before → Performs node number effect desk before now → IsRunning now
-performs_run node number Did desk before now running p = subst IsRunning (sym p.performed.2) running
-performs_run node number Idle desk before now running p = absurd p.performed
-performs_run node number OutOfMemory desk before now running p = subst IsRunning (sym p.performed) running
+performs_run : (node number : ℕ) (effect : Effect) (work_queue : WorkQueueView) (before now : NetView) → IsRunning before → Performs node number effect work_queue before now → IsRunning now
+performs_run node number Did work_queue before now running p = subst IsRunning (sym p.performed.2) running
+performs_run node number Idle work_queue before now running p = absurd p.performed
+performs_run node number OutOfMemory work_queue before now running p = subst IsRunning (sym p.performed) running
 
 commits_run : (node number : ℕ) (shelf : Option PerformedView) (effect : Effect) (engine : EngineView) (before now : NetView) → IsRunning before → CommittedAt node number shelf effect engine before now → IsRunning now
 commits_run node number None effect engine before now running r = rests_run effect before now running r
@@ -36,7 +36,7 @@ acts_run (Claim node) effect before now running a = elim a [
 ]
 acts_run (Perform node number) effect before now running a = elim a.performed [
   | inl none ↦ rests_run effect before now running none.1
-  | inr performs ↦ performs_run node number effect a.desk before now running performs
+  | inr performs ↦ performs_run node number effect a.work_queue before now running performs
 ]
 acts_run (Commit node number) effect before now running a = commits_run node number (shelf_at a.engine number) effect a.engine before now running a.committed
 acts_run Relax effect before now running a = elim a [

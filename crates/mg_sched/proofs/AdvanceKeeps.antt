@@ -17,22 +17,22 @@ use Rattle.mg_sched.proofs.CellForms.{only_engine, stays_so, gone_same}
 pub advance_stands : (job : LoggedJob) (node : ℕ) (effect : Effect) (before now : NetView) → node < length before.plan.nodes → IsRunning before → StandsFor job before → NodeAdvances node effect before now → StandsFor job now
 unfolding StandsFor
 advance_stands job node effect before now within running h a =
-    let long = h.desks in
-    let desk = found before.desks node (omega (arith, within, long)) in
-    let cell = cell_at job before node a.engine a.intake desk.0 h running within a.at a.to desk.1 in
+    let long = h.work_queues in
+    let work_queue = found before.work_queues node (omega (arith, within, long)) in
+    let cell = cell_at job before node a.engine a.intake work_queue.0 h running within a.at a.to work_queue.1 in
     let engine_now = advanced a.engine a.intake.waits in
-    let step : CellStep job node a.engine engine_now a.intake a.intake desk.0 = record {
+    let step : CellStep job node a.engine engine_now a.intake a.intake work_queue.0 = record {
       cell = record {
         lawful_engine = advance_lawful job node a.engine a.intake cell.lawful_engine cell.lawful_intake cell.agree;
         lawful_intake = cell.lawful_intake;
         agree = cell.agree;
-        works = works_kept job a.engine engine_now desk.0 refl (advance_out a.engine engine_now a.intake.waits refl) cell.works;
+        works = works_kept job a.engine engine_now work_queue.0 refl (advance_out a.engine engine_now a.intake.waits refl) cell.works;
       };
       first = refl;
       outputs = (advance_grows a.engine engine_now a.intake.waits refl).outputs;
       gone = λ output. gone_same engine_now.outputs a.engine.outputs output (advance_set_up a.engine engine_now a.intake.waits refl).given_up;
       ports = λ port. stays_so (port_queue a.intake.waits port);
     } in
-    subst (λ (v : NetView). IsNetOf job v) (only_engine before node engine_now a.intake desk.0 before.limits a.to desk.1 ∙ sym a.now_is)
-    (cell_stands job before node a.engine engine_now a.intake a.intake desk.0 before.limits h running within a.at a.to step
-    (cell_knows before node a.engine engine_now a.intake desk.0 within h.limits a.at a.to refl))
+    subst (λ (v : NetView). IsNetOf job v) (only_engine before node engine_now a.intake work_queue.0 before.limits a.to work_queue.1 ∙ sym a.now_is)
+    (cell_stands job before node a.engine engine_now a.intake a.intake work_queue.0 before.limits h running within a.at a.to step
+    (cell_knows before node a.engine engine_now a.intake work_queue.0 within h.limits a.at a.to refl))

@@ -9,7 +9,7 @@ use Rattle.mg_node.specs.Views.{IntakeView, PerformedView, EngineView}
 use Rattle.mg_node.specs.Job.{LoggedJob}
 use Rattle.mg_node.specs.Shelves.{shelf_at}
 use Rattle.mg_node.proofs.Lemmas.{get_other}
-use Rattle.mg_sched.specs.Views.{DeskView, NetView}
+use Rattle.mg_sched.specs.Views.{WorkQueueView, NetView}
 use Rattle.mg_sched.specs.StandsFor.{StandsFor, StandsForSome, IsRunning}
 use Rattle.mg_sched.specs.Acts.{IsEventOf, Rests, Performs, CommittedAt, Acts}
 use Rattle.mg_sched.specs.Taking.{taken_out}
@@ -48,10 +48,10 @@ same_claimed (x ∷ is) (suc k) (suc n) i now at same = same_claimed is k n i no
 other_claimed : (is : List IntakeView) (k n : ℕ) (now : IntakeView) → k < n → option_map (λ x. x.claimed) (slice_get (set is k now) n) ≡ option_map (λ x. x.claimed) (slice_get is n)
 other_claimed is k n now less = ap (λ (o : Option IntakeView). option_map (λ x. x.claimed) o) (get_other is k n now (λ e. omega (arith, e, less)))
 
-performs_stays : (node number : ℕ) (effect : Effect) (desk : DeskView) (before now : NetView) → Performs node number effect desk before now → Stays before now
-performs_stays node number Did desk before now p = stays_by before _ now p.performed.2 (record { plan = refl; spare = refl; begun = refl; taken = refl })
-performs_stays node number Idle desk before now p = absurd p.performed
-performs_stays node number OutOfMemory desk before now p = stays_by before before now p.performed (stays_so before)
+performs_stays : (node number : ℕ) (effect : Effect) (work_queue : WorkQueueView) (before now : NetView) → Performs node number effect work_queue before now → Stays before now
+performs_stays node number Did work_queue before now p = stays_by before _ now p.performed.2 (record { plan = refl; spare = refl; begun = refl; taken = refl })
+performs_stays node number Idle work_queue before now p = absurd p.performed
+performs_stays node number OutOfMemory work_queue before now p = stays_by before before now p.performed (stays_so before)
 
 commits_stays : (node number : ℕ) (shelf : Option PerformedView) (effect : Effect) (engine : EngineView) (before now : NetView) → CommittedAt node number shelf effect engine before now → Stays before now
 commits_stays node number None effect engine before now r = rest_stays effect before now r
@@ -71,7 +71,7 @@ acts_stay (Claim node) effect before now of a = elim a [
 ]
 acts_stay (Perform node number) effect before now of a = elim a.performed [
   | inl none ↦ rest_stays effect before now none.1
-  | inr performs ↦ performs_stays node number effect a.desk before now performs
+  | inr performs ↦ performs_stays node number effect a.work_queue before now performs
 ]
 acts_stay (Commit node number) effect before now of a = commits_stays node number (shelf_at a.engine number) effect a.engine before now a.committed
 acts_stay Relax effect before now of a = elim a [

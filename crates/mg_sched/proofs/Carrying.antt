@@ -30,9 +30,9 @@ intake_of job net consumer intake h upto to = by_case (nat_lt consumer (length n
     by_case : (b : Bool) → nat_lt consumer (length net.plan.nodes) ≡ b → LawfulIntake job consumer intake
     by_case true is =
         let less : consumer < length net.plan.nodes = grind (arith, nat_tests, is) in
-        let engines = h.engines in let desks = h.desks in
+        let engines = h.engines in let work_queues = h.work_queues in
         let e = found net.engines consumer (omega (arith, less, engines)) in
-        let d = found net.desks consumer (omega (arith, less, desks)) in
+        let d = found net.work_queues consumer (omega (arith, less, work_queues)) in
         (h.cells consumer e.0 intake d.0 e.1 to d.1).lawful_intake
     by_case false is =
         let same : consumer ≡ length net.plan.nodes = grind (arith, nat_tests, is, upto) in
@@ -57,9 +57,9 @@ by_producer job net e (Input i) engine h running w at =
     record { owner = of_input i; lawful = lawful; leaves = record { from = omega (arith, same, first); below = omega (arith, same, first, one) } }
 by_producer job net e (Node n port) engine h running w at =
     let within = slice_get_within net.plan.nodes n w.0 w.1 in
-    let intakes = h.intakes in let desks = h.desks in
+    let intakes = h.intakes in let work_queues = h.work_queues in
     let i = found net.intakes n (omega (arith, within, intakes)) in
-    let d = found net.desks n (omega (arith, within, desks)) in
+    let d = found net.work_queues n (omega (arith, within, work_queues)) in
     let lawful = (cell_at job net n engine i.0 d.0 h running within at i.1 d.1).lawful_engine in
     let known = engine_known job n engine w.0 lawful (subst (λ (plan : Plan). slice_get plan.nodes n ≡ Some w.0) h.plan w.1) in
     let number = number_of engine.first (length w.0.outputs) port e.stream (ap (λ (ns : List ℕ). slice_get ns port) (sym known.set_up.first) ∙ w.2) in

@@ -6,22 +6,22 @@ use Rattle.mg_stream.specs.Pool.{Backlog, empty_backlog}
 use Rattle.mg_node.specs.Views.{IntakeView, EngineView}
 use Rattle.mg_node.specs.IntakeStanding.{Stays}
 use Rattle.mg_throttle.specs.Throttle.{QueueLimits}
-use Rattle.mg_sched.specs.Views.{DeskView, NetView}
-use Rattle.mg_sched.specs.Places.{with_engine, with_desk, with_limits}
+use Rattle.mg_sched.specs.Views.{WorkQueueView, NetView}
+use Rattle.mg_sched.specs.Places.{with_engine, with_work_queue, with_limits}
 use Rattle.mg_node.proofs.Lemmas.{same_put}
 use Rattle.mg_sched.proofs.Changed.{with_cell}
 
 -- the engine alone changed, and perhaps the limits
-pub only_engine : (net : NetView) (node : ℕ) (engine : EngineView) (intake : IntakeView) (desk : DeskView) (limits : QueueLimits) → slice_get net.intakes node ≡ Some intake → slice_get net.desks node ≡ Some desk
-    → with_cell net node engine intake desk limits ≡ with_limits (with_engine net node engine) limits
-only_engine net node engine intake desk limits to on =
-    ap₂ (λ (is : List IntakeView) (ds : List DeskView). (let v : NetView = record net { engines = set net.engines node engine; intakes = is; desks = ds; limits = limits } in v)) (same_put net.intakes node intake to) (same_put net.desks node desk on)
+pub only_engine : (net : NetView) (node : ℕ) (engine : EngineView) (intake : IntakeView) (work_queue : WorkQueueView) (limits : QueueLimits) → slice_get net.intakes node ≡ Some intake → slice_get net.work_queues node ≡ Some work_queue
+    → with_cell net node engine intake work_queue limits ≡ with_limits (with_engine net node engine) limits
+only_engine net node engine intake work_queue limits to on =
+    ap₂ (λ (is : List IntakeView) (ds : List WorkQueueView). (let v : NetView = record net { engines = set net.engines node engine; intakes = is; work_queues = ds; limits = limits } in v)) (same_put net.intakes node intake to) (same_put net.work_queues node work_queue on)
 
--- the engine and the desk changed
-pub engine_and_desk : (net : NetView) (node : ℕ) (engine : EngineView) (intake : IntakeView) (desk : DeskView) → slice_get net.intakes node ≡ Some intake
-    → with_cell net node engine intake desk net.limits ≡ with_desk (with_engine net node engine) node desk
-engine_and_desk net node engine intake desk to =
-    ap (λ (is : List IntakeView). (let v : NetView = record net { engines = set net.engines node engine; intakes = is; desks = set net.desks node desk } in v)) (same_put net.intakes node intake to)
+-- the engine and the work queue changed
+pub engine_and_work_queue : (net : NetView) (node : ℕ) (engine : EngineView) (intake : IntakeView) (work_queue : WorkQueueView) → slice_get net.intakes node ≡ Some intake
+    → with_cell net node engine intake work_queue net.limits ≡ with_work_queue (with_engine net node engine) node work_queue
+engine_and_work_queue net node engine intake work_queue to =
+    ap (λ (is : List IntakeView). (let v : NetView = record net { engines = set net.engines node engine; intakes = is; work_queues = set net.work_queues node work_queue } in v)) (same_put net.intakes node intake to)
 
 pub stays_so : (q : Waiting Plain) → Stays q q
 stays_so q = record { count = refl; bound = refl }

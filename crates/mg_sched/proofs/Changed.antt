@@ -11,33 +11,33 @@ use Rattle.mg_node.specs.IntakeStanding.{HasGrown, Stays}
 use Rattle.mg_node.proofs.Lemmas.{get_other, grown_by_itself, put_there}
 use Rattle.mg_node.specs.Lawful.{LawfulIntake, Agree, AgreeBy}
 use Rattle.mg_throttle.specs.Throttle.{QueueLimits}
-use Rattle.mg_sched.specs.Views.{DeskView, NetView}
+use Rattle.mg_sched.specs.Views.{WorkQueueView, NetView}
 use Rattle.mg_sched.specs.Places.{source_of}
 use Rattle.mg_sched.specs.StandsFor.{IsCell, IsJoined, KnowsLimits, IsNetOf, IsRunning}
 
 -- another cell at a node, and other limits
-abbrev pub with_cell : NetView → ℕ → EngineView → IntakeView → DeskView → QueueLimits → NetView
-with_cell net node engine intake desk limits = record net { engines = set net.engines node engine; intakes = set net.intakes node intake; desks = set net.desks node desk; limits = limits }
+abbrev pub with_cell : NetView → ℕ → EngineView → IntakeView → WorkQueueView → QueueLimits → NetView
+with_cell net node engine intake work_queue limits = record net { engines = set net.engines node engine; intakes = set net.intakes node intake; work_queues = set net.work_queues node work_queue; limits = limits }
 
 -- another intake, and other limits
 abbrev pub with_arrived : NetView → ℕ → IntakeView → QueueLimits → NetView
 with_arrived net place intake limits = record net { intakes = set net.intakes place intake; limits = limits }
 
 -- what a cell has come to: its outputs only grow, and give up no packet; at each port as many came as before
-pub record CellStep (job : LoggedJob) (node : ℕ) (engine engine_now : EngineView) (intake intake_now : IntakeView) (desk_now : DeskView) : Type 0 where
-  pub cell : IsCell job true node engine_now intake_now desk_now
+pub record CellStep (job : LoggedJob) (node : ℕ) (engine engine_now : EngineView) (intake intake_now : IntakeView) (work_queue_now : WorkQueueView) : Type 0 where
+  pub cell : IsCell job true node engine_now intake_now work_queue_now
   pub first : engine_now.first ≡ engine.first
   pub outputs : (output : ℕ) → HasGrown (laid_at engine output) (laid_at engine_now output)
   pub gone : (output : ℕ) → (laid_at engine_now output).gone ≤ (laid_at engine output).gone
   pub ports : (port : ℕ) → Stays (port_queue intake.waits port) (port_queue intake_now.waits port)
 
-cell_at : (job : LoggedJob) (b : Bool) (k node : ℕ) (e x : EngineView) (i y : IntakeView) (d z : DeskView) → b ≡ true → k ≡ node → e ≡ x → i ≡ y → d ≡ z → IsCell job true node x y z → IsCell job b k e i d
+cell_at : (job : LoggedJob) (b : Bool) (k node : ℕ) (e x : EngineView) (i y : IntakeView) (d z : WorkQueueView) → b ≡ true → k ≡ node → e ≡ x → i ≡ y → d ≡ z → IsCell job true node x y z → IsCell job b k e i d
 cell_at job b k node e x i y d z on at e_is i_is d_is cell =
     subst (λ (c : Bool). IsCell job c k e i d) (sym on)
     (subst (λ (n : ℕ). IsCell job true n e i d) (sym at)
     (subst (λ (v : EngineView). IsCell job true node v i d) (sym e_is)
     (subst (λ (v : IntakeView). IsCell job true node x v d) (sym i_is)
-    (subst (λ (v : DeskView). IsCell job true node x y v) (sym d_is) cell))))
+    (subst (λ (v : WorkQueueView). IsCell job true node x y v) (sym d_is) cell))))
 
 -- an edge stays joined
 joined_by : (g g_now : EngineView) (e : Edge) (i i_now : IntakeView) → g_now.first ≡ g.first → ((output : ℕ) → HasGrown (laid_at g output) (laid_at g_now output)) → ((output : ℕ) → (laid_at g_now output).gone ≤ (laid_at g output).gone)
@@ -99,10 +99,10 @@ old_intake intakes node place port intake intake_now now there stays at = elim (
   | inr other ↦ record { old = now; at = sym (get_other intakes node place intake_now other) ∙ at; stays = record { count = refl; bound = refl } }
 ]
 
-pub cell_stands : (job : LoggedJob) (net : NetView) (node : ℕ) (engine engine_now : EngineView) (intake intake_now : IntakeView) (desk_now : DeskView) (limits : QueueLimits) → IsNetOf job net → IsRunning net → node < length net.plan.nodes
-    → slice_get net.engines node ≡ Some engine → slice_get net.intakes node ≡ Some intake → CellStep job node engine engine_now intake intake_now desk_now → KnowsLimits (with_cell net node engine_now intake_now desk_now limits)
-    → IsNetOf job (with_cell net node engine_now intake_now desk_now limits)
-cell_stands job net node engine engine_now intake intake_now desk_now limits h running within there there_in step knows =
+pub cell_stands : (job : LoggedJob) (net : NetView) (node : ℕ) (engine engine_now : EngineView) (intake intake_now : IntakeView) (work_queue_now : WorkQueueView) (limits : QueueLimits) → IsNetOf job net → IsRunning net → node < length net.plan.nodes
+    → slice_get net.engines node ≡ Some engine → slice_get net.intakes node ≡ Some intake → CellStep job node engine engine_now intake intake_now work_queue_now → KnowsLimits (with_cell net node engine_now intake_now work_queue_now limits)
+    → IsNetOf job (with_cell net node engine_now intake_now work_queue_now limits)
+cell_stands job net node engine engine_now intake intake_now work_queue_now limits h running within there there_in step knows =
     let begun : net.begun ≡ length net.plan.nodes = running in
     record {
       is_job = h.is_job;
@@ -110,15 +110,15 @@ cell_stands job net node engine engine_now intake intake_now desk_now limits h r
       given = h.given;
       engines = length-set net.engines node engine_now ∙ h.engines;
       intakes = length-set net.intakes node intake_now ∙ h.intakes;
-      desks = length-set net.desks node desk_now ∙ h.desks;
+      work_queues = length-set net.work_queues node work_queue_now ∙ h.work_queues;
       cells = λ k e i d at_e at_i at_d. elim (cases_eq k node) [
         | inl here ↦
-            cell_at job (nat_lt k net.begun) k node e engine_now i intake_now d desk_now (lt-ltb k net.begun (omega (arith, here, begun, within))) here
+            cell_at job (nat_lt k net.begun) k node e engine_now i intake_now d work_queue_now (lt-ltb k net.begun (omega (arith, here, begun, within))) here
             (put_there net.engines node engine_now e (ap (slice_get (set net.engines node engine_now)) (sym here) ∙ at_e))
             (put_there net.intakes node intake_now i (ap (slice_get (set net.intakes node intake_now)) (sym here) ∙ at_i))
-            (put_there net.desks node desk_now d (ap (slice_get (set net.desks node desk_now)) (sym here) ∙ at_d)) step.cell
+            (put_there net.work_queues node work_queue_now d (ap (slice_get (set net.work_queues node work_queue_now)) (sym here) ∙ at_d)) step.cell
         | inr other ↦
-            h.cells k e i d (sym (get_other net.engines node k engine_now other) ∙ at_e) (sym (get_other net.intakes node k intake_now other) ∙ at_i) (sym (get_other net.desks node k desk_now other) ∙ at_d)
+            h.cells k e i d (sym (get_other net.engines node k engine_now other) ∙ at_e) (sym (get_other net.intakes node k intake_now other) ∙ at_i) (sym (get_other net.work_queues node k work_queue_now other) ∙ at_d)
       ];
       inputs = λ input e at. h.inputs input e (sym (get_other net.engines node (length net.plan.nodes + input) engine_now (λ s. omega (arith, s, within))) ∙ at);
       collector = λ i at. h.collector i (sym (get_other net.intakes node (length net.plan.nodes) intake_now (λ s. omega (arith, s, within))) ∙ at);
@@ -148,7 +148,7 @@ arrival_stands job net place intake intake_now limits h there lawful claimed joi
       given = h.given;
       engines = h.engines;
       intakes = length-set net.intakes place intake_now ∙ h.intakes;
-      desks = h.desks;
+      work_queues = h.work_queues;
       cells = λ k e i d at_e at_i at_d. elim (cases_eq k place) [
         | inl here ↦
             (let is = own k i here at_i in

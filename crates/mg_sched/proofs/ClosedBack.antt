@@ -1,4 +1,4 @@
--- What a net gives back that was wound up with no work on a desk: no calculator is left open.
+-- What a net gives back that was wound up with no work in a work queue: no calculator is left open.
 use Rattle.std.proofs.Common.{◌≡◌, ℕ, is_some, List, [], length, map, Option, Some, None, slice_get, ap, sym, refl, subst, ◌∙◌, arith}
 use Rattle.std.specs.List.{filter_map}
 use Rattle.std.proofs.lemmas.Option.{slice_get_within}
@@ -15,39 +15,39 @@ use Rattle.mg_node.specs.Leaving.{handed_told, first_handed}
 use Rattle.mg_node.specs.WindingUp.{WindsUp}
 use Rattle.mg_node.specs.Had.{HadClose}
 use Rattle.mg_node.proofs.Lemmas.{wound_closed}
-use Rattle.mg_sched.specs.Views.{DeskView, NetView}
+use Rattle.mg_sched.specs.Views.{WorkQueueView, NetView}
 use Rattle.mg_sched.specs.StandsFor.{StandsFor, IsRunning}
-use Rattle.mg_sched.specs.ComesApart.{NoneOnDesks}
+use Rattle.mg_sched.specs.ComesApart.{NoneOnWorkQueues}
 use Rattle.mg_sched.specs.WindsUp.{WindsUpNet}
-use Rattle.mg_sched.specs.GivesBack.{on_desk, or_else, cell_told, given_back}
+use Rattle.mg_sched.specs.GivesBack.{on_work_queue, or_else, cell_told, given_back}
 use Rattle.mg_sched.proofs.Finding.{cell_at, found}
 use Rattle.mg_sched.proofs.FrontsBack.{given_at}
 use Rattle.mg_sched.proofs.CountedBack.{knows_standing, knows_wound, own_back}
 
--- the calculator of a cell on whose desk nothing lies stands in its engine
-in_engine : (engine : EngineView) (desk : DeskView) (told : CalculatorTold) (o : Option CalculatorTold) → desk.works ≡ [] → first_handed engine ≡ o → or_else o (on_desk desk) ≡ Some told → first_handed engine ≡ Some told
-in_engine engine desk told None none is has =
-    absurd (let clash : None ≡ Some told = sym (ap (λ (ws : List WorkView). slice_get (filter_map handed_told (map (λ (w : WorkView). w.bench.told) ws)) 0) none) ∙ has in cc)
-in_engine engine desk told (Some t) none is has = is ∙ has
+-- the calculator of a cell in whose work queue nothing lies stands in its engine
+in_engine : (engine : EngineView) (work_queue : WorkQueueView) (told : CalculatorTold) (o : Option CalculatorTold) → work_queue.works ≡ [] → first_handed engine ≡ o → or_else o (on_work_queue work_queue) ≡ Some told → first_handed engine ≡ Some told
+in_engine engine work_queue told None none is has =
+    absurd (let clash : None ≡ Some told = sym (ap (λ (ws : List WorkView). slice_get (filter_map handed_told (map (λ (w : WorkView). w.context.told) ws)) 0) none) ∙ has in cc)
+in_engine engine work_queue told (Some t) none is has = is ∙ has
 
-pub closed_back : (job : LoggedJob) (net wound : NetView) (solution : List (StreamPrefix Plain)) (number place : ℕ) (node : PlanNode) → StandsFor job net → IsRunning net → NoneOnDesks net → WindsUpNet net wound → wound.wound ≡ length net.plan.nodes
+pub closed_back : (job : LoggedJob) (net wound : NetView) (solution : List (StreamPrefix Plain)) (number place : ℕ) (node : PlanNode) → StandsFor job net → IsRunning net → NoneOnWorkQueues net → WindsUpNet net wound → wound.wound ≡ length net.plan.nodes
     → Solves job solution → slice_get net.plan.nodes number ≡ Some node → node.box_number ≡ Some place → IsOuter node.law → (told : CalculatorTold) × (slice_get (given_back wound) place ≡ Some told) × HadClose job solution node told
 unfolding StandsFor
 closed_back job net wound solution number place node h running none w all solves there boxed outer =
     let within = slice_get_within net.plan.nodes number node there in
     let engines = h.engines in
     let intakes = h.intakes in
-    let desks = h.desks in
+    let work_queues = h.work_queues in
     let places = w.places in
     let g = found net.engines number (omega (arith, within, engines)) in
     let i = found net.intakes number (omega (arith, within, intakes)) in
-    let d = found net.desks number (omega (arith, within, desks)) in
+    let d = found net.work_queues number (omega (arith, within, work_queues)) in
     let e = found wound.engines number (omega (arith, within, engines, places)) in
     let not_wound = h.not_wound in
     let winds : WindsUp g.0 e.0 = w.wound_up number g.0 e.0 (omega (arith, not_wound)) (omega (arith, within, all)) g.1 e.1 in
     let lawful : LawfulEngine job (of_node number) g.0 = (cell_at job net number g.0 i.0 d.0 h running within g.1 i.1 d.1).lawful_engine in
     let plan : wound.plan ≡ net.plan = ap (λ (v : NetView). v.plan) w.parts in
-    let on : slice_get wound.desks number ≡ Some d.0 = ap (λ (ds : List DeskView). slice_get ds number) (ap (λ (v : NetView). v.desks) w.parts) ∙ d.1 in
+    let on : slice_get wound.work_queues number ≡ Some d.0 = ap (λ (ds : List WorkQueueView). slice_get ds number) (ap (λ (v : NetView). v.work_queues) w.parts) ∙ d.1 in
     let there_wound : slice_get wound.plan.nodes number ≡ Some node = ap (λ (p : Plan). slice_get p.nodes number) plan ∙ there in
     let theirs : slice_get job.job.plan.nodes number ≡ Some node = subst (λ (p : Plan). slice_get p.nodes number ≡ Some node) h.plan there in
     let back = own_back (given_back wound) job wound number place node e.0 d.0 refl (knows_wound job net wound (knows_standing job net h) w) there_wound boxed e.1 on in

@@ -25,11 +25,11 @@ laid_stands : (job : LoggedJob) (node number : ℕ) (engine : EngineView) (p : P
     → shelf_at engine number ≡ Some p → CommitsTo node number engine p before now → StandsFor job now
 unfolding StandsFor
 laid_stands job node number engine p before now within running h at is c =
-    let long = h.desks in
+    let long = h.work_queues in
     let more = h.intakes in
-    let desk = found before.desks node (omega (arith, within, long)) in
+    let work_queue = found before.work_queues node (omega (arith, within, long)) in
     let intake = found before.intakes node (omega (arith, within, more)) in
-    let cell = cell_at job before node engine intake.0 desk.0 h running within at intake.1 desk.1 in
+    let cell = cell_at job before node engine intake.0 work_queue.0 h running within at intake.1 work_queue.1 in
     let taken = unshelved_lawful job node engine c.taken number p is c.takes cell.lawful_engine in
     let goes = unshelved_out job node engine c.taken number p cell.lawful_engine is c.takes in
     let outcome = outcome_of p in
@@ -41,12 +41,12 @@ laid_stands job node number engine p before now within running h at is c =
     let one = unshelving_set_up (Some p) engine c.taken number c.takes in
     let two = commits_set_up outcome c.laid c.taken c.engine_now c.commits in
     let claimed : c.engine_now.claimed ≡ engine.claimed = ap (λ (v : EngineView). v.claimed) c.commits.others ∙ ap (λ (v : EngineView). v.claimed) c.takes in
-    let step : CellStep job node engine c.engine_now intake.0 intake.0 desk.0 = record {
+    let step : CellStep job node engine c.engine_now intake.0 intake.0 work_queue.0 = record {
       cell = record {
         lawful_engine = commit_lawful job node outcome c.laid c.taken c.engine_now goes.out taken.0 (ran_outcome job p outcome refl taken.1) c.commits;
         lawful_intake = cell.lawful_intake;
         agree = subst (λ (r : Role). AgreeBy r c.engine_now.claimed intake.0.claimed) (sym (two.role ∙ one.role)) (subst (λ (n : ℕ). AgreeBy engine.role n intake.0.claimed) (sym claimed) cell.agree);
-        works = works_through job engine c.taken c.engine_now desk.0 p.work (two.in_flight ∙ one.in_flight) goes back cell.works;
+        works = works_through job engine c.taken c.engine_now work_queue.0 p.work (two.in_flight ∙ one.in_flight) goes back cell.works;
       };
       first = two.first ∙ one.first;
       outputs = grows.outputs;
@@ -54,9 +54,9 @@ laid_stands job node number engine p before now within running h at is c =
       ports = λ port. stays_so (port_queue intake.0.waits port);
     } in
     let limits = stopped_by node c.engine_now before.limits in
-    subst (λ (v : NetView). IsNetOf job v) (only_engine before node c.engine_now intake.0 desk.0 limits intake.1 desk.1 ∙ sym c.now_is)
-    (cell_stands job before node engine c.engine_now intake.0 intake.0 desk.0 limits h running within at intake.1 step
-    (stopped_knows before node engine c.engine_now intake.0 desk.0 within h.limits at intake.1 grows.ended))
+    subst (λ (v : NetView). IsNetOf job v) (only_engine before node c.engine_now intake.0 work_queue.0 limits intake.1 work_queue.1 ∙ sym c.now_is)
+    (cell_stands job before node engine c.engine_now intake.0 intake.0 work_queue.0 limits h running within at intake.1 step
+    (stopped_knows before node engine c.engine_now intake.0 work_queue.0 within h.limits at intake.1 grows.ended))
 
 taken_stands : (job : LoggedJob) (node number : ℕ) (r : Option PerformedView) (effect : Effect) (engine : EngineView) (before now : NetView) → node < length before.plan.nodes → IsRunning before → StandsFor job before → slice_get before.engines node ≡ Some engine
     → shelf_at engine number ≡ r → CommittedAt node number r effect engine before now → StandsFor job now

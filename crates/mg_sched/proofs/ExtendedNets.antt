@@ -26,7 +26,7 @@ use Rattle.mg_node.specs.Ports.{port_queue}
 use Rattle.mg_node.specs.IntakeStanding.{HasGrown}
 use Rattle.mg_node.specs.Extending.{joined, lengthened, extended, MayExtend}
 use Rattle.mg_node.proofs.Lemmas.{engine_stays, extended_lawful, extended_by_nothing, get_drop, get_first, grown_by_itself, grown_further, intake_stays, unbegun_stays, work_stays}
-use Rattle.mg_sched.specs.Views.{DeskView, NetView}
+use Rattle.mg_sched.specs.Views.{WorkQueueView, NetView}
 use Rattle.mg_sched.specs.StandsFor.{IsEngine, IsCell, IsJoined, HasSpare, IsNetOf, StandsFor}
 use Rattle.mg_sched.specs.Extends.{GoesOnWith, MayGoOnWith, Extends, for_last}
 use Rattle.mg_sched.specs.Code.Longer.{MayEach, AreLonger}
@@ -116,15 +116,15 @@ engine_later : (first later : LoggedJob) (begun : Bool) (node : ℕ) (engine : E
 engine_later first later true node engine g h = engine_stays first later node engine g h
 engine_later first later false node engine g h = unbegun_stays first later node engine g h
 
-cell_later : (first later : LoggedJob) (begun : Bool) (node : ℕ) (engine : EngineView) (intake : IntakeView) (desk : DeskView) → Grows first later → IsCell first begun node engine intake desk → IsCell later begun node engine intake desk
-cell_later first later begun node engine intake desk g h = record {
+cell_later : (first later : LoggedJob) (begun : Bool) (node : ℕ) (engine : EngineView) (intake : IntakeView) (work_queue : WorkQueueView) → Grows first later → IsCell first begun node engine intake work_queue → IsCell later begun node engine intake work_queue
+cell_later first later begun node engine intake work_queue g h = record {
   lawful_engine = engine_later first later begun node engine g h.lawful_engine;
   lawful_intake = intake_stays first later node intake g h.lawful_intake;
   agree = h.agree;
   works = record {
     room = h.works.room;
     out = h.works.out;
-    lawful = All-weaker (LawfulWork first) (LawfulWork later) (λ w lawful. work_stays first later w g lawful) desk.works h.works.lawful;
+    lawful = All-weaker (LawfulWork first) (LawfulWork later) (λ w lawful. work_stays first later w g lawful) work_queue.works h.works.lawful;
     apart = h.works.apart;
     complete = h.works.complete;
   };
@@ -182,10 +182,10 @@ stands_so more first later before now g x h = record {
   given = h.given ∙ g.grows.sides;
   engines = x.places ∙ h.engines;
   intakes = h.intakes;
-  desks = h.desks;
-  cells = λ node engine intake desk at to on.
-      (let less = slice_get_within before.desks node desk on in let desks = h.desks in
-      cell_later first later (nat_lt node before.begun) node engine intake desk g.grows (h.cells node engine intake desk (sym (x.nodes node (omega (arith, less, desks))) ∙ at) to on));
+  work_queues = h.work_queues;
+  cells = λ node engine intake work_queue at to on.
+      (let less = slice_get_within before.work_queues node work_queue on in let work_queues = h.work_queues in
+      cell_later first later (nat_lt node before.begun) node engine intake work_queue g.grows (h.cells node engine intake work_queue (sym (x.nodes node (omega (arith, less, work_queues))) ∙ at) to on));
   inputs = λ input engine at.
       (let it = extended_at more first later before now input engine g x h at in
       subst (λ (v : EngineView). LawfulEngine later (of_input input) v) (sym it.is) (lawful_extended more first later it.old input it.piece g (h.inputs input it.old it.old_at) it.piece_at));

@@ -8,7 +8,7 @@ use Rattle.mg_node.specs.Views.{IntakeView, EngineView}
 use Rattle.mg_node.specs.Job.{LoggedJob}
 use Rattle.mg_node.specs.Lawful.{AreCell, LawfulEngine, LawfulIntake, Agree, of_node}
 use Rattle.mg_throttle.specs.Throttle.{AreLimitsOf}
-use Rattle.mg_sched.specs.Views.{DeskView, NetView}
+use Rattle.mg_sched.specs.Views.{WorkQueueView, NetView}
 use Rattle.mg_sched.specs.StandsFor.{IsCell, StandsFor, StandsForSome, IsRunning}
 
 -- the plan is valid
@@ -17,9 +17,9 @@ unfolding StandsFor
 valid net h = subst IsValid (sym h.stands.plan) h.stands.is_job.plan
 
 -- there is a part at each place
-pub places : (net : NetView) → StandsForSome net → (length net.engines ≡ length net.plan.nodes + length net.plan.inputs) × (length net.intakes ≡ length net.plan.nodes + 1) × (length net.desks ≡ length net.plan.nodes)
+pub places : (net : NetView) → StandsForSome net → (length net.engines ≡ length net.plan.nodes + length net.plan.inputs) × (length net.intakes ≡ length net.plan.nodes + 1) × (length net.work_queues ≡ length net.plan.nodes)
 unfolding StandsFor
-places net h = (h.stands.engines, h.stands.intakes, h.stands.desks)
+places net h = (h.stands.engines, h.stands.intakes, h.stands.work_queues)
 
 pub of_plan : (net : NetView) → StandsForSome net → AreLimitsOf net.plan net.limits
 unfolding StandsFor
@@ -29,12 +29,12 @@ is_below : (n m : ℕ) → n < m → nat_lt n m ≡ true
 is_below n m h = grind (arith, nat_tests)
 
 -- the parts of a node are a cell
-pub cell_at : (job : LoggedJob) (net : NetView) (node : ℕ) (engine : EngineView) (intake : IntakeView) (desk : DeskView) → StandsFor job net → IsRunning net → node < length net.plan.nodes → slice_get net.engines node ≡ Some engine
-    → slice_get net.intakes node ≡ Some intake → slice_get net.desks node ≡ Some desk → IsCell job true node engine intake desk
+pub cell_at : (job : LoggedJob) (net : NetView) (node : ℕ) (engine : EngineView) (intake : IntakeView) (work_queue : WorkQueueView) → StandsFor job net → IsRunning net → node < length net.plan.nodes → slice_get net.engines node ≡ Some engine
+    → slice_get net.intakes node ≡ Some intake → slice_get net.work_queues node ≡ Some work_queue → IsCell job true node engine intake work_queue
 unfolding StandsFor
-cell_at job net node engine intake desk h running there at to on =
+cell_at job net node engine intake work_queue h running there at to on =
     let less : node < net.begun = omega (arith, there, running) in
-    subst (λ (b : Bool). IsCell job b node engine intake desk) (is_below node net.begun less) (h.cells node engine intake desk at to on)
+    subst (λ (b : Bool). IsCell job b node engine intake work_queue) (is_below node net.begun less) (h.cells node engine intake work_queue at to on)
 
 -- a part at a place, as it is found
 pub found : {X : Type 0} (xs : List X) (i : ℕ) → i < length xs → (x : X) × (slice_get xs i ≡ Some x)
@@ -46,8 +46,8 @@ pub are_cell : (net : NetView) (node : ℕ) (engine : EngineView) (intake : Inta
     → AreCell engine intake
 are_cell net node engine intake h running there at to =
     let long = (places net h).2 in
-    let desk = found net.desks node (omega (arith, there, long)) in
-    let c = cell_at h.job net node engine intake desk.0 h.stands running there at to desk.1 in
+    let work_queue = found net.work_queues node (omega (arith, there, long)) in
+    let c = cell_at h.job net node engine intake work_queue.0 h.stands running there at to work_queue.1 in
     record { job = h.job; number = node; lawful_engine = c.lawful_engine; lawful_intake = c.lawful_intake; agree = c.agree }
 
 -- each is lawful for the job
@@ -55,23 +55,23 @@ pub parts_lawful : (net : NetView) (node : ℕ) (engine : EngineView) (intake : 
     → LawfulEngine h.job (of_node node) engine × LawfulIntake h.job node intake × Agree engine intake
 parts_lawful net node engine intake h running there at to =
     let long = (places net h).2 in
-    let desk = found net.desks node (omega (arith, there, long)) in
-    let c = cell_at h.job net node engine intake desk.0 h.stands running there at to desk.1 in
+    let work_queue = found net.work_queues node (omega (arith, there, long)) in
+    let c = cell_at h.job net node engine intake work_queue.0 h.stands running there at to work_queue.1 in
     (c.lawful_engine, c.lawful_intake, c.agree)
 
 -- what was read at a place within is found there
 pub read_at : {X : Type 0} (xs : List X) (i : ℕ) (x : X) → i < length xs → x ≡ get_or xs i x → slice_get xs i ≡ Some x
 read_at xs i x within is = slice_get_read xs (length xs) i x refl within is
 
--- a node has an engine, an intake and a desk
+-- a node has an engine, an intake and a work queue
 pub engine_there : (net : NetView) (node : ℕ) → StandsForSome net → node < length net.plan.nodes → node < length net.engines
 engine_there net node h there = (let long = (places net h).0 in omega (arith, long, there))
 
 pub intake_there : (net : NetView) (node : ℕ) → StandsForSome net → node < length net.plan.nodes → node < length net.intakes
 intake_there net node h there = (let long = (places net h).1 in omega (arith, long, there))
 
-pub desk_there : (net : NetView) (node : ℕ) → StandsForSome net → node < length net.plan.nodes → node < length net.desks
-desk_there net node h there = (let long = (places net h).2 in omega (arith, long, there))
+pub work_queue_there : (net : NetView) (node : ℕ) → StandsForSome net → node < length net.plan.nodes → node < length net.work_queues
+work_queue_there net node h there = (let long = (places net h).2 in omega (arith, long, there))
 
 -- The same of parts that are read of a net as it is kept.
 
@@ -83,9 +83,9 @@ pub intake_read : (shown net : NetView) (node : ℕ) (intake : IntakeView) → s
 intake_read shown net node intake is h there value =
     subst (λ (v : NetView). slice_get v.intakes node ≡ Some intake) is (read_at shown.intakes node intake (subst (λ (v : NetView). node < length v.intakes) (sym is) (intake_there net node h there)) value)
 
-pub desk_read : (shown net : NetView) (node : ℕ) (desk : DeskView) → shown ≡ net → StandsForSome net → node < length net.plan.nodes → desk ≡ get_or shown.desks node desk → slice_get net.desks node ≡ Some desk
-desk_read shown net node desk is h there value =
-    subst (λ (v : NetView). slice_get v.desks node ≡ Some desk) is (read_at shown.desks node desk (subst (λ (v : NetView). node < length v.desks) (sym is) (desk_there net node h there)) value)
+pub work_queue_read : (shown net : NetView) (node : ℕ) (work_queue : WorkQueueView) → shown ≡ net → StandsForSome net → node < length net.plan.nodes → work_queue ≡ get_or shown.work_queues node work_queue → slice_get net.work_queues node ≡ Some work_queue
+work_queue_read shown net node work_queue is h there value =
+    subst (λ (v : NetView). slice_get v.work_queues node ≡ Some work_queue) is (read_at shown.work_queues node work_queue (subst (λ (v : NetView). node < length v.work_queues) (sym is) (work_queue_there net node h there)) value)
 
 pub engine_fits : (shown net : NetView) (node n : ℕ) → shown ≡ net → StandsForSome net → node < length net.plan.nodes → n ≡ length shown.engines → node < n
 engine_fits shown net node n is h there long =
@@ -95,9 +95,9 @@ pub intake_fits : (shown net : NetView) (node n : ℕ) → shown ≡ net → Sta
 intake_fits shown net node n is h there long =
     let within = subst (λ (v : NetView). node < length v.intakes) (sym is) (intake_there net node h there) in omega (arith, within, long)
 
-pub desk_fits : (shown net : NetView) (node n : ℕ) → shown ≡ net → StandsForSome net → node < length net.plan.nodes → n ≡ length shown.desks → node < n
-desk_fits shown net node n is h there long =
-    let within = subst (λ (v : NetView). node < length v.desks) (sym is) (desk_there net node h there) in omega (arith, within, long)
+pub work_queue_fits : (shown net : NetView) (node n : ℕ) → shown ≡ net → StandsForSome net → node < length net.plan.nodes → n ≡ length shown.work_queues → node < n
+work_queue_fits shown net node n is h there long =
+    let within = subst (λ (v : NetView). node < length v.work_queues) (sym is) (work_queue_there net node h there) in omega (arith, within, long)
 
 -- an edge that is read; what stands past the last one is none of them
 abbrev pub no_edge : Edge

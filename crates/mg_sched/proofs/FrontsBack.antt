@@ -20,10 +20,10 @@ use Rattle.mg_node.specs.Leaving.{handed_told, first_handed, HasHanded}
 use Rattle.mg_node.specs.WindingUp.{lacks_close, WindsUp}
 use Rattle.mg_node.specs.Had.{HadFront}
 use Rattle.mg_node.proofs.Lemmas.{at_each as at_node, engine_front, engine_known, engine_stays, handed_there, unbegun_front, unbegun_stays, work_out_front, work_stays, wound_front}
-use Rattle.mg_sched.specs.Views.{DeskView, NetView}
+use Rattle.mg_sched.specs.Views.{WorkQueueView, NetView}
 use Rattle.mg_sched.specs.StandsFor.{IsCell, StandsFor}
 use Rattle.mg_sched.specs.WindsUp.{WindsUpNet}
-use Rattle.mg_sched.specs.GivesBack.{on_desk, or_else, cell_told, given_back, StoodFor}
+use Rattle.mg_sched.specs.GivesBack.{on_work_queue, or_else, cell_told, given_back, StoodFor}
 use Rattle.mg_sched.proofs.Finding.{found}
 use Rattle.mg_sched.proofs.WoundNets.{order_of}
 use Rattle.mg_sched.proofs.CountedBack.{knows_back, own_back}
@@ -49,25 +49,25 @@ plan_later : (job later : LoggedJob) → IsLater job later → later.job.plan �
 plan_later job later (inl same) = ap (λ (j : LoggedJob). j.job.plan) same
 plan_later job later (inr grows) = grows.plan
 
--- The one that lies first on a desk is there with a work.
+-- The one that lies first in a work queue is there with a work.
 
 record LiesWith (works : List WorkView) (told : CalculatorTold) : Type 0 where
   place : ℕ
   work : WorkView
   at : slice_get works place ≡ Some work
-  handed : handed_told work.bench.told ≡ Some told
+  handed : handed_told work.context.told ≡ Some told
 
 abbrev first_on : List WorkView → Option CalculatorTold
-first_on works = slice_get (filter_map handed_told (map (λ (w : WorkView). w.bench.told) works)) 0
+first_on works = slice_get (filter_map handed_told (map (λ (w : WorkView). w.context.told) works)) 0
 
-lies_first : (w : WorkView) (works : List WorkView) (told : CalculatorTold) (o : Option CalculatorTold) → handed_told w.bench.told ≡ o → (first_on works ≡ Some told → LiesWith works told)
-    → slice_get (cons_option o (filter_map handed_told (map (λ (v : WorkView). v.bench.told) works))) 0 ≡ Some told → LiesWith (w ∷ works) told
+lies_first : (w : WorkView) (works : List WorkView) (told : CalculatorTold) (o : Option CalculatorTold) → handed_told w.context.told ≡ o → (first_on works ≡ Some told → LiesWith works told)
+    → slice_get (cons_option o (filter_map handed_told (map (λ (v : WorkView). v.context.told) works))) 0 ≡ Some told → LiesWith (w ∷ works) told
 lies_first w works told None is rest found = (let r = rest found in record { place = suc r.place; work = r.work; at = r.at; handed = r.handed })
 lies_first w works told (Some t) is rest found = record { place = zero; work = w; at = refl; handed = is ∙ found }
 
 lies_with : (works : List WorkView) (told : CalculatorTold) → first_on works ≡ Some told → LiesWith works told
 lies_with [] told found = absurd cc
-lies_with (w ∷ works) told found = lies_first w works told (handed_told w.bench.told) refl (lies_with works told) found
+lies_with (w ∷ works) told found = lies_first w works told (handed_told w.context.told) refl (lies_with works told) found
 
 -- The calculator of a cell.
 
@@ -82,38 +82,38 @@ not_wound job number engine lawful =
       | inr o ↦ ap lacks_close o.is
     ]
 
-unbegun_front_of : (later : LoggedJob) (number : ℕ) (node : PlanNode) (engine now : EngineView) (desk : DeskView) (solution : List (StreamPrefix Plain)) (told : CalculatorTold) → Solves later solution → slice_get later.job.plan.nodes number ≡ Some node
-    → is_some node.box_number ≡ true → IsOuter node.law → LawfulUnbegun later number engine → now ≡ engine → cell_told now desk ≡ Some told → HadFront later solution node told
-unbegun_front_of later number node engine now desk solution told solves there boxed outer lawful same has =
+unbegun_front_of : (later : LoggedJob) (number : ℕ) (node : PlanNode) (engine now : EngineView) (work_queue : WorkQueueView) (solution : List (StreamPrefix Plain)) (told : CalculatorTold) → Solves later solution → slice_get later.job.plan.nodes number ≡ Some node
+    → is_some node.box_number ≡ true → IsOuter node.law → LawfulUnbegun later number engine → now ≡ engine → cell_told now work_queue ≡ Some told → HadFront later solution node told
+unbegun_front_of later number node engine now work_queue solution told solves there boxed outer lawful same has =
     let h : HasHanded later number node engine = handed_there later number node engine lawful there boxed in
     let here : first_handed engine ≡ Some (told_by h.held) = ap (λ (ts : List CalculatorTold). slice_get ts 0) h.found in
     let is : Some (told_by h.held) ≡ Some told =
-    ap (λ (o : Option CalculatorTold). or_else o (on_desk desk)) (sym here) ∙ ap (λ (v : EngineView). cell_told v desk) (sym same) ∙ has in
+    ap (λ (o : Option CalculatorTold). or_else o (on_work_queue work_queue)) (sym here) ∙ ap (λ (v : EngineView). cell_told v work_queue) (sym same) ∙ has in
     unbegun_front later number node engine solution told solves there boxed outer lawful (here ∙ is)
 
-begun_front_of : (later : LoggedJob) (number : ℕ) (node : PlanNode) (engine now : EngineView) (desk : DeskView) (solution : List (StreamPrefix Plain)) (told : CalculatorTold) (o : Option CalculatorTold) → Solves later solution
+begun_front_of : (later : LoggedJob) (number : ℕ) (node : PlanNode) (engine now : EngineView) (work_queue : WorkQueueView) (solution : List (StreamPrefix Plain)) (told : CalculatorTold) (o : Option CalculatorTold) → Solves later solution
     → slice_get later.job.plan.nodes number ≡ Some node → is_some node.box_number ≡ true → IsOuter node.law → LawfulEngine later (of_node number) engine
-    → ((place : ℕ) (work : WorkView) → slice_get desk.works place ≡ Some work → LawfulWork later work × IsOut engine work) → (now ≡ engine) ⊎ WindsUp engine now
-    → first_handed now ≡ o → or_else o (on_desk desk) ≡ Some told → HadFront later solution node told
-begun_front_of later number node engine now desk solution told None solves there boxed outer lawful works wound is has =
-    let lies = lies_with desk.works told has in
+    → ((place : ℕ) (work : WorkView) → slice_get work_queue.works place ≡ Some work → LawfulWork later work × IsOut engine work) → (now ≡ engine) ⊎ WindsUp engine now
+    → first_handed now ≡ o → or_else o (on_work_queue work_queue) ≡ Some told → HadFront later solution node told
+begun_front_of later number node engine now work_queue solution told None solves there boxed outer lawful works wound is has =
+    let lies = lies_with work_queue.works told has in
     let work = works lies.place lies.work lies.at in
     let known = (engine_known later number engine node lawful there).set_up.number_is in
     work_out_front later number node engine lies.work solution told solves there boxed outer lawful work.0 (work.1.node_is ∙ known) work.1 lies.handed
-begun_front_of later number node engine now desk solution told (Some t) solves there boxed outer lawful works (inl same) is has =
+begun_front_of later number node engine now work_queue solution told (Some t) solves there boxed outer lawful works (inl same) is has =
     engine_front later number node engine solution told solves there boxed outer lawful (ap first_handed (sym same) ∙ is ∙ has)
-begun_front_of later number node engine now desk solution told (Some t) solves there boxed outer lawful works (inr winds) is has =
+begun_front_of later number node engine now work_queue solution told (Some t) solves there boxed outer lawful works (inr winds) is has =
     wound_front later number node engine now solution told solves there boxed outer lawful winds (is ∙ has)
 
-cell_front : (job later : LoggedJob) (begun : Bool) (number : ℕ) (node : PlanNode) (engine now : EngineView) (intake : IntakeView) (desk : DeskView) (solution : List (StreamPrefix Plain)) (told : CalculatorTold) → IsLater job later → Solves later solution
-    → slice_get later.job.plan.nodes number ≡ Some node → is_some node.box_number ≡ true → IsOuter node.law → IsCell job begun number engine intake desk → (now ≡ engine) ⊎ WindsUp engine now → cell_told now desk ≡ Some told → HadFront later solution node told
-cell_front job later false number node engine now intake desk solution told since solves there boxed outer c wound has =
+cell_front : (job later : LoggedJob) (begun : Bool) (number : ℕ) (node : PlanNode) (engine now : EngineView) (intake : IntakeView) (work_queue : WorkQueueView) (solution : List (StreamPrefix Plain)) (told : CalculatorTold) → IsLater job later → Solves later solution
+    → slice_get later.job.plan.nodes number ≡ Some node → is_some node.box_number ≡ true → IsOuter node.law → IsCell job begun number engine intake work_queue → (now ≡ engine) ⊎ WindsUp engine now → cell_told now work_queue ≡ Some told → HadFront later solution node told
+cell_front job later false number node engine now intake work_queue solution told since solves there boxed outer c wound has =
     let lawful = unbegun_later job later number engine since c.lawful_engine in
     let same : now ≡ engine = elim wound [ inl is ↦ is | inr w ↦ w.had_close (not_wound job number engine c.lawful_engine) ] in
-    unbegun_front_of later number node engine now desk solution told solves there boxed outer lawful same has
-cell_front job later true number node engine now intake desk solution told since solves there boxed outer c wound has =
-    begun_front_of later number node engine now desk solution told (first_handed now) solves there boxed outer (engine_later job later number engine since c.lawful_engine)
-    (λ place work at. (work_later job later work since (at_node (LawfulWork job) desk.works place work c.works.lawful at), at_node (IsOut engine) desk.works place work c.works.out at)) wound refl has
+    unbegun_front_of later number node engine now work_queue solution told solves there boxed outer lawful same has
+cell_front job later true number node engine now intake work_queue solution told since solves there boxed outer c wound has =
+    begun_front_of later number node engine now work_queue solution told (first_handed now) solves there boxed outer (engine_later job later number engine since c.lawful_engine)
+    (λ place work at. (work_later job later work since (at_node (LawfulWork job) work_queue.works place work c.works.lawful at), at_node (IsOut engine) work_queue.works place work c.works.out at)) wound refl has
 
 -- Nets.
 
@@ -122,19 +122,19 @@ record HasCell (job : LoggedJob) (net : NetView) (number : ℕ) : Type 0 where
   begun : Bool
   engine : EngineView
   intake : IntakeView
-  desk : DeskView
-  is_cell : IsCell job begun number engine intake desk
+  work_queue : WorkQueueView
+  is_cell : IsCell job begun number engine intake work_queue
   at : slice_get net.engines number ≡ Some engine
-  on : slice_get net.desks number ≡ Some desk
+  on : slice_get net.work_queues number ≡ Some work_queue
 
 has_cell : (job : LoggedJob) (net : NetView) (number : ℕ) → StandsFor job net → number < length net.plan.nodes → HasCell job net number
 unfolding StandsFor
 has_cell job net number h within =
-    let engines = h.engines in let intakes = h.intakes in let desks = h.desks in
+    let engines = h.engines in let intakes = h.intakes in let work_queues = h.work_queues in
     let e = found net.engines number (omega (arith, within, engines)) in
     let i = found net.intakes number (omega (arith, within, intakes)) in
-    let d = found net.desks number (omega (arith, within, desks)) in
-    record { begun = nat_lt number net.begun; engine = e.0; intake = i.0; desk = d.0; is_cell = h.cells number e.0 i.0 d.0 e.1 i.1 d.1; at = e.1; on = d.1 }
+    let d = found net.work_queues number (omega (arith, within, work_queues)) in
+    record { begun = nat_lt number net.begun; engine = e.0; intake = i.0; work_queue = d.0; is_cell = h.cells number e.0 i.0 d.0 e.1 i.1 d.1; at = e.1; on = d.1 }
 
 -- its engine, and what became of it since
 record HasSince (net : NetView) (number : ℕ) (engine : EngineView) : Type 0 where
@@ -160,9 +160,9 @@ plan_since : (before net : NetView) → (net ≡ before) ⊎ WindsUpNet before n
 plan_since before net (inl same) = ap (λ (v : NetView). v.plan) same
 plan_since before net (inr w) = ap (λ (v : NetView). v.plan) w.parts
 
-desks_since : (before net : NetView) → (net ≡ before) ⊎ WindsUpNet before net → net.desks ≡ before.desks
-desks_since before net (inl same) = ap (λ (v : NetView). v.desks) same
-desks_since before net (inr w) = ap (λ (v : NetView). v.desks) w.parts
+work_queues_since : (before net : NetView) → (net ≡ before) ⊎ WindsUpNet before net → net.work_queues ≡ before.work_queues
+work_queues_since before net (inl same) = ap (λ (v : NetView). v.work_queues) same
+work_queues_since before net (inr w) = ap (λ (v : NetView). v.work_queues) w.parts
 
 pub given_at : (P : CalculatorTold → Type 0) (there o : Option CalculatorTold) → there ≡ o → is_some o ≡ true → ((told : CalculatorTold) → o ≡ Some told → P told) → (told : CalculatorTold) × (there ≡ Some told) × P told
 given_at P there None is some front = absurd cc
@@ -175,8 +175,8 @@ front_back job later net solution number place node stood more solves there boxe
     let there_before : slice_get stood.before.plan.nodes number ≡ Some node = subst (λ (p : Plan). slice_get p.nodes number ≡ Some node) (plan_since stood.before net stood.since) there in
     let c = has_cell job stood.before number stood.stands (slice_get_within stood.before.plan.nodes number node there_before) in
     let e = since_then stood.before net number c.engine stood.since c.at in
-    let on : slice_get net.desks number ≡ Some c.desk = subst (λ (ds : List DeskView). slice_get ds number ≡ Some c.desk) (sym (desks_since stood.before net stood.since)) c.on in
-    let back = own_back (given_back net) job net number place node e.now c.desk refl knows there boxed e.at on in
+    let on : slice_get net.work_queues number ≡ Some c.work_queue = subst (λ (ds : List WorkQueueView). slice_get ds number ≡ Some c.work_queue) (sym (work_queues_since stood.before net stood.since)) c.on in
+    let back = own_back (given_back net) job net number place node e.now c.work_queue refl knows there boxed e.at on in
     let theirs : slice_get later.job.plan.nodes number ≡ Some node = subst (λ (p : Plan). slice_get p.nodes number ≡ Some node) (knows.plan ∙ sym (plan_later job later more)) there in
-    given_at (HadFront later solution node) (slice_get (given_back net) place) (cell_told e.now c.desk) back.0 back.1
-    (λ told has. cell_front job later c.begun number node c.engine e.now c.intake c.desk solution told more solves theirs (ap is_some boxed) outer c.is_cell e.since has)
+    given_at (HadFront later solution node) (slice_get (given_back net) place) (cell_told e.now c.work_queue) back.0 back.1
+    (λ told has. cell_front job later c.begun number node c.engine e.now c.intake c.work_queue solution told more solves theirs (ap is_some boxed) outer c.is_cell e.since has)

@@ -5,7 +5,7 @@ use Rattle.std.proofs.lemmas.List.{length-map}
 use Rattle.mg_calc.specs.Told.{CalculatorTold}
 use Rattle.mg_calc.specs.declared.plan_node.PlanNode.{PlanNode}
 use Rattle.mg_node.specs.Views.{EngineView}
-use Rattle.mg_sched.specs.Views.{DeskView}
+use Rattle.mg_sched.specs.Views.{WorkQueueView}
 use Rattle.mg_sched.specs.GivesBack.{cell_told, with_told, with_cells}
 use Rattle.mg_sched.proofs.Finding.{put_long}
 
@@ -23,15 +23,15 @@ drop_here {X} (y ∷ xs) zero x at = (let same : y ≡ x = cc in ap (λ (z : X).
 drop_here {X} (y ∷ xs) (suc i) x at = drop_here xs i x at ∙ ap (λ (k : ℕ). x ∷ drop k (y ∷ xs)) (let e : suc (i + 1) ≡ suc i + 1 = omega arith in e)
 
 -- with the nodes that are left it comes to the same
-pub cells_next : (places now : List (Option CalculatorTold)) (nodes : List PlanNode) (i : ℕ) (node read : PlanNode) (o : Option CalculatorTold) (engines_left engines : List EngineView) (desks_left desks : List DeskView) (engine : EngineView) (desk : DeskView)
-    (total : List (Option CalculatorTold)) → slice_get nodes i ≡ Some node → engines_left ≡ engine ∷ engines → desks_left ≡ desk ∷ desks → now ≡ with_told places read.box_number o → node ≡ read → o ≡ cell_told engine desk
-    → with_cells places (drop i nodes) engines_left desks_left ≡ total → with_cells now (drop (i + 1) nodes) engines desks ≡ total
-cells_next places now nodes i node read o engines_left engines desks_left desks engine desk total at es ds is same own all =
-    ap (λ (ps : List (Option CalculatorTold)). with_cells ps (drop (i + 1) nodes) engines desks)
+pub cells_next : (places now : List (Option CalculatorTold)) (nodes : List PlanNode) (i : ℕ) (node read : PlanNode) (o : Option CalculatorTold) (engines_left engines : List EngineView) (work_queues_left work_queues : List WorkQueueView) (engine : EngineView) (work_queue : WorkQueueView)
+    (total : List (Option CalculatorTold)) → slice_get nodes i ≡ Some node → engines_left ≡ engine ∷ engines → work_queues_left ≡ work_queue ∷ work_queues → now ≡ with_told places read.box_number o → node ≡ read → o ≡ cell_told engine work_queue
+    → with_cells places (drop i nodes) engines_left work_queues_left ≡ total → with_cells now (drop (i + 1) nodes) engines work_queues ≡ total
+cells_next places now nodes i node read o engines_left engines work_queues_left work_queues engine work_queue total at es ds is same own all =
+    ap (λ (ps : List (Option CalculatorTold)). with_cells ps (drop (i + 1) nodes) engines work_queues)
     (is ∙ ap (λ (n : PlanNode). with_told places n.box_number o) (sym same) ∙ ap (λ (t : Option CalculatorTold). with_told places node.box_number t) own)
-    ∙ ap (λ (ns : List PlanNode). with_cells places ns (engine ∷ engines) (desk ∷ desks)) (sym (drop_here nodes i node at))
-    ∙ ap (λ (qs : List EngineView). with_cells places (drop i nodes) qs (desk ∷ desks)) (sym es)
-    ∙ ap (λ (qs : List DeskView). with_cells places (drop i nodes) engines_left qs) (sym ds)
+    ∙ ap (λ (ns : List PlanNode). with_cells places ns (engine ∷ engines) (work_queue ∷ work_queues)) (sym (drop_here nodes i node at))
+    ∙ ap (λ (qs : List EngineView). with_cells places (drop i nodes) qs (work_queue ∷ work_queues)) (sym es)
+    ∙ ap (λ (qs : List WorkQueueView). with_cells places (drop i nodes) engines_left qs) (sym ds)
     ∙ all
 
 -- the places stay as many
@@ -40,17 +40,17 @@ told_long places None told = refl
 told_long places (Some number) None = refl
 told_long places (Some number) (Some told) = put_long places number (Some told)
 
-pub cells_long : (places : List (Option CalculatorTold)) (nodes : List PlanNode) (engines : List EngineView) (desks : List DeskView) → length (with_cells places nodes engines desks) ≡ length places
-cells_long places [] engines desks = refl
-cells_long places (node ∷ nodes) [] desks = refl
+pub cells_long : (places : List (Option CalculatorTold)) (nodes : List PlanNode) (engines : List EngineView) (work_queues : List WorkQueueView) → length (with_cells places nodes engines work_queues) ≡ length places
+cells_long places [] engines work_queues = refl
+cells_long places (node ∷ nodes) [] work_queues = refl
 cells_long places (node ∷ nodes) (engine ∷ engines) [] = refl
-cells_long places (node ∷ nodes) (engine ∷ engines) (desk ∷ desks) =
-    cells_long (with_told places node.box_number (cell_told engine desk)) nodes engines desks ∙ told_long places node.box_number (cell_told engine desk)
+cells_long places (node ∷ nodes) (engine ∷ engines) (work_queue ∷ work_queues) =
+    cells_long (with_told places node.box_number (cell_told engine work_queue)) nodes engines work_queues ∙ told_long places node.box_number (cell_told engine work_queue)
 
-pub places_long : {X : Type 0} (told : X → CalculatorTold) (now places : List (Option X)) (nodes : List PlanNode) (engines : List EngineView) (desks : List DeskView)
-    → map (option_map told) now ≡ with_cells (map (option_map told) places) nodes engines desks → length now ≡ length places
-places_long {X} told now places nodes engines desks is =
-    sym (length-map now (option_map told)) ∙ ap length is ∙ cells_long (map (option_map told) places) nodes engines desks ∙ length-map places (option_map told)
+pub places_long : {X : Type 0} (told : X → CalculatorTold) (now places : List (Option X)) (nodes : List PlanNode) (engines : List EngineView) (work_queues : List WorkQueueView)
+    → map (option_map told) now ≡ with_cells (map (option_map told) places) nodes engines work_queues → length now ≡ length places
+places_long {X} told now places nodes engines work_queues is =
+    sym (length-map now (option_map told)) ∙ ap length is ∙ cells_long (map (option_map told) places) nodes engines work_queues ∙ length-map places (option_map told)
 
 -- what lies in the places is all that comes back
 pub all_given : {X : Type 0} (told : X → CalculatorTold) (result boxes : List X) (places now : List (Option X)) (given : List (Option CalculatorTold)) (total : List CalculatorTold)

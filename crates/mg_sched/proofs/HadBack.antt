@@ -14,13 +14,13 @@ use Rattle.mg_node.specs.Job.{LoggedJob, Solves}
 use Rattle.mg_node.specs.Had.{HadCalls}
 use Rattle.mg_node.specs.Leaving.{first_handed}
 use Rattle.mg_node.proofs.Lemmas.{at_each as at_node, had_calls}
-use Rattle.mg_sched.specs.Views.{DeskView, NetView}
+use Rattle.mg_sched.specs.Views.{WorkQueueView, NetView}
 use Rattle.mg_sched.specs.StandsFor.{StandsFor, IsRunning}
 use Rattle.mg_sched.specs.AtRest.{IsAtRest}
 use Rattle.mg_sched.specs.Taking.{LeavesNodes}
 use Rattle.mg_sched.specs.Reports.{report_of}
 use Rattle.mg_sched.specs.WindsUp.{WindsUpNet}
-use Rattle.mg_sched.specs.GivesBack.{on_desk, or_else, cell_told, given_back, StoodFor}
+use Rattle.mg_sched.specs.GivesBack.{on_work_queue, or_else, cell_told, given_back, StoodFor}
 use Rattle.mg_sched.proofs.Finding.{found, read_at}
 use Rattle.mg_sched.proofs.RestingNets.{has_node}
 use Rattle.mg_sched.proofs.CountedBack.{KnowsBack, knows_standing, knows_wound, knows_back, counted, own_back, unused_back}
@@ -49,9 +49,9 @@ knows_left job before now left k = subst (KnowsBack job) (sym left) (record {
 -- The calculator of a node.
 
 -- what the node's cell has is what lies in its place
-in_place : (job : LoggedJob) (solution : List (StreamPrefix Plain)) (node : PlanNode) (engine : EngineView) (desk : DeskView) (found_there : Option CalculatorTold)
-    → (told : CalculatorTold) × (first_handed engine ≡ Some told) × HadCalls job solution node told → found_there ≡ cell_told engine desk → (told : CalculatorTold) × (found_there ≡ Some told) × HadCalls job solution node told
-in_place job solution node engine desk found_there had is = (had.0, is ∙ ap (λ (o : Option CalculatorTold). or_else o (on_desk desk)) had.1, had.2)
+in_place : (job : LoggedJob) (solution : List (StreamPrefix Plain)) (node : PlanNode) (engine : EngineView) (work_queue : WorkQueueView) (found_there : Option CalculatorTold)
+    → (told : CalculatorTold) × (first_handed engine ≡ Some told) × HadCalls job solution node told → found_there ≡ cell_told engine work_queue → (told : CalculatorTold) × (found_there ≡ Some told) × HadCalls job solution node told
+in_place job solution node engine work_queue found_there had is = (had.0, is ∙ ap (λ (o : Option CalculatorTold). or_else o (on_work_queue work_queue)) had.1, had.2)
 
 pub used_back : (job : LoggedJob) (rested net wound : NetView) (solution : List (StreamPrefix Plain)) (number place : ℕ) (node : PlanNode) → StandsFor job rested → IsRunning rested → IsAtRest rested → Solves job solution
     → LeavesNodes rested net → WindsUpNet net wound → wound.wound ≡ length net.plan.nodes → slice_get net.plan.nodes number ≡ Some node → node.box_number ≡ Some place → IsOuter node.law
@@ -63,9 +63,9 @@ used_back job rested net wound solution number place node h running rest solves 
     let within = slice_get_within rested.plan.nodes number node there_too in
     let below = slice_get_within net.plan.nodes number node there in
     let engines = h.engines in
-    let desks = h.desks in
+    let work_queues = h.work_queues in
     let g = found rested.engines number (omega (arith, within, engines)) in
-    let d = found rested.desks number (omega (arith, within, desks)) in
+    let d = found rested.work_queues number (omega (arith, within, work_queues)) in
     let n = has_node job rested solution number node g.0 h running rest solves there_too g.1 in
     let at : slice_get net.engines number ≡ Some g.0 = subst (λ (es : List EngineView). slice_get es number ≡ Some g.0) (sym (ap (λ (v : NetView). v.engines) left)) g.1 in
     let long = slice_get_within net.engines number g.0 at in
@@ -76,8 +76,8 @@ used_back job rested net wound solution number place node h running rest solves 
     let had : (told : CalculatorTold) × (first_handed e.0 ≡ Some told) × HadCalls job solution node told = had_calls job number node g.0 e.0 n.intake solution solves n.there (ap is_some boxed) outer n.lawful_engine n.lawful_intake n.agree n.rests n.came winds in
     let knows = knows_wound job net wound (knows_left job rested net left (knows_standing job rested h)) w in
     let there_wound : slice_get wound.plan.nodes number ≡ Some node = subst (λ (p : Plan). slice_get p.nodes number ≡ Some node) (sym (ap (λ (v : NetView). v.plan) w.parts)) there in
-    let same_desks : wound.desks ≡ rested.desks = ap (λ (v : NetView). v.desks) w.parts ∙ ap (λ (v : NetView). v.desks) left in
-    let on : slice_get wound.desks number ≡ Some d.0 = subst (λ (ds : List DeskView). slice_get ds number ≡ Some d.0) (sym same_desks) d.1 in
+    let same_work_queues : wound.work_queues ≡ rested.work_queues = ap (λ (v : NetView). v.work_queues) w.parts ∙ ap (λ (v : NetView). v.work_queues) left in
+    let on : slice_get wound.work_queues number ≡ Some d.0 = subst (λ (ds : List WorkQueueView). slice_get ds number ≡ Some d.0) (sym same_work_queues) d.1 in
     in_place job solution node e.0 d.0 (slice_get (given_back wound) place) had (own_back (given_back wound) job wound number place node e.0 d.0 refl knows there_wound boxed e.1 on).0
 
 -- All that were handed in come back.

@@ -23,8 +23,8 @@ use Rattle.mg_stream.specs.Pool.{Backlog}
 use Rattle.mg_value.specs.Payload.{Plain}
 use Rattle.mg_throttle.specs.declared.queue.Queue.{Queue}
 use Rattle.mg_throttle.specs.Throttle.{noted}
-use Rattle.mg_sched.specs.Views.{DeskView, NetView}
-use Rattle.mg_sched.specs.Places.{first_edge, lengths_of, with_engine, with_intake, with_desk, with_limits}
+use Rattle.mg_sched.specs.Views.{WorkQueueView, NetView}
+use Rattle.mg_sched.specs.Places.{first_edge, lengths_of, with_engine, with_intake, with_work_queue, with_limits}
 use Rattle.mg_sched.specs.StandsFor.{StandsFor, StandsForSome, IsRunning}
 use Rattle.mg_sched.specs.Acts.{effect_of, all_noted, with_noted, IsEventOf, Brings, ClaimsNext, CommittedAt, Acts}
 use Rattle.mg_sched.proofs.Finding.{found, valid}
@@ -92,9 +92,9 @@ brought_none (Moved (suc n) raised) e = (let none : (suc n == 0) ≡ false = gri
 brought_none (NoRoom n) e = absurd (not_busy OutOfMemory e tt)
 
 -- the parts of a node as they were
-pub same_parts : (net : NetView) (node : ℕ) (engine : EngineView) (intake : IntakeView) (desk : DeskView) → slice_get net.engines node ≡ Some engine → slice_get net.intakes node ≡ Some intake → slice_get net.desks node ≡ Some desk
-    → with_desk (with_intake (with_engine net node engine) node intake) node desk ≡ net
-same_parts net node engine intake desk at to on = λ i. record net { engines = same_put net.engines node engine at i; intakes = same_put net.intakes node intake to i; desks = same_put net.desks node desk on i }
+pub same_parts : (net : NetView) (node : ℕ) (engine : EngineView) (intake : IntakeView) (work_queue : WorkQueueView) → slice_get net.engines node ≡ Some engine → slice_get net.intakes node ≡ Some intake → slice_get net.work_queues node ≡ Some work_queue
+    → with_work_queue (with_intake (with_engine net node engine) node intake) node work_queue ≡ net
+same_parts net node engine intake work_queue at to on = λ i. record net { engines = same_put net.engines node engine at i; intakes = same_put net.intakes node intake to i; work_queues = same_put net.work_queues node work_queue on i }
 
 pub claimed_none : (job : LoggedJob) (node : ℕ) (before now : NetView) → StandsFor job before → IsRunning before → node < length before.plan.nodes → ClaimsNext node Idle before now → now ≡ before
 claimed_none job node before now h running less c =
@@ -110,10 +110,10 @@ claimed_none job node before now h running less c =
     by_same : AreSame c.engine c.intake c.engine_now c.intake_now → all_noted before.limits.queues (first_edge before.plan node) (lengths_of c.intake.waits) ≡ before.limits.queues → now ≡ before
     by_same same told =
         c.now_is
-        ∙ ap (λ (e : EngineView). with_noted (with_desk (with_intake (with_engine before node e) node c.intake_now) node c.desk_now) (first_edge before.plan node) (lengths_of c.intake_now.waits)) same.same_engine
-        ∙ ap (λ (i : IntakeView). with_noted (with_desk (with_intake (with_engine before node c.engine) node i) node c.desk_now) (first_edge before.plan node) (lengths_of i.waits)) same.same_intake
-        ∙ ap (λ (d : DeskView). with_noted (with_desk (with_intake (with_engine before node c.engine) node c.intake) node d) (first_edge before.plan node) (lengths_of c.intake.waits)) c.claims.1
-        ∙ ap (λ (v : NetView). with_noted v (first_edge before.plan node) (lengths_of c.intake.waits)) (same_parts before node c.engine c.intake c.desk c.at c.to c.on)
+        ∙ ap (λ (e : EngineView). with_noted (with_work_queue (with_intake (with_engine before node e) node c.intake_now) node c.work_queue_now) (first_edge before.plan node) (lengths_of c.intake_now.waits)) same.same_engine
+        ∙ ap (λ (i : IntakeView). with_noted (with_work_queue (with_intake (with_engine before node c.engine) node i) node c.work_queue_now) (first_edge before.plan node) (lengths_of i.waits)) same.same_intake
+        ∙ ap (λ (d : WorkQueueView). with_noted (with_work_queue (with_intake (with_engine before node c.engine) node c.intake) node d) (first_edge before.plan node) (lengths_of c.intake.waits)) c.claims.1
+        ∙ ap (λ (v : NetView). with_noted v (first_edge before.plan node) (lengths_of c.intake.waits)) (same_parts before node c.engine c.intake c.work_queue c.at c.to c.on)
         ∙ ap (λ (qs : List Queue). with_limits before (record before.limits { queues = qs })) told
 
 raised_first : (b : Backlog Plain) (bs : List (Backlog Plain)) (bound : ℕ) (test : Bool) → nat_lt b.bound bound ≡ test → (if test then true else any_moved bound bs) ≡ false → (any_moved bound bs ≡ false → map (raised_output (Some bound)) bs ≡ bs)

@@ -68,9 +68,9 @@ engine_low e outputs low = omega (arith, low)
 pub advance_less : (job : LoggedJob) (node : ℕ) (before now : NetView) → node < length before.plan.nodes → IsRunning before → StandsFor job before → NodeAdvances node Did before now → left_in now < left_in before
 unfolding StandsFor
 advance_less job node before now within running h a =
-    let long = h.desks in
-    let desk = found before.desks node (omega (arith, within, long)) in
-    let cell = cell_at job before node a.engine a.intake desk.0 h running within a.at a.to desk.1 in
+    let long = h.work_queues in
+    let work_queue = found before.work_queues node (omega (arith, within, long)) in
+    let cell = cell_at job before node a.engine a.intake work_queue.0 h running within a.at a.to work_queue.1 in
     let engine_now = advanced a.engine a.intake.waits in
     let small = bounds_small job (of_node node) engine_now (advance_lawful job node a.engine a.intake cell.lawful_engine cell.lawful_intake cell.agree) in
     let moved = did_so (is_advanced a.engine a.intake.waits) a.effect_is in

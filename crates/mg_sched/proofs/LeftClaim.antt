@@ -14,7 +14,7 @@ use Rattle.mg_calc.specs.declared.event.Effect.TheVariants.{Did, Idle, OutOfMemo
 use Rattle.mg_calc.specs.declared.node_fault.Phase.{Phase}
 use Rattle.mg_calc.specs.declared.node_fault.Phase.TheVariants.{Call, Process, Close}
 use Rattle.mg_node.specs.declared.claimed.Claimed.TheVariants.{Work, Answered}
-use Rattle.mg_node.specs.Views.{IntakeView, BenchView, WorkView, OutcomeView, EntryView, EngineView}
+use Rattle.mg_node.specs.Views.{IntakeView, ContextView, WorkView, OutcomeView, EntryView, EngineView}
 use Rattle.mg_node.specs.Job.{LoggedJob}
 use Rattle.mg_node.specs.Ports.{ports_in, port_queue}
 use Rattle.mg_node.specs.IntakeStanding.{HasGrown, Stays}
@@ -23,8 +23,8 @@ use Rattle.mg_node.specs.Lawful.{of_node, is_close, LawfulEngine, AreCell}
 use Rattle.mg_node.specs.Windows.{has_ended}
 use Rattle.mg_node.specs.Claims.{with_answer, AreSame, Hands, TakesUnrun, TakesAnswer, Claims}
 use Rattle.mg_node.proofs.Lemmas.{claim_grows, claim_stays, claims_small}
-use Rattle.mg_sched.specs.Views.{DeskView, NetView}
-use Rattle.mg_sched.specs.Places.{first_edge, lengths_of, with_engine, with_intake, with_desk}
+use Rattle.mg_sched.specs.Views.{WorkQueueView, NetView}
+use Rattle.mg_sched.specs.Places.{first_edge, lengths_of, with_engine, with_intake, with_work_queue}
 use Rattle.mg_sched.specs.StandsFor.{IsCell, StandsFor, IsRunning}
 use Rattle.mg_sched.specs.Acts.{ClaimsBy, ClaimsNext, NodeClaims}
 use Rattle.mg_sched.specs.Code.Left.{came_left, entry_left, engine_left, intake_left, left_in}
@@ -75,8 +75,8 @@ any_push p (z ∷ xs) x = ap (λ (b : Bool). p z || b) (any_push p xs x) ∙ or_
 more_numbers : (c w w_now k k_now o o_now : ℕ) → c < 2 ^ 64 → w_now + k_now ≤ w + k + 2 → o_now ≤ o → 4 * (2 ^ 65 - (c + 1)) + w_now + k_now + o_now < 4 * (2 ^ 65 - c) + w + k + o
 more_numbers c w w_now k k_now o o_now few more fewer = omega arith
 
-hands_less : (engine now : EngineView) (phase : Phase) (bench : BenchView) → Hands engine now phase 1 bench → is_close phase ≡ false → engine.claimed < 2 ^ 64 → engine_left now < engine_left engine
-hands_less engine now phase bench t other few =
+hands_less : (engine now : EngineView) (phase : Phase) (context : ContextView) → Hands engine now phase 1 context → is_close phase ≡ false → engine.claimed < 2 ^ 64 → engine_left now < engine_left engine
+hands_less engine now phase context t other few =
     let entry : EntryView = record { phase = phase; outcome = None; committed = false } in
     let sums = sum_by_push entry_left engine.window entry in
     let close : close_by (has_ended engine || list_any closes (engine.window ++ entry ∷ [])) ≡ close_by (has_ended engine || list_any closes engine.window) =
@@ -93,8 +93,8 @@ hands_less engine now phase bench t other few =
 close_numbers : (c o : ℕ) → 4 * (2 ^ 65 - (c + 0)) + 2 + 0 + o < 4 * (2 ^ 65 - c) + 0 + 4 + o
 close_numbers c o = omega arith
 
-closing_less : (engine now : EngineView) (bench : BenchView) → Hands engine now Close 0 bench → has_ended engine ≡ false → engine.window ≡ [] → engine_left now < engine_left engine
-closing_less engine now bench t goes none =
+closing_less : (engine now : EngineView) (context : ContextView) → Hands engine now Close 0 context → has_ended engine ≡ false → engine.window ≡ [] → engine_left now < engine_left engine
+closing_less engine now context t goes none =
     let entry : EntryView = record { phase = Close; outcome = None; committed = false } in
     let with_window = λ (ended : Bool) (w : List EntryView). 4 * (2 ^ 65 - engine.claimed) + sum_by entry_left w + close_by (ended || list_any closes w) + bounds_left engine.outputs in
     let closing = λ (ended : Bool) (w : List EntryView). 4 * (2 ^ 65 - (engine.claimed + 0)) + sum_by entry_left (w ++ entry ∷ []) + close_by (ended || list_any closes (w ++ entry ∷ [])) + bounds_left engine.outputs in
@@ -128,20 +128,20 @@ work_less : (job : LoggedJob) (node : ℕ) (work : WorkView) (engine engine_now 
 work_less job node work engine engine_now intake intake_now h few claims = elim claims [
   | inl unrun ↦ record { engine_less = unrun_less job node engine engine_now work h unrun.1; intake_same = ap intake_left unrun.2 }
   | inr further ↦ elim further.1 [
-    | inl called ↦ record { engine_less = hands_less engine engine_now (Call engine.claimed) called.0.bench called.0.hands refl few; intake_same = ap intake_left called.1 }
+    | inl called ↦ record { engine_less = hands_less engine engine_now (Call engine.claimed) called.0.context called.0.hands refl few; intake_same = ap intake_left called.1 }
     | inr other ↦ elim other [
-      | inl closes ↦ record { engine_less = closing_less engine engine_now closes.0.bench closes.0.hands further.0.goes closes.0.laid; intake_same = ap intake_left closes.1 }
+      | inl closes ↦ record { engine_less = closing_less engine engine_now closes.0.context closes.0.hands further.0.goes closes.0.laid; intake_same = ap intake_left closes.1 }
       | inr t ↦ record {
-        engine_less = hands_less engine engine_now (Process t.at) t.bench t.hands refl few;
+        engine_less = hands_less engine engine_now (Process t.at) t.context t.hands refl few;
         intake_same = intake_same intake intake_now t.takes.ports (λ port. record { count = t.takes.counts port; bound = t.takes.bounds port });
       }
     ]
   ]
 ]
 
-answered_less : (job : LoggedJob) (node : ℕ) (engine engine_now : EngineView) (intake intake_now : IntakeView) (desk : DeskView) → IsCell job true node engine intake desk → engine.claimed < 2 ^ 64 → Claims {C = ℕ} Answered engine engine_now intake intake_now
+answered_less : (job : LoggedJob) (node : ℕ) (engine engine_now : EngineView) (intake intake_now : IntakeView) (work_queue : WorkQueueView) → IsCell job true node engine intake work_queue → engine.claimed < 2 ^ 64 → Claims {C = ℕ} Answered engine engine_now intake intake_now
     → ClaimsLess engine engine_now intake intake_now
-answered_less job node engine engine_now intake intake_now desk cell few claims =
+answered_less job node engine engine_now intake intake_now work_queue cell few claims =
     let t = claims.1 in
     let is_cell : AreCell engine intake = record { job = job; number = node; lawful_engine = cell.lawful_engine; lawful_intake = cell.lawful_intake; agree = cell.agree } in
     let grows = claim_grows {C = ℕ} Answered engine engine_now intake intake_now is_cell claims in
@@ -150,10 +150,10 @@ answered_less job node engine engine_now intake intake_now desk cell few claims 
       intake_same = intake_same intake intake_now (ap (λ (v : IntakeView). ports_in v.waits) t.intake_is ∙ sym (ap ports_in t.waits)) (claim_stays {X = ℕ} Answered engine engine_now intake intake_now claims);
     }
 
-cell_less : (job : LoggedJob) (node : ℕ) (engine engine_now : EngineView) (intake intake_now : IntakeView) (desk desk_now : DeskView) → IsCell job true node engine intake desk → engine.claimed < 2 ^ 64 → ClaimsBy Did engine engine_now intake intake_now desk desk_now
+cell_less : (job : LoggedJob) (node : ℕ) (engine engine_now : EngineView) (intake intake_now : IntakeView) (work_queue work_queue_now : WorkQueueView) → IsCell job true node engine intake work_queue → engine.claimed < 2 ^ 64 → ClaimsBy Did engine engine_now intake intake_now work_queue work_queue_now
     → ClaimsLess engine engine_now intake intake_now
-cell_less job node engine engine_now intake intake_now desk desk_now cell few (inl t) = work_less job node t.work engine engine_now intake intake_now cell.lawful_engine few t.claims
-cell_less job node engine engine_now intake intake_now desk desk_now cell few (inr a) = answered_less job node engine engine_now intake intake_now desk cell few a.0
+cell_less job node engine engine_now intake intake_now work_queue work_queue_now cell few (inl t) = work_less job node t.work engine engine_now intake intake_now cell.lawful_engine few t.claims
+cell_less job node engine engine_now intake intake_now work_queue work_queue_now cell few (inr a) = answered_less job node engine engine_now intake intake_now work_queue cell few a.0
 
 -- Nets: what a claim leaves of the engine and the intake counts alone.
 both_put : (now with_one net new old new_in old_in : ℕ) → now + old_in ≡ with_one + new_in → with_one + old ≡ net + new → now + (old + old_in) ≡ net + (new + new_in)
@@ -163,7 +163,7 @@ next_left : (node : ℕ) (effect : Effect) (before now : NetView) → (c : Claim
 next_left node effect before now c =
     let next = with_engine before node c.engine_now in
     let last = with_intake next node c.intake_now in
-    let noted : left_in now ≡ left_in last = ap left_in c.now_is ∙ noted_same (with_desk last node c.desk_now) (first_edge before.plan node) (lengths_of c.intake_now.waits) in
+    let noted : left_in now ≡ left_in last = ap left_in c.now_is ∙ noted_same (with_work_queue last node c.work_queue_now) (first_edge before.plan node) (lengths_of c.intake_now.waits) in
     subst (λ (n : ℕ). n + (engine_left c.engine + intake_left c.intake) ≡ left_in before + (engine_left c.engine_now + intake_left c.intake_now)) (sym noted)
     (both_put (left_in last) (left_in next) (left_in before) (engine_left c.engine_now) (engine_left c.engine) (intake_left c.intake_now) (intake_left c.intake) (intake_put next node c.intake c.intake_now c.to) (engine_put before node c.engine c.engine_now c.at))
 
@@ -175,8 +175,8 @@ both_same now net new old new_in old_in is one two = omega (arith, is, one, two)
 
 next_less : (job : LoggedJob) (node : ℕ) (before now : NetView) → node < length before.plan.nodes → IsRunning before → StandsFor job before → ClaimsNext node Did before now → left_in now < left_in before
 next_less job node before now within running h c =
-    let cell = cell_at job before node c.engine c.intake c.desk h running within c.at c.to c.on in
-    let less = cell_less job node c.engine c.engine_now c.intake c.intake_now c.desk c.desk_now cell (claims_small job (of_node node) c.engine cell.lawful_engine) c.claims in
+    let cell = cell_at job before node c.engine c.intake c.work_queue h running within c.at c.to c.on in
+    let less = cell_less job node c.engine c.engine_now c.intake c.intake_now c.work_queue c.work_queue_now cell (claims_small job (of_node node) c.engine cell.lawful_engine) c.claims in
     both_less (left_in now) (left_in before) (engine_left c.engine_now) (engine_left c.engine) (intake_left c.intake_now) (intake_left c.intake) (next_left node Did before now c) less.engine_less less.intake_same
 
 pub claim_less : (job : LoggedJob) (node : ℕ) (before now : NetView) → node < length before.plan.nodes → IsRunning before → StandsFor job before → NodeClaims node Did before now → left_in now < left_in before
@@ -186,19 +186,19 @@ claim_less job node before now within running h c = elim c [
 ]
 
 -- and what claims nothing leaves as much
-claims_none : (effect : Effect) (engine engine_now : EngineView) (intake intake_now : IntakeView) (desk desk_now : DeskView) → effect ≢ Did → ClaimsBy effect engine engine_now intake intake_now desk desk_now → AreSame engine intake engine_now intake_now
-claims_none Did engine engine_now intake intake_now desk desk_now other c = absurd (other refl)
-claims_none Idle engine engine_now intake intake_now desk desk_now other c = elim c.0 [
+claims_none : (effect : Effect) (engine engine_now : EngineView) (intake intake_now : IntakeView) (work_queue work_queue_now : WorkQueueView) → effect ≢ Did → ClaimsBy effect engine engine_now intake intake_now work_queue work_queue_now → AreSame engine intake engine_now intake_now
+claims_none Did engine engine_now intake intake_now work_queue work_queue_now other c = absurd (other refl)
+claims_none Idle engine engine_now intake intake_now work_queue work_queue_now other c = elim c.0 [
   | inl early ↦ early.2
   | inr (inl full) ↦ full.3
   | inr (inr (inl draining)) ↦ draining.3
   | inr (inr (inr ended)) ↦ ended.1
 ]
-claims_none OutOfMemory engine engine_now intake intake_now desk desk_now other c = c.0.2
+claims_none OutOfMemory engine engine_now intake intake_now work_queue work_queue_now other c = c.0.2
 
 next_same : (node : ℕ) (effect : Effect) (before now : NetView) → effect ≢ Did → ClaimsNext node effect before now → left_in now ≤ left_in before
 next_same node effect before now other c =
-    let same = claims_none effect c.engine c.engine_now c.intake c.intake_now c.desk c.desk_now other c.claims in
+    let same = claims_none effect c.engine c.engine_now c.intake c.intake_now c.work_queue c.work_queue_now other c.claims in
     both_same (left_in now) (left_in before) (engine_left c.engine_now) (engine_left c.engine) (intake_left c.intake_now) (intake_left c.intake) (next_left node effect before now c) (ap engine_left same.same_engine) (ap intake_left same.same_intake)
 
 next_no_more : (job : LoggedJob) (node : ℕ) (effect : Effect) (before now : NetView) → node < length before.plan.nodes → IsRunning before → StandsFor job before → ClaimsNext node effect before now → left_in now ≤ left_in before

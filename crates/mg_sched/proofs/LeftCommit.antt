@@ -45,10 +45,10 @@ entry_step entry entries failed =
     omega (arith, close, sums)
 
 ready_less : (offset : Option ℤ) (entry : EntryView) (entries : List EntryView) (front : Front) (ready : Option PerformedView) → front.window ≡ entry ∷ entries → has_stopped front ≡ false
-    → ((f : Front) → f.window ≡ entries → front_left (front_laid offset entries f) ≤ front_left f) → front_left (with_ready ready front (λ p. front_laid offset entries (answer_laid offset entry.phase p.work.bench p.answer entries front))) ≤ front_left front
+    → ((f : Front) → f.window ≡ entries → front_left (front_laid offset entries f) ≤ front_left f) → front_left (with_ready ready front (λ p. front_laid offset entries (answer_laid offset entry.phase p.work.context p.answer entries front))) ≤ front_left front
 ready_less offset entry entries front None window goes again = omega arith
 ready_less offset entry entries front (Some p) window goes again =
-    let next = answer_laid offset entry.phase p.work.bench p.answer entries front in
+    let next = answer_laid offset entry.phase p.work.context p.answer entries front in
     let whole : front_left front ≡ window_left false (entry ∷ entries) = ap (λ (b : Bool). window_left b front.window) goes ∙ ap (window_left false) window in
     let step : front_left next ≤ window_left false (entry ∷ entries) = entry_step entry entries (is_some next.fault) in
     let later : front_left (front_laid offset entries next) ≤ front_left next = again next refl in
@@ -61,7 +61,7 @@ stop_less false front go n l m = m refl
 front_less : (offset : Option ℤ) (entries : List EntryView) (front : Front) → front.window ≡ entries → front_left (front_laid offset entries front) ≤ front_left front
 front_less offset [] front window = omega arith
 front_less offset (entry ∷ entries) front window =
-    stop_less (has_stopped front) front (with_ready (ready_of entry) front (λ p. front_laid offset entries (answer_laid offset entry.phase p.work.bench p.answer entries front))) (front_left front) (omega arith)
+    stop_less (has_stopped front) front (with_ready (ready_of entry) front (λ p. front_laid offset entries (answer_laid offset entry.phase p.work.context p.answer entries front))) (front_left front) (omega arith)
     (λ goes. ready_less offset entry entries front (ready_of entry) window goes (λ f is. front_less offset entries f is))
 
 -- Engines.
@@ -142,11 +142,11 @@ laid_less : (job : LoggedJob) (node number : ℕ) (engine : EngineView) (p : Per
     → shelf_at engine number ≡ Some p → CommitsTo node number engine p before now → left_in now < left_in before
 unfolding StandsFor
 laid_less job node number engine p before now within running h at is c =
-    let long = h.desks in
+    let long = h.work_queues in
     let more = h.intakes in
-    let desk = found before.desks node (omega (arith, within, long)) in
+    let work_queue = found before.work_queues node (omega (arith, within, long)) in
     let intake = found before.intakes node (omega (arith, within, more)) in
-    let cell = cell_at job before node engine intake.0 desk.0 h running within at intake.1 desk.1 in
+    let cell = cell_at job before node engine intake.0 work_queue.0 h running within at intake.1 work_queue.1 in
     let next = with_engine before node c.engine_now in
     let limits : left_in now ≡ left_in next = ap left_in c.now_is ∙ stopped_same next node c.engine_now in
     subst (λ (n : ℕ). n < left_in before) (sym limits)

@@ -6,7 +6,7 @@ use Rattle.mg_node.specs.Views.{PerformedView, EngineView}
 use Rattle.mg_node.specs.Job.{LoggedJob}
 use Rattle.mg_node.specs.Lawful.{of_node, LawfulEngine}
 use Rattle.mg_node.specs.Shelves.{IsOut, back, outcome_of, shelved}
-use Rattle.mg_sched.specs.Views.{DeskView, NetView}
+use Rattle.mg_sched.specs.Views.{WorkQueueView, NetView}
 use Rattle.mg_sched.specs.Places.{with_engine}
 use Rattle.mg_sched.specs.StandsFor.{StandsFor, IsRunning}
 use Rattle.mg_sched.specs.Acts.{Performs, NodePerforms}
@@ -23,12 +23,12 @@ shelved_less job node engine p out h =
     let less : entry_left (back (outcome_of p)) < entry_left out.entry = omega (arith, two) in
     entry_less engine (p.work.number - engine.laid) out.entry (back (outcome_of p)) out.there (sym out.phase_is) less
 
-done_less : (job : LoggedJob) (node number : ℕ) (desk : DeskView) (before now : NetView) → node < length before.plan.nodes → IsRunning before → StandsFor job before → slice_get before.desks node ≡ Some desk → Performs node number Did desk before now → left_in now < left_in before
+done_less : (job : LoggedJob) (node number : ℕ) (work_queue : WorkQueueView) (before now : NetView) → node < length before.plan.nodes → IsRunning before → StandsFor job before → slice_get before.work_queues node ≡ Some work_queue → Performs node number Did work_queue before now → left_in now < left_in before
 unfolding StandsFor
-done_less job node number desk before now within running h on q =
+done_less job node number work_queue before now within running h on q =
     let long = h.intakes in
     let intake = found before.intakes node (omega (arith, within, long)) in
-    let cell = cell_at job before node q.engine intake.0 desk h running within q.at intake.1 on in
+    let cell = cell_at job before node q.engine intake.0 work_queue h running within q.at intake.1 on in
     let p = q.performed.0 in
     let same = q.performed.1.same in
     let engine_now = shelved q.engine (outcome_of p) in
@@ -40,7 +40,7 @@ done_less job node number desk before now within running h on q =
 pub perform_less : (job : LoggedJob) (node number : ℕ) (before now : NetView) → node < length before.plan.nodes → IsRunning before → StandsFor job before → NodePerforms node number Did before now → left_in now < left_in before
 perform_less job node number before now within running h p = elim p.performed [
   | inl none ↦ absurd (not_idle none.1.idle)
-  | inr some ↦ done_less job node number p.desk before now within running h p.on some
+  | inr some ↦ done_less job node number p.work_queue before now within running h p.on some
 ]
 
 -- and what did nothing leaves as much
@@ -50,14 +50,14 @@ same_left before now is = subst (λ (v : NetView). left_in v ≤ left_in before)
 pub less_left : (now before : ℕ) → now < before → now ≤ before
 less_left now before less = omega (arith, less)
 
-performs_no_more : (job : LoggedJob) (node number : ℕ) (effect : Effect) (desk : DeskView) (before now : NetView) → node < length before.plan.nodes → IsRunning before → StandsFor job before → slice_get before.desks node ≡ Some desk
-    → Performs node number effect desk before now → left_in now ≤ left_in before
-performs_no_more job node number Did desk before now within running h on q = less_left (left_in now) (left_in before) (done_less job node number desk before now within running h on q)
-performs_no_more job node number Idle desk before now within running h on q = absurd q.performed
-performs_no_more job node number OutOfMemory desk before now within running h on q = same_left before now q.performed
+performs_no_more : (job : LoggedJob) (node number : ℕ) (effect : Effect) (work_queue : WorkQueueView) (before now : NetView) → node < length before.plan.nodes → IsRunning before → StandsFor job before → slice_get before.work_queues node ≡ Some work_queue
+    → Performs node number effect work_queue before now → left_in now ≤ left_in before
+performs_no_more job node number Did work_queue before now within running h on q = less_left (left_in now) (left_in before) (done_less job node number work_queue before now within running h on q)
+performs_no_more job node number Idle work_queue before now within running h on q = absurd q.performed
+performs_no_more job node number OutOfMemory work_queue before now within running h on q = same_left before now q.performed
 
 pub perform_no_more : (job : LoggedJob) (node number : ℕ) (effect : Effect) (before now : NetView) → node < length before.plan.nodes → IsRunning before → StandsFor job before → NodePerforms node number effect before now → left_in now ≤ left_in before
 perform_no_more job node number effect before now within running h p = elim p.performed [
   | inl none ↦ same_left before now none.1.same
-  | inr some ↦ performs_no_more job node number effect p.desk before now within running h p.on some
+  | inr some ↦ performs_no_more job node number effect p.work_queue before now within running h p.on some
 ]

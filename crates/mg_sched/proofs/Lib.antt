@@ -1,8 +1,8 @@
-pub mod DeskPlaces
+pub mod WorkQueuePlaces
 pub mod Finding
 pub mod Holding
 pub mod Noting
-pub mod DeskRoom
+pub mod WorkQueueRoom
 pub mod Carrying
 pub mod PlanEdges
 pub mod PlanStreams

@@ -18,7 +18,7 @@ use Rattle.mg_node.proofs.Lemmas.{get_other, put_there, some_same}
 use Rattle.mg_throttle.specs.declared.queue.Queue.{Queue}
 use Rattle.mg_throttle.specs.Throttle.{QueueLimits, AreLimitsOf, noted, relaxed, stopped, is_full}
 use Rattle.mg_throttle.proofs.Counts.{View-noted, AreLimitsOf-noted, AreLimitsOf-relaxed, AreLimitsOf-stopped}
-use Rattle.mg_sched.specs.Views.{DeskView, NetView}
+use Rattle.mg_sched.specs.Views.{WorkQueueView, NetView}
 use Rattle.mg_sched.specs.Places.{first_edge, lengths_of, with_limits}
 use Rattle.mg_sched.specs.StandsFor.{KnowsQueue, KnowsLimits}
 use Rattle.mg_sched.specs.Acts.{all_noted, stopped_by}
@@ -99,10 +99,10 @@ pub lengths_get : (waits : Pending) (port : ℕ) → port < ports_in waits → s
 lengths_get waits port less = get_map (λ (p : ℕ). length (port_queue waits p).packets) (numbers (ports_in waits)) port port (number_there 0 (ports_in waits) port less ∙ ap Some (let same : 0 + port ≡ port = omega arith in same))
 
 -- Another cell at a node, and what its ports have is told.
-pub claim_knows : (net : NetView) (node : ℕ) (n : PlanNode) (engine engine_now : EngineView) (intake_now : IntakeView) (desk_now : DeskView) → IsValid net.plan → KnowsLimits net → slice_get net.plan.nodes node ≡ Some n
+pub claim_knows : (net : NetView) (node : ℕ) (n : PlanNode) (engine engine_now : EngineView) (intake_now : IntakeView) (work_queue_now : WorkQueueView) → IsValid net.plan → KnowsLimits net → slice_get net.plan.nodes node ≡ Some n
     → slice_get net.engines node ≡ Some engine → has_ended engine_now ≡ has_ended engine → ports_in intake_now.waits ≡ length n.inputs
-    → KnowsLimits (with_cell net node engine_now intake_now desk_now (with_queues net.limits (all_noted net.limits.queues (first_edge net.plan node) (lengths_of intake_now.waits))))
-claim_knows net node n engine engine_now intake_now desk_now valid h at_n at_engine ended ports = record {
+    → KnowsLimits (with_cell net node engine_now intake_now work_queue_now (with_queues net.limits (all_noted net.limits.queues (first_edge net.plan node) (lengths_of intake_now.waits))))
+claim_knows net node n engine engine_now intake_now work_queue_now valid h at_n at_engine ended ports = record {
   of_plan = all_noted_of net.plan net.limits (first_edge net.plan node) (lengths_of intake_now.waits) h.of_plan;
   queues = λ number e q at_e at_q.
       let first = first_edge net.plan node in
@@ -146,9 +146,9 @@ claim_knows net node n engine engine_now intake_now desk_now valid h at_n at_eng
 }
 
 -- Another cell at a node, with the same intake: what waits is the same. Where the node has ended its queues no longer count.
-cell_queue : (net : NetView) (node : ℕ) (engine_now : EngineView) (intake : IntakeView) (desk_now : DeskView) (limits : QueueLimits) (e : Edge) (old q : Queue) → KnowsQueue net e old → slice_get net.intakes node ≡ Some intake
-    → q.waiting ≡ old.waiting → (e.node ≢ node → q.counts ≡ old.counts) → (e.node ≡ node → q.counts ≡ not (has_ended engine_now)) → KnowsQueue (with_cell net node engine_now intake desk_now limits) e q
-cell_queue net node engine_now intake desk_now limits e old q k at_intake waiting others own = record {
+cell_queue : (net : NetView) (node : ℕ) (engine_now : EngineView) (intake : IntakeView) (work_queue_now : WorkQueueView) (limits : QueueLimits) (e : Edge) (old q : Queue) → KnowsQueue net e old → slice_get net.intakes node ≡ Some intake
+    → q.waiting ≡ old.waiting → (e.node ≢ node → q.counts ≡ old.counts) → (e.node ≡ node → q.counts ≡ not (has_ended engine_now)) → KnowsQueue (with_cell net node engine_now intake work_queue_now limits) e q
+cell_queue net node engine_now intake work_queue_now limits e old q k at_intake waiting others own = record {
   waiting = λ i at_i. waiting ∙ elim (cases_eq e.node node) [
     | inl here ↦
         (let is : i ≡ intake = put_there net.intakes node intake i (ap (slice_get (set net.intakes node intake)) (sym here) ∙ at_i) in
@@ -163,13 +163,13 @@ cell_queue net node engine_now intake desk_now limits e old q k at_intake waitin
   ];
 }
 
-pub cell_knows : (net : NetView) (node : ℕ) (engine engine_now : EngineView) (intake : IntakeView) (desk_now : DeskView) → node < length net.plan.nodes → KnowsLimits net → slice_get net.engines node ≡ Some engine → slice_get net.intakes node ≡ Some intake
-    → has_ended engine_now ≡ has_ended engine → KnowsLimits (with_cell net node engine_now intake desk_now net.limits)
-cell_knows net node engine engine_now intake desk_now within h at_engine at_intake ended = record {
+pub cell_knows : (net : NetView) (node : ℕ) (engine engine_now : EngineView) (intake : IntakeView) (work_queue_now : WorkQueueView) → node < length net.plan.nodes → KnowsLimits net → slice_get net.engines node ≡ Some engine → slice_get net.intakes node ≡ Some intake
+    → has_ended engine_now ≡ has_ended engine → KnowsLimits (with_cell net node engine_now intake work_queue_now net.limits)
+cell_knows net node engine engine_now intake work_queue_now within h at_engine at_intake ended = record {
   of_plan = h.of_plan;
   queues = λ number e q at_e at_q.
       let k = h.queues number e q at_e at_q in
-      cell_queue net node engine_now intake desk_now net.limits e q q k at_intake refl (λ other. refl)
+      cell_queue net node engine_now intake work_queue_now net.limits e q q k at_intake refl (λ other. refl)
       (λ here. k.counts engine (omega (arith, here, within)) (ap (slice_get net.engines) here ∙ at_engine) ∙ ap not (sym ended));
 }
 
@@ -192,30 +192,30 @@ queue_node plan t number e q of at_e at_q =
     same_Some q.node e.node
     (sym (get_map (λ (x : Queue). x.node) t.queues number q at_q) ∙ ap (λ (ns : List ℕ). slice_get ns number) of.queues ∙ get_map (λ (x : Edge). x.node) plan.edges number e at_e)
 
-stopping_knows : (net : NetView) (node : ℕ) (engine engine_now : EngineView) (intake : IntakeView) (desk_now : DeskView) (b : Bool) → node < length net.plan.nodes → KnowsLimits net → slice_get net.engines node ≡ Some engine
+stopping_knows : (net : NetView) (node : ℕ) (engine engine_now : EngineView) (intake : IntakeView) (work_queue_now : WorkQueueView) (b : Bool) → node < length net.plan.nodes → KnowsLimits net → slice_get net.engines node ≡ Some engine
     → slice_get net.intakes node ≡ Some intake → (has_ended engine ≡ true → has_ended engine_now ≡ true) → has_ended engine_now ≡ b
-    → KnowsLimits (with_cell net node engine_now intake desk_now (if b then with_queues net.limits (map (stopped node) net.limits.queues) else net.limits))
-stopping_knows net node engine engine_now intake desk_now true within h at_engine at_intake ended is = record {
+    → KnowsLimits (with_cell net node engine_now intake work_queue_now (if b then with_queues net.limits (map (stopped node) net.limits.queues) else net.limits))
+stopping_knows net node engine engine_now intake work_queue_now true within h at_engine at_intake ended is = record {
   of_plan = AreLimitsOf-stopped node net.limits.queues net.limits.reached net.limits.feeders net.limits refl net.plan h.of_plan;
   queues = λ number e q at_e at_q.
       let limits = with_queues net.limits (map (stopped node) net.limits.queues) in
       let it = mapped_at (stopped node) net.limits.queues number q at_q in
       let node_is = queue_node net.plan net.limits number e it.0 h.of_plan at_e it.1 in
-      cell_queue net node engine_now intake desk_now limits e it.0 q (h.queues number e it.0 at_e it.1) at_intake
+      cell_queue net node engine_now intake work_queue_now limits e it.0 q (h.queues number e it.0 at_e it.1) at_intake
       (ap (λ (x : Queue). x.waiting) (sym it.2) ∙ stopped_waiting node it.0)
       (λ other. ap (λ (x : Queue). x.counts) (sym it.2) ∙ ap (λ (x : Queue). x.counts) (stopped_other node it.0 (λ s. other (sym node_is ∙ s))))
       (λ here. ap (λ (x : Queue). x.counts) (sym it.2) ∙ ap (λ (x : Queue). x.counts) (stopped_own node it.0 (node_is ∙ here)) ∙ ap not (sym is));
 }
-stopping_knows net node engine engine_now intake desk_now false within h at_engine at_intake ended is =
-    cell_knows net node engine engine_now intake desk_now within h at_engine at_intake (by_both (has_ended engine) (has_ended engine_now) ended is)
+stopping_knows net node engine engine_now intake work_queue_now false within h at_engine at_intake ended is =
+    cell_knows net node engine engine_now intake work_queue_now within h at_engine at_intake (by_both (has_ended engine) (has_ended engine_now) ended is)
   where
     by_both : (a c : Bool) → (a ≡ true → c ≡ true) → c ≡ false → c ≡ a
     by_both true c stays no_end = stays refl
     by_both false c stays no_end = no_end
 
-pub stopped_knows : (net : NetView) (node : ℕ) (engine engine_now : EngineView) (intake : IntakeView) (desk_now : DeskView) → node < length net.plan.nodes → KnowsLimits net → slice_get net.engines node ≡ Some engine
-    → slice_get net.intakes node ≡ Some intake → (has_ended engine ≡ true → has_ended engine_now ≡ true) → KnowsLimits (with_cell net node engine_now intake desk_now (stopped_by node engine_now net.limits))
-stopped_knows net node engine engine_now intake desk_now within h at_engine at_intake ended = stopping_knows net node engine engine_now intake desk_now (has_ended engine_now) within h at_engine at_intake ended refl
+pub stopped_knows : (net : NetView) (node : ℕ) (engine engine_now : EngineView) (intake : IntakeView) (work_queue_now : WorkQueueView) → node < length net.plan.nodes → KnowsLimits net → slice_get net.engines node ≡ Some engine
+    → slice_get net.intakes node ≡ Some intake → (has_ended engine ≡ true → has_ended engine_now ≡ true) → KnowsLimits (with_cell net node engine_now intake work_queue_now (stopped_by node engine_now net.limits))
+stopped_knows net node engine engine_now intake work_queue_now within h at_engine at_intake ended = stopping_knows net node engine engine_now intake work_queue_now (has_ended engine_now) within h at_engine at_intake ended refl
 
 -- Packets that arrive at a port.
 pub arrival_knows : (net : NetView) (number : ℕ) (e : Edge) (intake intake_now : IntakeView) → IsValid net.plan → KnowsLimits net → slice_get net.plan.edges number ≡ Some e → slice_get net.intakes e.node ≡ Some intake

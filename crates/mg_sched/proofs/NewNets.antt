@@ -34,13 +34,13 @@ use Rattle.mg_node.specs.Ports.{port_queue}
 use Rattle.mg_node.proofs.Lemmas.{at_each, fresh_unbegun, input_lawful, some_same}
 use Rattle.mg_throttle.specs.declared.queue.Queue.{Queue}
 use Rattle.mg_throttle.specs.Throttle.{QueueLimits, AreLimitsOf, limit_of, new_queue}
-use Rattle.mg_sched.specs.Views.{DeskView, NetView}
+use Rattle.mg_sched.specs.Views.{WorkQueueView, NetView}
 use Rattle.mg_sched.specs.Places.{place_of}
 use Rattle.mg_sched.specs.Writers.{output_of}
 use Rattle.mg_sched.specs.Looks.{HasFrom}
 use Rattle.mg_sched.specs.StandsFor.{HasWorks, IsCell, KnowsQueue, IsNetOf, StandsFor}
 use Rattle.mg_sched.specs.Made.{job_of, BoxesFit, IsMade}
-use Rattle.mg_sched.specs.Code.Made.{AtPlaces, IsEngineAt, IsIntakeAt, IsDeskAt, HasParts, IsLeftOver, first_holder}
+use Rattle.mg_sched.specs.Code.Made.{AtPlaces, IsEngineAt, IsIntakeAt, IsWorkQueueAt, HasParts, IsLeftOver, first_holder}
 use Rattle.mg_sched.proofs.HandedOut.{below}
 use Rattle.mg_sched.proofs.Solved.{solved}
 use Rattle.mg_sched.proofs.NewBoxes.{there_at, given_of, handed, placed, spare}
@@ -148,16 +148,16 @@ nothing_claimed job node number told = record {
   complete = λ place entry there. absurd cc;
 }
 
-new_cell : (plan : Plan) (inputs : Inputs) (boxes : List CalculatorTold) (place : ℕ) (node : PlanNode) (engine : EngineView) (intake : IntakeView) (desk : DeskView) → IsJob (record { plan = plan; inputs = inputs }) → BoxesFit plan boxes → slice_get plan.nodes place ≡ Some node
-    → engine ≡ fresh_engine node place (first_holder (given_of boxes) node) → IsIntakeAt plan place intake → desk ≡ record { room = node.in_flight; works = [] } → IsCell (job_of plan inputs boxes) false place engine intake desk
-new_cell plan inputs boxes place node engine intake desk is fit there engine_is intake_is desk_is =
+new_cell : (plan : Plan) (inputs : Inputs) (boxes : List CalculatorTold) (place : ℕ) (node : PlanNode) (engine : EngineView) (intake : IntakeView) (work_queue : WorkQueueView) → IsJob (record { plan = plan; inputs = inputs }) → BoxesFit plan boxes → slice_get plan.nodes place ≡ Some node
+    → engine ≡ fresh_engine node place (first_holder (given_of boxes) node) → IsIntakeAt plan place intake → work_queue ≡ record { room = node.in_flight; works = [] } → IsCell (job_of plan inputs boxes) false place engine intake work_queue
+new_cell plan inputs boxes place node engine intake work_queue is fit there engine_is intake_is work_queue_is =
     let job = job_of plan inputs boxes in
     let found = solved (job_of plan inputs boxes) is in
     record {
       lawful_engine = fresh_unbegun job place node (first_holder (given_of boxes) node) engine (handed plan inputs boxes place node fit there) engine_is;
       lawful_intake = intake_is.lawful job found.0 refl found.1;
       agree = agree_none engine.role engine.claimed intake.claimed (ap (λ (v : EngineView). v.claimed) engine_is) intake_is.fresh.claimed;
-      works = subst (λ (v : EngineView). HasWorks job v desk) (sym engine_is) (subst (λ (d : DeskView). HasWorks job (fresh_engine node place (first_holder (given_of boxes) node)) d) (sym desk_is)
+      works = subst (λ (v : EngineView). HasWorks job v work_queue) (sym engine_is) (subst (λ (d : WorkQueueView). HasWorks job (fresh_engine node place (first_holder (given_of boxes) node)) d) (sym work_queue_is)
           (nothing_claimed job node place (first_holder (given_of boxes) node)));
     }
 
@@ -183,13 +183,13 @@ net_of plan inputs boxes net is fit parts left begun wound = record {
   given = parts.given_is;
   engines = parts.engine_count ∙ ap (λ (p : Plan). length p.nodes + length p.inputs) (sym parts.plan_is);
   intakes = parts.intake_count ∙ ap (λ (p : Plan). length p.nodes + 1) (sym parts.plan_is);
-  desks = parts.desk_count ∙ nodes;
-  cells = λ place engine intake desk engine_at intake_at desk_at.
-      let less = slice_get_within net.desks place desk desk_at in
-      let count = parts.desk_count in
+  work_queues = parts.work_queue_count ∙ nodes;
+  cells = λ place engine intake work_queue engine_at intake_at work_queue_at.
+      let less = slice_get_within net.work_queues place work_queue work_queue_at in
+      let count = parts.work_queue_count in
       let node = there_at plan.nodes place (omega (arith, less, count)) in
-      subst (λ (b : Bool). IsCell (job_of plan inputs boxes) b place engine intake desk) (sym (ap (λ (n : ℕ). nat_lt place n) begun ∙ le-ltb place 0 (omega arith)))
-      (new_cell plan inputs boxes place node.0 engine intake desk is fit node.1 ((parts.engines place engine engine_at).node node.0 node.1) (parts.intakes place intake intake_at) (parts.desks place desk desk_at node.0 node.1));
+      subst (λ (b : Bool). IsCell (job_of plan inputs boxes) b place engine intake work_queue) (sym (ap (λ (n : ℕ). nat_lt place n) begun ∙ le-ltb place 0 (omega arith)))
+      (new_cell plan inputs boxes place node.0 engine intake work_queue is fit node.1 ((parts.engines place engine engine_at).node node.0 node.1) (parts.intakes place intake intake_at) (parts.work_queues place work_queue work_queue_at node.0 node.1));
   inputs = λ input engine there.
       let at : slice_get net.engines (length plan.nodes + input) ≡ Some engine = subst (λ (n : ℕ). slice_get net.engines (n + input) ≡ Some engine) (sym nodes) there in
       let most = slice_get_within net.engines (length plan.nodes + input) engine at in
@@ -253,8 +253,8 @@ joined_made plan inputs boxes before net is fit parts same count engines left be
   engines = engines parts.engines;
   intake_count = ap (λ (n : NetView). length n.intakes) same ∙ parts.intake_count;
   intakes = subst (λ (is : List IntakeView). AtPlaces (IsIntakeAt plan) is) (sym (ap (λ (n : NetView). n.intakes) same)) parts.intakes;
-  desk_count = ap (λ (n : NetView). length n.desks) same ∙ parts.desk_count;
-  desks = subst (λ (ds : List DeskView). AtPlaces (IsDeskAt plan) ds) (sym (ap (λ (n : NetView). n.desks) same)) parts.desks;
+  work_queue_count = ap (λ (n : NetView). length n.work_queues) same ∙ parts.work_queue_count;
+  work_queues = subst (λ (ds : List WorkQueueView). AtPlaces (IsWorkQueueAt plan) ds) (sym (ap (λ (n : NetView). n.work_queues) same)) parts.work_queues;
   of = subst (λ (l : QueueLimits). AreLimitsOf plan l) (sym (ap (λ (n : NetView). n.limits) same)) parts.of;
   queues = ap (λ (n : NetView). n.limits.queues) same ∙ parts.queues;
   kept = ap (λ (n : NetView). n.kept) same ∙ parts.kept;

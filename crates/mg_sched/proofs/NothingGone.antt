@@ -16,7 +16,7 @@ use Rattle.mg_node.specs.Views.{IntakeView, PerformedView, EngineView}
 use Rattle.mg_node.specs.Advances.{advanced}
 use Rattle.mg_node.specs.Shelves.{outcome_of, shelved, shelf_at}
 use Rattle.mg_node.proofs.Lemmas.{get_other, put_there, advance_set_up, claim_set_up, commits_set_up, unshelving_set_up}
-use Rattle.mg_sched.specs.Views.{DeskView, NetView}
+use Rattle.mg_sched.specs.Views.{WorkQueueView, NetView}
 use Rattle.mg_sched.specs.Places.{place_of}
 use Rattle.mg_sched.specs.Acts.{Rests, ClaimsBy, ClaimsNext, Performs, CommittedAt, Acts}
 use Rattle.mg_sched.specs.Sweeps.{Becomes, itself, step}
@@ -81,28 +81,28 @@ gone_on a b c one two = record {
 rest_gone : (effect : Effect) (before now : NetView) → Rests effect before now → SameGone before now
 rest_gone effect before now r = same_gone before now (ap (λ (v : NetView). v.plan) r.same) (ap (λ (v : NetView). v.engines) r.same)
 
-claims_gone : (effect : Effect) (engine engine_now : EngineView) (intake intake_now : IntakeView) (desk desk_now : DeskView) → ClaimsBy effect engine engine_now intake intake_now desk desk_now → gones engine_now ≡ gones engine
-claims_gone Did engine engine_now intake intake_now desk desk_now (inl t) = (claim_set_up {X = ℕ} (Work t.work) engine engine_now intake intake_now t.claims).given_up
-claims_gone Did engine engine_now intake intake_now desk desk_now (inr a) = (claim_set_up {X = ℕ} Answered engine engine_now intake intake_now a.0).given_up
-claims_gone Idle engine engine_now intake intake_now desk desk_now c = elim c.0 [
+claims_gone : (effect : Effect) (engine engine_now : EngineView) (intake intake_now : IntakeView) (work_queue work_queue_now : WorkQueueView) → ClaimsBy effect engine engine_now intake intake_now work_queue work_queue_now → gones engine_now ≡ gones engine
+claims_gone Did engine engine_now intake intake_now work_queue work_queue_now (inl t) = (claim_set_up {X = ℕ} (Work t.work) engine engine_now intake intake_now t.claims).given_up
+claims_gone Did engine engine_now intake intake_now work_queue work_queue_now (inr a) = (claim_set_up {X = ℕ} Answered engine engine_now intake intake_now a.0).given_up
+claims_gone Idle engine engine_now intake intake_now work_queue work_queue_now c = elim c.0 [
   | inl early ↦ (claim_set_up {X = ℕ} NotReady engine engine_now intake intake_now early).given_up
   | inr (inl full) ↦ (claim_set_up {X = ℕ} InFlightFull engine engine_now intake intake_now full).given_up
   | inr (inr (inl draining)) ↦ (claim_set_up {X = ℕ} Draining engine engine_now intake intake_now draining).given_up
   | inr (inr (inr ended)) ↦ (claim_set_up {X = ℕ} Ended engine engine_now intake intake_now ended).given_up
 ]
-claims_gone OutOfMemory engine engine_now intake intake_now desk desk_now c = (claim_set_up {X = ℕ} NoMemory engine engine_now intake intake_now c.0).given_up
+claims_gone OutOfMemory engine engine_now intake intake_now work_queue work_queue_now c = (claim_set_up {X = ℕ} NoMemory engine engine_now intake intake_now c.0).given_up
 
 next_gone : (node : ℕ) (effect : Effect) (before now : NetView) → ClaimsNext node effect before now → SameGone before now
 next_gone node effect before now c =
     another_gone before now node c.engine c.engine_now (ap (λ (v : NetView). v.plan) c.now_is) c.at (ap (λ (v : NetView). v.engines) c.now_is)
-    (claims_gone effect c.engine c.engine_now c.intake c.intake_now c.desk c.desk_now c.claims)
+    (claims_gone effect c.engine c.engine_now c.intake c.intake_now c.work_queue c.work_queue_now c.claims)
 
-performs_gone : (node number : ℕ) (effect : Effect) (desk : DeskView) (before now : NetView) → Performs node number effect desk before now → SameGone before now
-performs_gone node number Did desk before now p =
+performs_gone : (node number : ℕ) (effect : Effect) (work_queue : WorkQueueView) (before now : NetView) → Performs node number effect work_queue before now → SameGone before now
+performs_gone node number Did work_queue before now p =
     let is = p.performed.2 in
     another_gone before now node p.engine (shelved p.engine (outcome_of p.performed.0)) (ap (λ (v : NetView). v.plan) is) p.at (ap (λ (v : NetView). v.engines) is) refl
-performs_gone node number Idle desk before now p = absurd p.performed
-performs_gone node number OutOfMemory desk before now p = same_gone before now (ap (λ (v : NetView). v.plan) p.performed) (ap (λ (v : NetView). v.engines) p.performed)
+performs_gone node number Idle work_queue before now p = absurd p.performed
+performs_gone node number OutOfMemory work_queue before now p = same_gone before now (ap (λ (v : NetView). v.plan) p.performed) (ap (λ (v : NetView). v.engines) p.performed)
 
 commits_gone : (node number : ℕ) (shelf : Option PerformedView) (effect : Effect) (engine : EngineView) (before now : NetView) → slice_get before.engines node ≡ Some engine → CommittedAt node number shelf effect engine before now
     → SameGone before now
@@ -127,7 +127,7 @@ acts_gone (Claim node) effect before now a = elim a [
 ]
 acts_gone (Perform node number) effect before now a = elim a.performed [
   | inl none ↦ rest_gone effect before now none.1
-  | inr performs ↦ performs_gone node number effect a.desk before now performs
+  | inr performs ↦ performs_gone node number effect a.work_queue before now performs
 ]
 acts_gone (Commit node number) effect before now a = commits_gone node number (shelf_at a.engine number) effect a.engine before now a.at a.committed
 acts_gone Relax effect before now a = elim a [

@@ -18,8 +18,8 @@ use Rattle.mg_calc.specs.Equations.{sides_of}
 use Rattle.mg_calc.specs.Plan.{node_sides}
 use Rattle.mg_route.specs.HolderView.{HolderView}
 use Rattle.mg_node.specs.declared.role.Role.{Role}
-use Rattle.mg_node.specs.Begun.{opened_entry, own_benches, opened_node, IsUnbegun, HasBegun, LawfulUnbegun, SomeUnbegun, IsNew}
-use Rattle.mg_node.specs.Fresh.{bench_of, benches_of, fresh_engine}
+use Rattle.mg_node.specs.Begun.{opened_entry, own_contexts, opened_node, IsUnbegun, HasBegun, LawfulUnbegun, SomeUnbegun, IsNew}
+use Rattle.mg_node.specs.Fresh.{context_of, contexts_of, fresh_engine}
 use Rattle.mg_node.specs.IntakeStanding.{HasGrown}
 use Rattle.mg_node.specs.Job.{LoggedJob, Solves, role_of}
 use Rattle.mg_node.specs.Lawful.{of_node, AgreeBy, LawfulEngine}
@@ -27,7 +27,7 @@ use Rattle.mg_node.specs.Outputs.{laid_at, kept_whole}
 use Rattle.mg_node.specs.Ports.{port_queue}
 use Rattle.mg_node.specs.Shelves.{IsOut}
 use Rattle.mg_node.specs.Standing.{EngineGrows}
-use Rattle.mg_node.specs.Views.{IntakeView, BenchView, EntryView, EngineView}
+use Rattle.mg_node.specs.Views.{IntakeView, ContextView, EntryView, EngineView}
 use Rattle.mg_node.specs.Windows.{has_ended}
 use Rattle.mg_node.proofs.Lemmas.{get_other, grown_by_itself, is_new, may_begin, put_there, unbegun_parts}
 use Rattle.mg_throttle.specs.Throttle.{QueueLimits}
@@ -35,7 +35,7 @@ use Rattle.mg_sched.specs.Acts.{stopped_by}
 use Rattle.mg_sched.specs.Begins.{BeginsNet}
 use Rattle.mg_sched.specs.Places.{with_engine, with_limits}
 use Rattle.mg_sched.specs.StandsFor.{HasWorks, IsEngine, IsCell, IsJoined, KnowsLimits, IsNetOf, StandsFor, StandsForSome}
-use Rattle.mg_sched.specs.Views.{DeskView, NetView}
+use Rattle.mg_sched.specs.Views.{WorkQueueView, NetView}
 use Rattle.mg_sched.proofs.CellForms.{only_engine}
 use Rattle.mg_sched.proofs.Finding.{engine_read, engine_there, found, of_plan, valid}
 use Rattle.mg_sched.proofs.Solved.{solved}
@@ -69,15 +69,15 @@ whole_gone (s ∷ ss) (suc k) = whole_gone ss k
 none_in : (engine : EngineView) → engine.window ≡ [] → NoneOut engine
 none_in engine empty place entry at out = none-some entry (ap (λ (es : List EntryView). slice_get es place) (sym empty) ∙ at)
 
-none_opened : (number : ℕ) (bench : BenchView) (answer : Result (List Laid) Cause) (place : ℕ) (entry : EntryView) → slice_get (opened_entry number bench answer ∷ []) place ≡ Some entry → entry.outcome ≡ None → ⊥
-none_opened number bench answer zero entry at out =
-    (let is : opened_entry number bench answer ≡ entry = same_Some (opened_entry number bench answer) entry at in
+none_opened : (number : ℕ) (context : ContextView) (answer : Result (List Laid) Cause) (place : ℕ) (entry : EntryView) → slice_get (opened_entry number context answer ∷ []) place ≡ Some entry → entry.outcome ≡ None → ⊥
+none_opened number context answer zero entry at out =
+    (let is : opened_entry number context answer ≡ entry = same_Some (opened_entry number context answer) entry at in
     let same = ap (λ (e : EntryView). e.outcome) is ∙ out in
     none-some _ (sym same))
-none_opened number bench answer (suc place) entry at out = none-some entry at
+none_opened number context answer (suc place) entry at out = none-some entry at
 
--- it is that which is made, but for its window and its benches
-made_none : (node : PlanNode) (number : ℕ) (told : HolderView) (engine : EngineView) (window : List EntryView) (idle : List BenchView) → engine ≡ record (fresh_engine node number told) { window = window; idle = idle } → NoneOut engine → HasNone node engine
+-- it is that which is made, but for its window and its contexts
+made_none : (node : PlanNode) (number : ℕ) (told : HolderView) (engine : EngineView) (window : List EntryView) (idle : List ContextView) → engine ≡ record (fresh_engine node number told) { window = window; idle = idle } → NoneOut engine → HasNone node engine
 made_none node number told engine window idle is none = record {
   role = ap (λ (v : EngineView). v.role) is;
   first = ap (λ (v : EngineView). v.first) is;
@@ -88,9 +88,9 @@ made_none node number told engine window idle is none = record {
 }
 
 unbegun_none : (node : PlanNode) (number : ℕ) (told : HolderView) (sides : List (Option Plain)) (engine : EngineView) → IsUnbegun node number told sides engine → HasNone node engine
-unbegun_none node number told sides engine (inl is) = made_none node number told engine [] (benches_of node told) is (none_in engine (ap (λ (v : EngineView). v.window) is))
-unbegun_none node number told sides engine (inr o) = made_none node number told engine (opened_entry number (bench_of node o.now) o.answer ∷ []) (own_benches node) o.is
-    (λ place entry at out. none_opened number (bench_of node o.now) o.answer place entry (ap (λ (v : EngineView). slice_get v.window place) (sym o.is) ∙ at) out)
+unbegun_none node number told sides engine (inl is) = made_none node number told engine [] (contexts_of node told) is (none_in engine (ap (λ (v : EngineView). v.window) is))
+unbegun_none node number told sides engine (inr o) = made_none node number told engine (opened_entry number (context_of node o.now) o.answer ∷ []) (own_contexts node) o.is
+    (λ place entry at out. none_opened number (context_of node o.now) o.answer place entry (ap (λ (v : EngineView). slice_get v.window place) (sym o.is) ∙ at) out)
 
 unbegun_goes : (node : PlanNode) (number : ℕ) (told : HolderView) (sides : List (Option Plain)) (engine : EngineView) → IsUnbegun node number told sides engine → has_ended engine ≡ false
 unbegun_goes node number told sides engine (inl is) = ap has_ended is
@@ -119,22 +119,22 @@ record OpenStep (job : LoggedJob) (begun : Bool) (number : ℕ) (engine engine_n
   pub now : HasNone node engine_now
   pub grows : EngineGrows engine engine_now
 
-kept_works : (job : LoggedJob) (node : PlanNode) (engine engine_now : EngineView) (desk : DeskView) → HasNone node engine → HasNone node engine_now → HasWorks job engine desk → HasWorks job engine_now desk
-kept_works job node engine engine_now desk b n h = record {
+kept_works : (job : LoggedJob) (node : PlanNode) (engine engine_now : EngineView) (work_queue : WorkQueueView) → HasNone node engine → HasNone node engine_now → HasWorks job engine work_queue → HasWorks job engine_now work_queue
+kept_works job node engine engine_now work_queue b n h = record {
   room = h.room ∙ b.in_flight ∙ sym n.in_flight;
-  out = All-weaker (IsOut engine) (IsOut engine_now) (λ w o. absurd (b.none (w.number - engine.laid) o.entry o.there o.out)) desk.works h.out;
+  out = All-weaker (IsOut engine) (IsOut engine_now) (λ w o. absurd (b.none (w.number - engine.laid) o.entry o.there o.out)) work_queue.works h.out;
   lawful = h.lawful;
   apart = h.apart;
   complete = λ place entry at none. absurd (n.none place entry at none);
 }
 
-opened_cell : (job : LoggedJob) (was begun : Bool) (number : ℕ) (engine engine_now : EngineView) (intake : IntakeView) (desk : DeskView) → OpenStep job begun number engine engine_now → IsCell job was number engine intake desk
-    → IsCell job begun number engine_now intake desk
-opened_cell job was begun number engine engine_now intake desk s cell = record {
+opened_cell : (job : LoggedJob) (was begun : Bool) (number : ℕ) (engine engine_now : EngineView) (intake : IntakeView) (work_queue : WorkQueueView) → OpenStep job begun number engine engine_now → IsCell job was number engine intake work_queue
+    → IsCell job begun number engine_now intake work_queue
+opened_cell job was begun number engine engine_now intake work_queue s cell = record {
   lawful_engine = s.lawful;
   lawful_intake = cell.lawful_intake;
   agree = subst (λ (r : Role). AgreeBy r engine_now.claimed intake.claimed) (s.before.role ∙ sym s.now.role) (subst (λ (n : ℕ). AgreeBy engine.role n intake.claimed) (s.before.claimed ∙ sym s.now.claimed) cell.agree);
-  works = kept_works job s.node engine engine_now desk s.before s.now cell.works;
+  works = kept_works job s.node engine engine_now work_queue s.before s.now cell.works;
 }
 
 opened_joined : (node : PlanNode) (engine engine_now : EngineView) (e : Edge) (intake : IntakeView) → HasNone node engine → HasNone node engine_now → EngineGrows engine engine_now → IsJoined engine e intake → IsJoined engine_now e intake
@@ -171,13 +171,13 @@ opened_stands job net engine engine_now limits begun h within there next s knows
       given = h.given;
       engines = length-set net.engines node engine_now ∙ h.engines;
       intakes = h.intakes;
-      desks = h.desks;
+      work_queues = h.work_queues;
       cells = λ k e i d at_e at_i at_d. elim (cases_eq k node) [
         | inl here ↦
             (let is = put_there net.engines node engine_now e (ap (slice_get (set net.engines node engine_now)) (sym here) ∙ at_e) in
             subst (λ (v : EngineView). IsCell job (nat_lt k begun) k v i d) (sym is)
             (subst (λ (n : ℕ). IsCell job (nat_lt n begun) n engine_now i d) (sym here)
-            (opened_cell job (nat_lt node net.begun) (nat_lt node begun) node engine engine_now i d s (h.cells node engine i d there (ap (slice_get net.intakes) (sym here) ∙ at_i) (ap (slice_get net.desks) (sym here) ∙ at_d)))))
+            (opened_cell job (nat_lt node net.begun) (nat_lt node begun) node engine engine_now i d s (h.cells node engine i d there (ap (slice_get net.intakes) (sym here) ∙ at_i) (ap (slice_get net.work_queues) (sym here) ∙ at_d)))))
         | inr other ↦
             subst (λ (b : Bool). IsCell job b k e i d) (same_test k node begun other next) (h.cells k e i d (sym (get_other net.engines node k engine_now other) ∙ at_e) at_i at_d)
       ];
@@ -225,10 +225,10 @@ next_of : (job : LoggedJob) (net : NetView) (sides : List (Option Plain)) (engin
 unfolding StandsFor
 next_of job net sides engine h within at are =
     let intakes = h.intakes in
-    let desks = h.desks in
+    let work_queues = h.work_queues in
     let n = found net.plan.nodes net.begun within in
     let i = found net.intakes net.begun (omega (arith, within, intakes)) in
-    let d = found net.desks net.begun (omega (arith, within, desks)) in
+    let d = found net.work_queues net.begun (omega (arith, within, work_queues)) in
     let cell : IsCell job false net.begun engine i.0 d.0 = subst (λ (b : Bool). IsCell job b net.begun engine i.0 d.0) (not_below net.begun net.begun (omega arith)) (h.cells net.begun engine i.0 d.0 at i.1 d.1) in
     let s = solved job h.is_job in
     record {
@@ -261,9 +261,9 @@ limits_then : (job : LoggedJob) (net : NetView) (engine engine_now : EngineView)
     → KnowsLimits (with_opened net net.begun engine_now (stopped_by net.begun engine_now net.limits) begun)
 limits_then job net engine engine_now begun h within at ended =
     let intakes = h.intakes in
-    let desks = h.desks in
+    let work_queues = h.work_queues in
     let i = found net.intakes net.begun (omega (arith, within, intakes)) in
-    let d = found net.desks net.begun (omega (arith, within, desks)) in
+    let d = found net.work_queues net.begun (omega (arith, within, work_queues)) in
     let limits = stopped_by net.begun engine_now net.limits in
     knows_begun (with_limits (with_engine net net.begun engine_now) limits) begun
     (subst (λ (v : NetView). KnowsLimits v) (only_engine net net.begun engine_now i.0 d.0 limits i.1 d.1) (stopped_knows net net.begun engine engine_now i.0 d.0 within h.limits at i.1 ended))
@@ -272,9 +272,9 @@ limits_still : (job : LoggedJob) (net : NetView) (engine engine_now : EngineView
     → KnowsLimits (with_opened net net.begun engine_now net.limits net.begun)
 limits_still job net engine engine_now h within at ended =
     let intakes = h.intakes in
-    let desks = h.desks in
+    let work_queues = h.work_queues in
     let i = found net.intakes net.begun (omega (arith, within, intakes)) in
-    let d = found net.desks net.begun (omega (arith, within, desks)) in
+    let d = found net.work_queues net.begun (omega (arith, within, work_queues)) in
     subst (λ (v : NetView). KnowsLimits v) (only_engine net net.begun engine_now i.0 d.0 net.limits i.1 d.1) (cell_knows net net.begun engine engine_now i.0 d.0 within h.limits at i.1 ended)
 
 unbegun_net : (job : LoggedJob) (net : NetView) (sides : List (Option Plain)) (engine now : EngineView) → StandsFor job net → net.begun < length net.plan.nodes → slice_get net.engines net.begun ≡ Some engine → AreSides net sides → EngineGrows engine now

@@ -9,8 +9,8 @@ use Rattle.mg_node.specs.Views.{EngineView}
 use Rattle.mg_node.specs.Fresh.{own_told, fresh_engine}
 use Rattle.mg_node.specs.Outputs.{input_engine}
 use Rattle.mg_node.proofs.Lemmas.{some_same}
-use Rattle.mg_sched.specs.Views.{DeskView}
-use Rattle.mg_sched.specs.Code.Made.{IsEngineAt, IsDeskAt}
+use Rattle.mg_sched.specs.Views.{WorkQueueView}
+use Rattle.mg_sched.specs.Code.Made.{IsEngineAt, IsWorkQueueAt}
 
 pub node_engine_at : (plan : Plan) (streams : List (StreamPrefix Plain)) (place number : ℕ) (engine : EngineView) → place ≡ number → number < length plan.nodes
     → ((planned : PlanNode) → slice_get plan.nodes number ≡ Some planned → engine ≡ fresh_engine planned number (own_told planned)) → IsEngineAt plan streams (λ _ node. own_told node) place engine
@@ -29,5 +29,5 @@ input_engine_at plan streams place input s engine same there is = record {
       is ∙ ap (λ (n : ℕ). input_engine n (get_or plan.inputs n 0) s) one ∙ ap (input_engine other (get_or plan.inputs other 0)) (some_same _ s t there_too at);
 }
 
-pub desk_at : (plan : Plan) (place number : ℕ) (node : PlanNode) (desk : DeskView) → place ≡ number → slice_get plan.nodes number ≡ Some node → desk ≡ record { room = node.in_flight; works = [] } → IsDeskAt plan place desk
-desk_at plan place number node desk same there is = subst (λ (p : ℕ). IsDeskAt plan p desk) (sym same) (λ planned at. is ∙ ap (λ (n : PlanNode). record { room = n.in_flight; works = [] }) (some_same _ node planned there at))
+pub work_queue_at : (plan : Plan) (place number : ℕ) (node : PlanNode) (work_queue : WorkQueueView) → place ≡ number → slice_get plan.nodes number ≡ Some node → work_queue ≡ record { room = node.in_flight; works = [] } → IsWorkQueueAt plan place work_queue
+work_queue_at plan place number node work_queue same there is = subst (λ (p : ℕ). IsWorkQueueAt plan p work_queue) (sym same) (λ planned at. is ∙ ap (λ (n : PlanNode). record { room = n.in_flight; works = [] }) (some_same _ node planned there at))

@@ -15,7 +15,7 @@ use Rattle.mg_node.proofs.Lemmas.{engine_known, few_packets, intake_ports, some_
 use Rattle.mg_throttle.specs.declared.queue.Queue.{Queue}
 use Rattle.mg_throttle.specs.Throttle.{QueueLimits, stopped}
 use Rattle.mg_throttle.proofs.Counts.{AreLimitsOf-stopped}
-use Rattle.mg_sched.specs.Views.{DeskView, NetView}
+use Rattle.mg_sched.specs.Views.{WorkQueueView, NetView}
 use Rattle.mg_sched.specs.Places.{first_edge, lengths_of, with_limits}
 use Rattle.mg_sched.specs.StandsFor.{HasWorks, IsCell, KnowsLimits, IsNetOf, StandsFor, IsRunning}
 use Rattle.mg_sched.specs.Acts.{with_noted, stopped_by}
@@ -115,7 +115,7 @@ with_other_limits job net limits noted stops h t = record {
   agree = h.agree;
   none_out = h.none_out;
   edges = h.edges;
-  rest = record { given = h.rest.given; desks = h.rest.desks; empty = h.rest.empty; limits = t.of_plan; counts = t.goes_on; spare = h.rest.spare; kept = h.rest.kept };
+  rest = record { given = h.rest.given; work_queues = h.rest.work_queues; empty = h.rest.empty; limits = t.of_plan; counts = t.goes_on; spare = h.rest.spare; kept = h.rest.kept };
 }
 
 pub told_parts : (start now : NetView) (noted stops : ℕ) → AreParts (parts_in start) → ToldTo noted stops start now → AreParts (parts_in now)
@@ -267,9 +267,9 @@ none_missing : (o : Option OutcomeView) → is_some o ≡ true → o ≡ None �
 none_missing None there none = true≢false (sym there)
 none_missing (Some x) there none = none-some x (sym none)
 
--- nothing lies on a desk, and nothing is out
-no_works : (job : LoggedJob) (engine : EngineView) (desk : DeskView) (room : ℕ) → engine.in_flight ≡ room → desk ≡ record { room = room; works = [] } → NoneOut engine → HasWorks job engine desk
-no_works job engine desk room flight is none = subst (HasWorks job engine) (sym is) (record {
+-- nothing lies in a work queue, and nothing is out
+no_works : (job : LoggedJob) (engine : EngineView) (work_queue : WorkQueueView) (room : ℕ) → engine.in_flight ≡ room → work_queue ≡ record { room = room; works = [] } → NoneOut engine → HasWorks job engine work_queue
+no_works job engine work_queue room flight is none = subst (HasWorks job engine) (sym is) (record {
   room = sym flight;
   out = λ k d less. absurd (omega (arith, less));
   lawful = λ k d less. absurd (omega (arith, less));
@@ -288,21 +288,21 @@ net_stands job parts net put h =
       given = h.rest.given;
       engines = h.engine_count;
       intakes = h.intake_count;
-      desks = h.rest.desks;
-      cells = λ node engine intake desk at to on.
-          let count = h.rest.desks in
-          let within = slice_get_within parts.rest.desks node desk on in
+      work_queues = h.rest.work_queues;
+      cells = λ node engine intake work_queue at to on.
+          let count = h.rest.work_queues in
+          let within = slice_get_within parts.rest.work_queues node work_queue on in
           let less : node < length parts.plan.nodes = omega (arith, within, count) in
           let planned = found parts.plan.nodes node less in
           let lawful = h.engines node engine less at in
           let known = engine_known job node engine planned.0 lawful (subst (λ (plan : Plan). slice_get plan.nodes node ≡ Some planned.0) h.plan planned.1) in
-          let cell : IsCell job true node engine intake desk = record {
+          let cell : IsCell job true node engine intake work_queue = record {
             lawful_engine = lawful;
             lawful_intake = h.intakes node intake to;
             agree = h.agree node engine intake less at to;
-            works = no_works job engine desk planned.0.in_flight known.set_up.in_flight (h.rest.empty node desk planned.0 on planned.1) (h.none_out node engine less at);
+            works = no_works job engine work_queue planned.0.in_flight known.set_up.in_flight (h.rest.empty node work_queue planned.0 on planned.1) (h.none_out node engine less at);
           } in
-          subst (λ (b : Bool). IsCell job b node engine intake desk) (sym (lt-ltb node (length parts.plan.nodes) less)) cell;
+          subst (λ (b : Bool). IsCell job b node engine intake work_queue) (sym (lt-ltb node (length parts.plan.nodes) less)) cell;
       inputs = h.inputs;
       collector = λ intake at. h.intakes (length parts.plan.nodes) intake at;
       edges = h.edges;

@@ -14,14 +14,14 @@ use Rattle.mg_node.specs.Job.{calls_in}
 use Rattle.mg_node.specs.Lawful.{answer_in}
 use Rattle.mg_node.specs.Running.{IsPerformed}
 use Rattle.mg_node.specs.Shelves.{outcome_of, shelved}
-use Rattle.mg_sched.specs.Views.{DeskView, NetView}
-use Rattle.mg_sched.specs.Places.{with_engine, with_desk}
+use Rattle.mg_sched.specs.Views.{WorkQueueView, NetView}
+use Rattle.mg_sched.specs.Places.{with_engine, with_work_queue}
 use Rattle.mg_sched.specs.StandsFor.{StandsForSome, IsRunning}
 use Rattle.mg_sched.specs.Acts.{IsEventOf, Acts}
 use Rattle.mg_sched.specs.AtRest.{MayGoOn, LooksOver}
 use Rattle.mg_sched.specs.Sweeps.{Becomes}
 use Rattle.mg_sched.specs.Code.Left.{HasWork, HasNoWork, HasShelf, HasNoShelf, RestsAt, NodesRest, EdgesRest, effect_if, Finds}
-use Rattle.mg_sched.proofs.Finding.{found, places, desk_there}
+use Rattle.mg_sched.proofs.Finding.{found, places, work_queue_there}
 use Rattle.mg_sched.proofs.IdleStays.{idle_same}
 use Rattle.mg_sched.proofs.Becoming.{becomes_one, becomes_runs, becomes_some, becomes_trans}
 use Rattle.mg_sched.proofs.Sweeping.{rests, due_shelves, still_there}
@@ -76,36 +76,36 @@ performed_with w state answer = record {
     node = w.node;
     number = w.number;
     phase = w.phase;
-    bench = record {
-      told = record { law = w.bench.told.law; shape = w.bench.told.shape; state = state; log = option_map (λ calls. calls ++ calls_in w.phase w.bench.set) w.bench.told.log; handed = w.bench.told.handed };
-      set = w.bench.set;
+    context = record {
+      told = record { law = w.context.told.law; shape = w.context.told.shape; state = state; log = option_map (λ calls. calls ++ calls_in w.phase w.context.set) w.context.told.log; handed = w.context.told.handed };
+      set = w.context.set;
     };
   };
   answer = answer;
 }
 
-some_performed : (w : WorkView) (a : Answer) → answer_in w.bench.told.law w.bench.told.state w.phase w.bench.set ≡ a → (p : PerformedView) × IsPerformed w p
+some_performed : (w : WorkView) (a : Answer) → answer_in w.context.told.law w.context.told.state w.phase w.context.set ≡ a → (p : PerformedView) × IsPerformed w p
 some_performed w (Ok given) is = (performed_with w given.0 (Ok given.1), record { same = refl; answer = is; log = refl; law = refl; shape = refl; same_handed = refl; set = refl })
-some_performed w (Err cause) is = (performed_with w w.bench.told.state (Err cause), record { same = refl; answer = (is, refl); log = refl; law = refl; shape = refl; same_handed = refl; set = refl })
+some_performed w (Err cause) is = (performed_with w w.context.told.state (Err cause), record { same = refl; answer = (is, refl); log = refl; law = refl; shape = refl; same_handed = refl; set = refl })
 
-performs_one : (net : NetView) (node number : ℕ) (engine : EngineView) (desk : DeskView) (works : List WorkView) → node < length net.plan.nodes → slice_get net.engines node ≡ Some engine → slice_get net.desks node ≡ Some desk → desk.works ≡ works
+performs_one : (net : NetView) (node number : ℕ) (engine : EngineView) (work_queue : WorkQueueView) (works : List WorkView) → node < length net.plan.nodes → slice_get net.engines node ≡ Some engine → slice_get net.work_queues node ≡ Some work_queue → work_queue.works ≡ works
     → IsSomeAnd (slice_get works 0) (λ w. w.number ≡ number) → MayGoOn net
-performs_one net node number engine desk [] there at on are first = absurd first
-performs_one net node number engine desk (w ∷ works) there at on are first =
-    let p = some_performed w (answer_in w.bench.told.law w.bench.told.state w.phase w.bench.set) refl in
+performs_one net node number engine work_queue [] there at on are first = absurd first
+performs_one net node number engine work_queue (w ∷ works) there at on are first =
+    let p = some_performed w (answer_in w.context.told.law w.context.told.state w.phase w.context.set) refl in
     record {
       event = Perform node number;
       is_event = there;
-      there = with_desk (with_engine net node (shelved engine (outcome_of p.0))) node (record desk { works = works });
-      acts = record { desk = desk; on = on; performed = inr (record { engine = engine; at = at; work = w; front = []; back = works; works = are; number_is = first; performed = (p.0, p.1, refl) }) };
+      there = with_work_queue (with_engine net node (shelved engine (outcome_of p.0))) node (record work_queue { works = works });
+      acts = record { work_queue = work_queue; on = on; performed = inr (record { engine = engine; at = at; work = w; front = []; back = works; works = are; number_is = first; performed = (p.0, p.1, refl) }) };
     }
 
 pub work_goes_on : (net : NetView) (node number : ℕ) → StandsForSome net → node < length net.plan.nodes → HasWork net node number → MayGoOn net
 work_goes_on net node number some there has =
     let long = (places net some).0 in
     let engine = found net.engines node (omega (arith, there, long)) in
-    let desk = found net.desks node (desk_there net node some there) in
-    performs_one net node number engine.0 desk.0 desk.0.works there engine.1 desk.1 refl (has desk.0 desk.1)
+    let work_queue = found net.work_queues node (work_queue_there net node some there) in
+    performs_one net node number engine.0 work_queue.0 work_queue.0.works there engine.1 work_queue.1 refl (has work_queue.0 work_queue.1)
 
 -- Nodes.
 

@@ -93,10 +93,10 @@ node_meets job net solution streams n node h running rest solves all below there
     let within = slice_get_within net.plan.nodes n node there in
     let long = (places net some).0 in
     let long_too = (places net some).1 in
-    let long_desks = (places net some).2 in
+    let long_work_queues = (places net some).2 in
     let g = found net.engines n (omega (arith, within, long)) in
     let i = found net.intakes n (omega (arith, within, long_too)) in
-    let d = found net.desks n (omega (arith, within, long_desks)) in
+    let d = found net.work_queues n (omega (arith, within, long_work_queues)) in
     let cell = cell_at job net n g.0 i.0 d.0 h running within g.1 i.1 d.1 in
     meets_its_equation job n node g.0 i.0 solution streams (streams_at streams node.outputs) (subst (λ (plan : Plan). slice_get plan.nodes n ≡ Some node) h.plan there) cell.lawful_engine cell.lawful_intake cell.agree
     (cell_rests job net n node g.0 i.0 d.0 h running rest there g.1 i.1 d.1)
@@ -166,9 +166,9 @@ has_node job net solution number node engine h running rest solves there at =
     let some : StandsForSome net = record { job = job; stands = h } in
     let within = slice_get_within net.plan.nodes number node there in
     let long = (places net some).1 in
-    let long_desks = (places net some).2 in
+    let long_work_queues = (places net some).2 in
     let i = found net.intakes number (omega (arith, within, long)) in
-    let d = found net.desks number (omega (arith, within, long_desks)) in
+    let d = found net.work_queues number (omega (arith, within, long_work_queues)) in
     let cell = cell_at job net number engine i.0 d.0 h running within at i.1 d.1 in
     let laid = all_laid job net solution h running solves in
     let same : laid.0 ≡ solution = rests_solved job net solution laid.0 h running rest solves laid.1 in

@@ -22,7 +22,7 @@ use Rattle.mg_node.specs.Job.{LoggedJob}
 use Rattle.mg_node.specs.Resting.{IsResting}
 use Rattle.mg_node.specs.Shelves.{shelf_of, shelf_at}
 use Rattle.mg_node.proofs.Lemmas.{engine_known, nothing_ready}
-use Rattle.mg_sched.specs.Views.{DeskView, NetView}
+use Rattle.mg_sched.specs.Views.{WorkQueueView, NetView}
 use Rattle.mg_sched.specs.StandsFor.{HasWorks, StandsFor, IsRunning}
 use Rattle.mg_sched.specs.Acts.{ClaimsBy, CommittedAt}
 use Rattle.mg_sched.specs.AtRest.{IsAtRest}
@@ -30,18 +30,18 @@ use Rattle.mg_sched.proofs.Finding.{cell_at, valid}
 use Rattle.mg_sched.proofs.PlanEdges.{all_at}
 use Rattle.mg_sched.proofs.RestingEdges.{none_throttled}
 
--- No work lies on a desk.
+-- No work lies in a work queue.
 
 none_left : (works : List WorkView) → ((number : ℕ) → All (λ w. w.number ≢ number) works) → works ≡ []
 none_left [] other = refl
 none_left (w ∷ works) other = absurd ((recursion_from_All (λ (v : WorkView). v.number ≢ w.number) (w ∷ works) (other w.number)).0 refl)
 
-desk_clear : (net : NetView) (node : ℕ) (desk : DeskView) → IsAtRest net → node < length net.plan.nodes → slice_get net.desks node ≡ Some desk → desk.works ≡ []
-desk_clear net node desk rest within on = none_left desk.works (λ number.
+work_queue_clear : (net : NetView) (node : ℕ) (work_queue : WorkQueueView) → IsAtRest net → node < length net.plan.nodes → slice_get net.work_queues node ≡ Some work_queue → work_queue.works ≡ []
+work_queue_clear net node work_queue rest within on = none_left work_queue.works (λ number.
     let p = rest (Perform node number) within in
-    let same : p.desk ≡ desk = same_Some p.desk desk (sym p.on ∙ on) in
+    let same : p.work_queue ≡ work_queue = same_Some p.work_queue work_queue (sym p.on ∙ on) in
     elim p.performed [
-      | inl none ↦ subst (λ (d : DeskView). All (λ w. w.number ≢ number) d.works) same none.0
+      | inl none ↦ subst (λ (d : WorkQueueView). All (λ w. w.number ≢ number) d.works) same none.0
       | inr does ↦ absurd does.performed
     ])
 
@@ -68,8 +68,8 @@ first_shelf engine entry entries is =
     ap (λ (t : Bool). if t then None else option_and_then shelf_of (slice_get engine.window (engine.laid - engine.laid))) (none_below engine.laid)
     ∙ ap₂ (λ (k : ℕ) (es : List EntryView). option_and_then shelf_of (slice_get es k)) none is
 
-none_out : (job : LoggedJob) (engine : EngineView) (desk : DeskView) (entry : EntryView) (entries : List EntryView) → HasWorks job engine desk → desk.works ≡ [] → engine.window ≡ entry ∷ entries → entry.outcome ≡ None → ⊥
-none_out job engine desk entry entries works clear is out =
+none_out : (job : LoggedJob) (engine : EngineView) (work_queue : WorkQueueView) (entry : EntryView) (entries : List EntryView) → HasWorks job engine work_queue → work_queue.works ≡ [] → engine.window ≡ entry ∷ entries → entry.outcome ≡ None → ⊥
+none_out job engine work_queue entry entries works clear is out =
     let some : Any (λ w. w.number ≡ engine.laid + 0) [] = subst (Any (λ w. w.number ≡ engine.laid + 0)) clear (works.complete 0 entry (ap (λ (es : List EntryView). slice_get es 0) is) out) in
     let less = some.2 in
     absurd (omega (arith, less))
@@ -83,22 +83,22 @@ by_answer phase work None committed entries entry is shelf unrun ready = not_bot
 by_answer phase work (Some answer) true entries entry is shelf unrun ready = false≢true (sym ready ∙ ap (λ (e : EntryView). starts_ready (e ∷ entries)) is)
 by_answer phase work (Some answer) false entries entry is shelf unrun ready = not_both (record { work = work; answer = answer }) (shelf_of entry) (ap shelf_of is) shelf
 
-by_outcome : (job : LoggedJob) (engine : EngineView) (desk : DeskView) (entry : EntryView) (entries : List EntryView) (outcome : Option OutcomeView) → entry.outcome ≡ outcome → HasWorks job engine desk → desk.works ≡ [] → engine.window ≡ entry ∷ entries
+by_outcome : (job : LoggedJob) (engine : EngineView) (work_queue : WorkQueueView) (entry : EntryView) (entries : List EntryView) (outcome : Option OutcomeView) → entry.outcome ≡ outcome → HasWorks job engine work_queue → work_queue.works ≡ [] → engine.window ≡ entry ∷ entries
     → shelf_at engine engine.laid ≡ None → first_unrun 0 (entry ∷ entries) ≡ None → starts_ready (entry ∷ entries) ≡ false → ⊥
-by_outcome job engine desk entry entries None outcome works clear is shelf unrun ready = none_out job engine desk entry entries works clear is outcome
-by_outcome job engine desk entry entries (Some o) outcome works clear is shelf unrun ready =
+by_outcome job engine work_queue entry entries None outcome works clear is shelf unrun ready = none_out job engine work_queue entry entries works clear is outcome
+by_outcome job engine work_queue entry entries (Some o) outcome works clear is shelf unrun ready =
     by_answer entry.phase o.work o.answer entry.committed entries entry (ap (λ (x : Option OutcomeView). let e : EntryView = record { phase = entry.phase; outcome = x; committed = entry.committed } in e) outcome)
     (sym (first_shelf engine entry entries is) ∙ shelf) unrun ready
 
-window_clear : (job : LoggedJob) (engine : EngineView) (desk : DeskView) (window : List EntryView) → engine.window ≡ window → HasWorks job engine desk → desk.works ≡ [] → shelf_at engine engine.laid ≡ None → first_unrun 0 window ≡ None → starts_ready window ≡ false
+window_clear : (job : LoggedJob) (engine : EngineView) (work_queue : WorkQueueView) (window : List EntryView) → engine.window ≡ window → HasWorks job engine work_queue → work_queue.works ≡ [] → shelf_at engine engine.laid ≡ None → first_unrun 0 window ≡ None → starts_ready window ≡ false
     → window ≡ []
-window_clear job engine desk [] is works clear shelf unrun ready = refl
-window_clear job engine desk (entry ∷ entries) is works clear shelf unrun ready = absurd (by_outcome job engine desk entry entries entry.outcome refl works clear is shelf unrun ready)
+window_clear job engine work_queue [] is works clear shelf unrun ready = refl
+window_clear job engine work_queue (entry ∷ entries) is works clear shelf unrun ready = absurd (by_outcome job engine work_queue entry entries entry.outcome refl works clear is shelf unrun ready)
 
 -- A claim that does nothing.
-claims_none : (engine engine_now : EngineView) (intake intake_now : IntakeView) (desk desk_now : DeskView) → ClaimsBy Idle engine engine_now intake intake_now desk desk_now → 1 ≤ engine.in_flight
+claims_none : (engine engine_now : EngineView) (intake intake_now : IntakeView) (work_queue work_queue_now : WorkQueueView) → ClaimsBy Idle engine engine_now intake intake_now work_queue work_queue_now → 1 ≤ engine.in_flight
     → (has_ended engine ≡ false → first_unrun 0 engine.window ≡ None → engine.window ≡ []) → (has_ended engine ≡ true) ⊎ ((engine.window ≡ []) × IsEarly engine.role intake.waits)
-claims_none engine engine_now intake intake_now desk desk_now c some clear = elim c.0 [
+claims_none engine engine_now intake intake_now work_queue work_queue_now c some clear = elim c.0 [
   | inl early ↦ inr (clear early.0.goes early.0.none, early.1)
   | inr (inl full) ↦ (let none = ap length (clear full.0 full.1) in let most = full.2 in absurd (omega (arith, none, most, some)))
   | inr (inr (inl draining)) ↦ (let none = ap length (clear draining.0.goes draining.0.none) in let more = draining.2 in absurd (omega (arith, none, more)))
@@ -110,12 +110,12 @@ not_advanced : (b : Bool) → Idle ≡ (if b then Did else Idle) → b ≡ false
 not_advanced true e = absurd cc
 not_advanced false e = refl
 
-pub cell_rests : (job : LoggedJob) (net : NetView) (number : ℕ) (node : PlanNode) (engine : EngineView) (intake : IntakeView) (desk : DeskView) → StandsFor job net → IsRunning net → IsAtRest net → slice_get net.plan.nodes number ≡ Some node
-    → slice_get net.engines number ≡ Some engine → slice_get net.intakes number ≡ Some intake → slice_get net.desks number ≡ Some desk → IsResting engine intake
+pub cell_rests : (job : LoggedJob) (net : NetView) (number : ℕ) (node : PlanNode) (engine : EngineView) (intake : IntakeView) (work_queue : WorkQueueView) → StandsFor job net → IsRunning net → IsAtRest net → slice_get net.plan.nodes number ≡ Some node
+    → slice_get net.engines number ≡ Some engine → slice_get net.intakes number ≡ Some intake → slice_get net.work_queues number ≡ Some work_queue → IsResting engine intake
 unfolding StandsFor
-cell_rests job net number node engine intake desk h running rest there at to on =
+cell_rests job net number node engine intake work_queue h running rest there at to on =
     let within = slice_get_within net.plan.nodes number node there in
-    let cell = cell_at job net number engine intake desk h running within at to on in
+    let cell = cell_at job net number engine intake work_queue h running within at to on in
     let known = engine_known job number engine node cell.lawful_engine (subst (λ (plan : Plan). slice_get plan.nodes number ≡ Some node) h.plan there) in
     let flight = (all_at FlightFits net.plan.nodes number node there (valid net (record { job = job; stands = h })).flights).some in
     let flights = known.set_up.in_flight in
@@ -124,15 +124,15 @@ cell_rests job net number node engine intake desk h running rest there at to on 
     let same_engine : a.engine ≡ engine = same_Some a.engine engine (sym a.at ∙ at) in
     let same_intake : a.intake ≡ intake = same_Some a.intake intake (sym a.to ∙ to) in
     let clear : has_ended engine ≡ false → first_unrun 0 engine.window ≡ None → engine.window ≡ [] = λ goes unrun.
-    window_clear job engine desk engine.window refl cell.works (desk_clear net number desk rest within on) (shelf_clear net number engine.laid engine rest within at) unrun (nothing_ready job number engine cell.lawful_engine goes) in
+    window_clear job engine work_queue engine.window refl cell.works (work_queue_clear net number work_queue rest within on) (shelf_clear net number engine.laid engine rest within at) unrun (nothing_ready job number engine cell.lawful_engine goes) in
     record {
       claims = elim (rest (Claim number) within) [
         | inl held ↦ absurd (none_throttled net (source_node number) rest held.0.throttled)
         | inr (other, c) ↦
             (let first : c.engine ≡ engine = same_Some c.engine engine (sym c.at ∙ at) in
             let second : c.intake ≡ intake = same_Some c.intake intake (sym c.to ∙ to) in
-            claims_none engine c.engine_now intake c.intake_now c.desk c.desk_now
-            (subst (λ (i : IntakeView). ClaimsBy Idle engine c.engine_now i c.intake_now c.desk c.desk_now) second (subst (λ (g : EngineView). ClaimsBy Idle g c.engine_now c.intake c.intake_now c.desk c.desk_now) first c.claims)) some clear)
+            claims_none engine c.engine_now intake c.intake_now c.work_queue c.work_queue_now
+            (subst (λ (i : IntakeView). ClaimsBy Idle engine c.engine_now i c.intake_now c.work_queue c.work_queue_now) second (subst (λ (g : EngineView). ClaimsBy Idle g c.engine_now c.intake c.intake_now c.work_queue c.work_queue_now) first c.claims)) some clear)
       ];
       raised = ap₂ (λ (g : EngineView) (i : IntakeView). is_advanced g i.waits) (sym same_engine) (sym same_intake) ∙ not_advanced (is_advanced a.engine a.intake.waits) a.effect_is;
     }

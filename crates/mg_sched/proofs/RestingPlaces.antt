@@ -29,7 +29,7 @@ use Rattle.mg_node.proofs.Lemmas.{intake_ports, same_put}
 use Rattle.mg_ready.specs.Ready.{ReadyNodes, IsIn, IsEmpty, ChangesOnly}
 use Rattle.mg_throttle.specs.declared.queue.Queue.{Queue}
 use Rattle.mg_throttle.specs.Throttle.{is_full, IsThrottled}
-use Rattle.mg_sched.specs.Views.{DeskView, NetView}
+use Rattle.mg_sched.specs.Views.{WorkQueueView, NetView}
 use Rattle.mg_sched.specs.Places.{source_of, place_of, first_edge, lengths_of, with_engine, with_limits}
 use Rattle.mg_sched.specs.StandsFor.{StandsFor, StandsForSome, IsRunning}
 use Rattle.mg_sched.specs.Acts.{Acts, IsAnyFull, Brings, ClaimsNext, all_noted, with_noted}
@@ -39,7 +39,7 @@ use Rattle.mg_sched.specs.Heard.{Heard}
 use Rattle.mg_sched.specs.Code.Agendas.{AgendaView, IsAgendaOf, LeadsFrom, IsFirstFrom}
 use Rattle.mg_sched.specs.Code.Left.{Goes, Steps, RestsAt, EdgesRest, NodesRest}
 use Rattle.mg_sched.specs.Code.Quiet.{Notes, HasBrought, IsDone, RestBut, RestsBut, IsKeptBy, RestsButKept, EdgesRestFrom, EdgesRestInto, EdgesRestBehind, RestsHere}
-use Rattle.mg_sched.proofs.Finding.{found, valid, places, engine_there, intake_there, desk_there}
+use Rattle.mg_sched.proofs.Finding.{found, valid, places, engine_there, intake_there, work_queue_there}
 use Rattle.mg_sched.proofs.Carrying.{intake_of, queues_long, source_there, target_there}
 use Rattle.mg_sched.proofs.PlanEdges.{edge_ends, edge_number, edge_place, edge_stream}
 use Rattle.mg_sched.proofs.PlanStreams.{producer_there}
@@ -108,9 +108,9 @@ next_none net node engine intake c at to =
     subst (λ (i : IntakeView). ClaimsNone engine i) (same_Some c.intake intake (sym c.to ∙ to))
     (subst (λ (g : EngineView). ClaimsNone g c.intake) (same_Some c.engine engine (sym c.at ∙ at)) (claims_none c.engine c.engine_now c.intake c.intake_now c.claims.0))
 
-pub is_done : (net : NetView) (node : ℕ) (engine : EngineView) (intake : IntakeView) (desk : DeskView) → ¬ IsAnyFull net.limits → RestsAt net node → slice_get net.engines node ≡ Some engine → slice_get net.intakes node ≡ Some intake
-    → slice_get net.desks node ≡ Some desk → IsDone engine intake desk
-is_done net node engine intake desk free h at to on =
+pub is_done : (net : NetView) (node : ℕ) (engine : EngineView) (intake : IntakeView) (work_queue : WorkQueueView) → ¬ IsAnyFull net.limits → RestsAt net node → slice_get net.engines node ≡ Some engine → slice_get net.intakes node ≡ Some intake
+    → slice_get net.work_queues node ≡ Some work_queue → IsDone engine intake work_queue
+is_done net node engine intake work_queue free h at to on =
     let a = h.advances in
     let same_engine = same_Some a.engine engine (sym a.at ∙ at) in
     let same_intake = same_Some a.intake intake (sym a.to ∙ to) in
@@ -119,7 +119,7 @@ is_done net node engine intake desk free h at to on =
         | inl held ↦ absurd (throttled_full net _ free held.0.throttled)
         | inr claims ↦ next_none net node engine intake claims.1 at to
       ];
-      works = h.works desk on;
+      works = h.works work_queue on;
       shelf = λ number. h.shelf engine number at;
       raises = subst (λ (i : IntakeView). is_advanced engine i.waits ≡ false) same_intake
           (subst (λ (g : EngineView). is_advanced g a.intake.waits ≡ false) same_engine (not_advanced (is_advanced a.engine a.intake.waits) (sym a.effect_is)));
@@ -154,9 +154,9 @@ delivers_none net number place e engine intake some free there from at to h =
     } in
     record { edge = e; there = there; delivered = inr ((λ held. throttled_full net _ free held.throttled), brings) }
 
-claims_nothing : (net : NetView) (node : ℕ) (engine : EngineView) (intake : IntakeView) (desk : DeskView) → StandsForSome net → IsRunning net → node < length net.plan.nodes → slice_get net.engines node ≡ Some engine
-    → slice_get net.intakes node ≡ Some intake → slice_get net.desks node ≡ Some desk → IsDone engine intake desk → ClaimsNext node Idle net net
-claims_nothing net node engine intake desk some running there at to on d =
+claims_nothing : (net : NetView) (node : ℕ) (engine : EngineView) (intake : IntakeView) (work_queue : WorkQueueView) → StandsForSome net → IsRunning net → node < length net.plan.nodes → slice_get net.engines node ≡ Some engine
+    → slice_get net.intakes node ≡ Some intake → slice_get net.work_queues node ≡ Some work_queue → IsDone engine intake work_queue → ClaimsNext node Idle net net
+claims_nothing net node engine intake work_queue some running there at to on d =
     let first = first_edge net.plan node in
     let told : all_noted net.limits.queues first (lengths_of intake.waits) ≡ net.limits.queues =
     all_noted_same (lengths_of intake.waits) net.limits.queues first (know_ports some.job net node intake some.stands running there to) in
@@ -165,21 +165,21 @@ claims_nothing net node engine intake desk some running there at to on d =
       at = at;
       intake = intake;
       to = to;
-      desk = desk;
+      work_queue = work_queue;
       on = on;
       engine_now = engine;
       intake_now = intake;
-      desk_now = desk;
+      work_queue_now = work_queue;
       claims = (d.claims, refl);
-      now_is = sym (ap (λ (v : NetView). with_noted v first (lengths_of intake.waits)) (same_parts net node engine intake desk at to on)
+      now_is = sym (ap (λ (v : NetView). with_noted v first (lengths_of intake.waits)) (same_parts net node engine intake work_queue at to on)
           ∙ ap (λ (qs : List Queue). with_limits net (record net.limits { queues = qs })) told);
     }
 
-pub rests_at : (net : NetView) (node : ℕ) (engine : EngineView) (intake : IntakeView) (desk : DeskView) → StandsForSome net → IsRunning net → ¬ IsAnyFull net.limits → node < length net.plan.nodes → slice_get net.engines node ≡ Some engine
-    → slice_get net.intakes node ≡ Some intake → slice_get net.desks node ≡ Some desk → IsDone engine intake desk → RestsAt net node
-rests_at net node engine intake desk some running free there at to on d = record {
-  claims = inr ((λ held. throttled_full net _ free held.throttled), claims_nothing net node engine intake desk some running there at to on d);
-  works = λ other other_on. subst (λ (k : DeskView). k.works ≡ []) (same_Some desk other (sym on ∙ other_on)) d.works;
+pub rests_at : (net : NetView) (node : ℕ) (engine : EngineView) (intake : IntakeView) (work_queue : WorkQueueView) → StandsForSome net → IsRunning net → ¬ IsAnyFull net.limits → node < length net.plan.nodes → slice_get net.engines node ≡ Some engine
+    → slice_get net.intakes node ≡ Some intake → slice_get net.work_queues node ≡ Some work_queue → IsDone engine intake work_queue → RestsAt net node
+rests_at net node engine intake work_queue some running free there at to on d = record {
+  claims = inr ((λ held. throttled_full net _ free held.throttled), claims_nothing net node engine intake work_queue some running there at to on d);
+  works = λ other other_on. subst (λ (k : WorkQueueView). k.works ≡ []) (same_Some work_queue other (sym on ∙ other_on)) d.works;
   shelf = λ other number other_at. subst (λ (g : EngineView). shelf_at g number ≡ None) (same_Some engine other (sym at ∙ other_at)) (d.shelf number);
   advances = record {
     engine = engine;
@@ -198,19 +198,19 @@ rests_at net node engine intake desk some running free there at to on d = record
 pub rests_none : (net : NetView) (agenda : AgendaView) (count : ℕ) → length net.plan.nodes ≤ count → ((n : ℕ) → n ≤ count → IsIn agenda.touched n) → RestsBut net agenda
 rests_none net agenda count few all = record {
   edges = λ number place e engine intake there upto from out_from out_to at to. absurd (out_to (all e.node (omega (arith, upto, few))));
-  nodes = λ node engine intake desk there out at to on. absurd (out (all node (omega (arith, there, few))));
+  nodes = λ node engine intake work_queue there out at to on. absurd (out (all node (omega (arith, there, few))));
 }
 
 -- what has changed is touched
 pub rests_still : (before : NetView) (agenda : AgendaView) (now : NetView) (agenda_now : AgendaView) → now.plan ≡ before.plan → Notes before agenda now agenda_now → RestsBut before agenda → RestsBut now agenda_now
 rests_still before agenda now agenda_now same notes h =
-    subst (λ (p : Plan). RestBut p now.engines now.intakes now.desks agenda_now.touched) (sym same)
+    subst (λ (p : Plan). RestBut p now.engines now.intakes now.work_queues agenda_now.touched) (sym same)
     (record {
       edges = λ number place e engine intake there upto from out_from out_to at to.
           h.edges number place e engine intake there upto from (λ is. out_from (notes.grows place is)) (λ is. out_to (notes.grows e.node is))
           (sym (notes.engines place out_from) ∙ at) (sym (notes.intakes e.node out_to) ∙ to);
-      nodes = λ node engine intake desk there out at to on.
-          h.nodes node engine intake desk there (λ is. out (notes.grows node is)) (sym (notes.engines node out) ∙ at) (sym (notes.intakes node out) ∙ to) (sym (notes.desks node out) ∙ on);
+      nodes = λ node engine intake work_queue there out at to on.
+          h.nodes node engine intake work_queue there (λ is. out (notes.grows node is)) (sym (notes.engines node out) ∙ at) (sym (notes.intakes node out) ∙ to) (sym (notes.work_queues node out) ∙ on);
     })
 
 was_out : (touched now : ReadyNodes) (place other : ℕ) → ChangesOnly touched now place → other ≢ place → ¬ IsIn now other → ¬ IsIn touched other
@@ -227,10 +227,10 @@ rests_here net agenda agenda_now place free only here h = record {
           (was_out agenda.touched agenda_now.touched place e.node only apart out_to) at to
     ]
   ];
-  nodes = λ node engine intake desk there out at to on. elim (cases_eq node place) [
-    | inl same ↦ is_done net node engine intake desk free
+  nodes = λ node engine intake work_queue there out at to on. elim (cases_eq node place) [
+    | inl same ↦ is_done net node engine intake work_queue free
         (subst (λ (k : ℕ). RestsAt net k) (sym same) (here.node (subst (λ (k : ℕ). k < length net.plan.nodes) same there))) at to on
-    | inr apart ↦ h.nodes node engine intake desk there (was_out agenda.touched agenda_now.touched place node only apart out) at to on
+    | inr apart ↦ h.nodes node engine intake work_queue there (was_out agenda.touched agenda_now.touched place node only apart out) at to on
   ];
 }
 
@@ -258,8 +258,8 @@ all_rest net agenda some running free none h = rests net some edges nodes (inl (
     nodes = λ node less.
         (let engine = found net.engines node (engine_there net node some less) in
         let intake = found net.intakes node (intake_there net node some less) in
-        let desk = found net.desks node (desk_there net node some less) in
-        rests_at net node engine.0 intake.0 desk.0 some running free less engine.1 intake.1 desk.1 (h.nodes node engine.0 intake.0 desk.0 less (none node) engine.1 intake.1 desk.1))
+        let work_queue = found net.work_queues node (work_queue_there net node some less) in
+        rests_at net node engine.0 intake.0 work_queue.0 some running free less engine.1 intake.1 work_queue.1 (h.nodes node engine.0 intake.0 work_queue.0 less (none node) engine.1 intake.1 work_queue.1))
 
 -- How places are looked over, one after the other.
 
@@ -310,7 +310,7 @@ notes_again a k next b m last place took notes there put = record {
   ];
   engines = λ other out. notes.engines other (still_out other out);
   intakes = λ other out. notes.intakes other (still_out other out);
-  desks = λ other out. notes.desks other (still_out other out);
+  work_queues = λ other out. notes.work_queues other (still_out other out);
 }
   where
     still_out : (other : ℕ) → ¬ IsIn last.touched other → ¬ IsIn m.touched other
@@ -399,11 +399,11 @@ pub kept_agenda : (shown net : NetView) (slot : Option AgendaView) (agenda now :
 kept_agenda shown net slot agenda now is kept there heads leads =
     agenda_long net.plan agenda now (subst (λ (v : NetView). IsAgendaOf v.plan agenda) is (subst (λ (o : Option AgendaView). IsKeptBy shown.plan o) there kept)) heads leads.1 leads.0
 
-pub kept_rests : (known : Bool) (shown net : NetView) (slot : Option AgendaView) (agenda now : AgendaView) → shown ≡ net → IsKeptBy shown.plan slot → (known ≡ true → RestsButKept shown.plan shown.engines shown.intakes shown.desks slot)
+pub kept_rests : (known : Bool) (shown net : NetView) (slot : Option AgendaView) (agenda now : AgendaView) → shown ≡ net → IsKeptBy shown.plan slot → (known ≡ true → RestsButKept shown.plan shown.engines shown.intakes shown.work_queues slot)
     → slot ≡ Some agenda → (known ≡ true → now ≡ agenda) → (known ≡ false → (n : ℕ) → n ≤ length agenda.heads → IsIn now.touched n) → RestsBut net now
 kept_rests known shown net slot agenda now is kept rests there same all =
     woken known net agenda now (subst (λ (v : NetView). IsAgendaOf v.plan agenda) is (subst (λ (o : Option AgendaView). IsKeptBy shown.plan o) there kept)) same all
-    (λ is_known. subst (λ (v : NetView). RestsBut v agenda) is (subst (λ (o : Option AgendaView). RestsButKept shown.plan shown.engines shown.intakes shown.desks o) there (rests is_known)))
+    (λ is_known. subst (λ (v : NetView). RestsBut v agenda) is (subst (λ (o : Option AgendaView). RestsButKept shown.plan shown.engines shown.intakes shown.work_queues o) there (rests is_known)))
 
 -- and a new one
 

@@ -14,13 +14,13 @@ use Rattle.mg_node.specs.AtOnce.{IsDoneBetween, DoesAtOnce}
 use Rattle.mg_node.proofs.Lemmas.{get_set, same_put}
 use Rattle.mg_sched.specs.declared.reached.Reached.{Reached}
 use Rattle.mg_sched.specs.declared.reached.Reached.TheVariants.{Nothing, Claimed, Performed, Committed}
-use Rattle.mg_sched.specs.Views.{DeskView, NetView}
+use Rattle.mg_sched.specs.Views.{WorkQueueView, NetView}
 use Rattle.mg_sched.specs.Places.{with_engine, with_intake, with_limits, first_edge, lengths_of}
 use Rattle.mg_sched.specs.StandsFor.{StandsForSome, IsRunning}
 use Rattle.mg_sched.specs.Acts.{IsHeldSource, with_noted, stopped_by}
 use Rattle.mg_sched.specs.Code.AtOnce.{NodeHandsOut, ShowsTo, ShowsAt, did_nothing, with_work, IsHandedOut, ComesOn, Comes}
-use Rattle.mg_sched.proofs.Finding.{found, desk_there, parts_lawful}
-use Rattle.mg_sched.proofs.WorkingAtOnce.{hands_work, hands_none, on_kept, desk_room, handed_out, nothing_came, comes, took_nothing, below, marks, performs, finishes}
+use Rattle.mg_sched.proofs.Finding.{found, work_queue_there, parts_lawful}
+use Rattle.mg_sched.proofs.WorkingAtOnce.{hands_work, hands_none, on_kept, work_queue_room, handed_out, nothing_came, comes, took_nothing, below, marks, performs, finishes}
 
 -- Where no set was shown the net is as it was.
 pub shows_none : {C : Type 0} (done : AtOnce C) (node : ℕ) (net : NetView) (some : StandsForSome net) → IsRunning net → node < length net.plan.nodes → (engine engine_now : EngineView) (intake intake_now : IntakeView)
@@ -54,29 +54,29 @@ shows_some {C} (AllDone number) node before now some h = h
 -- What a step by step turn is made of.
 
 module _ (C : Type 0) (node : ℕ) (before now : NetView) (some : StandsForSome before) (running : IsRunning before) (there : node < length before.plan.nodes) (free : ¬ IsHeldSource before node) where
-  abbrev desk_of : DeskView
-  desk_of = (found before.desks node (desk_there before node some there)).0
+  abbrev work_queue_of : WorkQueueView
+  work_queue_of = (found before.work_queues node (work_queue_there before node some there)).0
 
-  desk_on : slice_get before.desks node ≡ Some desk_of
-  desk_on = (found before.desks node (desk_there before node some there)).1
+  work_queue_on : slice_get before.work_queues node ≡ Some work_queue_of
+  work_queue_on = (found before.work_queues node (work_queue_there before node some there)).1
 
   -- A work is claimed.
   hands_of : (work : WorkView) → ShowsTo {C = C} node (OnlyClaimed work) before now → NodeHandsOut {C = C} node (Work work) before now
   hands_of work h = record { engine = h.engine; at = h.at; intake = h.intake; to = h.to; engine_now = h.engine_now; intake_now = h.intake_now; claims = h.does; now_is = h.now_is }
 
-  pub claimed_below : (work : WorkView) → ShowsTo {C = C} node (OnlyClaimed work) before now → node < length now.desks
-  claimed_below work h = below now.desks node desk_of (on_kept {C = C} node (Work work) before now desk_of (hands_of work h) desk_on)
+  pub claimed_below : (work : WorkView) → ShowsTo {C = C} node (OnlyClaimed work) before now → node < length now.work_queues
+  claimed_below work h = below now.work_queues node work_queue_of (on_kept {C = C} node (Work work) before now work_queue_of (hands_of work h) work_queue_on)
 
-  pub claimed_room : (work : WorkView) → ShowsTo {C = C} node (OnlyClaimed work) before now → (desk : DeskView) → slice_get now.desks node ≡ Some desk → length desk.works < desk.room
-  claimed_room work h = λ desk on. desk_room {C = C} node work before now desk some running there (hands_of work h) on
+  pub claimed_room : (work : WorkView) → ShowsTo {C = C} node (OnlyClaimed work) before now → (work_queue : WorkQueueView) → slice_get now.work_queues node ≡ Some work_queue → length work_queue.works < work_queue.room
+  claimed_room work h = λ work_queue on. work_queue_room {C = C} node work before now work_queue some running there (hands_of work h) on
 
-  pub comes_claimed : (work : WorkView) (last : NetView) → ShowsTo {C = C} node (OnlyClaimed work) before now → ((desk : DeskView) → slice_get now.desks node ≡ Some desk → last ≡ with_work now node desk work) → Comes node Claimed before last
+  pub comes_claimed : (work : WorkView) (last : NetView) → ShowsTo {C = C} node (OnlyClaimed work) before now → ((work_queue : WorkQueueView) → slice_get now.work_queues node ≡ Some work_queue → last ≡ with_work now node work_queue work) → Comes node Claimed before last
   comes_claimed work last h put =
-      let out = handed_out {C = C} node work before now desk_of some running there free (hands_of work h) desk_on in
-      comes node Claimed before (with_work now node desk_of work) last there (inr (free, hands_work {C = C} node work before now desk_of (hands_of work h) desk_on)) (put desk_of out.on)
+      let out = handed_out {C = C} node work before now work_queue_of some running there free (hands_of work h) work_queue_on in
+      comes node Claimed before (with_work now node work_queue_of work) last there (inr (free, hands_work {C = C} node work before now work_queue_of (hands_of work h) work_queue_on)) (put work_queue_of out.on)
 
   pub none_ready : NodeHandsOut {C = C} node NotReady before now → Comes node Nothing before now
-  none_ready h = nothing_came node before now some running there (inr (free, hands_none {C = C} node NotReady Idle before now desk_of h desk_on (inl h.claims, refl)))
+  none_ready h = nothing_came node before now some running there (inr (free, hands_none {C = C} node NotReady Idle before now work_queue_of h work_queue_on (inl h.claims, refl)))
 
   -- the net once the set is claimed
   abbrev claimed_net : EngineView → IntakeView → NetView
@@ -91,7 +91,7 @@ module _ (C : Type 0) (node : ℕ) (before now : NetView) (some : StandsForSome 
     hands = record { engine = engine; at = at; intake = intake; to = to; engine_now = between; intake_now = intake_now; claims = d.claims; now_is = refl }
 
     abbrev out_is : IsHandedOut net node d.work
-    out_is = handed_out {C = C} node d.work before net desk_of some running there free hands desk_on
+    out_is = handed_out {C = C} node d.work before net work_queue_of some running there free hands work_queue_on
 
     between_at : slice_get net.engines node ≡ Some between
     between_at = get_set before.engines node engine between at
@@ -100,27 +100,27 @@ module _ (C : Type 0) (node : ℕ) (before now : NetView) (some : StandsForSome 
     goes_on : with_engine net node engine_now ≡ claimed_net engine_now intake_now
     goes_on = ap (λ (es : List EngineView). (let v : NetView = record (claimed_net between intake_now) { engines = es } in v)) (set-set before.engines node between engine_now)
 
-    claims_first : (reached : Reached) (last : NetView) → ComesOn node reached (with_work net node desk_of d.work) last → Comes node reached before last
-    claims_first reached last on = comes node reached before (with_work net node desk_of d.work) last there (inr (free, hands_work {C = C} node d.work before net desk_of hands desk_on)) on
+    claims_first : (reached : Reached) (last : NetView) → ComesOn node reached (with_work net node work_queue_of d.work) last → Comes node reached before last
+    claims_first reached last on = comes node reached before (with_work net node work_queue_of d.work) last there (inr (free, hands_work {C = C} node d.work before net work_queue_of hands work_queue_on)) on
 
     performed_first : (last : NetView) → engine_now ≡ shelved between (outcome_of d.performed) → last ≡ claimed_net engine_now intake_now → Comes node (Performed number) before last
     performed_first last left last_is =
         claims_first (Performed number) last (
           with_engine net node engine_now,
           there,
-          performs net node number desk_of d.work out_is.on out_is.stands out_is.running there d.number_is between between_at d.performed (outcome_of d.performed) engine_now d.done refl left,
+          performs net node number work_queue_of d.work out_is.on out_is.stands out_is.running there d.number_is between between_at d.performed (outcome_of d.performed) engine_now d.done refl left,
           last_is ∙ sym goes_on,
         )
 
     committed_first : (laid : ℕ) (shown last : NetView) → Commits (outcome_of d.performed) laid between engine_now → shown ≡ claimed_net engine_now intake_now → last ≡ with_limits shown (stopped_by node engine_now shown.limits) → Comes node (Committed number) before last
     committed_first laid shown last commits shown_is last_is =
         claims_first (Committed number) last
-        (finishes net node number desk_of d.work out_is.on out_is.stands out_is.running there d.number_is between between_at d.performed (outcome_of d.performed) engine_now laid last d.done refl commits
+        (finishes net node number work_queue_of d.work out_is.on out_is.stands out_is.running there d.number_is between between_at d.performed (outcome_of d.performed) engine_now laid last d.done refl commits
         (last_is ∙ ap (λ (v : NetView). with_limits v (stopped_by node engine_now v.limits)) (shown_is ∙ sym goes_on)))
 
     marked_first : (shown : NetView) → shown ≡ claimed_net engine_now intake_now → node < length shown.limits.reached
     marked_first shown is =
-        let here : node < length net.limits.reached = marks net node number desk_of d.work out_is.on out_is.stands out_is.running there d.number_is net refl in
+        let here : node < length net.limits.reached = marks net node number work_queue_of d.work out_is.on out_is.stands out_is.running there d.number_is net refl in
         subst (λ (v : NetView). node < length v.limits.reached) (sym (is ∙ sym goes_on)) here
 
   -- It is performed, or committed.

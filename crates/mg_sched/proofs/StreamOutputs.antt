@@ -86,9 +86,9 @@ laid_written plan s place port ok at =
 engine_of_node : (job : LoggedJob) (net : NetView) (n : ℕ) (engine : EngineView) → StandsFor job net → n < length net.plan.nodes → slice_get net.engines n ≡ Some engine → IsEngine job (nat_lt n net.begun) n engine
 unfolding StandsFor
 engine_of_node job net n engine h within at =
-    let intakes = h.intakes in let desks = h.desks in
+    let intakes = h.intakes in let work_queues = h.work_queues in
     let i = found net.intakes n (omega (arith, within, intakes)) in
-    let d = found net.desks n (omega (arith, within, desks)) in
+    let d = found net.work_queues n (omega (arith, within, work_queues)) in
     (h.cells n engine i.0 d.0 at i.1 d.1).lawful_engine
 
 outputs_of_node : (job : LoggedJob) (net : NetView) (n : ℕ) (node : PlanNode) (engine : EngineView) → StandsFor job net → slice_get net.plan.nodes n ≡ Some node → slice_get net.engines n ≡ Some engine → HasNodes node engine
@@ -177,9 +177,9 @@ intake_of : (job : LoggedJob) (net : NetView) (consumer : ℕ) (intake : IntakeV
 unfolding StandsFor
 intake_of job net consumer intake h upto to = elim (cases_lt consumer (length net.plan.nodes)) [
   | inl less ↦
-      (let engines = h.engines in let desks = h.desks in
+      (let engines = h.engines in let work_queues = h.work_queues in
       let e = found net.engines consumer (omega (arith, less, engines)) in
-      let d = found net.desks consumer (omega (arith, less, desks)) in
+      let d = found net.work_queues consumer (omega (arith, less, work_queues)) in
       (h.cells consumer e.0 intake d.0 e.1 to d.1).lawful_intake)
   | inr past ↦
       (let same : consumer ≡ length net.plan.nodes = omega (arith, upto, past) in

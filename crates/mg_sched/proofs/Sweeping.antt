@@ -10,14 +10,14 @@ use Rattle.mg_calc.specs.declared.event.Effect.TheVariants.{Idle}
 use Rattle.mg_node.specs.Views.{WorkView, PerformedView, EngineView}
 use Rattle.mg_node.specs.Shelves.{shelf_at}
 use Rattle.mg_node.specs.Commits.{SomeJobHasEngine}
-use Rattle.mg_sched.specs.Views.{DeskView, NetView}
+use Rattle.mg_sched.specs.Views.{WorkQueueView, NetView}
 use Rattle.mg_sched.specs.StandsFor.{StandsForSome, IsRunning}
 use Rattle.mg_sched.specs.Acts.{Acts, Rests, Performs, CommittedAt}
 use Rattle.mg_sched.specs.AtRest.{IsAtRest}
 use Rattle.mg_sched.specs.Code.Left.{left_in, Goes, Steps, HasWork, HasNoWork, HasShelf, HasNoShelf, WorksRest, RestsAt, NodesRest, EdgesRest}
 use Rattle.mg_sched.specs.Sweeps.{Becomes}
 use Rattle.mg_sched.specs.Code.Agendas.{AgendaView, IsAgendaOf, AreLeads}
-use Rattle.mg_sched.proofs.Finding.{found, places, cell_at, desk_there, intake_there}
+use Rattle.mg_sched.proofs.Finding.{found, places, cell_at, work_queue_there, intake_there}
 use Rattle.mg_sched.proofs.Becoming.{becomes_plan}
 
 -- Some steps, and one more.
@@ -70,8 +70,8 @@ other_works number (w ∷ works) there none = (recursion_from_All (λ (x : WorkV
 pub due_works : (number : ℕ) (net : NetView) (node : ℕ) → HasWork net node number → Acts (Perform node number) Idle net net → ⊥
 due_works number net node there p = go p.performed
   where
-    go : (All (λ (w : WorkView). w.number ≢ number) p.desk.works × Rests Idle net net) ⊎ Performs node number Idle p.desk net net → ⊥
-    go (inl none) = other_works number p.desk.works (there p.desk p.on) none.0
+    go : (All (λ (w : WorkView). w.number ≢ number) p.work_queue.works × Rests Idle net net) ⊎ Performs node number Idle p.work_queue net net → ⊥
+    go (inl none) = other_works number p.work_queue.works (there p.work_queue p.on) none.0
     go (inr performs) = performs.performed
 
 -- and one that is performed is committed
@@ -115,11 +115,11 @@ rests net some edges nodes relaxes (Advance node) of = (nodes node of).advances
 rests net some edges nodes relaxes (Claim node) of = (nodes node of).claims
 rests net some edges nodes relaxes (Perform node number) of =
     let long = (places net some).2 in
-    let desk = found net.desks node (omega (arith, of, long)) in
+    let work_queue = found net.work_queues node (omega (arith, of, long)) in
     record {
-      desk = desk.0;
-      on = desk.1;
-      performed = inl (subst (λ (ws : List WorkView). All (λ (w : WorkView). w.number ≢ number) ws) (sym ((nodes node of).works desk.0 desk.1)) (All-nil (λ (w : WorkView). w.number ≢ number)), record { idle = refl; same = refl });
+      work_queue = work_queue.0;
+      on = work_queue.1;
+      performed = inl (subst (λ (ws : List WorkView). All (λ (w : WorkView). w.number ≢ number) ws) (sym ((nodes node of).works work_queue.0 work_queue.1)) (All-nil (λ (w : WorkView). w.number ≢ number)), record { idle = refl; same = refl });
     }
 rests net some edges nodes relaxes (Commit node number) of =
     let long = (places net some).0 in
@@ -141,14 +141,14 @@ still_edge edge before now b there = subst (λ (p : Plan). edge < length p.edges
 
 -- What a net's parts tell of it.
 
-pub work_found : (r : Option ℕ) (net : NetView) (node : ℕ) (desk : DeskView) → slice_get net.desks node ≡ Some desk
-    → IfSome r (λ number. IsSomeAnd (slice_get desk.works 0) (λ w. w.number ≡ number)) → IfSome r (λ number. HasWork net node number)
-work_found None net node desk at h = tt
-work_found (Some number) net node desk at h = λ other there. subst (λ (d : DeskView). IsSomeAnd (slice_get d.works 0) (λ w. w.number ≡ number)) (same_Some desk other (sym at ∙ there)) h
+pub work_found : (r : Option ℕ) (net : NetView) (node : ℕ) (work_queue : WorkQueueView) → slice_get net.work_queues node ≡ Some work_queue
+    → IfSome r (λ number. IsSomeAnd (slice_get work_queue.works 0) (λ w. w.number ≡ number)) → IfSome r (λ number. HasWork net node number)
+work_found None net node work_queue at h = tt
+work_found (Some number) net node work_queue at h = λ other there. subst (λ (d : WorkQueueView). IsSomeAnd (slice_get d.works 0) (λ w. w.number ≡ number)) (same_Some work_queue other (sym at ∙ there)) h
 
-pub work_none : (r : Option ℕ) (net : NetView) (node : ℕ) (desk : DeskView) → slice_get net.desks node ≡ Some desk → IfNone r (desk.works ≡ []) → IfNone r (HasNoWork net node)
-work_none None net node desk at h = λ other there. subst (λ (d : DeskView). d.works ≡ []) (same_Some desk other (sym at ∙ there)) h
-work_none (Some number) net node desk at h = tt
+pub work_none : (r : Option ℕ) (net : NetView) (node : ℕ) (work_queue : WorkQueueView) → slice_get net.work_queues node ≡ Some work_queue → IfNone r (work_queue.works ≡ []) → IfNone r (HasNoWork net node)
+work_none None net node work_queue at h = λ other there. subst (λ (d : WorkQueueView). d.works ≡ []) (same_Some work_queue other (sym at ∙ there)) h
+work_none (Some number) net node work_queue at h = tt
 
 pub shelf_found : (r : Option ℕ) (net : NetView) (node : ℕ) (engine : EngineView) → slice_get net.engines node ≡ Some engine
     → IfSome r (λ number. IsSome (shelf_at engine number)) → IfSome r (λ number. HasShelf net node number)
@@ -163,9 +163,9 @@ shelf_none (Some n) net node engine at h = tt
 -- a node's engine is lawful
 pub some_engine : (net : NetView) (node : ℕ) (engine : EngineView) → StandsForSome net → IsRunning net → node < length net.plan.nodes → slice_get net.engines node ≡ Some engine → SomeJobHasEngine engine
 some_engine net node engine some running there at =
-    let desk = found net.desks node (desk_there net node some there) in
+    let work_queue = found net.work_queues node (work_queue_there net node some there) in
     let intake = found net.intakes node (intake_there net node some there) in
-    record { job = some.job; number = node; lawful = (cell_at some.job net node engine intake.0 desk.0 some.stands running there at intake.1 desk.1).lawful_engine }
+    record { job = some.job; number = node; lawful = (cell_at some.job net node engine intake.0 work_queue.0 some.stands running there at intake.1 work_queue.1).lawful_engine }
 
 -- an agenda stays for the plan, and is as it was where nothing was done
 

@@ -108,7 +108,7 @@ net_stands : (job : LoggedJob) (net : NetView) (intake now : IntakeView) (set_no
 unfolding StandsFor
 net_stands job net intake now set_now h there takes =
     let last = length net.plan.nodes in
-    let desks = h.desks in
+    let work_queues = h.work_queues in
     let lawful = takes.stays_lawful job last (h.collector intake there) in
     let ports = collector_ports job net now h lawful in
     let valid : IsValid net.plan = subst IsValid (sym h.plan) h.is_job.plan in
@@ -118,10 +118,10 @@ net_stands job net intake now set_now h there takes =
       given = h.given;
       engines = h.engines;
       intakes = length-set net.intakes last now ∙ h.intakes;
-      desks = h.desks;
+      work_queues = h.work_queues;
       cells = λ k e i d at_e at_i at_d.
-          let within = slice_get_within net.desks k d at_d in
-          h.cells k e i d at_e (sym (get_other net.intakes last k now (λ s. omega (arith, s, within, desks))) ∙ at_i) at_d;
+          let within = slice_get_within net.work_queues k d at_d in
+          h.cells k e i d at_e (sym (get_other net.intakes last k now (λ s. omega (arith, s, within, work_queues))) ∙ at_i) at_d;
       inputs = h.inputs;
       collector = λ i at. subst (λ (v : IntakeView). LawfulIntake job last v) (sym (put_there net.intakes last now i at)) lawful;
       edges = λ e number place g i at_edge from at_g at_i. elim (cases_eq e.node last) [

@@ -7,7 +7,7 @@ use Rattle.mg_calc.specs.declared.plan.Plan.{Plan}
 use Rattle.mg_node.specs.Views.{IntakeView, EngineView}
 use Rattle.mg_node.proofs.Lemmas.{get_other, same_put}
 use Rattle.mg_ready.specs.Ready.{ReadyNodes, IsIn}
-use Rattle.mg_sched.specs.Views.{DeskView, NetView}
+use Rattle.mg_sched.specs.Views.{WorkQueueView, NetView}
 use Rattle.mg_sched.specs.StandsFor.{StandsForSome}
 use Rattle.mg_sched.specs.Extends.{MayGoOnWith}
 use Rattle.mg_sched.specs.Code.Agendas.{AgendaView, IsAgendaOf}
@@ -18,14 +18,14 @@ use Rattle.mg_sched.proofs.Sweeping.{agenda_long}
 use Rattle.mg_sched.proofs.Touching.{below_or, stays_in}
 
 -- the parts at places that aren't touched are as they were
-pub rest_moves : (plan : Plan) (engines engines_now : List EngineView) (intakes intakes_now : List IntakeView) (desks : List DeskView) (touched touched_now : ReadyNodes) → ((place : ℕ) → IsIn touched place → IsIn touched_now place)
+pub rest_moves : (plan : Plan) (engines engines_now : List EngineView) (intakes intakes_now : List IntakeView) (work_queues : List WorkQueueView) (touched touched_now : ReadyNodes) → ((place : ℕ) → IsIn touched place → IsIn touched_now place)
     → ((place : ℕ) → ¬ IsIn touched_now place → slice_get engines_now place ≡ slice_get engines place) → ((place : ℕ) → ¬ IsIn touched_now place → slice_get intakes_now place ≡ slice_get intakes place)
-    → RestBut plan engines intakes desks touched → RestBut plan engines_now intakes_now desks touched_now
-rest_moves plan engines engines_now intakes intakes_now desks touched touched_now grows same_engines same_intakes h = record {
+    → RestBut plan engines intakes work_queues touched → RestBut plan engines_now intakes_now work_queues touched_now
+rest_moves plan engines engines_now intakes intakes_now work_queues touched touched_now grows same_engines same_intakes h = record {
   edges = λ number place e engine intake there upto from out_from out_to at to.
       h.edges number place e engine intake there upto from (λ is. out_from (grows place is)) (λ is. out_to (grows e.node is)) (sym (same_engines place out_from) ∙ at) (sym (same_intakes e.node out_to) ∙ to);
-  nodes = λ node engine intake desk there out at to on.
-      h.nodes node engine intake desk there (λ is. out (grows node is)) (sym (same_engines node out) ∙ at) (sym (same_intakes node out) ∙ to) on;
+  nodes = λ node engine intake work_queue there out at to on.
+      h.nodes node engine intake work_queue there (λ is. out (grows node is)) (sym (same_engines node out) ∙ at) (sym (same_intakes node out) ∙ to) on;
 }
 
 -- Graph inputs that go on.
@@ -45,14 +45,14 @@ longer_same engines engines_now from count pieces a b w longer last place out = 
   ]
 ]
 
-pub wakes_rests : (plan : Plan) (engines engines_now : List EngineView) (intakes : List IntakeView) (desks : List DeskView) (from count : ℕ) (pieces : List (StreamPrefix Plain)) (slot slot_now : Option AgendaView)
-    → OfKept (WakesLast count) slot slot_now → AreLonger from pieces count engines engines_now → from + count ≡ length plan.nodes + length plan.inputs → IsKeptBy plan slot → RestsButKept plan engines intakes desks slot
-    → RestsButKept plan engines_now intakes desks slot_now
-wakes_rests plan engines engines_now intakes desks from count pieces None slot_now w longer last kept h = absurd h
-wakes_rests plan engines engines_now intakes desks from count pieces (Some a) None w longer last kept h = absurd w
-wakes_rests plan engines engines_now intakes desks from count pieces (Some a) (Some b) w longer last kept h =
+pub wakes_rests : (plan : Plan) (engines engines_now : List EngineView) (intakes : List IntakeView) (work_queues : List WorkQueueView) (from count : ℕ) (pieces : List (StreamPrefix Plain)) (slot slot_now : Option AgendaView)
+    → OfKept (WakesLast count) slot slot_now → AreLonger from pieces count engines engines_now → from + count ≡ length plan.nodes + length plan.inputs → IsKeptBy plan slot → RestsButKept plan engines intakes work_queues slot
+    → RestsButKept plan engines_now intakes work_queues slot_now
+wakes_rests plan engines engines_now intakes work_queues from count pieces None slot_now w longer last kept h = absurd h
+wakes_rests plan engines engines_now intakes work_queues from count pieces (Some a) None w longer last kept h = absurd w
+wakes_rests plan engines engines_now intakes work_queues from count pieces (Some a) (Some b) w longer last kept h =
     (let all : from + count ≡ length a.heads = last ∙ sym kept.places in
-    rest_moves plan engines engines_now intakes intakes desks a.touched b.touched w.grows (longer_same engines engines_now from count pieces a b w longer all) (λ place out. refl) h)
+    rest_moves plan engines engines_now intakes intakes work_queues a.touched b.touched w.grows (longer_same engines engines_now from count pieces a b w longer all) (λ place out. refl) h)
 
 -- there is a place for each engine
 pub last_fit : (shown net : NetView) (slot : Option AgendaView) (count : ℕ) → shown ≡ net → StandsForSome net → IsKeptBy shown.plan slot → count ≤ length net.engines → IfSome slot (λ a. count ≤ length a.heads)
@@ -71,16 +71,16 @@ fit_all shown net engines pieces count is are fit count_is =
 -- the last graph inputs of a net go on, and are touched
 pub extend_rests : (shown net : NetView) (engines now items : List EngineView) (pieces : List (StreamPrefix Plain)) (count : ℕ) (slot slot_now : Option AgendaView) → shown ≡ net → StandsForSome net → engines ≡ shown.engines → items ≡ now
     → count ≡ length pieces → length pieces ≤ length engines → OfKept (WakesLast count) slot slot_now → AreLonger (length engines - length pieces) pieces (length pieces) engines now → IsKeptBy shown.plan slot
-    → RestsButKept shown.plan shown.engines shown.intakes shown.desks slot → RestsButKept shown.plan items shown.intakes shown.desks slot_now
+    → RestsButKept shown.plan shown.engines shown.intakes shown.work_queues slot → RestsButKept shown.plan items shown.intakes shown.work_queues slot_now
 extend_rests shown net engines now items pieces count slot slot_now is some are same count_is fit wakes longer kept h =
     let long : length engines ≡ length net.engines = ap (λ (es : List EngineView). length es) are ∙ ap (λ (v : NetView). length v.engines) is in
     let all = (places net some).0 in
     let own : length shown.plan.nodes + length shown.plan.inputs ≡ length net.plan.nodes + length net.plan.inputs = ap (λ (v : NetView). length v.plan.nodes + length v.plan.inputs) is in
     let last : (length engines - length pieces) + count ≡ length shown.plan.nodes + length shown.plan.inputs = omega (arith, long, all, own, fit, count_is) in
-    subst (λ (es : List EngineView). RestsButKept shown.plan es shown.intakes shown.desks slot_now) (sym same)
-    (wakes_rests shown.plan engines now shown.intakes shown.desks (length engines - length pieces) count pieces slot slot_now wakes
+    subst (λ (es : List EngineView). RestsButKept shown.plan es shown.intakes shown.work_queues slot_now) (sym same)
+    (wakes_rests shown.plan engines now shown.intakes shown.work_queues (length engines - length pieces) count pieces slot slot_now wakes
     (subst (λ (n : ℕ). AreLonger (length engines - length pieces) pieces n engines now) (sym count_is) longer) last kept
-    (subst (λ (es : List EngineView). RestsButKept shown.plan es shown.intakes shown.desks slot) (sym are) h))
+    (subst (λ (es : List EngineView). RestsButKept shown.plan es shown.intakes shown.work_queues slot) (sym are) h))
 
 -- A set that is taken from the collector.
 
@@ -89,17 +89,17 @@ touches_kept plan place None slot_now t kept = subst (IsKeptBy plan) (sym t) tt
 touches_kept plan place (Some a) None t kept = absurd t
 touches_kept plan place (Some a) (Some b) t kept = agenda_long plan a b kept t.heads t.links t.starts
 
-pub touches_rests : (plan : Plan) (engines : List EngineView) (intakes : List IntakeView) (desks : List DeskView) (place : ℕ) (intake : IntakeView) (slot slot_now : Option AgendaView) → OfKept (Touches place) slot slot_now
-    → RestsButKept plan engines intakes desks slot → RestsButKept plan engines (slice_set intakes place intake) desks slot_now
-touches_rests plan engines intakes desks place intake None slot_now t h = absurd h
-touches_rests plan engines intakes desks place intake (Some a) None t h = absurd t
-touches_rests plan engines intakes desks place intake (Some a) (Some b) t h =
-    rest_moves plan engines engines intakes (slice_set intakes place intake) desks a.touched b.touched (λ other is. stays_in a.touched b.touched place other t.touched t.only is) (λ other out. refl)
+pub touches_rests : (plan : Plan) (engines : List EngineView) (intakes : List IntakeView) (work_queues : List WorkQueueView) (place : ℕ) (intake : IntakeView) (slot slot_now : Option AgendaView) → OfKept (Touches place) slot slot_now
+    → RestsButKept plan engines intakes work_queues slot → RestsButKept plan engines (slice_set intakes place intake) work_queues slot_now
+touches_rests plan engines intakes work_queues place intake None slot_now t h = absurd h
+touches_rests plan engines intakes work_queues place intake (Some a) None t h = absurd t
+touches_rests plan engines intakes work_queues place intake (Some a) (Some b) t h =
+    rest_moves plan engines engines intakes (slice_set intakes place intake) work_queues a.touched b.touched (λ other is. stays_in a.touched b.touched place other t.touched t.only is) (λ other out. refl)
     (λ other out. get_other intakes place other intake (λ same. out (subst (IsIn b.touched) (sym same) t.touched))) h
 
 -- and where there is none
-pub taken_none : (plan : Plan) (engines : List EngineView) (intakes : List IntakeView) (desks : List DeskView) (place : ℕ) (old now : IntakeView) (slot : Option AgendaView) → old ≡ get_or intakes place old → now ≡ old → place < length intakes
-    → RestsButKept plan engines intakes desks slot → RestsButKept plan engines (slice_set intakes place now) desks slot
-taken_none plan engines intakes desks place old now slot value same within h =
+pub taken_none : (plan : Plan) (engines : List EngineView) (intakes : List IntakeView) (work_queues : List WorkQueueView) (place : ℕ) (old now : IntakeView) (slot : Option AgendaView) → old ≡ get_or intakes place old → now ≡ old → place < length intakes
+    → RestsButKept plan engines intakes work_queues slot → RestsButKept plan engines (slice_set intakes place now) work_queues slot
+taken_none plan engines intakes work_queues place old now slot value same within h =
     let is : slice_set intakes place now ≡ intakes = ap (λ (i : IntakeView). slice_set intakes place i) same ∙ same_put intakes place old (read_at intakes place old within value) in
-    subst (λ (l : List IntakeView). RestsButKept plan engines l desks slot) (sym is) h
+    subst (λ (l : List IntakeView). RestsButKept plan engines l work_queues slot) (sym is) h

@@ -15,7 +15,7 @@ use Rattle.mg_node.proofs.Lemmas.{get_other}
 use Rattle.mg_ready.specs.Ready.{ReadyNodes, IsIn, ChangesOnly}
 use Rattle.mg_sched.specs.declared.reached.Reached.{Reached}
 use Rattle.mg_sched.specs.declared.reached.Reached.TheVariants.{Nothing, NotClaimed, Answered as OnlyAnswered, Claimed as OnlyClaimed, Performed as OnlyPerformed, Committed as OnlyCommitted}
-use Rattle.mg_sched.specs.Views.{DeskView, NetView}
+use Rattle.mg_sched.specs.Views.{WorkQueueView, NetView}
 use Rattle.mg_sched.specs.Acts.{Acts, Performs, CommittedAt}
 use Rattle.mg_sched.specs.Runs.{IsRun}
 use Rattle.mg_sched.specs.Sweeps.{Becomes}
@@ -33,62 +33,62 @@ pub only_none : (place : ℕ) (before now : NetView) → now ≡ before → Only
 only_none place before now same = record {
   engines = λ other apart. ap (λ (v : NetView). slice_get v.engines other) same;
   intakes = λ other apart. ap (λ (v : NetView). slice_get v.intakes other) same;
-  desks = λ other apart. ap (λ (v : NetView). slice_get v.desks other) same;
+  work_queues = λ other apart. ap (λ (v : NetView). slice_get v.work_queues other) same;
 }
 
 pub only_then : (place : ℕ) (a b c : NetView) → OnlyAt place a b → OnlyAt place b c → OnlyAt place a c
 only_then place a b c first second = record {
   engines = λ other apart. second.engines other apart ∙ first.engines other apart;
   intakes = λ other apart. second.intakes other apart ∙ first.intakes other apart;
-  desks = λ other apart. second.desks other apart ∙ first.desks other apart;
+  work_queues = λ other apart. second.work_queues other apart ∙ first.work_queues other apart;
 }
 
--- other engines, intakes and desks
-only_by : (place : ℕ) (before now : NetView) (engines : List EngineView) (intakes : List IntakeView) (desks : List DeskView) → now.engines ≡ engines → now.intakes ≡ intakes → now.desks ≡ desks
+-- other engines, intakes and work queues
+only_by : (place : ℕ) (before now : NetView) (engines : List EngineView) (intakes : List IntakeView) (work_queues : List WorkQueueView) → now.engines ≡ engines → now.intakes ≡ intakes → now.work_queues ≡ work_queues
     → ((other : ℕ) → other ≢ place → slice_get engines other ≡ slice_get before.engines other) → ((other : ℕ) → other ≢ place → slice_get intakes other ≡ slice_get before.intakes other)
-    → ((other : ℕ) → other ≢ place → slice_get desks other ≡ slice_get before.desks other) → OnlyAt place before now
-only_by place before now engines intakes desks engines_are intakes_are desks_are same_engines same_intakes same_desks = record {
+    → ((other : ℕ) → other ≢ place → slice_get work_queues other ≡ slice_get before.work_queues other) → OnlyAt place before now
+only_by place before now engines intakes work_queues engines_are intakes_are work_queues_are same_engines same_intakes same_work_queues = record {
   engines = λ other apart. ap (λ (es : List EngineView). slice_get es other) engines_are ∙ same_engines other apart;
   intakes = λ other apart. ap (λ (is : List IntakeView). slice_get is other) intakes_are ∙ same_intakes other apart;
-  desks = λ other apart. ap (λ (ds : List DeskView). slice_get ds other) desks_are ∙ same_desks other apart;
+  work_queues = λ other apart. ap (λ (ds : List WorkQueueView). slice_get ds other) work_queues_are ∙ same_work_queues other apart;
 }
 
 -- a net whose parts are set at the place
-only_set : (place : ℕ) (before now : NetView) (engine : EngineView) (intake : IntakeView) (desk : DeskView) → now.engines ≡ slice_set before.engines place engine → now.intakes ≡ slice_set before.intakes place intake
-    → now.desks ≡ slice_set before.desks place desk → OnlyAt place before now
-only_set place before now engine intake desk engines intakes desks =
-    only_by place before now (slice_set before.engines place engine) (slice_set before.intakes place intake) (slice_set before.desks place desk) engines intakes desks
-    (λ other apart. get_other before.engines place other engine apart) (λ other apart. get_other before.intakes place other intake apart) (λ other apart. get_other before.desks place other desk apart)
+only_set : (place : ℕ) (before now : NetView) (engine : EngineView) (intake : IntakeView) (work_queue : WorkQueueView) → now.engines ≡ slice_set before.engines place engine → now.intakes ≡ slice_set before.intakes place intake
+    → now.work_queues ≡ slice_set before.work_queues place work_queue → OnlyAt place before now
+only_set place before now engine intake work_queue engines intakes work_queues =
+    only_by place before now (slice_set before.engines place engine) (slice_set before.intakes place intake) (slice_set before.work_queues place work_queue) engines intakes work_queues
+    (λ other apart. get_other before.engines place other engine apart) (λ other apart. get_other before.intakes place other intake apart) (λ other apart. get_other before.work_queues place other work_queue apart)
 
-only_engine : (place : ℕ) (before now : NetView) (engine : EngineView) → now.engines ≡ slice_set before.engines place engine → now.intakes ≡ before.intakes → now.desks ≡ before.desks → OnlyAt place before now
-only_engine place before now engine engines intakes desks =
-    only_by place before now (slice_set before.engines place engine) before.intakes before.desks engines intakes desks (λ other apart. get_other before.engines place other engine apart) (λ other apart. refl) (λ other apart. refl)
+only_engine : (place : ℕ) (before now : NetView) (engine : EngineView) → now.engines ≡ slice_set before.engines place engine → now.intakes ≡ before.intakes → now.work_queues ≡ before.work_queues → OnlyAt place before now
+only_engine place before now engine engines intakes work_queues =
+    only_by place before now (slice_set before.engines place engine) before.intakes before.work_queues engines intakes work_queues (λ other apart. get_other before.engines place other engine apart) (λ other apart. refl) (λ other apart. refl)
 
-only_intake : (place : ℕ) (before now : NetView) (intake : IntakeView) → now.engines ≡ before.engines → now.intakes ≡ slice_set before.intakes place intake → now.desks ≡ before.desks → OnlyAt place before now
-only_intake place before now intake engines intakes desks =
-    only_by place before now before.engines (slice_set before.intakes place intake) before.desks engines intakes desks (λ other apart. refl) (λ other apart. get_other before.intakes place other intake apart) (λ other apart. refl)
+only_intake : (place : ℕ) (before now : NetView) (intake : IntakeView) → now.engines ≡ before.engines → now.intakes ≡ slice_set before.intakes place intake → now.work_queues ≡ before.work_queues → OnlyAt place before now
+only_intake place before now intake engines intakes work_queues =
+    only_by place before now before.engines (slice_set before.intakes place intake) before.work_queues engines intakes work_queues (λ other apart. refl) (λ other apart. get_other before.intakes place other intake apart) (λ other apart. refl)
 
-only_cell : (place : ℕ) (before now : NetView) (engine : EngineView) (desk : DeskView) → now.engines ≡ slice_set before.engines place engine → now.intakes ≡ before.intakes → now.desks ≡ slice_set before.desks place desk → OnlyAt place before now
-only_cell place before now engine desk engines intakes desks =
-    only_by place before now (slice_set before.engines place engine) before.intakes (slice_set before.desks place desk) engines intakes desks (λ other apart. get_other before.engines place other engine apart) (λ other apart. refl)
-    (λ other apart. get_other before.desks place other desk apart)
+only_cell : (place : ℕ) (before now : NetView) (engine : EngineView) (work_queue : WorkQueueView) → now.engines ≡ slice_set before.engines place engine → now.intakes ≡ before.intakes → now.work_queues ≡ slice_set before.work_queues place work_queue → OnlyAt place before now
+only_cell place before now engine work_queue engines intakes work_queues =
+    only_by place before now (slice_set before.engines place engine) before.intakes (slice_set before.work_queues place work_queue) engines intakes work_queues (λ other apart. get_other before.engines place other engine apart) (λ other apart. refl)
+    (λ other apart. get_other before.work_queues place other work_queue apart)
 
-only_limits : (place : ℕ) (before now : NetView) → now.engines ≡ before.engines → now.intakes ≡ before.intakes → now.desks ≡ before.desks → OnlyAt place before now
-only_limits place before now engines intakes desks = only_by place before now before.engines before.intakes before.desks engines intakes desks (λ other apart. refl) (λ other apart. refl) (λ other apart. refl)
+only_limits : (place : ℕ) (before now : NetView) → now.engines ≡ before.engines → now.intakes ≡ before.intakes → now.work_queues ≡ before.work_queues → OnlyAt place before now
+only_limits place before now engines intakes work_queues = only_by place before now before.engines before.intakes before.work_queues engines intakes work_queues (λ other apart. refl) (λ other apart. refl) (λ other apart. refl)
 
 -- Steps.
 
-performed_only : (node number : ℕ) (effect : Effect) (desk : DeskView) (before now : NetView) → Performs node number effect desk before now → OnlyAt node before now
-performed_only node number Did desk before now p =
+performed_only : (node number : ℕ) (effect : Effect) (work_queue : WorkQueueView) (before now : NetView) → Performs node number effect work_queue before now → OnlyAt node before now
+performed_only node number Did work_queue before now p =
     let is = p.performed.2 in
-    only_cell node before now _ _ (ap (λ (v : NetView). v.engines) is) (ap (λ (v : NetView). v.intakes) is) (ap (λ (v : NetView). v.desks) is)
-performed_only node number Idle desk before now p = absurd p.performed
-performed_only node number OutOfMemory desk before now p = only_none node before now p.performed
+    only_cell node before now _ _ (ap (λ (v : NetView). v.engines) is) (ap (λ (v : NetView). v.intakes) is) (ap (λ (v : NetView). v.work_queues) is)
+performed_only node number Idle work_queue before now p = absurd p.performed
+performed_only node number OutOfMemory work_queue before now p = only_none node before now p.performed
 
 committed_only : (node number : ℕ) (shelf : Option PerformedView) (effect : Effect) (engine : EngineView) (before now : NetView) → CommittedAt node number shelf effect engine before now → OnlyAt node before now
 committed_only node number None effect engine before now c = only_none node before now c.same
 committed_only node number (Some p) Did engine before now c =
-    only_engine node before now c.engine_now (ap (λ (v : NetView). v.engines) c.now_is) (ap (λ (v : NetView). v.intakes) c.now_is) (ap (λ (v : NetView). v.desks) c.now_is)
+    only_engine node before now c.engine_now (ap (λ (v : NetView). v.engines) c.now_is) (ap (λ (v : NetView). v.intakes) c.now_is) (ap (λ (v : NetView). v.work_queues) c.now_is)
 committed_only node number (Some p) Idle engine before now c = absurd c
 committed_only node number (Some p) OutOfMemory engine before now c = only_none node before now c
 
@@ -99,23 +99,23 @@ pub acts_only : (event : Event) (effect : Effect) (before now : NetView) (place 
 acts_only (Deliver edge) effect before now place is a = elim a.delivered [
   | inl held ↦ only_none place before now held.1.same
   | inr brings ↦ at_node a.edge.node place before now (is a.edge a.there)
-      (let b = brings.1 in only_intake a.edge.node before now b.intake_now (ap (λ (v : NetView). v.engines) b.now_is) (ap (λ (v : NetView). v.intakes) b.now_is) (ap (λ (v : NetView). v.desks) b.now_is))
+      (let b = brings.1 in only_intake a.edge.node before now b.intake_now (ap (λ (v : NetView). v.engines) b.now_is) (ap (λ (v : NetView). v.intakes) b.now_is) (ap (λ (v : NetView). v.work_queues) b.now_is))
 ]
 acts_only (Advance node) effect before now place is a =
-    at_node node place before now is (only_engine node before now _ (ap (λ (v : NetView). v.engines) a.now_is) (ap (λ (v : NetView). v.intakes) a.now_is) (ap (λ (v : NetView). v.desks) a.now_is))
+    at_node node place before now is (only_engine node before now _ (ap (λ (v : NetView). v.engines) a.now_is) (ap (λ (v : NetView). v.intakes) a.now_is) (ap (λ (v : NetView). v.work_queues) a.now_is))
 acts_only (Claim node) effect before now place is a = elim a [
   | inl held ↦ only_none place before now held.1.same
   | inr claims ↦ at_node node place before now is
-      (let c = claims.1 in only_set node before now c.engine_now c.intake_now c.desk_now (ap (λ (v : NetView). v.engines) c.now_is) (ap (λ (v : NetView). v.intakes) c.now_is) (ap (λ (v : NetView). v.desks) c.now_is))
+      (let c = claims.1 in only_set node before now c.engine_now c.intake_now c.work_queue_now (ap (λ (v : NetView). v.engines) c.now_is) (ap (λ (v : NetView). v.intakes) c.now_is) (ap (λ (v : NetView). v.work_queues) c.now_is))
 ]
 acts_only (Perform node number) effect before now place is a = elim a.performed [
   | inl none ↦ only_none place before now none.1.same
-  | inr performs ↦ at_node node place before now is (performed_only node number effect a.desk before now performs)
+  | inr performs ↦ at_node node place before now is (performed_only node number effect a.work_queue before now performs)
 ]
 acts_only (Commit node number) effect before now place is a = at_node node place before now is (committed_only node number (shelf_at a.engine number) effect a.engine before now a.committed)
 acts_only Relax effect before now place is a = elim a [
   | inl none ↦ only_none place before now none.1.same
-  | inr full ↦ only_limits place before now (ap (λ (v : NetView). v.engines) full.2) (ap (λ (v : NetView). v.intakes) full.2) (ap (λ (v : NetView). v.desks) full.2)
+  | inr full ↦ only_limits place before now (ap (λ (v : NetView). v.engines) full.2) (ap (λ (v : NetView). v.intakes) full.2) (ap (λ (v : NetView). v.work_queues) full.2)
 ]
 
 pub acts_only_all : (event : Event) (effect : Effect) (before now : NetView) → Acts event effect before now → (place : ℕ) → IsAt before.plan event place → OnlyAt place before now
@@ -150,7 +150,7 @@ notes_then a k b l c m first second = record {
   grows = λ place is. second.grows place (first.grows place is);
   engines = λ place out. second.engines place out ∙ first.engines place (λ is. out (second.grows place is));
   intakes = λ place out. second.intakes place out ∙ first.intakes place (λ is. out (second.grows place is));
-  desks = λ place out. second.desks place out ∙ first.desks place (λ is. out (second.grows place is));
+  work_queues = λ place out. second.work_queues place out ∙ first.work_queues place (λ is. out (second.grows place is));
 }
 
 -- a set with one more
@@ -170,7 +170,7 @@ notes_one place before agenda now agenda_now only there changes = record {
   grows = λ other is. stays_in agenda.touched agenda_now.touched place other there changes is;
   engines = λ other out. only.engines other (apart_from agenda_now.touched place other there out);
   intakes = λ other out. only.intakes other (apart_from agenda_now.touched place other there out);
-  desks = λ other out. only.desks other (apart_from agenda_now.touched place other there out);
+  work_queues = λ other out. only.work_queues other (apart_from agenda_now.touched place other there out);
 }
 
 next_apart : (place : ℕ) → place ≢ place + 1
@@ -182,7 +182,7 @@ notes_limits before now agenda agenda_now only same = record {
   grows = λ place is. subst (λ (r : ReadyNodes). IsIn r place) (sym same) is;
   engines = λ place out. (only (place + 1)).engines place (next_apart place);
   intakes = λ place out. (only (place + 1)).intakes place (next_apart place);
-  desks = λ place out. (only (place + 1)).desks place (next_apart place);
+  work_queues = λ place out. (only (place + 1)).work_queues place (next_apart place);
 }
 
 -- An agenda after steps.
@@ -192,7 +192,7 @@ notes_same before now agenda agenda_now same touched = record {
   grows = λ place is. subst (λ (r : ReadyNodes). IsIn r place) (sym touched) is;
   engines = λ place out. ap (λ (v : NetView). slice_get v.engines place) same;
   intakes = λ place out. ap (λ (v : NetView). slice_get v.intakes place) same;
-  desks = λ place out. ap (λ (v : NetView). slice_get v.desks place) same;
+  work_queues = λ place out. ap (λ (v : NetView). slice_get v.work_queues place) same;
 }
 
 -- between the two the agenda may have changed, but not in what is touched

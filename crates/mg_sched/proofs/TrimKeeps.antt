@@ -15,7 +15,7 @@ use Rattle.mg_node.specs.Begun.{LawfulUnbegun}
 use Rattle.mg_node.specs.Claims.{has_ended}
 use Rattle.mg_node.specs.Outputs.{without_first}
 use Rattle.mg_node.specs.Ports.{port_queue}
-use Rattle.mg_sched.specs.Views.{DeskView, NetView}
+use Rattle.mg_sched.specs.Views.{WorkQueueView, NetView}
 use Rattle.mg_sched.specs.StandsFor.{IsEngine, IsCell, IsJoined, IsNetOf, StandsFor, StandsForSome}
 use Rattle.mg_sched.specs.Trims.{came_of, got_by_all, is_kept, goes_of, TrimsEngine, Trims}
 use Rattle.mg_sched.specs.Code.Outputs.{HasOutput, HaveOutputs, AreLaid, AreWithin, AllGiven}
@@ -96,7 +96,7 @@ engine_stays : (job : LoggedJob) (net : NetView) (b : Bool) (n : ℕ) (node : Pl
 engine_stays job net true n node e e_now there t lawful h = lawful h
 engine_stays job net false n node e e_now there t lawful h = subst (LawfulUnbegun job n) (sym (bare_stays net node e e_now (bare job n node e there h) t)) h
 
-cell_stays : (job : LoggedJob) (net : NetView) (b : Bool) (n : ℕ) (e e_now : EngineView) (i : IntakeView) (d : DeskView) → TrimsEngine net e e_now → IsEngine job b n e_now → IsCell job b n e i d → IsCell job b n e_now i d
+cell_stays : (job : LoggedJob) (net : NetView) (b : Bool) (n : ℕ) (e e_now : EngineView) (i : IntakeView) (d : WorkQueueView) → TrimsEngine net e e_now → IsEngine job b n e_now → IsCell job b n e i d → IsCell job b n e_now i d
 cell_stays job net b n e e_now i d t lawful cell = record {
   lawful_engine = lawful;
   lawful_intake = cell.lawful_intake;
@@ -156,14 +156,14 @@ trim_stands job before now h t lawful =
       given = h.given;
       engines = t.places ∙ h.engines;
       intakes = h.intakes;
-      desks = h.desks;
+      work_queues = h.work_queues;
       cells = λ n e_now i d at to on.
           (let e = old n e_now at in
           let s = t.engines n e.0 e_now e.1 at in
           let cell = h.cells n e.0 i d e.1 to on in
-          let desks = h.desks in
-          let less = slice_get_within before.desks n d on in
-          let node = found before.plan.nodes n (omega (arith, less, desks)) in
+          let work_queues = h.work_queues in
+          let less = slice_get_within before.work_queues n d on in
+          let node = found before.plan.nodes n (omega (arith, less, work_queues)) in
           cell_stays job before (nat_lt n before.begun) n e.0 e_now i d s
           (engine_stays job before (nat_lt n before.begun) n node.0 e.0 e_now (subst (λ (plan : Plan). slice_get plan.nodes n ≡ Some node.0) h.plan node.1) s (lawful n e.0 e_now (of_node n) e.1 at) cell.lawful_engine) cell);
       inputs = λ input e_now at.

@@ -11,27 +11,27 @@ use Rattle.mg_node.specs.Shelves.{IsOut, shelved, outcome_of, shelf_at, Unshelve
 use Rattle.mg_node.specs.Commits.{Commits}
 use Rattle.mg_node.proofs.Lemmas.{back_in_place, get_set, put_there, same_put, some_same}
 use Rattle.mg_throttle.specs.Throttle.{QueueLimits, stopped}
-use Rattle.mg_sched.specs.Views.{DeskView, NetView}
-use Rattle.mg_sched.specs.Places.{with_engine, with_desk, with_limits}
+use Rattle.mg_sched.specs.Views.{WorkQueueView, NetView}
+use Rattle.mg_sched.specs.Places.{with_engine, with_work_queue, with_limits}
 use Rattle.mg_sched.specs.StandsFor.{HasWorks, StandsForSome, IsRunning}
 use Rattle.mg_sched.specs.Acts.{Performs, NodePerforms, stopped_by, CommitsTo, CommittedAt, NodeCommits}
-use Rattle.mg_sched.specs.Code.Desks.{TakesFrom}
-use Rattle.mg_sched.proofs.Finding.{cell_at, found, of_plan, read_at, engine_there, intake_there, desk_there, engine_read}
+use Rattle.mg_sched.specs.Code.WorkQueues.{TakesFrom}
+use Rattle.mg_sched.proofs.Finding.{cell_at, found, of_plan, read_at, engine_there, intake_there, work_queue_there, engine_read}
 use Rattle.mg_sched.proofs.Middles.{all_middle}
-use Rattle.mg_sched.proofs.DeskRoom.{works_fit, window_fits}
+use Rattle.mg_sched.proofs.WorkQueueRoom.{works_fit, window_fits}
 
 -- What a net that stands for a job tells of its parts.
 
 pub lawful_at : (net : NetView) (node : ℕ) (engine : EngineView) (h : StandsForSome net) → IsRunning net → node < length net.plan.nodes → slice_get net.engines node ≡ Some engine → LawfulEngine h.job (of_node node) engine
 lawful_at net node engine h running there at =
     let intake = found net.intakes node (intake_there net node h there) in
-    let desk = found net.desks node (desk_there net node h there) in
-    (cell_at h.job net node engine intake.0 desk.0 h.stands running there at intake.1 desk.1).lawful_engine
+    let work_queue = found net.work_queues node (work_queue_there net node h there) in
+    (cell_at h.job net node engine intake.0 work_queue.0 h.stands running there at intake.1 work_queue.1).lawful_engine
 
-pub works_at : (net : NetView) (node : ℕ) (engine : EngineView) (desk : DeskView) (h : StandsForSome net) → IsRunning net → node < length net.plan.nodes → slice_get net.engines node ≡ Some engine → slice_get net.desks node ≡ Some desk → HasWorks h.job engine desk
-works_at net node engine desk h running there at on =
+pub works_at : (net : NetView) (node : ℕ) (engine : EngineView) (work_queue : WorkQueueView) (h : StandsForSome net) → IsRunning net → node < length net.plan.nodes → slice_get net.engines node ≡ Some engine → slice_get net.work_queues node ≡ Some work_queue → HasWorks h.job engine work_queue
+works_at net node engine work_queue h running there at on =
     let intake = found net.intakes node (intake_there net node h there) in
-    (cell_at h.job net node engine intake.0 desk h.stands running there at intake.1 on).works
+    (cell_at h.job net node engine intake.0 work_queue h.stands running there at intake.1 on).works
 
 -- limits have a mark for each node
 pub marked : (shown net : NetView) (node : ℕ) → shown ≡ net → StandsForSome net → node < length net.plan.nodes → node < length shown.limits.reached
@@ -53,8 +53,8 @@ engine_within shown net node n is there long =
 same_engine : (net : NetView) (node : ℕ) (engine : EngineView) → slice_get net.engines node ≡ Some engine → with_engine net node engine ≡ net
 same_engine net node engine at = ap (λ (es : List EngineView). (let v : NetView = record net { engines = es } in v)) (same_put net.engines node engine at)
 
-same_desk : (net : NetView) (node : ℕ) (desk : DeskView) → slice_get net.desks node ≡ Some desk → with_desk net node desk ≡ net
-same_desk net node desk on = ap (λ (ds : List DeskView). (let v : NetView = record net { desks = ds } in v)) (same_put net.desks node desk on)
+same_work_queue : (net : NetView) (node : ℕ) (work_queue : WorkQueueView) → slice_get net.work_queues node ≡ Some work_queue → with_work_queue net node work_queue ≡ net
+same_work_queue net node work_queue on = ap (λ (ds : List WorkQueueView). (let v : NetView = record net { work_queues = ds } in v)) (same_put net.work_queues node work_queue on)
 
 -- How the queues of a node that has ended stop.
 
@@ -128,27 +128,27 @@ commits_not shown net node number read taken now p outcome is h running there va
           (ap (λ (v : NetView). with_engine v node now) is ∙ ap (with_engine net node) same ∙ same_engine net node read at);
     }
 
--- What leaves a desk.
+-- What leaves a work queue.
 
-pub work_lawful : (net : NetView) (node number place : ℕ) (desk left : DeskView) (work : WorkView) → StandsForSome net → IsRunning net → node < length net.plan.nodes → slice_get net.desks node ≡ Some desk → TakesFrom number place work desk left → SomeJobHas work
-work_lawful net node number place desk left work h running there on t =
+pub work_lawful : (net : NetView) (node number place : ℕ) (work_queue left : WorkQueueView) (work : WorkView) → StandsForSome net → IsRunning net → node < length net.plan.nodes → slice_get net.work_queues node ≡ Some work_queue → TakesFrom number place work work_queue left → SomeJobHas work
+work_lawful net node number place work_queue left work h running there on t =
     let engine = found net.engines node (engine_there net node h there) in
-    let works = works_at net node engine.0 desk h running there engine.1 on in
+    let works = works_at net node engine.0 work_queue h running there engine.1 on in
     record { job = h.job; lawful = (all_middle (LawfulWork h.job) t.front t.back work (subst (All (LawfulWork h.job)) t.works works.lawful)).1 }
 
-work_out : (job : LoggedJob) (engine : EngineView) (number place : ℕ) (desk left : DeskView) (work : WorkView) → HasWorks job engine desk → TakesFrom number place work desk left → IsOut engine work
-work_out job engine number place desk left work works t = (all_middle (IsOut engine) t.front t.back work (subst (All (IsOut engine)) t.works works.out)).1
+work_out : (job : LoggedJob) (engine : EngineView) (number place : ℕ) (work_queue left : WorkQueueView) (work : WorkView) → HasWorks job engine work_queue → TakesFrom number place work work_queue left → IsOut engine work
+work_out job engine number place work_queue left work works t = (all_middle (IsOut engine) t.front t.back work (subst (All (IsOut engine)) t.works works.out)).1
 
--- a work is out in whatever state its bench is
+-- a work is out in whatever state its context is
 done_out : (engine : EngineView) (work : WorkView) (p : PerformedView) → IsPerformed work p → IsOut engine work → IsOut engine p.work
 done_out engine work p performed o =
     subst (IsOut engine) (sym performed.same) (record { node_is = o.node_is; laid = o.laid; entry = o.entry; there = o.there; out = o.out; phase_is = o.phase_is })
 
-pub performed_out : (net : NetView) (node number place : ℕ) (engine : EngineView) (desk left : DeskView) (work : WorkView) (p : PerformedView) (outcome : OutcomeView) → StandsForSome net → IsRunning net → node < length net.plan.nodes
-    → slice_get net.engines node ≡ Some engine → slice_get net.desks node ≡ Some desk → TakesFrom number place work desk left → IsPerformed work p → outcome ≡ outcome_of p → IsOut engine outcome.work
-performed_out net node number place engine desk left work p outcome h running there at on t performed outcome_is =
+pub performed_out : (net : NetView) (node number place : ℕ) (engine : EngineView) (work_queue left : WorkQueueView) (work : WorkView) (p : PerformedView) (outcome : OutcomeView) → StandsForSome net → IsRunning net → node < length net.plan.nodes
+    → slice_get net.engines node ≡ Some engine → slice_get net.work_queues node ≡ Some work_queue → TakesFrom number place work work_queue left → IsPerformed work p → outcome ≡ outcome_of p → IsOut engine outcome.work
+performed_out net node number place engine work_queue left work p outcome h running there at on t performed outcome_is =
     subst (λ (o : OutcomeView). IsOut engine o.work) (sym outcome_is)
-    (done_out engine work p performed (work_out h.job engine number place desk left work (works_at net node engine desk h running there at on) t))
+    (done_out engine work p performed (work_out h.job engine number place work_queue left work (works_at net node engine work_queue h running there at on) t))
 
 length_middle : (front back : List WorkView) (work : WorkView) → length (front ++ work ∷ back) ≡ length (front ++ back) + 1
 length_middle front back work =
@@ -156,60 +156,60 @@ length_middle front back work =
     let less = length-append front back in
     omega (arith, more, less)
 
--- The desk, as it is once a work has left it.
+-- The work queue, as it is once a work has left it.
 
-pub left_is : (shown net : NetView) (node : ℕ) (left again : DeskView) → shown ≡ net → StandsForSome net → node < length net.plan.nodes → again ≡ get_or (set shown.desks node left) node again → again ≡ left
+pub left_is : (shown net : NetView) (node : ℕ) (left again : WorkQueueView) → shown ≡ net → StandsForSome net → node < length net.plan.nodes → again ≡ get_or (set shown.work_queues node left) node again → again ≡ left
 left_is shown net node left again is h there value =
-    let less = subst (λ (v : NetView). node < length v.desks) (sym is) (desk_there net node h there) in
-    let long = length-set shown.desks node left in
-    put_there shown.desks node left again (read_at (set shown.desks node left) node again (omega (arith, less, long)) value)
+    let less = subst (λ (v : NetView). node < length v.work_queues) (sym is) (work_queue_there net node h there) in
+    let long = length-set shown.work_queues node left in
+    put_there shown.work_queues node left again (read_at (set shown.work_queues node left) node again (omega (arith, less, long)) value)
 
-pub has_room : (net : NetView) (node number place : ℕ) (desk left again : DeskView) (work : WorkView) → StandsForSome net → IsRunning net → node < length net.plan.nodes → slice_get net.desks node ≡ Some desk → TakesFrom number place work desk left
+pub has_room : (net : NetView) (node number place : ℕ) (work_queue left again : WorkQueueView) (work : WorkView) → StandsForSome net → IsRunning net → node < length net.plan.nodes → slice_get net.work_queues node ≡ Some work_queue → TakesFrom number place work work_queue left
     → again ≡ left → length again.works < again.room
-has_room net node number place desk left again work h running there on t same =
+has_room net node number place work_queue left again work h running there on t same =
     let engine = found net.engines node (engine_there net node h there) in
-    let works = works_at net node engine.0 desk h running there engine.1 on in
-    let few = works_fit h.job engine.0 desk works in
+    let works = works_at net node engine.0 work_queue h running there engine.1 on in
+    let few = works_fit h.job engine.0 work_queue works in
     let fits = window_fits h.job node engine.0 (lawful_at net node engine.0 h running there engine.1) in
     let room = works.room in
-    let long : length desk.works ≡ length (t.front ++ t.back) + 1 = ap length t.works ∙ length_middle t.front t.back work in
-    subst (λ (d : DeskView). length d.works < d.room) (sym (same ∙ t.left)) (let less : length (t.front ++ t.back) < desk.room = omega (arith, few, fits, room, long) in less)
+    let long : length work_queue.works ≡ length (t.front ++ t.back) + 1 = ap length t.works ∙ length_middle t.front t.back work in
+    subst (λ (d : WorkQueueView). length d.works < d.room) (sym (same ∙ t.left)) (let less : length (t.front ++ t.back) < work_queue.room = omega (arith, few, fits, room, long) in less)
 
-pub has_place : (number place : ℕ) (desk left again : DeskView) (work : WorkView) → TakesFrom number place work desk left → again ≡ left → place ≤ length again.works
-has_place number place desk left again work t same =
+pub has_place : (number place : ℕ) (work_queue left again : WorkQueueView) (work : WorkView) → TakesFrom number place work work_queue left → again ≡ left → place ≤ length again.works
+has_place number place work_queue left again work t same =
     let at = t.place_is in
     let long = length-append t.front t.back in
-    subst (λ (d : DeskView). place ≤ length d.works) (sym (same ∙ t.left)) (let le : place ≤ length (t.front ++ t.back) = omega (arith, at, long) in le)
+    subst (λ (d : WorkQueueView). place ≤ length d.works) (sym (same ∙ t.left)) (let le : place ≤ length (t.front ++ t.back) = omega (arith, at, long) in le)
 
 back_between : {X : Type 0} (front back : List X) (x : X) → take (length front) (front ++ back) ++ x ∷ drop (length front) (front ++ back) ≡ front ++ x ∷ back
 back_between [] [] x = refl
 back_between [] (y ∷ back) x = refl
 back_between {X} (y ∷ front) back x = ap (λ (zs : List X). y ∷ zs) (back_between front back x)
 
--- a work that is laid where it lay leaves the desk as it was
-abbrev put_at : ℕ → WorkView → DeskView → DeskView
-put_at place work desk = record desk { works = take place desk.works ++ work ∷ drop place desk.works }
+-- a work that is laid where it lay leaves the work queue as it was
+abbrev put_at : ℕ → WorkView → WorkQueueView → WorkQueueView
+put_at place work work_queue = record work_queue { works = take place work_queue.works ++ work ∷ drop place work_queue.works }
 
-lies_again : (number place : ℕ) (desk left again now : DeskView) (work back_work : WorkView) → TakesFrom number place work desk left → again ≡ left → back_work ≡ work → now ≡ put_at place back_work again → now ≡ desk
-lies_again number place desk left again now work back_work t same unchanged now_is =
+lies_again : (number place : ℕ) (work_queue left again now : WorkQueueView) (work back_work : WorkView) → TakesFrom number place work work_queue left → again ≡ left → back_work ≡ work → now ≡ put_at place back_work again → now ≡ work_queue
+lies_again number place work_queue left again now work back_work t same unchanged now_is =
     now_is ∙ ap (λ (w : WorkView). put_at place w again) unchanged ∙ ap (put_at place work) (same ∙ t.left)
-    ∙ ap (λ (n : ℕ). put_at n work (record desk { works = t.front ++ t.back })) (sym t.place_is)
-    ∙ ap (λ (ws : List WorkView). (let d : DeskView = record desk { works = ws } in d)) (back_between t.front t.back work ∙ sym t.works)
+    ∙ ap (λ (n : ℕ). put_at n work (record work_queue { works = t.front ++ t.back })) (sym t.place_is)
+    ∙ ap (λ (ws : List WorkView). (let d : WorkQueueView = record work_queue { works = ws } in d)) (back_between t.front t.back work ∙ sym t.works)
 
 -- How works are performed.
 
-pub performs_none : (shown net : NetView) (node number : ℕ) (desk now : DeskView) → shown ≡ net → slice_get net.desks node ≡ Some desk → All (λ w. w.number ≢ number) desk.works → now ≡ desk → NodePerforms node number Idle net (with_desk shown node now)
-performs_none shown net node number desk now is on none same = record {
-  desk = desk;
+pub performs_none : (shown net : NetView) (node number : ℕ) (work_queue now : WorkQueueView) → shown ≡ net → slice_get net.work_queues node ≡ Some work_queue → All (λ w. w.number ≢ number) work_queue.works → now ≡ work_queue → NodePerforms node number Idle net (with_work_queue shown node now)
+performs_none shown net node number work_queue now is on none same = record {
+  work_queue = work_queue;
   on = on;
-  performed = inl (none, record { idle = refl; same = ap (λ (v : NetView). with_desk v node now) is ∙ ap (with_desk net node) same ∙ same_desk net node desk on });
+  performed = inl (none, record { idle = refl; same = ap (λ (v : NetView). with_work_queue v node now) is ∙ ap (with_work_queue net node) same ∙ same_work_queue net node work_queue on });
 }
 
-pub performs_did : (shown net : NetView) (node number place : ℕ) (engine engine_now : EngineView) (desk left : DeskView) (work : WorkView) (p : PerformedView) (outcome : OutcomeView) → shown ≡ net
-    → slice_get net.engines node ≡ Some engine → slice_get net.desks node ≡ Some desk → TakesFrom number place work desk left → IsPerformed work p → outcome ≡ outcome_of p → engine_now ≡ shelved engine outcome
-    → NodePerforms node number Did net (with_desk (with_engine shown node engine_now) node left)
-performs_did shown net node number place engine engine_now desk left work p outcome is at on t performed outcome_is now_is =
-    let performs : Performs node number Did desk net (with_desk (with_engine shown node engine_now) node left) = record {
+pub performs_did : (shown net : NetView) (node number place : ℕ) (engine engine_now : EngineView) (work_queue left : WorkQueueView) (work : WorkView) (p : PerformedView) (outcome : OutcomeView) → shown ≡ net
+    → slice_get net.engines node ≡ Some engine → slice_get net.work_queues node ≡ Some work_queue → TakesFrom number place work work_queue left → IsPerformed work p → outcome ≡ outcome_of p → engine_now ≡ shelved engine outcome
+    → NodePerforms node number Did net (with_work_queue (with_engine shown node engine_now) node left)
+performs_did shown net node number place engine engine_now work_queue left work p outcome is at on t performed outcome_is now_is =
+    let performs : Performs node number Did work_queue net (with_work_queue (with_engine shown node engine_now) node left) = record {
       engine = engine;
       at = at;
       work = work;
@@ -220,21 +220,21 @@ performs_did shown net node number place engine engine_now desk left work p outc
       performed = (
         p,
         performed,
-        ap (λ (v : NetView). with_desk (with_engine v node engine_now) node left) is
-            ∙ ap (λ (e : EngineView). with_desk (with_engine net node e) node left) (now_is ∙ ap (shelved engine) outcome_is)
-            ∙ ap (with_desk (with_engine net node (shelved engine (outcome_of p))) node) t.left,
+        ap (λ (v : NetView). with_work_queue (with_engine v node engine_now) node left) is
+            ∙ ap (λ (e : EngineView). with_work_queue (with_engine net node e) node left) (now_is ∙ ap (shelved engine) outcome_is)
+            ∙ ap (with_work_queue (with_engine net node (shelved engine (outcome_of p))) node) t.left,
       );
     } in
-    record { desk = desk; on = on; performed = inr performs }
+    record { work_queue = work_queue; on = on; performed = inr performs }
 
-pub performs_not : (shown net : NetView) (node number place : ℕ) (desk left again now : DeskView) (work back_work : WorkView) → shown ≡ net → StandsForSome net → node < length net.plan.nodes
-    → slice_get net.desks node ≡ Some desk → TakesFrom number place work desk left → again ≡ left → back_work ≡ work → now ≡ put_at place back_work again
-    → NodePerforms node number OutOfMemory net (with_desk (with_desk shown node left) node now)
-performs_not shown net node number place desk left again now work back_work is h there on t same unchanged now_is =
+pub performs_not : (shown net : NetView) (node number place : ℕ) (work_queue left again now : WorkQueueView) (work back_work : WorkView) → shown ≡ net → StandsForSome net → node < length net.plan.nodes
+    → slice_get net.work_queues node ≡ Some work_queue → TakesFrom number place work work_queue left → again ≡ left → back_work ≡ work → now ≡ put_at place back_work again
+    → NodePerforms node number OutOfMemory net (with_work_queue (with_work_queue shown node left) node now)
+performs_not shown net node number place work_queue left again now work back_work is h there on t same unchanged now_is =
     let engine = found net.engines node (engine_there net node h there) in
-    let desks : (let v : NetView = record net { desks = set (set net.desks node left) node now } in v) ≡ with_desk net node now =
-    ap (λ (ds : List DeskView). (let v : NetView = record net { desks = ds } in v)) (set-set net.desks node left now) in
-    let performs : Performs node number OutOfMemory desk net (with_desk (with_desk shown node left) node now) = record {
+    let work_queues : (let v : NetView = record net { work_queues = set (set net.work_queues node left) node now } in v) ≡ with_work_queue net node now =
+    ap (λ (ds : List WorkQueueView). (let v : NetView = record net { work_queues = ds } in v)) (set-set net.work_queues node left now) in
+    let performs : Performs node number OutOfMemory work_queue net (with_work_queue (with_work_queue shown node left) node now) = record {
       engine = engine.0;
       at = engine.1;
       work = work;
@@ -242,7 +242,7 @@ performs_not shown net node number place desk left again now work back_work is h
       back = t.back;
       works = t.works;
       number_is = t.number_is;
-      performed = ap (λ (v : NetView). with_desk (with_desk v node left) node now) is ∙ desks
-          ∙ ap (with_desk net node) (lies_again number place desk left again now work back_work t same unchanged now_is) ∙ same_desk net node desk on;
+      performed = ap (λ (v : NetView). with_work_queue (with_work_queue v node left) node now) is ∙ work_queues
+          ∙ ap (with_work_queue net node) (lies_again number place work_queue left again now work back_work t same unchanged now_is) ∙ same_work_queue net node work_queue on;
     } in
-    record { desk = desk; on = on; performed = inr performs }
+    record { work_queue = work_queue; on = on; performed = inr performs }

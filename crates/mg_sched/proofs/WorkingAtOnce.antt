@@ -19,18 +19,18 @@ use Rattle.mg_node.proofs.Lemmas.{get_set, same_put}
 use Rattle.mg_node.proofs.ShelfLaws.{found_again}
 use Rattle.mg_sched.specs.declared.reached.Reached.{Reached}
 use Rattle.mg_sched.specs.declared.reached.Reached.TheVariants.{Nothing, NotClaimed, Answered as OnlyAnswered, Claimed as OnlyClaimed, Performed, Committed}
-use Rattle.mg_sched.specs.Views.{DeskView, NetView}
-use Rattle.mg_sched.specs.Places.{with_engine, with_intake, with_desk, with_limits, first_edge, lengths_of}
+use Rattle.mg_sched.specs.Views.{WorkQueueView, NetView}
+use Rattle.mg_sched.specs.Places.{with_engine, with_intake, with_work_queue, with_limits, first_edge, lengths_of}
 use Rattle.mg_sched.specs.StandsFor.{StandsForSome, IsRunning}
 use Rattle.mg_sched.specs.Acts.{IsHeldSource, Acts, ClaimsBy, ClaimsNext, with_noted, stopped_by, CommitsTo}
 use Rattle.mg_sched.specs.Acts as acts
 use Rattle.mg_sched.specs.Sweeps.{Becomes, itself}
 use Rattle.mg_sched.specs.Runs.{IsRun}
 use Rattle.mg_sched.specs.Heard.{Heard, HeardSome}
-use Rattle.mg_sched.specs.Code.Desks.{TakesFrom}
+use Rattle.mg_sched.specs.Code.WorkQueues.{TakesFrom}
 use Rattle.mg_sched.specs.Code.Left.{Steps}
 use Rattle.mg_sched.specs.Code.AtOnce.{NodeHandsOut, took_none, with_work, IsHandedOut, steps_of, ComesOn, Comes, did_of, HearsMore}
-use Rattle.mg_sched.proofs.Finding.{cell_at, found, desk_there, parts_lawful}
+use Rattle.mg_sched.proofs.Finding.{cell_at, found, work_queue_there, parts_lawful}
 use Rattle.mg_sched.proofs.ClaimKeeps.{room_left}
 use Rattle.mg_sched.proofs.Working.{lawful_at, marked, work_lawful, has_room, performed_out, performs_did}
 use Rattle.mg_sched.proofs.ActsRun.{acts_run}
@@ -49,96 +49,96 @@ intake_claimed {C} net node engine engine_now intake intake_now claimed some run
     let parts = parts_lawful net node engine intake some running there at to in
     (keeps some.job node parts.0 parts.1 parts.2).lawful_intake
 
--- A claim whose work lies on no desk is, with the work laid there, the claim of a net.
+-- A claim whose work lies in no work queue is, with the work laid there, the claim of a net.
 
-pub hands_work : {C : Type 0} (node : ℕ) (work : WorkView) (before now : NetView) (desk : DeskView) → NodeHandsOut {C = C} node (Work work) before now → slice_get before.desks node ≡ Some desk
-    → ClaimsNext node Did before (with_work now node desk work)
-hands_work {C} node work before now desk h on =
-    let more : DeskView = record desk { works = desk.works ++ work ∷ [] } in
+pub hands_work : {C : Type 0} (node : ℕ) (work : WorkView) (before now : NetView) (work_queue : WorkQueueView) → NodeHandsOut {C = C} node (Work work) before now → slice_get before.work_queues node ≡ Some work_queue
+    → ClaimsNext node Did before (with_work now node work_queue work)
+hands_work {C} node work before now work_queue h on =
+    let more : WorkQueueView = record work_queue { works = work_queue.works ++ work ∷ [] } in
     record {
       engine = h.engine;
       at = h.at;
       intake = h.intake;
       to = h.to;
-      desk = desk;
+      work_queue = work_queue;
       on = on;
       engine_now = h.engine_now;
       intake_now = h.intake_now;
-      desk_now = more;
-      claims = inl (record { work = work; claims = h.claims; on_desk = refl });
-      now_is = ap (λ (v : NetView). with_desk v node more) h.now_is;
+      work_queue_now = more;
+      claims = inl (record { work = work; claims = h.claims; on_work_queue = refl });
+      now_is = ap (λ (v : NetView). with_work_queue v node more) h.now_is;
     }
 
--- its desks are as they were
-pub desks_kept : {C : Type 0} (node : ℕ) (claimed : Claimed C) (before now : NetView) → NodeHandsOut {C = C} node claimed before now → now.desks ≡ before.desks
-desks_kept {C} node claimed before now h = ap (λ (v : NetView). v.desks) h.now_is
+-- its work queues are as they were
+pub work_queues_kept : {C : Type 0} (node : ℕ) (claimed : Claimed C) (before now : NetView) → NodeHandsOut {C = C} node claimed before now → now.work_queues ≡ before.work_queues
+work_queues_kept {C} node claimed before now h = ap (λ (v : NetView). v.work_queues) h.now_is
 
-pub on_kept : {C : Type 0} (node : ℕ) (claimed : Claimed C) (before now : NetView) (desk : DeskView) → NodeHandsOut {C = C} node claimed before now → slice_get before.desks node ≡ Some desk → slice_get now.desks node ≡ Some desk
-on_kept {C} node claimed before now desk h on = ap (λ (ds : List DeskView). slice_get ds node) (desks_kept node claimed before now h) ∙ on
+pub on_kept : {C : Type 0} (node : ℕ) (claimed : Claimed C) (before now : NetView) (work_queue : WorkQueueView) → NodeHandsOut {C = C} node claimed before now → slice_get before.work_queues node ≡ Some work_queue → slice_get now.work_queues node ≡ Some work_queue
+on_kept {C} node claimed before now work_queue h on = ap (λ (ds : List WorkQueueView). slice_get ds node) (work_queues_kept node claimed before now h) ∙ on
 
 -- and there is room on them for the work
-pub desk_room : {C : Type 0} (node : ℕ) (work : WorkView) (before now : NetView) (desk : DeskView) (some : StandsForSome before) → IsRunning before → node < length before.plan.nodes → NodeHandsOut {C = C} node (Work work) before now
-    → slice_get now.desks node ≡ Some desk → length desk.works < desk.room
-desk_room {C} node work before now desk some running there h on =
-    let was : slice_get before.desks node ≡ Some desk = ap (λ (ds : List DeskView). slice_get ds node) (sym (desks_kept node (let w : Claimed C = Work work in w) before now h)) ∙ on in
-    room_left some.job node work h.engine h.engine_now h.intake h.intake_now desk (cell_at some.job before node h.engine h.intake desk some.stands running there h.at h.to was) h.claims
+pub work_queue_room : {C : Type 0} (node : ℕ) (work : WorkView) (before now : NetView) (work_queue : WorkQueueView) (some : StandsForSome before) → IsRunning before → node < length before.plan.nodes → NodeHandsOut {C = C} node (Work work) before now
+    → slice_get now.work_queues node ≡ Some work_queue → length work_queue.works < work_queue.room
+work_queue_room {C} node work before now work_queue some running there h on =
+    let was : slice_get before.work_queues node ≡ Some work_queue = ap (λ (ds : List WorkQueueView). slice_get ds node) (sym (work_queues_kept node (let w : Claimed C = Work work in w) before now h)) ∙ on in
+    room_left some.job node work h.engine h.engine_now h.intake h.intake_now work_queue (cell_at some.job before node h.engine h.intake work_queue some.stands running there h.at h.to was) h.claims
 
 -- and so is one that hands out no work
-pub hands_none : {C : Type 0} (node : ℕ) (claimed : Claimed C) (effect : Effect) (before now : NetView) (desk : DeskView) (h : NodeHandsOut {C = C} node claimed before now) → slice_get before.desks node ≡ Some desk
-    → ClaimsBy effect h.engine h.engine_now h.intake h.intake_now desk desk → ClaimsNext node effect before now
-hands_none {C} node claimed effect before now desk h on claims = record {
+pub hands_none : {C : Type 0} (node : ℕ) (claimed : Claimed C) (effect : Effect) (before now : NetView) (work_queue : WorkQueueView) (h : NodeHandsOut {C = C} node claimed before now) → slice_get before.work_queues node ≡ Some work_queue
+    → ClaimsBy effect h.engine h.engine_now h.intake h.intake_now work_queue work_queue → ClaimsNext node effect before now
+hands_none {C} node claimed effect before now work_queue h on claims = record {
   engine = h.engine;
   at = h.at;
   intake = h.intake;
   to = h.to;
-  desk = desk;
+  work_queue = work_queue;
   on = on;
   engine_now = h.engine_now;
   intake_now = h.intake_now;
-  desk_now = desk;
+  work_queue_now = work_queue;
   claims = claims;
   now_is = h.now_is
-      ∙ ap (λ (ds : List DeskView). with_noted (record (with_intake (with_engine before node h.engine_now) node h.intake_now) { desks = ds }) (first_edge before.plan node) (lengths_of h.intake_now.waits))
-      (sym (same_put before.desks node desk on));
+      ∙ ap (λ (ds : List WorkQueueView). with_noted (record (with_intake (with_engine before node h.engine_now) node h.intake_now) { work_queues = ds }) (first_edge before.plan node) (lengths_of h.intake_now.waits))
+      (sym (same_put before.work_queues node work_queue on));
 }
 
 -- Where a claim took nothing, the net is as it was, also once the limits hear what waits.
-idle_claims : {C : Type 0} (claimed : Claimed C) (engine engine_now : EngineView) (intake intake_now : IntakeView) (desk : DeskView) → took_none claimed ≡ true → Claims {C = C} claimed engine engine_now intake intake_now
-    → ClaimsBy Idle engine engine_now intake intake_now desk desk × AreSame engine intake engine_now intake_now
-idle_claims {C} (Work work) engine engine_now intake intake_now desk none claims = absurd cc
-idle_claims {C} Answered engine engine_now intake intake_now desk none claims = absurd cc
-idle_claims {C} NotReady engine engine_now intake intake_now desk none claims = ((inl claims, refl), claims.2)
-idle_claims {C} InFlightFull engine engine_now intake intake_now desk none claims = ((inr (inl claims), refl), claims.3)
-idle_claims {C} Draining engine engine_now intake intake_now desk none claims = ((inr (inr (inl claims)), refl), claims.3)
-idle_claims {C} Ended engine engine_now intake intake_now desk none claims = ((inr (inr (inr claims)), refl), claims.1)
-idle_claims {C} NoMemory engine engine_now intake intake_now desk none claims = absurd cc
+idle_claims : {C : Type 0} (claimed : Claimed C) (engine engine_now : EngineView) (intake intake_now : IntakeView) (work_queue : WorkQueueView) → took_none claimed ≡ true → Claims {C = C} claimed engine engine_now intake intake_now
+    → ClaimsBy Idle engine engine_now intake intake_now work_queue work_queue × AreSame engine intake engine_now intake_now
+idle_claims {C} (Work work) engine engine_now intake intake_now work_queue none claims = absurd cc
+idle_claims {C} Answered engine engine_now intake intake_now work_queue none claims = absurd cc
+idle_claims {C} NotReady engine engine_now intake intake_now work_queue none claims = ((inl claims, refl), claims.2)
+idle_claims {C} InFlightFull engine engine_now intake intake_now work_queue none claims = ((inr (inl claims), refl), claims.3)
+idle_claims {C} Draining engine engine_now intake intake_now work_queue none claims = ((inr (inr (inl claims)), refl), claims.3)
+idle_claims {C} Ended engine engine_now intake intake_now work_queue none claims = ((inr (inr (inr claims)), refl), claims.1)
+idle_claims {C} NoMemory engine engine_now intake intake_now work_queue none claims = absurd cc
 
 pub took_nothing : {C : Type 0} (claimed : Claimed C) (node : ℕ) (net : NetView) (some : StandsForSome net) → IsRunning net → node < length net.plan.nodes → (engine engine_now : EngineView) (intake intake_now : IntakeView)
     → slice_get net.engines node ≡ Some engine → slice_get net.intakes node ≡ Some intake → took_none claimed ≡ true → Claims {C = C} claimed engine engine_now intake intake_now
     → with_intake (with_engine net node engine_now) node intake_now ≡ with_noted (with_intake (with_engine net node engine_now) node intake_now) (first_edge net.plan node) (lengths_of intake_now.waits)
 took_nothing {C} claimed node net some running there engine engine_now intake intake_now at to none claims =
-    let desk = found net.desks node (desk_there net node some there) in
-    let idle = idle_claims claimed engine engine_now intake intake_now desk.0 none claims in
+    let work_queue = found net.work_queues node (work_queue_there net node some there) in
+    let idle = idle_claims claimed engine engine_now intake intake_now work_queue.0 none claims in
     let taken : NetView = with_intake (with_engine net node engine_now) node intake_now in
     let noted : NetView = with_noted taken (first_edge net.plan node) (lengths_of intake_now.waits) in
     let h : NodeHandsOut {C = C} node claimed net noted =
     record { engine = engine; at = at; intake = intake; to = to; engine_now = engine_now; intake_now = intake_now; claims = claims; now_is = refl } in
-    let again : noted ≡ net = claimed_none some.job node net noted some.stands running there (hands_none node claimed Idle net noted desk.0 h desk.1 idle.0) in
+    let again : noted ≡ net = claimed_none some.job node net noted some.stands running there (hands_none node claimed Idle net noted work_queue.0 h work_queue.1 idle.0) in
     let engines : set net.engines node engine_now ≡ net.engines = ap (set net.engines node) idle.1.same_engine ∙ same_put net.engines node engine at in
     let intakes : set net.intakes node intake_now ≡ net.intakes = ap (set net.intakes node) idle.1.same_intake ∙ same_put net.intakes node intake to in
     let same : taken ≡ net = λ i. record net { engines = engines i; intakes = intakes i } in
     same ∙ sym again
 
--- With the work on its desk the net stands for a job, as it does after a claim.
-abbrev pub handed_out : {C : Type 0} (node : ℕ) (work : WorkView) (before now : NetView) (desk : DeskView) (some : StandsForSome before) → IsRunning before → node < length before.plan.nodes → ¬ IsHeldSource before node
-    → NodeHandsOut {C = C} node (Work work) before now → slice_get before.desks node ≡ Some desk → IsHandedOut now node work
-handed_out {C} node work before now desk some running there free h on =
-    let claims : Acts (Claim node) Did before (with_work now node desk work) = inr (free, hands_work node work before now desk h on) in
+-- With the work in its work queue the net stands for a job, as it does after a claim.
+abbrev pub handed_out : {C : Type 0} (node : ℕ) (work : WorkView) (before now : NetView) (work_queue : WorkQueueView) (some : StandsForSome before) → IsRunning before → node < length before.plan.nodes → ¬ IsHeldSource before node
+    → NodeHandsOut {C = C} node (Work work) before now → slice_get before.work_queues node ≡ Some work_queue → IsHandedOut now node work
+handed_out {C} node work before now work_queue some running there free h on =
+    let claims : Acts (Claim node) Did before (with_work now node work_queue work) = inr (free, hands_work node work before now work_queue h on) in
     record {
-      desk = desk;
-      on = on_kept node (let w : Claimed C = Work work in w) before now desk h on;
-      stands = record { job = some.job; stands = acts_stand some.job (Claim node) Did before (with_work now node desk work) there running some.stands claims };
-      running = acts_run (Claim node) Did before (with_work now node desk work) running claims;
+      work_queue = work_queue;
+      on = on_kept node (let w : Claimed C = Work work in w) before now work_queue h on;
+      stands = record { job = some.job; stands = acts_stand some.job (Claim node) Did before (with_work now node work_queue work) there running some.stands claims };
+      running = acts_run (Claim node) Did before (with_work now node work_queue work) running claims;
       there = subst (λ (v : NetView). node < length v.plan.nodes) (sym h.now_is) there;
     }
 
@@ -177,7 +177,7 @@ commits_again engine outcome number count now is c =
           record { outputs = h.outputs; given_up = h.given_up; others = h.others };
     }
 
--- A work that is handed out: with it on its desk the net stands for a job.
+-- A work that is handed out: with it in its work queue the net stands for a job.
 
 -- what is found stands within
 pub below : {X : Type 0} (xs : List X) (i : ℕ) (x : X) → slice_get xs i ≡ Some x → i < length xs
@@ -191,53 +191,53 @@ with_engine_within shown net node engine is there =
     let long = length-set shown.engines node engine in
     omega (arith, within, long)
 
-module _ (net : NetView) (node number : ℕ) (desk : DeskView) (work : WorkView) (on : slice_get net.desks node ≡ Some desk) (some : StandsForSome (with_work net node desk work)) (running : IsRunning (with_work net node desk work))
+module _ (net : NetView) (node number : ℕ) (work_queue : WorkQueueView) (work : WorkView) (on : slice_get net.work_queues node ≡ Some work_queue) (some : StandsForSome (with_work net node work_queue work)) (running : IsRunning (with_work net node work_queue work))
     (there : node < length net.plan.nodes) (number_is : number ≡ work.number) where
   abbrev laid : NetView
-  laid = with_work net node desk work
+  laid = with_work net node work_queue work
 
-  abbrev full : DeskView
-  full = record desk { works = desk.works ++ work ∷ [] }
+  abbrev full : WorkQueueView
+  full = record work_queue { works = work_queue.works ++ work ∷ [] }
 
-  -- the desk once it is taken from there
-  abbrev left : DeskView
-  left = record desk { works = desk.works ++ [] }
+  -- the work queue once it is taken from there
+  abbrev left : WorkQueueView
+  left = record work_queue { works = work_queue.works ++ [] }
 
-  left_is : left ≡ desk
-  left_is = ap (λ (ws : List WorkView). (let d : DeskView = record desk { works = ws } in d)) (append-nil desk.works)
+  left_is : left ≡ work_queue
+  left_is = ap (λ (ws : List WorkView). (let d : WorkQueueView = record work_queue { works = ws } in d)) (append-nil work_queue.works)
 
-  full_on : slice_get laid.desks node ≡ Some full
-  full_on = get_set net.desks node desk full on
+  full_on : slice_get laid.work_queues node ≡ Some full
+  full_on = get_set net.work_queues node work_queue full on
 
-  pub takes : TakesFrom number (length desk.works) work full left
-  takes = record { front = desk.works; back = []; place_is = refl; works = refl; number_is = sym number_is; left = refl }
+  pub takes : TakesFrom number (length work_queue.works) work full left
+  takes = record { front = work_queue.works; back = []; place_is = refl; works = refl; number_is = sym number_is; left = refl }
 
-  pub has_room_again : length desk.works < desk.room
-  has_room_again = has_room laid node number (length desk.works) full left desk work some running there full_on takes (sym left_is)
+  pub has_room_again : length work_queue.works < work_queue.room
+  has_room_again = has_room laid node number (length work_queue.works) full left work_queue work some running there full_on takes (sym left_is)
 
   pub marks : (shown : NetView) → shown ≡ net → node < length shown.limits.reached
   marks shown is = subst (λ (v : NetView). node < length v.limits.reached) (sym is) (marked laid laid node refl some there)
 
   pub lawful_work : SomeJobHas work
-  lawful_work = work_lawful laid node number (length desk.works) full left work some running there full_on takes
+  lawful_work = work_lawful laid node number (length work_queue.works) full left work some running there full_on takes
 
   module _ (engine : EngineView) (at : slice_get net.engines node ≡ Some engine) where
     pub some_engine : SomeJobHasEngine engine
     some_engine = record { job = some.job; number = node; lawful = lawful_at laid node engine some running there at }
 
     pub is_out : (p : PerformedView) (outcome : OutcomeView) → IsPerformed work p → outcome ≡ outcome_of p → IsOut engine outcome.work
-    is_out p outcome performed is = performed_out laid node number (length desk.works) engine full left work p outcome some running there at full_on takes performed is
+    is_out p outcome performed is = performed_out laid node number (length work_queue.works) engine full left work p outcome some running there at full_on takes performed is
 
-    -- without it the desk is as it was
-    off_again : (engine_now : EngineView) → with_desk (with_engine laid node engine_now) node left ≡ with_engine net node engine_now
-    off_again engine_now = ap (λ (ds : List DeskView). (let v : NetView = record (with_engine net node engine_now) { desks = ds } in v))
-        (set-set net.desks node full left ∙ ap (set net.desks node) left_is ∙ same_put net.desks node desk on)
+    -- without it the work queue is as it was
+    off_again : (engine_now : EngineView) → with_work_queue (with_engine laid node engine_now) node left ≡ with_engine net node engine_now
+    off_again engine_now = ap (λ (ds : List WorkQueueView). (let v : NetView = record (with_engine net node engine_now) { work_queues = ds } in v))
+        (set-set net.work_queues node full left ∙ ap (set net.work_queues node) left_is ∙ same_put net.work_queues node work_queue on)
 
     -- it is performed
     pub performs : (p : PerformedView) (outcome : OutcomeView) (engine_now : EngineView) → IsPerformed work p → outcome ≡ outcome_of p → engine_now ≡ shelved engine outcome → acts.NodePerforms node number Did laid (with_engine net node engine_now)
     performs p outcome engine_now performed is now_is =
         subst (acts.NodePerforms node number Did laid) (off_again engine_now)
-        (performs_did laid laid node number (length desk.works) engine engine_now full left work p outcome refl at full_on takes performed is now_is)
+        (performs_did laid laid node number (length work_queue.works) engine engine_now full left work p outcome refl at full_on takes performed is now_is)
 
     -- and committed
     pub commits : (p : PerformedView) (engine_now : EngineView) (count : ℕ) (now : NetView) → IsPerformed work p → Commits (outcome_of p) count engine engine_now

@@ -24,8 +24,8 @@ use Rattle.mg_node.specs.Commits.{Commits}
 use Rattle.mg_throttle.specs.declared.queue.Queue.{Queue}
 use Rattle.mg_calc.specs.Reaching.{producer_of}
 use Rattle.mg_throttle.specs.Throttle.{QueueLimits, noted, relaxed, stopped, is_full, IsThrottled}
-use Rattle.mg_sched.specs.Views.{DeskView, NetView}
-use Rattle.mg_sched.specs.Places.{source_of, lengths_of, first_edge, with_engine, with_intake, with_desk, with_limits}
+use Rattle.mg_sched.specs.Views.{WorkQueueView, NetView}
+use Rattle.mg_sched.specs.Places.{source_of, lengths_of, first_edge, with_engine, with_intake, with_work_queue, with_limits}
 
 -- an event's node or edge is of the plan
 abbrev pub IsEventOf : NetView → Event → Type 0
@@ -107,23 +107,23 @@ pub record IsHeldSource (net : NetView) (node : ℕ) : Type 0 where
   pub feeds : Contains (feeders net.plan) (source_node node)
   pub throttled : IsThrottled net.plan net.limits (source_node node)
 
--- a work that is handed out lies on the desk
-pub record TakesWork (engine engine_now : EngineView) (intake intake_now : IntakeView) (desk desk_now : DeskView) : Type 0 where
+-- a work that is handed out lies in the work queue
+pub record TakesWork (engine engine_now : EngineView) (intake intake_now : IntakeView) (work_queue work_queue_now : WorkQueueView) : Type 0 where
   pub work : WorkView
   pub claims : Claims {C = ℕ} (Work work) engine engine_now intake intake_now
-  pub on_desk : desk_now ≡ record desk { works = desk.works ++ work ∷ [] }
+  pub on_work_queue : work_queue_now ≡ record work_queue { works = work_queue.works ++ work ∷ [] }
 
 -- what a claim gives, by its effect
-abbrev pub ClaimsBy : Effect → EngineView → EngineView → IntakeView → IntakeView → DeskView → DeskView → Type 0
-ClaimsBy Did engine engine_now intake intake_now desk desk_now =
-    TakesWork engine engine_now intake intake_now desk desk_now ⊎ (Claims {C = ℕ} Answered engine engine_now intake intake_now × (desk_now ≡ desk))
-ClaimsBy Idle engine engine_now intake intake_now desk desk_now =
+abbrev pub ClaimsBy : Effect → EngineView → EngineView → IntakeView → IntakeView → WorkQueueView → WorkQueueView → Type 0
+ClaimsBy Did engine engine_now intake intake_now work_queue work_queue_now =
+    TakesWork engine engine_now intake intake_now work_queue work_queue_now ⊎ (Claims {C = ℕ} Answered engine engine_now intake intake_now × (work_queue_now ≡ work_queue))
+ClaimsBy Idle engine engine_now intake intake_now work_queue work_queue_now =
     (Claims {C = ℕ} NotReady engine engine_now intake intake_now
     ⊎ (Claims {C = ℕ} InFlightFull engine engine_now intake intake_now
     ⊎ (Claims {C = ℕ} Draining engine engine_now intake intake_now
     ⊎ Claims {C = ℕ} Ended engine engine_now intake intake_now)))
-    × (desk_now ≡ desk)
-ClaimsBy OutOfMemory engine engine_now intake intake_now desk desk_now = Claims {C = ℕ} NoMemory engine engine_now intake intake_now × (desk_now ≡ desk)
+    × (work_queue_now ≡ work_queue)
+ClaimsBy OutOfMemory engine engine_now intake intake_now work_queue work_queue_now = Claims {C = ℕ} NoMemory engine engine_now intake intake_now × (work_queue_now ≡ work_queue)
 
 -- a node's engine claims from its intake, and the limits hear how many packets wait now at each of its ports
 pub record ClaimsNext (node : ℕ) (effect : Effect) (before now : NetView) : Type 0 where
@@ -131,14 +131,14 @@ pub record ClaimsNext (node : ℕ) (effect : Effect) (before now : NetView) : Ty
   pub at : slice_get before.engines node ≡ Some engine
   pub intake : IntakeView
   pub to : slice_get before.intakes node ≡ Some intake
-  pub desk : DeskView
-  pub on : slice_get before.desks node ≡ Some desk
+  pub work_queue : WorkQueueView
+  pub on : slice_get before.work_queues node ≡ Some work_queue
   pub engine_now : EngineView
   pub intake_now : IntakeView
-  pub desk_now : DeskView
-  pub claims : ClaimsBy effect engine engine_now intake intake_now desk desk_now
+  pub work_queue_now : WorkQueueView
+  pub claims : ClaimsBy effect engine engine_now intake intake_now work_queue work_queue_now
   pub now_is : now
-      ≡ with_noted (with_desk (with_intake (with_engine before node engine_now) node intake_now) node desk_now) (first_edge before.plan node) (lengths_of intake_now.waits)
+      ≡ with_noted (with_work_queue (with_intake (with_engine before node engine_now) node intake_now) node work_queue_now) (first_edge before.plan node) (lengths_of intake_now.waits)
 
 -- what the claim of a node does: nothing where it is a source that is throttled, and otherwise the node claims its next work
 abbrev pub NodeClaims : ℕ → Effect → NetView → NetView → Type 0
@@ -146,30 +146,30 @@ NodeClaims node effect before now = (IsHeldSource before node × Rests effect be
 
 -- Works.
 
--- a work leaves the desk, is done, and stands in its window as performed and not committed; where there is no memory it lies where it
+-- a work leaves the work queue, is done, and stands in its window as performed and not committed; where there is no memory it lies where it
 -- lay
-abbrev pub PerformedBy : Effect → ℕ → EngineView → DeskView → List WorkView → WorkView → NetView → NetView → Type 0
-PerformedBy Did node engine desk left work before now =
-    (p : PerformedView) × IsPerformed work p × (now ≡ with_desk (with_engine before node (shelved engine (outcome_of p))) node (record desk { works = left }))
-PerformedBy Idle node engine desk left work before now = ⊥
-PerformedBy OutOfMemory node engine desk left work before now = now ≡ before
+abbrev pub PerformedBy : Effect → ℕ → EngineView → WorkQueueView → List WorkView → WorkView → NetView → NetView → Type 0
+PerformedBy Did node engine work_queue left work before now =
+    (p : PerformedView) × IsPerformed work p × (now ≡ with_work_queue (with_engine before node (shelved engine (outcome_of p))) node (record work_queue { works = left }))
+PerformedBy Idle node engine work_queue left work before now = ⊥
+PerformedBy OutOfMemory node engine work_queue left work before now = now ≡ before
 
--- a node's work of this number lies on the node's desk, and is performed
-pub record Performs (node number : ℕ) (effect : Effect) (desk : DeskView) (before now : NetView) : Type 0 where
+-- a node's work of this number lies in the node's work queue, and is performed
+pub record Performs (node number : ℕ) (effect : Effect) (work_queue : WorkQueueView) (before now : NetView) : Type 0 where
   pub engine : EngineView
   pub at : slice_get before.engines node ≡ Some engine
   pub work : WorkView
   pub front : List WorkView
   pub back : List WorkView
-  pub works : desk.works ≡ front ++ work ∷ back
+  pub works : work_queue.works ≡ front ++ work ∷ back
   pub number_is : work.number ≡ number
-  pub performed : PerformedBy effect node engine desk (front ++ back) work before now
+  pub performed : PerformedBy effect node engine work_queue (front ++ back) work before now
 
--- a node's work of this number is performed, or no such work lies on the node's desk
+-- a node's work of this number is performed, or no such work lies in the node's work queue
 pub record NodePerforms (node number : ℕ) (effect : Effect) (before now : NetView) : Type 0 where
-  pub desk : DeskView
-  pub on : slice_get before.desks node ≡ Some desk
-  pub performed : (All (λ w. w.number ≢ number) desk.works × Rests effect before now) ⊎ Performs node number effect desk before now
+  pub work_queue : WorkQueueView
+  pub on : slice_get before.work_queues node ≡ Some work_queue
+  pub performed : (All (λ w. w.number ≢ number) work_queue.works × Rests effect before now) ⊎ Performs node number effect work_queue before now
 
 -- Commits.
 

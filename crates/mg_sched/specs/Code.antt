@@ -1,5 +1,5 @@
 -- What only the crate's own functions and proofs cite. Nobody who reads the public contracts needs these pages.
-pub mod Desks
+pub mod WorkQueues
 pub mod Tables
 pub mod Made
 pub mod Longer

@@ -1,4 +1,4 @@
--- How the logic stores a desk, an agenda, a net, and what stays of one.
+-- How the logic stores a work queue, an agenda, a net, and what stays of one.
 use Rattle.std.specs.Prelude.{ℕ, Bool, List, Option, refl}
 use Rattle.std.specs.Coded.{Coded, code_by, coded×, coded_ℕ, coded_bool, coded_list, coded_option}
 use Rattle.mg_value.specs.Payload.{Plain}
@@ -12,12 +12,12 @@ use Rattle.mg_ready.specs.Ready.{ReadyNodes}
 use Rattle.mg_throttle.specs.declared.queue.Queue.{Queue}
 use Rattle.mg_throttle.specs.contracts.queue.Queue as queue
 use Rattle.mg_throttle.specs.Throttle.{QueueLimits}
-use Rattle.mg_sched.specs.Views.{DeskView, NetView}
+use Rattle.mg_sched.specs.Views.{WorkQueueView, NetView}
 use Rattle.mg_sched.specs.ComesApart.{RestView}
 use Rattle.mg_sched.specs.Code.Agendas.{AgendaView}
 
-abbrev pub desk_code : Coded DeskView
-desk_code = code_by (ℕ × List WorkView) (coded× coded_ℕ (coded_list work_code)) (λ d. (d.room, d.works)) (λ p. record { room = p.0; works = p.1 }) (λ _. refl)
+abbrev pub work_queue_code : Coded WorkQueueView
+work_queue_code = code_by (ℕ × List WorkView) (coded× coded_ℕ (coded_list work_code)) (λ d. (d.room, d.works)) (λ p. record { room = p.0; works = p.1 }) (λ _. refl)
 
 abbrev pub ready_code : Coded ReadyNodes
 ready_code = code_by (List ℕ × List Bool) (coded× (coded_list coded_ℕ) (coded_list coded_bool)) (λ r. (r.order, r.is_in)) (λ p. record { order = p.0; is_in = p.1 }) (λ _. refl)
@@ -35,16 +35,16 @@ limits_code =
 
 abbrev pub rest_code : Coded RestView
 rest_code =
-    code_by (List (Option Plain) × (List DeskView × (QueueLimits × (List (Option CalculatorTold) × List Bool))))
-    (coded× (coded_list (coded_option plain_code)) (coded× (coded_list desk_code) (coded× limits_code (coded× (coded_list (coded_option told_code)) (coded_list coded_bool)))))
-    (λ r. (r.given, (r.desks, (r.limits, (r.spare, r.kept))))) (λ p. record { given = p.0; desks = p.1.0; limits = p.1.1.0; spare = p.1.1.1.0; kept = p.1.1.1.1 }) (λ _. refl)
+    code_by (List (Option Plain) × (List WorkQueueView × (QueueLimits × (List (Option CalculatorTold) × List Bool))))
+    (coded× (coded_list (coded_option plain_code)) (coded× (coded_list work_queue_code) (coded× limits_code (coded× (coded_list (coded_option told_code)) (coded_list coded_bool)))))
+    (λ r. (r.given, (r.work_queues, (r.limits, (r.spare, r.kept))))) (λ p. record { given = p.0; work_queues = p.1.0; limits = p.1.1.0; spare = p.1.1.1.0; kept = p.1.1.1.1 }) (λ _. refl)
 
 abbrev pub net_code : Coded NetView
 net_code =
-    code_by ((Plan × List (Option Plain)) × ((List EngineView × (List IntakeView × List DeskView)) × (QueueLimits × ((List (Option CalculatorTold) × List Bool) × (ℕ × ℕ)))))
+    code_by ((Plan × List (Option Plain)) × ((List EngineView × (List IntakeView × List WorkQueueView)) × (QueueLimits × ((List (Option CalculatorTold) × List Bool) × (ℕ × ℕ)))))
     (coded× (coded× plan_code (coded_list (coded_option plain_code)))
-    (coded× (coded× (coded_list engine_code) (coded× (coded_list intake_code) (coded_list desk_code)))
+    (coded× (coded× (coded_list engine_code) (coded× (coded_list intake_code) (coded_list work_queue_code)))
     (coded× limits_code (coded× (coded× (coded_list (coded_option told_code)) (coded_list coded_bool)) (coded× coded_ℕ coded_ℕ)))))
-    (λ n. ((n.plan, n.given), ((n.engines, (n.intakes, n.desks)), (n.limits, ((n.spare, n.kept), (n.begun, n.wound))))))
-    (λ p. record { plan = p.0.0; given = p.0.1; engines = p.1.0.0; intakes = p.1.0.1.0; desks = p.1.0.1.1; limits = p.1.1.0; spare = p.1.1.1.0.0; kept = p.1.1.1.0.1; begun = p.1.1.1.1.0; wound = p.1.1.1.1.1 })
+    (λ n. ((n.plan, n.given), ((n.engines, (n.intakes, n.work_queues)), (n.limits, ((n.spare, n.kept), (n.begun, n.wound))))))
+    (λ p. record { plan = p.0.0; given = p.0.1; engines = p.1.0.0; intakes = p.1.0.1.0; work_queues = p.1.0.1.1; limits = p.1.1.0; spare = p.1.1.1.0.0; kept = p.1.1.1.0.1; begun = p.1.1.1.1.0; wound = p.1.1.1.1.1 })
     (λ _. refl)

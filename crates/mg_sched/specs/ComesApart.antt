@@ -15,15 +15,15 @@ use Rattle.mg_node.specs.Shelves.{shelved}
 use Rattle.mg_node.specs.Windows.{has_ended}
 use Rattle.mg_throttle.specs.declared.queue.Queue.{Queue}
 use Rattle.mg_throttle.specs.Throttle.{QueueLimits, AreLimitsOf}
-use Rattle.mg_sched.specs.Views.{DeskView, NetView}
+use Rattle.mg_sched.specs.Views.{WorkQueueView, NetView}
 use Rattle.mg_sched.specs.Places.{source_of, with_limits}
 use Rattle.mg_sched.specs.StandsFor.{IsJoined, KnowsLimits, HasSpare}
 
--- what stays of a net whose plan and parts are away: the side packets that are handed in, its desks, its limits, the places of the
+-- what stays of a net whose plan and parts are away: the side packets that are handed in, its work queues, its limits, the places of the
 -- calculators that were handed in, and of which streams all is kept
 pub record RestView : Type 0 where
   pub given : List (Option Plain)
-  pub desks : List DeskView
+  pub work_queues : List WorkQueueView
   pub limits : QueueLimits
   pub spare : List (Option CalculatorTold)
   pub kept : List Bool
@@ -42,10 +42,10 @@ parts_in net = record {
   plan = net.plan;
   engines = net.engines;
   intakes = net.intakes;
-  rest = record { given = net.given; desks = net.desks; limits = net.limits; spare = net.spare; kept = net.kept };
+  rest = record { given = net.given; work_queues = net.work_queues; limits = net.limits; spare = net.spare; kept = net.kept };
 }
 
--- Works that lie on desks come back.
+-- Works that lie in work queues come back.
 
 -- a work as an outcome that wasn't performed
 abbrev pub unrun_of : WorkView → OutcomeView
@@ -56,34 +56,34 @@ abbrev pub all_shelved : EngineView → List WorkView → EngineView
 all_shelved engine [] = engine
 all_shelved engine (work ∷ works) = shelved (all_shelved engine works) (unrun_of work)
 
--- the works on the desks of the first `count` nodes stand in their windows again, and these desks are empty; all else is what it was
-pub record PutsBack (count : ℕ) (engines engines_now : List EngineView) (desks desks_now : List DeskView) : Type 0 where
+-- the works in the work queues of the first `count` nodes stand in their windows again, and these work queues are empty; all else is what it was
+pub record PutsBack (count : ℕ) (engines engines_now : List EngineView) (work_queues work_queues_now : List WorkQueueView) : Type 0 where
   pub engine_count : length engines_now ≡ length engines
-  pub desk_count : length desks_now ≡ length desks
-  pub shelves : (node : ℕ) (engine : EngineView) (desk : DeskView) → node < count → slice_get engines node ≡ Some engine → slice_get desks node ≡ Some desk
-      → slice_get engines_now node ≡ Some (all_shelved engine desk.works)
-  pub empties : (node : ℕ) (desk : DeskView) → node < count → slice_get desks node ≡ Some desk → slice_get desks_now node ≡ Some (record desk { works = [] })
+  pub work_queue_count : length work_queues_now ≡ length work_queues
+  pub shelves : (node : ℕ) (engine : EngineView) (work_queue : WorkQueueView) → node < count → slice_get engines node ≡ Some engine → slice_get work_queues node ≡ Some work_queue
+      → slice_get engines_now node ≡ Some (all_shelved engine work_queue.works)
+  pub empties : (node : ℕ) (work_queue : WorkQueueView) → node < count → slice_get work_queues node ≡ Some work_queue → slice_get work_queues_now node ≡ Some (record work_queue { works = [] })
   pub others : (place : ℕ) → count ≤ place → slice_get engines_now place ≡ slice_get engines place
-  pub other_desks : (place : ℕ) → count ≤ place → slice_get desks_now place ≡ slice_get desks place
+  pub other_work_queues : (place : ℕ) → count ≤ place → slice_get work_queues_now place ≡ slice_get work_queues place
 
--- no work lies on a desk
-abbrev pub NoneOnDesks : NetView → Type 0
-NoneOnDesks net = (node : ℕ) (desk : DeskView) → slice_get net.desks node ≡ Some desk → desk.works ≡ []
+-- no work lies in a work queue
+abbrev pub NoneOnWorkQueues : NetView → Type 0
+NoneOnWorkQueues net = (node : ℕ) (work_queue : WorkQueueView) → slice_get net.work_queues node ≡ Some work_queue → work_queue.works ≡ []
 
--- a net has come apart: the works on its desks stand in their windows again, and nothing else has changed
+-- a net has come apart: the works in its work queues stand in their windows again, and nothing else has changed
 pub record HasComeApart (net : NetView) (parts : PartsView) : Type 0 where
-  pub puts_back : PutsBack (length net.plan.nodes) net.engines parts.engines net.desks parts.rest.desks
-  pub others : parts ≡ parts_in (record net { engines = parts.engines; desks = parts.rest.desks })
+  pub puts_back : PutsBack (length net.plan.nodes) net.engines parts.engines net.work_queues parts.rest.work_queues
+  pub others : parts ≡ parts_in (record net { engines = parts.engines; work_queues = parts.rest.work_queues })
 
 -- Parts that are of one net.
 
--- what stays of a net fits a job, its plan and these engines: there is a desk for each node, with room for its works, on which nothing
+-- what stays of a net fits a job, its plan and these engines: there is a work queue for each node, with room for its works, on which nothing
 -- lies; the limits are those of the plan; and the queues of a node that goes on count
 pub record IsRestOf (job : LoggedJob) (plan : Plan) (engines : List EngineView) (rest : RestView) : Type 0 where
   pub given : rest.given ≡ job.job.inputs.sides
-  pub desks : length rest.desks ≡ length plan.nodes
-  pub empty : (node : ℕ) (desk : DeskView) (planned : PlanNode) → slice_get rest.desks node ≡ Some desk → slice_get plan.nodes node ≡ Some planned
-      → desk ≡ record { room = planned.in_flight; works = [] }
+  pub work_queues : length rest.work_queues ≡ length plan.nodes
+  pub empty : (node : ℕ) (work_queue : WorkQueueView) (planned : PlanNode) → slice_get rest.work_queues node ≡ Some work_queue → slice_get plan.nodes node ≡ Some planned
+      → work_queue ≡ record { room = planned.in_flight; works = [] }
   pub limits : AreLimitsOf plan rest.limits
   pub counts : (number : ℕ) (e : Edge) (q : Queue) (engine : EngineView) → slice_get plan.edges number ≡ Some e → slice_get rest.limits.queues number ≡ Some q
       → e.node < length plan.nodes → slice_get engines e.node ≡ Some engine → has_ended engine ≡ false → q.counts ≡ true
@@ -133,7 +133,7 @@ net_of parts = record {
   given = parts.rest.given;
   engines = parts.engines;
   intakes = parts.intakes;
-  desks = parts.rest.desks;
+  work_queues = parts.rest.work_queues;
   limits = parts.rest.limits;
   spare = parts.rest.spare;
   kept = parts.rest.kept;

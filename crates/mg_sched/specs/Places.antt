@@ -10,7 +10,7 @@ use Rattle.mg_node.specs.Views.{IntakeView, EngineView}
 use Rattle.mg_node.specs.Ports.{ports_in, port_queue}
 use Rattle.mg_calc.specs.Reaching.{producer_of}
 use Rattle.mg_throttle.specs.Throttle.{QueueLimits}
-use Rattle.mg_sched.specs.Views.{DeskView, NetView}
+use Rattle.mg_sched.specs.Views.{WorkQueueView, NetView}
 
 -- the place of the engine that writes a stream: the engines of the graph inputs stand behind those of the nodes
 abbrev pub place_of : Plan → Producer → ℕ
@@ -36,8 +36,8 @@ with_engine net place engine = record net { engines = slice_set net.engines plac
 abbrev pub with_intake : NetView → ℕ → IntakeView → NetView
 with_intake net place intake = record net { intakes = slice_set net.intakes place intake }
 
-abbrev pub with_desk : NetView → ℕ → DeskView → NetView
-with_desk net place desk = record net { desks = slice_set net.desks place desk }
+abbrev pub with_work_queue : NetView → ℕ → WorkQueueView → NetView
+with_work_queue net place work_queue = record net { work_queues = slice_set net.work_queues place work_queue }
 
 abbrev pub with_limits : NetView → QueueLimits → NetView
 with_limits net limits = record net { limits = limits }

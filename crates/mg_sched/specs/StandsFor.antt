@@ -16,19 +16,19 @@ use Rattle.mg_node.specs.IntakeStanding.{HasGrown}
 use Rattle.mg_node.specs.Leading.{output_at}
 use Rattle.mg_throttle.specs.declared.queue.Queue.{Queue}
 use Rattle.mg_throttle.specs.Throttle.{AreLimitsOf}
-use Rattle.mg_sched.specs.Views.{DeskView, NetView}
+use Rattle.mg_sched.specs.Views.{WorkQueueView, NetView}
 use Rattle.mg_sched.specs.Places.{source_of}
 
 -- Cells.
 
--- the works of a desk are those of its engine that are out: each is out and lawful, no two have one number, and none is missing
-pub record HasWorks (job : LoggedJob) (engine : EngineView) (desk : DeskView) : Type 0 where
-  pub room : desk.room ≡ engine.in_flight
-  pub out : All (IsOut engine) desk.works
-  pub lawful : All (LawfulWork job) desk.works
-  pub apart : AllPairs (λ a b. a.number ≢ b.number) desk.works
+-- the works of a work queue are those of its engine that are out: each is out and lawful, no two have one number, and none is missing
+pub record HasWorks (job : LoggedJob) (engine : EngineView) (work_queue : WorkQueueView) : Type 0 where
+  pub room : work_queue.room ≡ engine.in_flight
+  pub out : All (IsOut engine) work_queue.works
+  pub lawful : All (LawfulWork job) work_queue.works
+  pub apart : AllPairs (λ a b. a.number ≢ b.number) work_queue.works
   pub complete : (place : ℕ) (entry : EntryView) → slice_get engine.window place ≡ Some entry → entry.outcome ≡ None
-      → Any (λ w. w.number ≡ engine.laid + place) desk.works
+      → Any (λ w. w.number ≡ engine.laid + place) work_queue.works
 
 -- an engine is lawful, begun or not
 abbrev pub IsEngine : LoggedJob → Bool → ℕ → EngineView → Type 0
@@ -36,11 +36,11 @@ IsEngine job true node engine = LawfulEngine job (of_node node) engine
 IsEngine job false node engine = LawfulUnbegun job node engine
 
 -- the parts of a node are one cell
-pub record IsCell (job : LoggedJob) (begun : Bool) (node : ℕ) (engine : EngineView) (intake : IntakeView) (desk : DeskView) : Type 0 where
+pub record IsCell (job : LoggedJob) (begun : Bool) (node : ℕ) (engine : EngineView) (intake : IntakeView) (work_queue : WorkQueueView) : Type 0 where
   pub lawful_engine : IsEngine job begun node engine
   pub lawful_intake : LawfulIntake job node intake
   pub agree : Agree engine intake
-  pub works : HasWorks job engine desk
+  pub works : HasWorks job engine work_queue
 
 -- Edges.
 
@@ -81,10 +81,10 @@ pub record IsNetOf (job : LoggedJob) (net : NetView) : Type 0 where
   -- a part at each place
   pub engines : length net.engines ≡ length net.plan.nodes + length net.plan.inputs
   pub intakes : length net.intakes ≡ length net.plan.nodes + 1
-  pub desks : length net.desks ≡ length net.plan.nodes
+  pub work_queues : length net.work_queues ≡ length net.plan.nodes
   -- each part is lawful
-  pub cells : (node : ℕ) (engine : EngineView) (intake : IntakeView) (desk : DeskView) → slice_get net.engines node ≡ Some engine → slice_get net.intakes node ≡ Some intake
-      → slice_get net.desks node ≡ Some desk → IsCell job (nat_lt node net.begun) node engine intake desk
+  pub cells : (node : ℕ) (engine : EngineView) (intake : IntakeView) (work_queue : WorkQueueView) → slice_get net.engines node ≡ Some engine → slice_get net.intakes node ≡ Some intake
+      → slice_get net.work_queues node ≡ Some work_queue → IsCell job (nat_lt node net.begun) node engine intake work_queue
   pub inputs : (input : ℕ) (engine : EngineView) → slice_get net.engines (length net.plan.nodes + input) ≡ Some engine → LawfulEngine job (of_input input) engine
   pub collector : (intake : IntakeView) → slice_get net.intakes (length net.plan.nodes) ≡ Some intake → LawfulIntake job (length net.plan.nodes) intake
   -- at each edge engine and intake agree

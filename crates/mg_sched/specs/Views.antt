@@ -6,8 +6,8 @@ use Rattle.mg_calc.specs.Told.{CalculatorTold}
 use Rattle.mg_node.specs.Views.{IntakeView, WorkView, EngineView}
 use Rattle.mg_throttle.specs.Throttle.{QueueLimits}
 
--- a desk: the works of a node that are claimed and not performed, in the order in which they were claimed, and how many may lie there
-pub record DeskView : Type 0 where
+-- a work queue: the works of a node that are claimed and not performed, in the order in which they were claimed, and how many may lie there
+pub record WorkQueueView : Type 0 where
   pub room : ℕ
   pub works : List WorkView
 
@@ -17,10 +17,10 @@ pub record NetView : Type 0 where
   pub plan : Plan
   pub given : List (Option Plain)
   -- the engines of the nodes, and after them those of the graph inputs; the intakes of the nodes, and after them the collector's;
-  -- the desks of the nodes
+  -- the work queues of the nodes
   pub engines : List EngineView
   pub intakes : List IntakeView
-  pub desks : List DeskView
+  pub work_queues : List WorkQueueView
   -- the limits of its queues, and what waits in them as the limits were told
   pub limits : QueueLimits
   -- the places of the calculators that were handed in: those that no node uses lie here

@@ -36,7 +36,7 @@ ghost use Rattle.mg_sched.specs.Trims.{is_kept, Trims};
 ghost use Rattle.mg_sched.specs.Looks.{IsOutputOf, HasFrom};
 ghost use Rattle.mg_sched.specs.GivesBack.{given_back, StoodFor};
 ghost use Rattle.mg_sched.specs.Reports.{claimed_in, report_of};
-ghost use Rattle.mg_sched.specs.ComesApart.{PartsView, NoneOnDesks, ArePartsOf, IsInPlace};
+ghost use Rattle.mg_sched.specs.ComesApart.{PartsView, NoneOnWorkQueues, ArePartsOf, IsInPlace};
 ghost use Rattle.mg_calc.specs.declared.edge.Edge.{Edge};
 
 /// A net that can go no further has the solution, in whatever order its steps were made: what is laid at each output is the solution's
@@ -154,11 +154,11 @@ pub fn what_comes_back_had_a_front()
         → (told : CalculatorTold) × (slice_get (given_back net) place ≡ Some told) × HadFront later solution node told }
 {}
 
-/// Wherever a run ends, once no work lies on a desk and all nodes are wound up, no calculator is left open: the calculator of a node comes
+/// Wherever a run ends, once no work lies in a work queue and all nodes are wound up, no calculator is left open: the calculator of a node comes
 /// back with Close behind Open and some of its sets, or its Open failed.
 pub fn what_comes_back_had_close()
     ensures { (job : LoggedJob) (net wound : NetView) (solution : List (StreamPrefix Plain)) (number place : ℕ) (node : PlanNode)
-        → StandsFor job net → IsRunning net → NoneOnDesks net → WindsUpNet net wound → wound.wound ≡ length net.plan.nodes → Solves job solution
+        → StandsFor job net → IsRunning net → NoneOnWorkQueues net → WindsUpNet net wound → wound.wound ≡ length net.plan.nodes → Solves job solution
         → slice_get net.plan.nodes number ≡ Some node → node.box_number ≡ Some place → IsOuter node.law
         → (told : CalculatorTold) × (slice_get (given_back wound) place ≡ Some told) × HadClose job solution node told }
 {}

@@ -4,7 +4,6 @@
 
 mod agenda;
 mod boxes;
-mod desk;
 mod hears;
 pub mod laws;
 mod net;
@@ -15,6 +14,7 @@ mod report;
 pub mod run_laws;
 mod sources;
 mod tables;
+mod work_queue;
 
 pub use hears::{Deaf, Hears};
 pub use net::{IndexedPlan, Net, NetRest};

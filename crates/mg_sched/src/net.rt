@@ -22,7 +22,7 @@ mod working_at_once;
 mod working_long;
 
 use crate::agenda::Agenda;
-use crate::desk::Desk;
+use crate::work_queue::WorkQueue;
 use mg_calc::{Calculator, GivenList, Plan};
 use mg_node::{Engine, Intake};
 use mg_throttle::Limits;
@@ -38,7 +38,7 @@ pub struct Net<C: Calculator> {
     given: GivenList,
     engines: Vec<Engine<C>>,
     intakes: Vec<Intake>,
-    desks: Vec<Desk<C>>,
+    work_queues: Vec<WorkQueue<C>>,
     limits: Limits,
     // For each consumer the number of the first edge into it.
     first_edges: Vec<u32>,
@@ -101,7 +101,7 @@ impl IndexedPlan {
 pub struct NetRest<C: Calculator> {
     alloc: Global,
     given: GivenList,
-    desks: Vec<Desk<C>>,
+    work_queues: Vec<WorkQueue<C>>,
     limits: Limits,
     spare: Vec<Option<C>>,
     boxes: Vec<C>,
@@ -119,7 +119,7 @@ impl<C: Calculator> Model for NetRest<C> {
 
     ghost view = { λ r. record {
       given = r.given;
-      desks = r.desks.items;
+      work_queues = r.work_queues.items;
       limits = r.limits;
       spare = map (option_map C.told) r.spare.items;
       kept = r.kept.items;
@@ -145,7 +145,7 @@ impl<C: Calculator> Model for Net<C> {
       given = n.given;
       engines = n.engines.items;
       intakes = n.intakes.items;
-      desks = n.desks.items;
+      work_queues = n.work_queues.items;
       limits = n.limits;
       spare = map (option_map C.told) n.spare.items;
       kept = n.kept.items;
@@ -157,5 +157,5 @@ impl<C: Calculator> Model for Net<C> {
         × (vec_len n.boxes ≡ 0) × (vec_len n.spare ≤ vec_capacity n.boxes)
         × (vec_len n.got ≡ length n.plan.streams)
         × IsKeptBy n.plan n.agenda
-        × (n.known ≡ true → RestsButKept n.plan n.engines.items n.intakes.items n.desks.items n.agenda) };
+        × (n.known ≡ true → RestsButKept n.plan n.engines.items n.intakes.items n.work_queues.items n.agenda) };
 }

@@ -11,6 +11,6 @@ pub struct NetParts<C: Calculator> {
     pub engines: Vec<Engine<C>>,
     /// The intakes of the nodes, and after them the collector's.
     pub intakes: Vec<Intake>,
-    /// The rest of the net: its side packets, its desks, its limits, and the calculators that were handed in and that no node uses.
+    /// The rest of the net: its side packets, its work queues, its limits, and the calculators that were handed in and that no node uses.
     pub rest: NetRest<C>,
 }

@@ -5,11 +5,11 @@ ghost use Rattle.mg_calc.specs.declared.plan_node.PlanNode.{PlanNode};
 ghost use Rattle.mg_calc.specs.Plan.{IsValid};
 ghost use Rattle.mg_node.specs.Fresh.{own_told, fresh_engine};
 ghost use Rattle.mg_throttle.specs.Throttle.{AreLimitsOf, limit_of, new_queue};
-ghost use Rattle.mg_sched.specs.Code.Made.{AtPlaces, IsEngineAt, IsIntakeAt, IsDeskAt};
+ghost use Rattle.mg_sched.specs.Code.Made.{AtPlaces, IsEngineAt, IsIntakeAt, IsWorkQueueAt};
 ghost use Rattle.mg_sched.specs.Code.Tables.{AreTables};
 
-use crate::desk::Desk;
 use crate::tables::{first_edges, none_kept, own_feeders, stream_numbers};
+use crate::work_queue::WorkQueue;
 use mg_calc::{Calculator, GivenList, Plan, TryClone};
 use mg_node::{Engine, Intake};
 use mg_route::{Builtin, Holder};
@@ -25,12 +25,12 @@ pub(crate) struct Kept<C: Calculator> {
     pub(crate) places: Vec<Option<C>>,
 }
 
-/// The engines, intakes and desks of a net.
+/// The engines, intakes and work queues of a net.
 #[derive(Drop)]
 pub(crate) struct Cells<C: Calculator> {
     pub(crate) engines: Vec<Engine<C>>,
     pub(crate) intakes: Vec<Intake>,
-    pub(crate) desks: Vec<Desk<C>>,
+    pub(crate) work_queues: Vec<WorkQueue<C>>,
 }
 
 /// The limits of a net's queues, and its tables.
@@ -108,20 +108,20 @@ pub(crate) fn intakes_of(alloc: Global, plan: &Plan) -> Result<Vec<Intake>, Allo
     Ok(intakes)
 }
 
-/// Returns the desks of the nodes, on which nothing lies.
-pub(crate) fn desks_of<C: Calculator>(
+/// Returns the work queues of the nodes, on which nothing lies.
+pub(crate) fn work_queues_of<C: Calculator>(
     alloc: Global,
     plan: &Plan,
-) -> Result<Vec<Desk<C>>, AllocError>
+) -> Result<Vec<WorkQueue<C>>, AllocError>
     ensures count { IfOk result (λ v. length v.items ≡ length plan.now.nodes) }
-    ensures desks { IfOk result (λ v. AtPlaces (IsDeskAt plan.now) v.items) }
+    ensures work_queues { IfOk result (λ v. AtPlaces (IsWorkQueueAt plan.now) v.items) }
 {
-    let mut desks = Vec::with_capacity(alloc, plan.nodes.len() as usize)?;
+    let mut work_queues = Vec::with_capacity(alloc, plan.nodes.len() as usize)?;
     for node in 0..plan.nodes.len() {
         let planned = &plan.nodes.as_slice()[node as usize];
-        desks.push(Desk::new(alloc, planned.in_flight)?)?;
+        work_queues.push(WorkQueue::new(alloc, planned.in_flight)?)?;
     }
-    Ok(desks)
+    Ok(work_queues)
 }
 
 /// Returns copies of a plan and of side packets, and room for `count` calculators.
@@ -160,16 +160,16 @@ pub(crate) fn cells_of<C: Calculator>(
     ensures engines { IfOk result (λ c. AtPlaces (IsEngineAt plan.now streams.now (λ _ node. own_told node)) c.engines.items) }
     ensures intake_count { IfOk result (λ c. length c.intakes.items ≡ length plan.now.nodes + 1) }
     ensures intakes { IfOk result (λ c. AtPlaces (IsIntakeAt plan.now) c.intakes.items) }
-    ensures desk_count { IfOk result (λ c. length c.desks.items ≡ length plan.now.nodes) }
-    ensures desks { IfOk result (λ c. AtPlaces (IsDeskAt plan.now) c.desks.items) }
+    ensures work_queue_count { IfOk result (λ c. length c.work_queues.items ≡ length plan.now.nodes) }
+    ensures work_queues { IfOk result (λ c. AtPlaces (IsWorkQueueAt plan.now) c.work_queues.items) }
 {
     let engines = engines_of(alloc, plan, streams)?;
     let intakes = intakes_of(alloc, plan)?;
-    let desks = desks_of(alloc, plan)?;
+    let work_queues = work_queues_of(alloc, plan)?;
     Ok(Cells {
         engines,
         intakes,
-        desks,
+        work_queues,
     })
 }
 

@@ -9,7 +9,7 @@ use Rattle.mg_node.specs.Lawful.{LawfulWork}
 use Rattle.mg_node.specs.declared.claimed.Claimed.{Claimed}
 use Rattle.mg_node.specs.declared.claimed.Claimed.TheVariants.{Work}
 use Rattle.mg_node.specs.Claims.{IsLawfulWork}
-use Rattle.mg_turns.specs.Parts.{FrameView, nodes_in, Fits, FitsSome}
+use Rattle.mg_turns.specs.Parts.{LayoutView, nodes_in, Fits, FitsSome}
 use Rattle.mg_turns.specs.Sights.{has_after}
 use Rattle.mg_turns.specs.Calls.{key_of, view_of, IsSeatOf, HasClaimed}
 use Rattle.mg_turns.specs.Standings.{Keeps}
@@ -35,10 +35,10 @@ node_there : (job : LoggedJob) (work : WorkView) → LawfulWork job work → wor
 unfolding LawfulWork
 node_there job work lawful = slice_get_within job.job.plan.nodes work.node lawful.node lawful.there
 
-node_within : (key : FrameView) (work : WorkView) → FitsSome key → ((job : LoggedJob) → Fits job key → LawfulWork job work) → work.node < nodes_in key
+node_within : (key : LayoutView) (work : WorkView) → FitsSome key → ((job : LoggedJob) → Fits job key → LawfulWork job work) → work.node < nodes_in key
 node_within key work some lawful = subst (λ (p : Plan). work.node < length p.nodes) some.fits.plan (node_there some.job work (lawful some.job some.fits))
 
-pub is_lawful : {X : Type 0} (key : FrameView) (answer : Claimed X) (work : WorkView) → answer ≡ Work work → ((job : LoggedJob) → Fits job key → IsLawfulWork job answer)
+pub is_lawful : {X : Type 0} (key : LayoutView) (answer : Claimed X) (work : WorkView) → answer ≡ Work work → ((job : LoggedJob) → Fits job key → IsLawfulWork job answer)
     → (job : LoggedJob) → Fits job key → LawfulWork job work
 is_lawful {X} key result work is lawful job fits = subst (λ (a : Claimed X). IsLawfulWork job a) is (lawful job fits)
 

@@ -3,7 +3,7 @@ use Rattle.std.specs.Prelude.{◌≡◌, ℕ, length}
 use Rattle.mg_node.specs.Views.{WorkView}
 use Rattle.mg_sched.specs.Views.{NetView}
 use Rattle.mg_sched.specs.StandsFor.{StandsForSome}
-use Rattle.mg_turns.specs.Parts.{FrameView}
+use Rattle.mg_turns.specs.Parts.{LayoutView}
 use Rattle.mg_workers.specs.Shared.{KeptView, IsSharedOf}
 
 -- a net stands for some job, and its graph has `count` outputs
@@ -12,7 +12,7 @@ pub record HasOutputs (count : ℕ) (net : NetView) : Type 0 where
   pub outputs : length net.plan.outputs ≡ count
 
 -- a net that stands for some job and has this many outputs came apart into what is shared and what is kept aside
-pub record CameOf (count : ℕ) (key : FrameView) (kept : KeptView) : Type 0 where
+pub record CameOf (count : ℕ) (key : LayoutView) (kept : KeptView) : Type 0 where
   pub before : NetView
   pub has : HasOutputs count before
   pub of : IsSharedOf before key kept

@@ -4,4 +4,4 @@ pub mod Places
 pub mod Views
 pub mod Sizes
 pub mod Judged
-pub mod Joints
+pub mod Bindings

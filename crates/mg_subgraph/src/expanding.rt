@@ -6,7 +6,7 @@ ghost use Rattle.mg_subgraph.specs.Names.{renamed};
 ghost use Rattle.mg_subgraph.specs.Expanded as expansion;
 ghost use Rattle.mg_subgraph.specs.Code.Judged.{AreFileNames, AreUnshared};
 ghost use Rattle.mg_subgraph.specs.Refusals.{shared_name};
-ghost use Rattle.mg_subgraph.specs.Code.Joints.{IsUse};
+ghost use Rattle.mg_subgraph.specs.Code.Bindings.{IsUse};
 ghost use Rattle.mg_subgraph.specs.Code.Sizes.{nodes_at, AreSizes, AreGrounded};
 ghost use Rattle.mg_subgraph.specs.Code.Views.{files_of};
 

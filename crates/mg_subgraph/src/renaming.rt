@@ -18,7 +18,7 @@ use std::alloc::{AllocError, Global};
 /// The ports of a file, with a table of the names there, and the ports that a node which uses the file has been given,
 /// for streams or for side packets.
 #[derive(Drop)]
-struct Joint<'a> {
+struct Binding<'a> {
     names: &'a NameTable<'a>,
     inputs: &'a PortMap,
     outputs: &'a PortMap,
@@ -32,8 +32,8 @@ struct Joint<'a> {
 #[derive(Drop)]
 pub struct Use<'a> {
     prefix: MgText,
-    streams: Joint<'a>,
-    sides: Joint<'a>,
+    streams: Binding<'a>,
+    sides: Binding<'a>,
 }
 
 fn prefixed(alloc: Global, prefix: &MgText, name: &MgText) -> Result<MgText, AllocError>
@@ -55,8 +55,8 @@ fn name_at<'a>(given: &'a PortMap, port: &Port) -> Option<&'a MgText>
     }
 }
 
-impl<'a> Joint<'a> {
-    ghost use Rattle.mg_subgraph.specs.Code.Joints.{new_name};
+impl<'a> Binding<'a> {
+    ghost use Rattle.mg_subgraph.specs.Code.Bindings.{new_name};
 
     /// Returns the name at the node's port of the same tag and index as the file's port at a place, if the node connects that port.
     fn name_beside(&self, place: usize) -> Option<&'a MgText>
@@ -118,7 +118,7 @@ impl<'a> Joint<'a> {
 }
 
 impl<'a> Use<'a> {
-    ghost use Rattle.mg_subgraph.specs.Code.Joints.{IsUse, new_name};
+    ghost use Rattle.mg_subgraph.specs.Code.Bindings.{IsUse, new_name};
 
     /// Returns the new names where the node with the number `n` uses a file.
     pub fn new(
@@ -135,14 +135,14 @@ impl<'a> Use<'a> {
         let prefix = MgText::from_string(format!(in alloc; "s{n}__")?);
         Ok(Use {
             prefix,
-            streams: Joint {
+            streams: Binding {
                 names: &names.streams,
                 inputs: &file.inputs,
                 outputs: &file.outputs,
                 given_in: &node.inputs,
                 given_out: &node.outputs,
             },
-            sides: Joint {
+            sides: Binding {
                 names: &names.sides,
                 inputs: &file.input_sides,
                 outputs: &file.output_sides,

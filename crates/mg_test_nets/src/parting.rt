@@ -1,4 +1,4 @@
-//! Nets that come apart on their way and are put together again, with works on their desks and in their windows: they come to the same
+//! Nets that come apart on their way and are put together again, with works in their work queues and in their windows: they come to the same
 //! as if they hadn't, also where something went along an edge meanwhile.
 ghost use Rattle.std.specs.Prelude.{IfOk};
 ghost use Rattle.mg_nets.specs.Driven.{IsDriven};
@@ -47,7 +47,7 @@ fn idle_at(alloc: Global, driver: Driver, events: &'static [Event]) -> Result<Dr
     driven(alloc, driver, &mut Steps { events, effect })
 }
 
-// Returns the steps until the first set of the sum lies on its desk: the packets come to the loopback and to the sum, the loopback answers
+// Returns the steps until the first set of the sum lies in its work queue: the packets come to the loopback and to the sum, the loopback answers
 // the first one with nothing, and its bound rises behind that and goes on to the sum.
 fn claims_first() -> &'static [Event] {
     &[
@@ -60,7 +60,7 @@ fn claims_first() -> &'static [Event] {
     ]
 }
 
-// Returns steps that do nothing, since the work that was on a desk is there no more, and isn't performed.
+// Returns steps that do nothing, since the work that was in a work queue is there no more, and isn't performed.
 fn lost_steps() -> &'static [Event] {
     &[
         Event::Perform { node: 1, number: 0 },
@@ -81,7 +81,7 @@ fn commits_first() -> &'static [Event] {
     &[Event::Commit { node: 1, number: 0 }]
 }
 
-// Takes the net apart with the first set of the sum on its desk, then with what was performed in its window, and once more behind the
+// Takes the net apart with the first set of the sum in its work queue, then with what was performed in its window, and once more behind the
 // commit.
 fn parted_thrice(alloc: Global, case: &Case) -> Result<Driver, Fail>
     ensures { IfOk result (λ d. IsDriven d.plan d.inputs d.net) }
@@ -94,7 +94,7 @@ fn parted_thrice(alloc: Global, case: &Case) -> Result<Driver, Fail>
 }
 
 #[test]
-fn a_work_on_a_desk_is_handed_out_again(rt: HostRuntime) -> Result<(), Fail> {
+fn a_work_on_a_work_queue_is_handed_out_again(rt: HostRuntime) -> Result<(), Fail> {
     let case = summed();
     let driver = parted_thrice(rt.alloc(), &case)?;
     expect(rt.alloc(), driver, &mut Settle, &case)

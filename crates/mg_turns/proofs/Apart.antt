@@ -4,7 +4,7 @@ use Rattle.std.proofs.lemmas.Bool.{eqb-true, eqb-false}
 use Rattle.std.proofs.lemmas.List.{get_or-drop, length-replicate}
 use mathlib.Core.Option as maybe
 use Rattle.atomic_table.specs.Table.{opening, Allows, Splits, Joins, Final, Seen, step, carried_after, homes_after, rest}
-use Rattle.mg_turns.specs.Parts.{PartView, FrameView, Follows}
+use Rattle.mg_turns.specs.Parts.{PartView, LayoutView, Follows}
 use Rattle.mg_turns.specs.Rule.{Ready, first_view, has_turn, word_of, Ruled, each_eighth, parts_alone, RuledApart}
 use Rattle.mg_turns.specs.Sights.{kept_after, handed, joined}
 use Rattle.mg_turns.specs.Code.Plays.{Sat, HasTurn, Returns, GivesTurnBack, with_miss, tried_at, tried, looked_at, looked, spent_view}
@@ -50,13 +50,13 @@ zero_at (suc m) (suc i) = zero_at m i
 pub eighth_word : (word : ℕ) → 8 * word / 8 ≡ word
 eighth_word word = omega arith
 
-pub starts_apart : (key : FrameView) (ws : List ℕ) (xs : List (Option PartView)) → ws ≡ replicate (8 * length key.parts) zero → xs ≡ map Some key.parts → Ready key → RuledApart key (opening ws xs (first_view key))
+pub starts_apart : (key : LayoutView) (ws : List ℕ) (xs : List (Option PartView)) → ws ≡ replicate (8 * length key.parts) zero → xs ≡ map Some key.parts → Ready key → RuledApart key (opening ws xs (first_view key))
 starts_apart key ws xs words slots ready =
     let n : ℕ = length key.parts in
     let free : each_eighth n ws ≡ replicate n zero = ap (each_eighth n) words ∙ eighth_zero n (replicate (8 * n) zero) (zero_at (8 * n)) in
     (ap length words ∙ length-replicate (8 * n) zero, starts key (each_eighth n ws) xs (free ∙ no_words key.parts) slots ready)
 
-allows_apart : (key : FrameView) (n id : ℕ) (m : Sat) (i : ℕ) (f : ℕ → ℕ) (then : ℕ → Sat → Type 0) → i < n → Allows (Ruled key) n id m i f then → Allows (RuledApart key) n id m (8 * i) f then
+allows_apart : (key : LayoutView) (n id : ℕ) (m : Sat) (i : ℕ) (f : ℕ → ℕ) (then : ℕ → Sat → Type 0) → i < n → Allows (Ruled key) n id m i f then → Allows (RuledApart key) n id m (8 * i) f then
 allows_apart key n id m i f then inside does s ro long me small =
     let k : ℕ = length key.parts in
     let near : i < k = omega (arith, inside, long, ro.1.0.long) in
@@ -75,28 +75,28 @@ allows_apart key n id m i f then inside does s ro long me small =
       subst (λ (x : ℕ). then x (r.0, carried_after m.1 r.1)) here r.4,
     )
 
-pub tries_apart : (key : FrameView) (n id : ℕ) (m : Sat) (i : ℕ) → i < n → 0 < m.0.portion → has_turn i m.0 ≡ 0 → Allows (RuledApart key) n id m (8 * i) (λ y. bit_or y 1) (tried (step n (8 * i) 1 0 maybe.none) m)
+pub tries_apart : (key : LayoutView) (n id : ℕ) (m : Sat) (i : ℕ) → i < n → 0 < m.0.portion → has_turn i m.0 ≡ 0 → Allows (RuledApart key) n id m (8 * i) (λ y. bit_or y 1) (tried (step n (8 * i) 1 0 maybe.none) m)
 tries_apart key n id m i inside alive free =
     subst (λ (word : ℕ). Allows (RuledApart key) n id m (8 * i) (λ y. bit_or y 1) (tried_at word m)) (sym (eighth_word i))
     (allows_apart key n id m i (λ y. bit_or y 1) (tried_at i m) inside (tries key n id m i inside alive free))
 
-pub looks_apart : (key : FrameView) (n id : ℕ) (m : Sat) (i : ℕ) → i < n → 0 < m.0.portion → Allows (RuledApart key) n id m (8 * i) (λ y. y) (looked (step n (8 * i) 0 0 maybe.none) m)
+pub looks_apart : (key : LayoutView) (n id : ℕ) (m : Sat) (i : ℕ) → i < n → 0 < m.0.portion → Allows (RuledApart key) n id m (8 * i) (λ y. y) (looked (step n (8 * i) 0 0 maybe.none) m)
 looks_apart key n id m i inside alive =
     subst (λ (word : ℕ). Allows (RuledApart key) n id m (8 * i) (λ y. y) (looked_at word m)) (sym (eighth_word i))
     (allows_apart key n id m i (λ y. y) (looked_at i m) inside (looks key n id m i inside alive))
 
-pub gives_apart : (key : FrameView) (n id : ℕ) (m : Sat) (w : View) (i new : ℕ) (p : PartView) → i < n → new ≡ word_of m.0.key i p → HasTurn m.0 i p → Returns m.0 i p w → GivesTurnBack m.0 i p w → Follows m.0.key i p → m.1 ≡ (i, Some p) ∷ rest m.1
+pub gives_apart : (key : LayoutView) (n id : ℕ) (m : Sat) (w : View) (i new : ℕ) (p : PartView) → i < n → new ≡ word_of m.0.key i p → HasTurn m.0 i p → Returns m.0 i p w → GivesTurnBack m.0 i p w → Follows m.0.key i p → m.1 ≡ (i, Some p) ∷ rest m.1
     → Allows (RuledApart key) n id m (8 * i) (λ _. new) (λ _ m'. m' ≡ (w, rest m.1))
 gives_apart key n id m w i new p inside word has-turn returns kind follows e =
     allows_apart key n id m i (λ _. new) (λ _ m'. m' ≡ (w, rest m.1)) inside (gives_at key n id m w i new p inside word has-turn returns kind follows e)
 
-pub splits_apart : (key : FrameView) (id n : ℕ) (v : View) → 0 < n → n < v.portion → Splits (RuledApart key) id v (kept_after n v) (handed n v)
+pub splits_apart : (key : LayoutView) (id n : ℕ) (v : View) → 0 < n → n < v.portion → Splits (RuledApart key) id v (kept_after n v) (handed n v)
 splits_apart key id n v some-part less s ro me = (ro.0, splits key id n v some-part less (parts_alone key s) ro.1 me)
 
-pub joins_apart : (key : FrameView) (id other : ℕ) (v w : View) → 0 < v.portion → length w.turns ≡ 0 → IfSome w.work (λ _. v.work ≡ None) → Joins (RuledApart key) id v other w (joined v w) spent_view
+pub joins_apart : (key : LayoutView) (id other : ℕ) (v w : View) → 0 < v.portion → length w.turns ≡ 0 → IfSome w.work (λ _. v.work ≡ None) → Joins (RuledApart key) id v other w (joined v w) spent_view
 joins_apart key id other v w alive idle one s ro me apart them = (ro.0, joins key id other v w alive idle one (parts_alone key s) ro.1 me apart them)
 
-pub settled_apart : (key : FrameView) (id : ℕ) (v : View) (ws : List ℕ) (xs : List (Option PartView)) → v.portion ≡ 4294967296 → length v.turns ≡ 0 → v.work ≡ None → Final (Seen (RuledApart key) id v) ws xs → Settled key v xs
+pub settled_apart : (key : LayoutView) (id : ℕ) (v : View) (ws : List ℕ) (xs : List (Option PartView)) → v.portion ≡ 4294967296 → length v.turns ≡ 0 → v.work ≡ None → Final (Seen (RuledApart key) id v) ws xs → Settled key v xs
 settled_apart key id v ws xs all idle workless end =
     settled key id v (each_eighth (length key.parts) ws) xs all idle workless
     (parts_alone key end.0, (end.1.0.1, end.1.1), ap (each_eighth (length key.parts)) end.2, end.3, end.4)

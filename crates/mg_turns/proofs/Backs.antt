@@ -10,7 +10,7 @@ use Rattle.mg_node.specs.Shelves.{IsOut, shelved}
 use Rattle.mg_node.specs.Commits.{SomeJobHasEngine, Commits}
 use Rattle.mg_node.specs.Out.{ComesBack}
 use Rattle.mg_node.proofs.StaysOut.{committed_back, shelved_back}
-use Rattle.mg_turns.specs.Parts.{PartView, FrameView, at, nodes_in, an_engine, PartGrows, Fits, FitsSome, Follows, IsMissingAt}
+use Rattle.mg_turns.specs.Parts.{PartView, LayoutView, at, nodes_in, an_engine, PartGrows, Fits, FitsSome, Follows, IsMissingAt}
 use Rattle.mg_turns.specs.Turns.{Turn}
 use Rattle.mg_turns.specs.Sights.{Finds, left_one}
 use Rattle.mg_turns.specs.Code.Plays.{Sat, turn_of_word, Back, HoldsTurn, GivesPlainly, GivesLaid, laid_view}
@@ -43,7 +43,7 @@ back_in p e f w is role claimed b = record {
       ((e, is, subst (λ (y : ℕ). IsMissingAt e y) (sym at.number_is) (missing_by e (f.laid + at.place) r.0)), λ same. r.1 (sym at.number_is ∙ same));
 }
 
-follows_back : (key : FrameView) (n number : ℕ) (p : PartView) (e f : EngineView) → n < nodes_in key → Follows key (2 * n + 1) p → p.engine ≡ Some e → BackFacts (λ job. Fits job key) n number e f → PartGrows p (an_engine f) × Follows key (2 * n + 1) (an_engine f)
+follows_back : (key : LayoutView) (n number : ℕ) (p : PartView) (e f : EngineView) → n < nodes_in key → Follows key (2 * n + 1) p → p.engine ≡ Some e → BackFacts (λ job. Fits job key) n number e f → PartGrows p (an_engine f) × Follows key (2 * n + 1) (an_engine f)
 follows_back key n number p e f within h is b =
     engine_follows_on key (2 * n + 1) (of_node n) p e f h (engine_at (nodes_in key) n within) is b.grows b.first b.gone (λ job fits. b.lawful job fits (lawful_e key job n p e fits h within is))
 
@@ -57,10 +57,10 @@ named_out e w x node number phase o = record {
   phase_is = o.phase_is ∙ phase;
 }
 
-module _ (m n₁ : Sat) (key : FrameView) (n : ℕ) (p : PartView) (e : EngineView) (work : WorkView) (key-is : m.0.key ≡ key) (idle : length m.0.turns ≡ 0) (within : n < nodes_in key)
+module _ (m n₁ : Sat) (key : LayoutView) (n : ℕ) (p : PartView) (e : EngineView) (work : WorkView) (key-is : m.0.key ≡ key) (idle : length m.0.turns ≡ 0) (within : n < nodes_in key)
     (one : HoldsTurn m (2 * n + 1) p n₁) (is : p.engine ≡ Some e) (has : HasOutcome m.0.work work) (node-is : work.node ≡ n) where
   found_follows : Follows key (2 * n + 1) p
-  found_follows = subst (λ (k : FrameView). Follows k (2 * n + 1) p) key-is one.1.follows
+  found_follows = subst (λ (k : LayoutView). Follows k (2 * n + 1) p) key-is one.1.follows
 
   -- the seat's work is out of the engine that it found
   pub work_out : IsOut e work
@@ -83,9 +83,9 @@ module _ (m n₁ : Sat) (key : FrameView) (n : ℕ) (p : PartView) (e : EngineVi
           turns = ap (λ (l : List Turn). turn_of_word m.0.key (2 * n + 1) p ∷ l) (nil m.0.turns idle);
           word_is = refl;
           grows = g.0;
-          follows = subst (λ (k : FrameView). Follows k (2 * n + 1) (an_engine f)) (sym key-is) g.1;
+          follows = subst (λ (k : LayoutView). Follows k (2 * n + 1) (an_engine f)) (sym key-is) g.1;
         };
-        within = subst (λ (k : FrameView). has.it.node < nodes_in k) (sym key-is) (subst (λ (k : ℕ). k < nodes_in key) (sym (has.node ∙ node-is)) within);
+        within = subst (λ (k : LayoutView). has.it.node < nodes_in k) (sym key-is) (subst (λ (k : ℕ). k < nodes_in key) (sym (has.node ∙ node-is)) within);
         had = has.there;
         joins = engine_joins p e f is b.first b.grows;
         back = back_in p e f has.it is b.role b.claimed (subst (λ (k : ℕ). ComesBack e f k) (sym has.number) b.back);
@@ -114,7 +114,7 @@ module _ (m n₁ : Sat) (key : FrameView) (n : ℕ) (p : PartView) (e : EngineVi
         left = subst (λ (k : ℕ). n₂.0 ≡ left_one m.0 (2 * k + 1) (an_engine f) None) node left;
       }
 
-pub commit_facts : (key : FrameView) (n : ℕ) (outcome : OutcomeView) (laid : ℕ) (e f : EngineView) → IsOut e outcome.work → SomeJobHasEngine e → ((job : LoggedJob) → Fits job key → LawfulOutcome job outcome)
+pub commit_facts : (key : LayoutView) (n : ℕ) (outcome : OutcomeView) (laid : ℕ) (e f : EngineView) → IsOut e outcome.work → SomeJobHasEngine e → ((job : LoggedJob) → Fits job key → LawfulOutcome job outcome)
     → Commits outcome laid e f → EngineGrows e f → ((job : LoggedJob) (number : ℕ) → LawfulEngine job (of_node number) e → LawfulOutcome job outcome → LawfulEngine job (of_node number) f)
     → BackFacts (λ job. Fits job key) n outcome.work.number e f
 commit_facts key n outcome laid e f out exists lawful commits grows keeps = record {
@@ -127,7 +127,7 @@ commit_facts key n outcome laid e f out exists lawful commits grows keeps = reco
   lawful = λ job fits h. keeps job n h (lawful job fits);
 }
 
-pub shelve_facts : (key : FrameView) (n : ℕ) (outcome : OutcomeView) (e f : EngineView) → IsOut e outcome.work → ((job : LoggedJob) → Fits job key → LawfulOutcome job outcome)
+pub shelve_facts : (key : LayoutView) (n : ℕ) (outcome : OutcomeView) (e f : EngineView) → IsOut e outcome.work → ((job : LoggedJob) → Fits job key → LawfulOutcome job outcome)
     → f ≡ shelved e outcome → EngineGrows e f → ((job : LoggedJob) (number : ℕ) → LawfulEngine job (of_node number) e → LawfulOutcome job outcome → LawfulEngine job (of_node number) f)
     → BackFacts (λ job. Fits job key) n outcome.work.number e f
 shelve_facts key n outcome e f out lawful is grows keeps = record {

@@ -11,7 +11,7 @@ use Rattle.mg_node.specs.Ports.{ports_in}
 use Rattle.mg_node.specs.Delivery.{Delivers}
 use Rattle.mg_node.specs.Leading.{output_at, Leads}
 use Rattle.mg_node.proofs.Leads.{leads_port}
-use Rattle.mg_turns.specs.Parts.{PartView, FrameView, nodes_in, owner_in, ports_by, an_engine, an_intake, tally_since, came_to, Follows, FitsSome, source_at, EdgesFit}
+use Rattle.mg_turns.specs.Parts.{PartView, LayoutView, nodes_in, owner_in, ports_by, an_engine, an_intake, tally_since, came_to, Follows, FitsSome, source_at, EdgesFit}
 use Rattle.mg_turns.specs.Turns.{Sight}
 use Rattle.mg_turns.specs.Rule.{Sights, doubled, word_of}
 use Rattle.mg_turns.specs.Sights.{Finds, left_two}
@@ -25,16 +25,16 @@ use Rattle.mg_turns.proofs.Appends.{EdgeParts, ends, leads_of, edge_ports, bring
 use Rattle.mg_turns.proofs.ArrivesWithin.{arrives_count, others_like}
 use Rattle.mg_turns.proofs.Tallies.{came_more, brought_word}
 
-pub source_there : (key : FrameView) (k : ℕ) (e : Edge) (source size : ℕ) → EdgesFit key → slice_get key.plan.edges k ≡ Some e → source ≡ source_at key.plan e → length key.parts ≡ size → source < size
+pub source_there : (key : LayoutView) (k : ℕ) (e : Edge) (source size : ℕ) → EdgesFit key → slice_get key.plan.edges k ≡ Some e → source ≡ source_at key.plan e → length key.parts ≡ size → source < size
 source_there key k e source size edges there is long = (let s = (edges.sources k e there).within in omega (arith, s, is, long))
 
-pub ends_apart : (key : FrameView) (k : ℕ) (e : Edge) (source : ℕ) → EdgesFit key → slice_get key.plan.edges k ≡ Some e → source ≡ source_at key.plan e → source ≡ 2 * e.node → ⊥
+pub ends_apart : (key : LayoutView) (k : ℕ) (e : Edge) (source : ℕ) → EdgesFit key → slice_get key.plan.edges k ≡ Some e → source ≡ source_at key.plan e → source ≡ 2 * e.node → ⊥
 ends_apart key k e source edges there is same = source_apart key (source_at key.plan e) e.node (edges.sources k e there) (edges.consumers k e there) (sym is ∙ same)
 
-module _ (m n : Sat) (key : FrameView) (k : ℕ) (e : Edge) (source : ℕ) (p q : PartView) (r s : ℕ) (key-is : m.0.key ≡ key) (idle : length m.0.turns ≡ 0) (edges : EdgesFit key) (there : slice_get key.plan.edges k ≡ Some e)
+module _ (m n : Sat) (key : LayoutView) (k : ℕ) (e : Edge) (source : ℕ) (p q : PartView) (r s : ℕ) (key-is : m.0.key ≡ key) (idle : length m.0.turns ≡ 0) (edges : EdgesFit key) (there : slice_get key.plan.edges k ≡ Some e)
     (source-is : source ≡ source_at key.plan e) (t : TakenPair m source p r (2 * e.node) q s n) where
   pub from_engine : is_some p.engine ≡ true
-  from_engine = (let o = edges.sources k e there in has_engine key source o.owner p (subst (λ (x : FrameView). Follows x source p) key-is t.1.1.follows) (ap (owner_in key) source-is ∙ o.is))
+  from_engine = (let o = edges.sources k e there in has_engine key source o.owner p (subst (λ (x : LayoutView). Follows x source p) key-is t.1.1.follows) (ap (owner_in key) source-is ∙ o.is))
 
   to_follows : Follows key (2 * e.node) q
   to_follows = pair_intake m n key source (2 * e.node) p q r s key-is t
@@ -73,15 +73,15 @@ module _ (m n : Sat) (key : FrameView) (k : ℕ) (e : Edge) (source : ℕ) (p q 
       brought_counted word counts =
           let q-is : q ≡ an_intake i = intake_kind key e.node q i to_follows (edges.consumers k e there) is' in
           let same : n.0.key ≡ key = ap (λ (x : Sat). x.0.key) t.2.0 ∙ (ap (λ (x : Sat). x.0.key) t.1.0 ∙ key-is) in
-          counts ∙ (ap (λ (x : FrameView). doubled (tally_since x (2 * e.node) q + packets_in result)) key-is
+          counts ∙ (ap (λ (x : LayoutView). doubled (tally_since x (2 * e.node) q + packets_in result)) key-is
           ∙ (ap (λ (x : PartView). doubled (tally_since key (2 * e.node) x + packets_in result)) q-is
           ∙ (ap doubled (brought_word key (2 * e.node) i j (packets_in result) (subst (λ (x : PartView). Follows key (2 * e.node) x) q-is to_follows) came)
-          ∙ ap (λ (x : FrameView). word_of x (2 * e.node) (an_intake j)) (sym same))))
+          ∙ ap (λ (x : LayoutView). word_of x (2 * e.node) (an_intake j)) (sym same))))
 
       pub has_brought : j.claimed ≡ i.claimed → (n₃ n₄ : Sat) → n₃ ≡ (gave n.0 (2 * e.node) (an_intake j), rest n.1) → n₄ ≡ (gave n₃.0 source (an_engine g), rest n₃.1) → HasBrought result (source_at key.plan e) e m.0 n₄.0
       has_brought claimed n₃ n₄ back back' =
           let o = edges.sources k e there in
-          let from : Follows key source p = subst (λ (x : FrameView). Follows x source p) key-is t.1.1.follows in
+          let from : Follows key source p = subst (λ (x : LayoutView). Follows x source p) key-is t.1.1.follows in
           let p-is : p ≡ an_engine g = engine_kind key source o.owner p g from (ap (owner_in key) source-is ∙ o.is) is in
           let q-is : q ≡ an_intake i = intake_kind key e.node q i to_follows (edges.consumers k e there) is' in
           let old = ap (λ (x : Sat). x.0.key) t.1.0 in
@@ -95,7 +95,7 @@ module _ (m n : Sat) (key : FrameView) (k : ℕ) (e : Edge) (source : ℕ) (p q 
             intake = i;
             intake_now = j;
             engine_found = subst (λ (x : ℕ). Finds m.0 x (an_engine g)) source-is found;
-            intake_found = subst (λ (x : PartView). Finds m.0 (2 * e.node) x) q-is (record { follows = subst (λ (x : FrameView). Follows x (2 * e.node) q) old t.2.1.follows; sights = sights });
+            intake_found = subst (λ (x : PartView). Finds m.0 (2 * e.node) x) q-is (record { follows = subst (λ (x : LayoutView). Follows x (2 * e.node) q) old t.2.1.follows; sights = sights });
             behind = both_ends.joined g i is is';
             moved = moved;
             claimed = claimed;

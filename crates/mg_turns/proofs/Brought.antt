@@ -16,7 +16,7 @@ use Rattle.mg_node.specs.Delivery.{missing, with_packets, delivered, Delivers}
 use Rattle.mg_node.specs.IntakeStanding.{HasGrown}
 use Rattle.mg_node.proofs.PortSteps.{queue-there}
 use Rattle.mg_node.proofs.Leads.{leads_port}
-use Rattle.mg_turns.specs.Parts.{FrameView, an_engine, an_intake, arrived_in, Follows, FitsSome, source_at, EdgesFit}
+use Rattle.mg_turns.specs.Parts.{LayoutView, an_engine, an_intake, arrived_in, Follows, FitsSome, source_at, EdgesFit}
 use Rattle.mg_turns.specs.Sights.{sight, left_two}
 use Rattle.mg_turns.specs.Standings.{bound_in, laid_in, laid_bound_in, known_came, known_bound, known_laid, known_laid_bound}
 use Rattle.mg_turns.specs.Calls.{HasBrought, TriesAppend}
@@ -64,7 +64,7 @@ bound_by n raised o port before now there held d all =
 
 -- What the seat knows.
 
-module _ (key : FrameView) (k : ℕ) (e : Edge) (v : View) (exists : FitsSome key) (edges : EdgesFit key) (there : slice_get key.plan.edges k ≡ Some e) (key-is : v.key ≡ key) where
+module _ (key : LayoutView) (k : ℕ) (e : Edge) (v : View) (exists : FitsSome key) (edges : EdgesFit key) (there : slice_get key.plan.edges k ≡ Some e) (key-is : v.key ≡ key) where
   source : ℕ
   source = source_at key.plan e
 
@@ -73,8 +73,8 @@ module _ (key : FrameView) (k : ℕ) (e : Edge) (v : View) (exists : FitsSome ke
     parts = record {
       edges = edges;
       there = there;
-      engine = subst (λ (x : FrameView). Follows x (source_at key.plan e) (an_engine h.engine)) key-is h.engine_found.follows;
-      intake = subst (λ (x : FrameView). Follows x (2 * e.node) (an_intake h.intake)) key-is h.intake_found.follows;
+      engine = subst (λ (x : LayoutView). Follows x (source_at key.plan e) (an_engine h.engine)) key-is h.engine_found.follows;
+      intake = subst (λ (x : LayoutView). Follows x (2 * e.node) (an_intake h.intake)) key-is h.intake_found.follows;
       joined = λ x y at-x at-y. subst (λ (g : EngineView). HasGrown (port_queue y.waits e.port) (output_at g e)) (engine_of_part (an_engine h.engine) h.engine x refl at-x)
           (subst (λ (i : IntakeView). HasGrown (port_queue i.waits e.port) (output_at h.engine e)) (intake_of_part (an_intake h.intake) h.intake y refl at-y) h.behind);
       engine_is = refl;

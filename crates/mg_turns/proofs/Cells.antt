@@ -9,7 +9,7 @@ use Rattle.mg_node.specs.declared.claimed.Claimed.{Claimed}
 use Rattle.mg_node.specs.Standing.{EngineGrows}
 use Rattle.mg_node.specs.IntakeStanding.{Stays}
 use Rattle.mg_node.specs.Ports.{port_queue}
-use Rattle.mg_turns.specs.Parts.{PartView, FrameView, nodes_in, an_engine, an_intake, AgreeParts, Follows}
+use Rattle.mg_turns.specs.Parts.{PartView, LayoutView, nodes_in, an_engine, an_intake, AgreeParts, Follows}
 use Rattle.mg_turns.specs.Turns.{Turn, Sight}
 use Rattle.mg_turns.specs.Rule.{Sights, has_turn, word_of}
 use Rattle.mg_turns.specs.Sights.{Finds, has_after, cell_left}
@@ -54,13 +54,13 @@ engine_again n n₃ node k f has g slots follows back = subst (λ (s : Sat). Giv
     (record { word = g.u.word; tally = g.u.tally; note = f }, [], record { slot = slots; turns = ap (λ (l : List Turn). with_note f (left l)) g.gives.turns; word_is = g.node; grows = part_same f; follows = follows }, like_self f, joins_self f)
 
 -- what is out are an engine and an intake
-pub pair_engine : (m n : Sat) (key : FrameView) (node : ℕ) (p q : PartView) (r s : ℕ) → m.0.key ≡ key → node < nodes_in key → TakenPair m (2 * node + 1) p r (2 * node) q s n → Follows key (2 * node + 1) p
-pair_engine m n key node p q r s key-is within t = subst (λ (k : FrameView). Follows k (2 * node + 1) p) key-is t.1.1.follows
+pub pair_engine : (m n : Sat) (key : LayoutView) (node : ℕ) (p q : PartView) (r s : ℕ) → m.0.key ≡ key → node < nodes_in key → TakenPair m (2 * node + 1) p r (2 * node) q s n → Follows key (2 * node + 1) p
+pair_engine m n key node p q r s key-is within t = subst (λ (k : LayoutView). Follows k (2 * node + 1) p) key-is t.1.1.follows
 
-pub pair_intake : (m n : Sat) (key : FrameView) (first second : ℕ) (p q : PartView) (r s : ℕ) → m.0.key ≡ key → TakenPair m first p r second q s n → Follows key second q
-pair_intake m n key first second p q r s key-is t = subst (λ (k : FrameView). Follows k second q) (ap (λ (s : Sat). s.0.key) t.1.0 ∙ key-is) t.2.1.follows
+pub pair_intake : (m n : Sat) (key : LayoutView) (first second : ℕ) (p q : PartView) (r s : ℕ) → m.0.key ≡ key → TakenPair m first p r second q s n → Follows key second q
+pair_intake m n key first second p q r s key-is t = subst (λ (k : LayoutView). Follows k second q) (ap (λ (s : Sat). s.0.key) t.1.0 ∙ key-is) t.2.1.follows
 
-pub takes_cell : (m n : Sat) (key : FrameView) (node : ℕ) (p q : PartView) (r s : ℕ) (e : EngineView) (laid : ℕ) (i : IntakeView) → m.0.key ≡ key → node < nodes_in key → TakenPair m (2 * node + 1) p r (2 * node) q s n
+pub takes_cell : (m n : Sat) (key : LayoutView) (node : ℕ) (p q : PartView) (r s : ℕ) (e : EngineView) (laid : ℕ) (i : IntakeView) → m.0.key ≡ key → node < nodes_in key → TakenPair m (2 * node + 1) p r (2 * node) q s n
     → p.engine ≡ Some e → q.intake ≡ Some i → laid ≡ e.laid → TakesCell key m node e r laid i s n
 takes_cell m n key node p q r s e laid i key-is within t is is' laid-is =
     let one = t.1 in let two = t.2 in
@@ -70,11 +70,11 @@ takes_cell m n key node p q r s e laid i key-is within t is is' laid-is =
     let q-is : q ≡ an_intake i = intake_kind key node q i intake (before within) is' in
     let back = ap (λ (x : Sat). x.0.key) one.0 in
     let sights : Sights (2 * node) q m.0.seen = subst (λ (x : List Sight). Sights (2 * node) q x) (ap (λ (x : Sat). x.0.seen) one.0) two.1.sights in
-    let agree : AgreeParts p q = two.1.agree node 0 (turn_of_word m.0.key (2 * node + 1) p) refl (subst (λ (k : FrameView). node < nodes_in k) (sym (back ∙ key-is)) within) (ap (λ (x : Sat). get_elem? x.0.turns 0) one.0) refl in
+    let agree : AgreeParts p q = two.1.agree node 0 (turn_of_word m.0.key (2 * node + 1) p) refl (subst (λ (k : LayoutView). node < nodes_in k) (sym (back ∙ key-is)) within) (ap (λ (x : Sat). get_elem? x.0.turns 0) one.0) refl in
     record {
       found = record {
         engine_found = subst (λ (x : PartView). Finds m.0 (2 * node + 1) x) p-is (record { follows = one.1.follows; sights = one.1.sights });
-        intake_found = subst (λ (x : PartView). Finds m.0 (2 * node) x) q-is (record { follows = subst (λ (k : FrameView). Follows k (2 * node) q) back two.1.follows; sights = sights });
+        intake_found = subst (λ (x : PartView). Finds m.0 (2 * node) x) q-is (record { follows = subst (λ (k : LayoutView). Follows k (2 * node) q) back two.1.follows; sights = sights });
         agree = agree e i is is';
       };
       within = within;
@@ -89,7 +89,7 @@ takes_cell m n key node p q r s e laid i key-is within t is is' laid-is =
     }
 
 -- with both parts of a node out
-module _ (key : FrameView) (m : Sat) (node : ℕ) (e : EngineView) (engine_word laid : ℕ) (i : IntakeView) (intake_word : ℕ) (n : Sat) (key-is : m.0.key ≡ key) (idle : length m.0.turns ≡ 0) (t : TakesCell key m node e engine_word laid i intake_word n) where
+module _ (key : LayoutView) (m : Sat) (node : ℕ) (e : EngineView) (engine_word laid : ℕ) (i : IntakeView) (intake_word : ℕ) (n : Sat) (key-is : m.0.key ≡ key) (idle : length m.0.turns ≡ 0) (t : TakesCell key m node e engine_word laid i intake_word n) where
   pub cell_parts : CellParts key node (an_engine e) (an_intake i) e i
   cell_parts = record {
     within = t.within;
@@ -106,7 +106,7 @@ module _ (key : FrameView) (m : Sat) (node : ℕ) (e : EngineView) (engine_word 
 
   module _ {X : Type 0} (r : Claimed X) (f : EngineView) (k : IntakeView) (facts : ClaimFacts key node (an_engine e) (an_intake i) (an_engine f) (an_intake k) m.0.work (has_after r m.0.work)) where
     pub cell_follows : Follows n.0.key (2 * node + 1) (an_engine f)
-    cell_follows = subst (λ (s : Sat). Follows s.0.key (2 * node + 1) (an_engine f)) (sym t.then) (subst (λ (x : FrameView). Follows x (2 * node + 1) (an_engine f)) (sym key-is) facts.follows_e)
+    cell_follows = subst (λ (s : Sat). Follows s.0.key (2 * node + 1) (an_engine f)) (sym t.then) (subst (λ (x : LayoutView). Follows x (2 * node + 1) (an_engine f)) (sym key-is) facts.follows_e)
 
     pub cell_back : GivesClaim n node (an_intake k) (an_engine f) (has_after r n.0.work)
     cell_back = subst (λ (s : Sat). GivesClaim s node (an_intake k) (an_engine f) (has_after r s.0.work)) (sym t.then) (record {
@@ -117,9 +117,9 @@ module _ (key : FrameView) (m : Sat) (node : ℕ) (e : EngineView) (engine_word 
         turns = ap (λ (l : List Turn). turn_of_word m.0.key (2 * node) (an_intake i) ∷ turn_of_word m.0.key (2 * node + 1) (an_engine e) ∷ l) (nil m.0.turns idle);
         word_is = refl;
         grows = facts.grows;
-        follows = subst (λ (x : FrameView). Follows x (2 * node) (an_intake k)) (sym key-is) facts.follows_i;
+        follows = subst (λ (x : LayoutView). Follows x (2 * node) (an_intake k)) (sym key-is) facts.follows_i;
       };
-      within = subst (λ (x : FrameView). node < nodes_in x) (sym key-is) t.within;
+      within = subst (λ (x : LayoutView). node < nodes_in x) (sym key-is) t.within;
       node = refl;
       grew = facts.grew;
       agree = facts.agree;
@@ -133,4 +133,4 @@ module _ (key : FrameView) (m : Sat) (node : ℕ) (e : EngineView) (engine_word 
 
   pub cell_counted : (f : EngineView) (k : IntakeView) → EngineGrows e f → ((port : ℕ) → Stays (port_queue i.waits port) (port_queue k.waits port)) → CellWords n.0.key node f engine_word laid k intake_word
   cell_counted f k grows stays = subst (λ (s : Sat). CellWords s.0.key node f engine_word laid k intake_word) (sym t.then)
-      (cell_words m.0.key node e f i k engine_word laid intake_word (subst (λ (x : FrameView). Follows x (2 * node + 1) (an_engine e)) (sym key-is) t.engine) t.engine_word_is t.laid_is t.intake_word_is grows stays)
+      (cell_words m.0.key node e f i k engine_word laid intake_word (subst (λ (x : LayoutView). Follows x (2 * node + 1) (an_engine e)) (sym key-is) t.engine) t.engine_word_is t.laid_is t.intake_word_is grows stays)

@@ -24,7 +24,7 @@ use Rattle.mg_node.proofs.Answering.{loop_cell_by}
 use Rattle.mg_node.proofs.Making.{some_same}
 use Rattle.mg_node.specs.Out.{IsMissing, GoesOut}
 use Rattle.mg_node.proofs.StaysOut.{unrun_goes, further_goes}
-use Rattle.mg_turns.specs.Parts.{PartView, FrameView, at, nodes_in, owner_in, an_engine, an_intake, PartGrows, IsKind, LawfulPart, Fits, FitsSome, gone_by, gone_in, first_by, first_in, claimed_by, Follows, AgreeParts, IsMissingAt}
+use Rattle.mg_turns.specs.Parts.{PartView, LayoutView, at, nodes_in, owner_in, an_engine, an_intake, PartGrows, IsKind, LawfulPart, Fits, FitsSome, gone_by, gone_in, first_by, first_in, claimed_by, Follows, AgreeParts, IsMissingAt}
 use Rattle.mg_turns.specs.Code.Plays.{Joins, Goes, Outs}
 use Rattle.mg_turns.specs.Sights.{has_after}
 use Rattle.mg_turns.proofs.Grows.{part_further}
@@ -67,10 +67,10 @@ pub work_goes : (X : Type 0) (job : LoggedJob) (n : ℕ) (work : WorkView) (e f 
 work_goes X job n work e f i k h now out claims = elim claims [
   | inl unrun ↦ unrun_goes job n e f work h unrun.1 out
   | inr further ↦ elim further.1 [
-    | inl called ↦ (let t = called.0 in further_goes job n e f (Call e.claimed) 1 t.bench work h now t.hands (ap (λ (w : WorkView). w.number) t.work_is) out)
+    | inl called ↦ (let t = called.0 in further_goes job n e f (Call e.claimed) 1 t.context work h now t.hands (ap (λ (w : WorkView). w.number) t.work_is) out)
     | inr other ↦ elim other [
-      | inl closes ↦ (let t = closes.0 in further_goes job n e f Close 0 t.bench work h now t.hands (ap (λ (w : WorkView). w.number) t.work_is) out)
-      | inr t ↦ further_goes job n e f (Process t.at) 1 t.bench work h now t.hands (ap (λ (w : WorkView). w.number) t.work_is) out
+      | inl closes ↦ (let t = closes.0 in further_goes job n e f Close 0 t.context work h now t.hands (ap (λ (w : WorkView). w.number) t.work_is) out)
+      | inr t ↦ further_goes job n e f (Process t.at) 1 t.context work h now t.hands (ap (λ (w : WorkView). w.number) t.work_is) out
     ]
   ]
 ]
@@ -207,7 +207,7 @@ intake_joins q i k is stays = record {
 }
 
 -- the parts of a node, as they lie in a table
-pub record CellParts (key : FrameView) (n : ℕ) (p q : PartView) (e : EngineView) (i : IntakeView) : Type 0 where
+pub record CellParts (key : LayoutView) (n : ℕ) (p q : PartView) (e : EngineView) (i : IntakeView) : Type 0 where
   pub within : n < nodes_in key
   pub engine : Follows key (2 * n + 1) p
   pub intake : Follows key (2 * n) q
@@ -215,19 +215,19 @@ pub record CellParts (key : FrameView) (n : ℕ) (p q : PartView) (e : EngineVie
   pub engine_is : p.engine ≡ Some e
   pub intake_is : q.intake ≡ Some i
 
-pub lawful_at : (key : FrameView) (job : LoggedJob) (word : ℕ) (o : Owner) (p : PartView) (e : EngineView) → Fits job key → Follows key word p → owner_in key word ≡ engine_of o → p.engine ≡ Some e → LawfulEngine job o e
+pub lawful_at : (key : LayoutView) (job : LoggedJob) (word : ℕ) (o : Owner) (p : PartView) (e : EngineView) → Fits job key → Follows key word p → owner_in key word ≡ engine_of o → p.engine ≡ Some e → LawfulEngine job o e
 lawful_at key job word o p e fits follows of is = (subst (λ (w : Whose). LawfulPart job w p) of (follows.lawful job fits)) e is
 
-pub lawful_e : (key : FrameView) (job : LoggedJob) (n : ℕ) (p : PartView) (e : EngineView) → Fits job key → Follows key (2 * n + 1) p → n < nodes_in key → p.engine ≡ Some e → LawfulEngine job (of_node n) e
+pub lawful_e : (key : LayoutView) (job : LoggedJob) (n : ℕ) (p : PartView) (e : EngineView) → Fits job key → Follows key (2 * n + 1) p → n < nodes_in key → p.engine ≡ Some e → LawfulEngine job (of_node n) e
 lawful_e key job n p e fits follows within is = lawful_at key job (2 * n + 1) (of_node n) p e fits follows (engine_at (nodes_in key) n within) is
 
-pub lawful_i : (key : FrameView) (job : LoggedJob) (n : ℕ) (q : PartView) (i : IntakeView) → Fits job key → Follows key (2 * n) q → n ≤ nodes_in key → q.intake ≡ Some i → LawfulIntake job n i
+pub lawful_i : (key : LayoutView) (job : LoggedJob) (n : ℕ) (q : PartView) (i : IntakeView) → Fits job key → Follows key (2 * n) q → n ≤ nodes_in key → q.intake ≡ Some i → LawfulIntake job n i
 lawful_i key job n q i fits follows within is = (subst (λ (w : Whose). LawfulPart job w q) (intake_at (nodes_in key) n within) (follows.lawful job fits)) i is
 
 pub before : {a b : ℕ} → a < b → a ≤ b
 before less = omega (arith, less)
 
-pub is_cell : (key : FrameView) (n : ℕ) (p q : PartView) (e : EngineView) (i : IntakeView) → CellParts key n p q e i → FitsSome key → AreCell e i
+pub is_cell : (key : LayoutView) (n : ℕ) (p q : PartView) (e : EngineView) (i : IntakeView) → CellParts key n p q e i → FitsSome key → AreCell e i
 is_cell key n p q e i c exists = record {
   job = exists.job;
   number = n;
@@ -237,7 +237,7 @@ is_cell key n p q e i c exists = record {
 }
 
 -- what a claim makes of them
-pub record ClaimFacts (key : FrameView) (n : ℕ) (p q p' q' : PartView) (had has : Option WorkView) : Type 0 where
+pub record ClaimFacts (key : LayoutView) (n : ℕ) (p q p' q' : PartView) (had has : Option WorkView) : Type 0 where
   pub grew : PartGrows p p'
   pub grows : PartGrows q q'
   pub follows_e : Follows key (2 * n + 1) p'
@@ -247,14 +247,14 @@ pub record ClaimFacts (key : FrameView) (n : ℕ) (p q p' q' : PartView) (had ha
   pub joins : Joins p p'
   pub joins_there : Joins q q'
 
-pub engine_kind : (key : FrameView) (word : ℕ) (o : Owner) (p : PartView) (e : EngineView) → Follows key word p → owner_in key word ≡ engine_of o → p.engine ≡ Some e → p ≡ an_engine e
+pub engine_kind : (key : LayoutView) (word : ℕ) (o : Owner) (p : PartView) (e : EngineView) → Follows key word p → owner_in key word ≡ engine_of o → p.engine ≡ Some e → p ≡ an_engine e
 engine_kind key word o p e f of is = let k = subst (λ (w : Whose). IsKind w p) of f.kind in k.1 ∙ ap an_engine (engine_of_part p k.0 e (ap (λ (x : PartView). x.engine) k.1) is)
 
-pub intake_kind : (key : FrameView) (n : ℕ) (q : PartView) (i : IntakeView) → Follows key (2 * n) q → n ≤ nodes_in key → q.intake ≡ Some i → q ≡ an_intake i
+pub intake_kind : (key : LayoutView) (n : ℕ) (q : PartView) (i : IntakeView) → Follows key (2 * n) q → n ≤ nodes_in key → q.intake ≡ Some i → q ≡ an_intake i
 intake_kind key n q i f within is = let k = subst (λ (w : Whose). IsKind w q) (intake_at (nodes_in key) n within) f.kind in k.1 ∙ ap an_intake (intake_of_part q k.0 i (ap (λ (x : PartView). x.intake) k.1) is)
 
 -- an engine that came of the one at its word
-pub engine_follows_on : (key : FrameView) (word : ℕ) (o : Owner) (p : PartView) (e f : EngineView) → Follows key word p → owner_in key word ≡ engine_of o → p.engine ≡ Some e → EngineGrows e f → f.first ≡ e.first → gones f ≡ gones e
+pub engine_follows_on : (key : LayoutView) (word : ℕ) (o : Owner) (p : PartView) (e f : EngineView) → Follows key word p → owner_in key word ≡ engine_of o → p.engine ≡ Some e → EngineGrows e f → f.first ≡ e.first → gones f ≡ gones e
     → ((job : LoggedJob) → Fits job key → LawfulEngine job o f) → PartGrows p (an_engine f) × Follows key word (an_engine f)
 engine_follows_on key word o p e f h of is grows first gone lawful =
     let p-is : p ≡ an_engine e = engine_kind key word o p e h of is in
@@ -272,7 +272,7 @@ engine_follows_on key word o p e f h of is grows first gone lawful =
     )
 
 -- an intake that has grown and is lawful follows the key, as the one before did
-pub intake_follows_on : (key : FrameView) (n : ℕ) (q : PartView) (i k : IntakeView) → Follows key (2 * n) q → n ≤ nodes_in key → q.intake ≡ Some i → IntakeGrows i k → (n ≡ nodes_in key → k.claimed ≡ i.claimed)
+pub intake_follows_on : (key : LayoutView) (n : ℕ) (q : PartView) (i k : IntakeView) → Follows key (2 * n) q → n ≤ nodes_in key → q.intake ≡ Some i → IntakeGrows i k → (n ≡ nodes_in key → k.claimed ≡ i.claimed)
     → ((job : LoggedJob) → Fits job key → LawfulIntake job n k) → PartGrows q (an_intake k) × Follows key (2 * n) (an_intake k)
 intake_follows_on key n q i k h within is grows same lawful =
     let of = intake_at (nodes_in key) n within in
@@ -291,7 +291,7 @@ intake_follows_on key n q i k h within is grows same lawful =
     )
 
 -- the facts of a claim, from what any steps on a cell leave of its engine and intake
-pub facts_by : (key : FrameView) (n : ℕ) (p q : PartView) (e f : EngineView) (i k : IntakeView) (had has : Option WorkView) → CellParts key n p q e i → FitsSome key
+pub facts_by : (key : LayoutView) (n : ℕ) (p q : PartView) (e f : EngineView) (i k : IntakeView) (had has : Option WorkView) → CellParts key n p q e i → FitsSome key
     → f.first ≡ e.first → gones f ≡ gones e → EngineGrows e f → IntakeGrows i k → ((port : ℕ) → Stays (port_queue i.waits port) (port_queue k.waits port))
     → ((job : LoggedJob) → LawfulEngine job (of_node n) e → LawfulIntake job n i → Agree e i → LawfulEngine job (of_node n) f × LawfulIntake job n k × Agree f k)
     → Outs n p (an_engine f) had has
@@ -314,7 +314,7 @@ facts_by key n p q e f i k had has c exists first gone grows grows_i stays lawfu
       outs = outs;
     }
 
-pub claim_facts : {X : Type 0} (key : FrameView) (n : ℕ) (p q : PartView) (e f : EngineView) (i k : IntakeView) (r : Claimed X) → CellParts key n p q e i → FitsSome key
+pub claim_facts : {X : Type 0} (key : LayoutView) (n : ℕ) (p q : PartView) (e f : EngineView) (i k : IntakeView) (r : Claimed X) → CellParts key n p q e i → FitsSome key
     → Claims {C = X} r e f i k → GivesOut {C = X} r f → EngineGrows e f → IntakeGrows i k
     → ((job : LoggedJob) (number : ℕ) → LawfulEngine job (of_node number) e → LawfulIntake job number i → Agree e i → LawfulClaim {C = X} job number r f k)
     → ClaimFacts key n p q (an_engine f) (an_intake k) None (has_after r None)
@@ -327,13 +327,13 @@ claim_facts {X} key n p q e f i k r c exists claims out grows grows_i lawful =
     (λ job h hi agree. let l = lawful job n h hi agree in (l.lawful_engine, l.lawful_intake, l.agree))
     (claim_outs {X = X} job n p r e f i k c.engine_is h hi agree (lawful job n h hi agree).lawful_engine claims out)
 
-pub has_engine : (key : FrameView) (word : ℕ) (o : Owner) (p : PartView) → Follows key word p → owner_in key word ≡ engine_of o → is_some p.engine ≡ true
+pub has_engine : (key : LayoutView) (word : ℕ) (o : Owner) (p : PartView) → Follows key word p → owner_in key word ≡ engine_of o → is_some p.engine ≡ true
 has_engine key word o p f of = ap (λ (x : PartView). is_some x.engine) (subst (λ (w : Whose). IsKind w p) of f.kind).1
 
-pub has_intake : (key : FrameView) (n : ℕ) (p : PartView) → Follows key (2 * n) p → n ≤ nodes_in key → is_some p.intake ≡ true
+pub has_intake : (key : LayoutView) (n : ℕ) (p : PartView) → Follows key (2 * n) p → n ≤ nodes_in key → is_some p.intake ≡ true
 has_intake key n p f within = ap (λ (x : PartView). is_some x.intake) (subst (λ (w : Whose). IsKind w p) (intake_at (nodes_in key) n within) f.kind).1
 
-pub lawful_claim : {X : Type 0} (key : FrameView) (n : ℕ) (p q : PartView) (e f : EngineView) (i k : IntakeView) (r : Claimed X) → CellParts key n p q e i → (job : LoggedJob) → Fits job key
+pub lawful_claim : {X : Type 0} (key : LayoutView) (n : ℕ) (p q : PartView) (e f : EngineView) (i k : IntakeView) (r : Claimed X) → CellParts key n p q e i → (job : LoggedJob) → Fits job key
     → ((job : LoggedJob) (number : ℕ) → LawfulEngine job (of_node number) e → LawfulIntake job number i → Agree e i → LawfulClaim {C = X} job number r f k) → IsLawfulWork {C = X} job r
 lawful_claim key n p q e f i k r c job fits lawful =
     (lawful job n (lawful_e key job n p e fits c.engine c.within c.engine_is) (lawful_i key job n q i fits c.intake (before c.within) c.intake_is) (c.agree e i c.engine_is c.intake_is)).work

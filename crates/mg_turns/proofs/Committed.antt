@@ -10,7 +10,7 @@ use Rattle.mg_calc.specs.declared.cause.Cause.{Cause}
 use Rattle.mg_calc.specs.declared.emission.Laid.{Laid}
 use Rattle.mg_calc.specs.declared.node_fault.Phase.{Phase}
 use Rattle.mg_calc.specs.declared.node_fault.Phase.TheVariants.{Open, Call, Process, Close}
-use Rattle.mg_node.specs.Views.{IntakeView, BenchView, WorkView, PerformedView, OutcomeView, EntryView, EngineView}
+use Rattle.mg_node.specs.Views.{IntakeView, ContextView, WorkView, PerformedView, OutcomeView, EntryView, EngineView}
 use Rattle.mg_node.specs.declared.claimed.Claimed.{Claimed}
 use Rattle.mg_node.specs.declared.claimed.Claimed.TheVariants.{Work, Answered, NotReady, InFlightFull, Draining, Ended, OutOfMemory}
 use Rattle.mg_node.specs.Job.{LoggedJob, IsTask}
@@ -21,7 +21,7 @@ use Rattle.mg_node.specs.Claims.{AreSame, Hands, TakesUnrun, Claims}
 use Rattle.mg_node.specs.Commits.{calls_in_phase, Front, with_ready, front_laid, answer_laid, has_stopped, committed_entry, window_with, front_of, fault_at, Commits}
 use Rattle.mg_node.proofs.FrontSteps.{front_stays}
 use Rattle.mg_node.proofs.EngineFronts.{is_some_map, committed_whole}
-use Rattle.mg_node.proofs.Frames.{get_other, put_there}
+use Rattle.mg_node.proofs.Layouts.{get_other, put_there}
 use Rattle.mg_node.proofs.Making.{some_same}
 use Rattle.mg_turns.specs.Told.{count_committed, committed_in, StandsBack, RunEnds}
 use Rattle.mg_turns.specs.Code.Running.{NoneCommitted}
@@ -87,7 +87,7 @@ goes_closed f goes = by f.closed (is_some f.fault) goes
 
 -- where the first entry isn't ready nothing is laid; where it is, it is laid, and then what follows
 abbrev next_front : Option ℤ → EntryView → List EntryView → PerformedView → Front → Front
-next_front offset entry entries p front = answer_laid offset entry.phase p.work.bench p.answer entries front
+next_front offset entry entries p front = answer_laid offset entry.phase p.work.context p.answer entries front
 
 first_by : (offset : Option ℤ) (entry : EntryView) (entries : List EntryView) (front : Front) (o : Option PerformedView) → has_stopped front ≡ false → ready_of entry ≡ o
     → front_laid offset (entry ∷ entries) front ≡ with_ready o front (λ q. front_laid offset entries (next_front offset entry entries q front))
@@ -251,7 +251,7 @@ unrun_counts job n e f w h t =
     let put = put_counts e.window t.place entry (record { phase = entry.phase; outcome = None; committed = false }) t.hands.there (unrun_not_committed job n e t.place entry w h t.hands.there t.hands.outcome) in
     omega (arith, step, left, put)
 
-hands_counts : (e f : EngineView) (phase : Phase) (more : ℕ) (b : BenchView) → Hands e f phase more b → committed_in f ≡ committed_in e
+hands_counts : (e f : EngineView) (phase : Phase) (more : ℕ) (b : ContextView) → Hands e f phase more b → committed_in f ≡ committed_in e
 hands_counts e f phase more b t =
     let step = ap committed_in t.now in
     let push = push_counts e.window (record { phase = phase; outcome = None; committed = false }) refl in
@@ -261,10 +261,10 @@ pub work_counts : (X : Type 0) (job : LoggedJob) (n : ℕ) (w : WorkView) (e f :
 work_counts X job n w e f i k h claims = elim claims [
   | inl unrun ↦ unrun_counts job n e f w h unrun.1
   | inr further ↦ elim further.1 [
-    | inl called ↦ (let t = called.0 in hands_counts e f (Call e.claimed) 1 t.bench t.hands)
+    | inl called ↦ (let t = called.0 in hands_counts e f (Call e.claimed) 1 t.context t.hands)
     | inr other ↦ elim other [
-      | inl closes ↦ (let t = closes.0 in hands_counts e f Close 0 t.bench t.hands)
-      | inr t ↦ hands_counts e f (Process t.at) 1 t.bench t.hands
+      | inl closes ↦ (let t = closes.0 in hands_counts e f Close 0 t.context t.hands)
+      | inr t ↦ hands_counts e f (Process t.at) 1 t.context t.hands
     ]
   ]
 ]

@@ -8,16 +8,16 @@ use Rattle.mg_node.specs.Views.{IntakeView}
 use Rattle.mg_node.specs.Job.{ports_of}
 use Rattle.mg_node.proofs.Knowing.{intake_ports}
 use Rattle.mg_node.specs.Ports.{ports_in, port_queue}
-use Rattle.mg_turns.specs.Parts.{PartView, FrameView, an_intake, Follows, FitsSome, EdgesFit}
+use Rattle.mg_turns.specs.Parts.{PartView, LayoutView, an_intake, Follows, FitsSome, EdgesFit}
 use Rattle.mg_turns.specs.Sights.{Finds}
 use Rattle.mg_turns.specs.Calls.{HasCounted}
 use Rattle.mg_turns.specs.Code.Plays.{Sat, turn_of_word, gave, GivesPlainly, HoldsTurn}
 use Rattle.mg_turns.proofs.Grows.{part_same, like_self, joins_self}
 use Rattle.mg_turns.proofs.Claims.{has_intake, intake_kind, lawful_i}
 
-module _ (m n : Sat) (key : FrameView) (k : ℕ) (e : Edge) (q : PartView) (key-is : m.0.key ≡ key) (edges : EdgesFit key) (there : slice_get key.plan.edges k ≡ Some e) (one : HoldsTurn m (2 * e.node) q n) where
+module _ (m n : Sat) (key : LayoutView) (k : ℕ) (e : Edge) (q : PartView) (key-is : m.0.key ≡ key) (edges : EdgesFit key) (there : slice_get key.plan.edges k ≡ Some e) (one : HoldsTurn m (2 * e.node) q n) where
   follows : Follows key (2 * e.node) q
-  follows = subst (λ (x : FrameView). Follows x (2 * e.node) q) key-is one.1.follows
+  follows = subst (λ (x : LayoutView). Follows x (2 * e.node) q) key-is one.1.follows
 
   pub it_is_intake : is_some q.intake ≡ true
   it_is_intake = has_intake key e.node q follows (edges.consumers k e there)

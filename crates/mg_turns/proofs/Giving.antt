@@ -14,7 +14,7 @@ use Rattle.mg_node.specs.Ports.{port_queue}
 use Rattle.mg_node.specs.Shelves.{IsOut}
 use Rattle.mg_node.specs.Claims.{Claims, GivesOut, LawfulClaim}
 use Rattle.mg_node.specs.Advances.{raised_output, advance_bound, advanced}
-use Rattle.mg_turns.specs.Parts.{FrameView, an_engine, an_intake, Follows, FitsSome, IsMissingAt}
+use Rattle.mg_turns.specs.Parts.{LayoutView, an_engine, an_intake, Follows, FitsSome, IsMissingAt}
 use Rattle.mg_turns.specs.Sights.{has_after}
 use Rattle.mg_turns.specs.Code.Plays.{Sat, GivesClaim, CellWords, Outs}
 use Rattle.mg_turns.specs.Code.Cells.{TakesCell}
@@ -45,7 +45,7 @@ raised_outs n e waits had = inl (
       (e, refl, record { place = at.place; number_is = at.number_is; entry = at.entry; there = at.there; missing = at.missing }),
 )
 
-module _ (key : FrameView) (m : Sat) (node : ℕ) (e : EngineView) (engine_word laid : ℕ) (i : IntakeView) (intake_word : ℕ) (n : Sat) (key-is : m.0.key ≡ key) (idle : length m.0.turns ≡ 0)
+module _ (key : LayoutView) (m : Sat) (node : ℕ) (e : EngineView) (engine_word laid : ℕ) (i : IntakeView) (intake_word : ℕ) (n : Sat) (key-is : m.0.key ≡ key) (idle : length m.0.turns ≡ 0)
     (t : TakesCell key m node e engine_word laid i intake_word n) (exists : FitsSome key) where
   parts : CellParts key node (an_engine e) (an_intake i) e i
   parts = cell_parts key m node e engine_word laid i intake_word n key-is idle t

@@ -13,7 +13,7 @@ use Rattle.atomic_table.specs.Table.{State, opening, keeps, takes, Allows, rest}
 use Rattle.atomic_table.specs.Table as table
 use Rattle.atomic_table.proofs.Lists.{at_snoc, at_set, set_here, set_else}
 use Rattle.mg_node.specs.Views.{WorkView}
-use Rattle.mg_turns.specs.Parts.{PartView, FrameView, at, nodes_in, owner_in, tally_of, PartGrows, IsKind, Follows, AgreeParts, IsMissingIn, source_at, JoinedParts}
+use Rattle.mg_turns.specs.Parts.{PartView, LayoutView, at, nodes_in, owner_in, tally_of, PartGrows, IsKind, Follows, AgreeParts, IsMissingIn, source_at, JoinedParts}
 use Rattle.mg_turns.specs.Turns.{Turn, Sight}
 use Rattle.mg_turns.specs.Rule.{total, view, doubled, word_of, Sights, Lies, is_turn_of, has_turn, first_view, InSlot, Noted, Shown, Ready, Orderly, Linked, Ruled}
 use Rattle.mg_turns.specs.Code.Plays.{Sat, turning, with_miss, left, HasTurn, Returns, Alike, Plainly, Lays, ClaimsInTurn, BringsInTurn, GivesTurnBack, turn_of_word, tried_at, looked_at}
@@ -36,35 +36,35 @@ even_word : (parts : List PartView) (i : ℕ) → get_or (map no_word_of parts) 
 even_word parts i = ap (λ (n : ℕ). n % 2) (no_word parts i)
 
 -- nothing came or was laid yet
-first_word : (key : FrameView) (i : ℕ) → word_of key i (at key i) ≡ 0
+first_word : (key : LayoutView) (i : ℕ) → word_of key i (at key i) ≡ 0
 first_word key i = ap doubled (nothing_past (tally_of key i (at key i)))
 
-pub follows_self : (key : FrameView) (i : ℕ) → IsKind (owner_in key i) (at key i) → i < length key.parts → Follows key i (at key i)
+pub follows_self : (key : LayoutView) (i : ℕ) → IsKind (owner_in key i) (at key i) → i < length key.parts → Follows key i (at key i)
 follows_self key i kind h = record { kind = kind; lawful = λ job fits. fits.parts i h; grows = part_same (at key i); gave_up = refl; first = refl; collector = λ _. refl }
 
-abbrev frame_of : FrameView → List PartView → FrameView
-frame_of key parts = record { plan = key.plan; parts = parts }
+abbrev layout_of : LayoutView → List PartView → LayoutView
+layout_of key parts = record { plan = key.plan; parts = parts }
 
-lies_at : (key : FrameView) (parts : List PartView) (i : ℕ) → i < length parts → get_elem? (map some (map Some parts)) i ≡ some (some (Some (at (frame_of key parts) i)))
+lies_at : (key : LayoutView) (parts : List PartView) (i : ℕ) → i < length parts → get_elem? (map some (map Some parts)) i ≡ some (some (Some (at (layout_of key parts) i)))
 lies_at key [] i h = absurd (omega arith)
 lies_at key (p ∷ ps) zero h = refl
 lies_at key (p ∷ ps) (suc i) h = lies_at key ps i (omega arith)
 
-part_at : (key : FrameView) (parts : List PartView) (i : ℕ) (p : PartView) → get_elem? (map some (map Some parts)) i ≡ some (some (Some p)) → p ≡ at (frame_of key parts) i
+part_at : (key : LayoutView) (parts : List PartView) (i : ℕ) (p : PartView) → get_elem? (map some (map Some parts)) i ≡ some (some (Some p)) → p ≡ at (layout_of key parts) i
 part_at key [] i p e = absurd (some-ne-none (some (Some p)) (sym e))
 part_at key (q ∷ qs) zero p e = sym (same_slot q p e)
 part_at key (q ∷ qs) (suc i) p e = part_at key qs i p e
 
-begins : (key : FrameView) (xs : List (Option PartView)) → xs ≡ map Some key.parts → (i : ℕ) (d : PartView) → Shown (map some xs) (first_view key ∷ []) i d → d ≡ at key i
+begins : (key : LayoutView) (xs : List (Option PartView)) → xs ≡ map Some key.parts → (i : ℕ) (d : PartView) → Shown (map some xs) (first_view key ∷ []) i d → d ≡ at key i
 begins key xs slots i d shown = ⊎_elim
     (λ (x : InSlot (map some xs) i d). part_at key key.parts i d (ap (λ (l : List (Option PartView)). get_elem? (map some l) i) (sym slots) ∙ x))
     (λ (x : Noted (first_view key ∷ []) i d). absurd (some-ne-none x.3 (sym (ap (λ (v : View). get_elem? v.turns x.1) (only (first_view key) x.0 x.2 x.4) ∙ x.5))))
     shown
 
-no_first : (key : FrameView) (j : ℕ) (v : View) (w : WorkView) → get_elem? (first_view key ∷ []) j ≡ some v → v.work ≡ Some w → ⊥
+no_first : (key : LayoutView) (j : ℕ) (v : View) (w : WorkView) → get_elem? (first_view key ∷ []) j ≡ some v → v.work ≡ Some w → ⊥
 no_first key j v w e has = none-some w (ap (λ (x : View). x.work) (only (first_view key) j v e) ∙ has)
 
-pub starts : (key : FrameView) (ws : List ℕ) (xs : List (Option PartView)) → ws ≡ map no_word_of key.parts → xs ≡ map Some key.parts → Ready key → Ruled key (opening ws xs (first_view key))
+pub starts : (key : LayoutView) (ws : List ℕ) (xs : List (Option PartView)) → ws ≡ map no_word_of key.parts → xs ≡ map Some key.parts → Ready key → Ruled key (opening ws xs (first_view key))
 starts key ws xs words slots ready = let long : length xs ≡ length key.parts = ap length slots ∙ length-map key.parts Some in let begin = begins key xs slots in (
   record {
     wide = ap length words ∙ (length-map key.parts no_word_of ∙ (sym long ∙ sym (length-map xs some)));
@@ -104,7 +104,7 @@ abbrev Less : View → View → ℕ → Type 0
 Less w v r = (p : PartView) → Sights r p v.seen → Sights r p w.seen
 
 -- a step on the word i by the seat j
-changed : (key : FrameView) (s : State (Option PartView) View) (o : Orderly key s) (i j new : ℕ) (v w : View) (hs : List (maybe.Option (Option PartView))) → get_elem? s.views j ≡ some v → i < length s.homes
+changed : (key : LayoutView) (s : State (Option PartView) View) (o : Orderly key s) (i j new : ℕ) (v w : View) (hs : List (maybe.Option (Option PartView))) → get_elem? s.views j ≡ some v → i < length s.homes
     → w.key ≡ v.key → w.portion ≡ v.portion → 0 < v.portion
     → has_turn i w + get_or s.words i 0 % 2 ≡ has_turn i v + new % 2
     → ((r : ℕ) → r ≢ i → has_turn r w ≡ has_turn r v)
@@ -183,7 +183,7 @@ abbrev Mine : State (Option PartView) View → ℕ → ℕ → ℕ → View → 
 Mine s i j new w t = (get_or (set s.words i new) t.word 0 / 2 ≡ t.tally) × ((l : ℕ) (u : View) → get_elem? (set s.views j w) l ≡ some u → Sights t.word t.note u.seen)
 
 -- the turns of a seat that takes one more
-mine : {key : FrameView} (s : State (Option PartView) View) (o : Orderly key s) (i j new : ℕ) (v w : View) (t : Turn) → get_elem? s.views j ≡ some v → Mine s i j new w t → has_turn i v ≡ 0 → ((r : ℕ) → Less w v r)
+mine : {key : LayoutView} (s : State (Option PartView) View) (o : Orderly key s) (i j new : ℕ) (v w : View) (t : Turn) → get_elem? s.views j ≡ some v → Mine s i j new w t → has_turn i v ≡ 0 → ((r : ℕ) → Less w v r)
     → (k : ℕ) (u : Turn) → get_elem? (t ∷ v.turns) k ≡ some u → Mine s i j new w u
 mine s o i j new v w t me first free sights zero u at = subst (Mine s i j new w) (some-injective t u at) first
 mine s o i j new v w t me first free sights (suc k) u at = dite (ℕ_discrete u.word i)
@@ -191,7 +191,7 @@ mine s o i j new v w t me first free sights (suc k) u at = dite (ℕ_discrete u.
     (λ ne. (ap (λ (y : ℕ). y / 2) (get_or-set_other s.words i u.word new 0 ne) ∙ o.tallies j k v u me at, kept s j v w u.word u.note me (sights u.word) (o.seen_held j k v u me at)))
 
 -- a step that leaves a word as it was, by a seat that may have counted a miss
-unmoved : (key : FrameView) (s : State (Option PartView) View) → Ruled key s → (i id misses : ℕ) (missed : Option ℕ) (v : View) → i < length s.homes → 0 < v.portion → get_elem? s.views id ≡ some v
+unmoved : (key : LayoutView) (s : State (Option PartView) View) → Ruled key s → (i id misses : ℕ) (missed : Option ℕ) (v : View) → i < length s.homes → 0 < v.portion → get_elem? s.views id ≡ some v
     → Ruled key (record { words = set s.words i (get_or s.words i 0); homes = s.homes; views = set s.views id (view v.key v.portion misses v.splits missed v.turns v.work v.seen) })
 unmoved key s ro i id misses missed v near alive me =
     let o : Orderly key s = ro.0 in let l : Linked key s.homes s.views = ro.1 in
@@ -207,14 +207,14 @@ unmoved key s ro i id misses missed v near alive me =
       links_miss key s.homes s.views l id v w me refl refl alive,
     )
 
-pub looks : (key : FrameView) (n id : ℕ) (m : Sat) (i : ℕ) → i < n → 0 < m.0.portion → Allows (Ruled key) n id m i (λ y. y) (looked_at i m)
+pub looks : (key : LayoutView) (n id : ℕ) (m : Sat) (i : ℕ) → i < n → 0 < m.0.portion → Allows (Ruled key) n id m i (λ y. y) (looked_at i m)
 looks key n id m i inside alive s ro long me _ =
     let near : i < length s.homes = omega arith in
     dite (ℕ_discrete (get_or s.words i 0 % 2) 0)
     (λ even. (m.0, keeps, tt, unmoved key s ro i id m.0.misses m.0.missed m.0 near alive me, (λ _. refl, λ odd. absurd (omega arith))))
     (λ ne. (with_miss m.0 i, keeps, tt, unmoved key s ro i id (m.0.misses + 1) (Some i) m.0 near alive me, (λ even. absurd (ne even), λ _. refl)))
 
-pub tries : (key : FrameView) (n id : ℕ) (m : Sat) (i : ℕ) → i < n → 0 < m.0.portion → has_turn i m.0 ≡ 0 → Allows (Ruled key) n id m i (λ y. bit_or y 1) (tried_at i m)
+pub tries : (key : LayoutView) (n id : ℕ) (m : Sat) (i : ℕ) → i < n → 0 < m.0.portion → has_turn i m.0 ≡ 0 → Allows (Ruled key) n id m i (λ y. bit_or y 1) (tried_at i m)
 tries key n id m i inside alive free s ro long me _ =
     let o : Orderly key s = ro.0 in let l : Linked key s.homes s.views = ro.1 in
     let x : ℕ = get_or s.words i 0 in
@@ -229,7 +229,7 @@ tries key n id m i inside alive free s ro long me _ =
     let w : View = turning m.0 (t ∷ m.0.turns) in
     let hs : List (maybe.Option (Option PartView)) = set s.homes i none in
     let all = o.turns i near in
-    let tally : x ≡ word_of m.0.key i p = lies.2 ∙ ap (λ (k : FrameView). word_of k i p) (sym key-is) in
+    let tally : x ≡ word_of m.0.key i p = lies.2 ∙ ap (λ (k : LayoutView). word_of k i p) (sym key-is) in
     let old = o.seen_free i p near even lies.1 in
     let below : (l : ℕ) (u : View) → get_elem? (set s.views id w) l ≡ some u → Sights i p u.seen = kept s id m.0 w i p me (λ q h. h) old in
     let here : get_or (set s.words i (x + 1)) i 0 ≡ x + 1 = get_or-set_same s.words i (x + 1) 0 (omega arith) in (
@@ -253,14 +253,14 @@ tries key n id m i inside alive free s ro long me _ =
           p,
           refl,
           record {
-            follows = subst (λ (k : FrameView). Follows k i p) (sym key-is) lies.3;
+            follows = subst (λ (k : LayoutView). Follows k i p) (sym key-is) lies.3;
             sights = old id m.0 me;
             agree = λ r j u e less at-u is.
-                l.matched r u.note p (subst (λ (k : FrameView). r < nodes_in k) key-is less) (inr (id, j, m.0, u, me, at-u, is, refl))
+                l.matched r u.note p (subst (λ (k : LayoutView). r < nodes_in k) key-is less) (inr (id, j, m.0, u, me, at-u, is, refl))
                 (inl (ap (λ (y : ℕ). get_elem? s.homes y) (sym e) ∙ lies.1));
             out = λ b had node. l.out id m.0 b p me had (inl (ap (λ (y : ℕ). get_elem? s.homes y) node ∙ lies.1));
             joined = λ k j e u at-k word-is at-u is.
-                l.joined k e u.note p (ap (λ (f : FrameView). slice_get f.plan.edges k) (sym key-is) ∙ at-k) (inr (id, j, m.0, u, me, at-u, is ∙ ap (λ (f : FrameView). source_at f.plan e) key-is, refl))
+                l.joined k e u.note p (ap (λ (f : LayoutView). slice_get f.plan.edges k) (sym key-is) ∙ at-k) (inr (id, j, m.0, u, me, at-u, is ∙ ap (λ (f : LayoutView). source_at f.plan e) key-is, refl))
                 (inl (ap (λ (y : ℕ). get_elem? s.homes y) (sym word-is) ∙ lies.1));
           },
           tally,
@@ -298,7 +298,7 @@ alike_same (t ∷ ts) = (refl, refl, part_same t.note, alike_same ts)
 less_else : (v w : View) (i : ℕ) (p : PartView) (r : ℕ) → w.seen ≡ record { word = i; part = p } ∷ v.seen → r ≢ i → Less w v r
 less_else v w i p r e ne q h = subst (λ (l : List Sight). Sights r q l) (sym e) ((λ z. absurd (ne (sym z))), h)
 
-pub gives : (key : FrameView) (n id : ℕ) (v w : View) (i new : ℕ) (p : PartView) (more : List (ℕ × Option PartView)) → i < n → new ≡ word_of v.key i p → HasTurn v i p → Returns v i p w → GivesTurnBack v i p w → Follows v.key i p
+pub gives : (key : LayoutView) (n id : ℕ) (v w : View) (i new : ℕ) (p : PartView) (more : List (ℕ × Option PartView)) → i < n → new ≡ word_of v.key i p → HasTurn v i p → Returns v i p w → GivesTurnBack v i p w → Follows v.key i p
     → Allows (Ruled key) n id (v, (i, Some p) ∷ more) i (λ _. new) (λ _ m. m ≡ (w, more))
 gives key n id v w i new p more inside word has-turn returns kind follows s ro long me _ =
     let o : Orderly key s = ro.0 in let l : Linked key s.homes s.views = ro.1 in let wide = o.wide in
@@ -337,7 +337,7 @@ gives key n id v w i new p more inside word has-turn returns kind follows s ro l
     (λ (a : (k ≢ id) × (get_elem? s.views k ≡ some u)). was k u a.1)
     (at_set s.views id k w u e)))
     same-length (λ r ne. set_else s.homes i r (some (Some p)) ne)
-    (λ _. (p, set_here s.homes i (some (Some p)) near, word ∙ ap (λ (k : FrameView). word_of k i p) key-is, subst (λ (k : FrameView). Follows k i p) key-is follows))
+    (λ _. (p, set_here s.homes i (some (Some p)) near, word ∙ ap (λ (k : LayoutView). word_of k i p) key-is, subst (λ (k : LayoutView). Follows k i p) key-is follows))
     (λ odd. absurd (omega arith)) in
     let alive' : 0 < w.portion = omega (arith, returns.2) in (
       w,
@@ -359,7 +359,7 @@ gives key n id v w i new p more inside word has-turn returns kind follows s ro l
       refl,
     )
 
-pub gives_at : (key : FrameView) (n id : ℕ) (m : Sat) (w : View) (i new : ℕ) (p : PartView) → i < n → new ≡ word_of m.0.key i p → HasTurn m.0 i p → Returns m.0 i p w → GivesTurnBack m.0 i p w → Follows m.0.key i p → m.1 ≡ (i, Some p) ∷ rest m.1
+pub gives_at : (key : LayoutView) (n id : ℕ) (m : Sat) (w : View) (i new : ℕ) (p : PartView) → i < n → new ≡ word_of m.0.key i p → HasTurn m.0 i p → Returns m.0 i p w → GivesTurnBack m.0 i p w → Follows m.0.key i p → m.1 ≡ (i, Some p) ∷ rest m.1
     → Allows (Ruled key) n id m i (λ _. new) (λ _ m'. m' ≡ (w, rest m.1))
 gives_at key n id m w i new p inside word has-turn returns kind follows e =
     subst (λ (l : List (ℕ × Option PartView)). Allows (Ruled key) n id (m.0, l) i (λ _. new) (λ _ m'. m' ≡ (w, rest l))) (sym e) (gives key n id m.0 w i new p (rest m.1) inside word has-turn returns kind follows)

@@ -8,7 +8,7 @@ use lib.ListN.{get_elem?}
 use Rattle.atomic_table.specs.Table.{State}
 use Rattle.atomic_table.proofs.Lists.{at_set, set_here, set_else}
 use Rattle.mg_node.specs.Views.{WorkView}
-use Rattle.mg_turns.specs.Parts.{PartView, FrameView, nodes_in, AgreeParts, IsOutIn, IsMissingIn, source_at, JoinedParts}
+use Rattle.mg_turns.specs.Parts.{PartView, LayoutView, nodes_in, AgreeParts, IsOutIn, IsMissingIn, source_at, JoinedParts}
 use Rattle.mg_calc.specs.declared.edge.Edge.{Edge}
 use Rattle.mg_turns.specs.Turns.{Turn}
 use Rattle.mg_turns.specs.Rule.{is_turn_of, has_turn, Homes, InSlot, Noted, Shown, HasWork, Linked, Orderly}
@@ -79,7 +79,7 @@ pub record SameWorks (views views' : List View) : Type 0 where
   pub apart : (j k : ℕ) (v u : View) (w x : WorkView) → j ≢ k → get_elem? views' j ≡ some v → get_elem? views' k ≡ some u → v.work ≡ Some w → u.work ≡ Some x → w.node ≡ x.node → w.number ≢ x.number
   pub kept : (n k : ℕ) → HasWork views n k → HasWork views' n k
 
-pub linked_by : (key : FrameView) (homes homes' : Homes) (views views' : List View) → Linked key homes views
+pub linked_by : (key : LayoutView) (homes homes' : Homes) (views views' : List View) → Linked key homes views
     → ((r : ℕ) (d : PartView) → Shown homes' views' r d → Was homes views r d)
     → ((r : ℕ) (d : PartView) → Shown homes' views' r d → WasBy Joins homes views r d)
     → SameWorks views views'
@@ -98,14 +98,14 @@ linked_by key homes homes' views views' l was joins works idle = record {
 }
 
 -- a part in its slot is what is shown
-pub shown_home : (key : FrameView) (s : St) → Orderly key s → (i : ℕ) (p : PartView) (d : PartView) → i < length s.homes → get_or s.words i 0 % 2 ≡ 0 → get_elem? s.homes i ≡ some (some (Some p)) → Shown s.homes s.views i d → d ≡ p
+pub shown_home : (key : LayoutView) (s : St) → Orderly key s → (i : ℕ) (p : PartView) (d : PartView) → i < length s.homes → get_or s.words i 0 % 2 ≡ 0 → get_elem? s.homes i ≡ some (some (Some p)) → Shown s.homes s.views i d → d ≡ p
 shown_home key s o i p d near even at-i shown = ⊎_elim
     (λ (x : InSlot s.homes i d). same_slot d p (sym x ∙ at-i))
     (λ (x : Noted s.views i d). absurd (omega (arith, o.turns i near, has i x.1 x.2 x.3 x.5 x.6, term_le (has_turn i) s.views x.0 x.2 x.4)))
     shown
 
 -- the note of the seat that has a part's turn is what is shown of the part
-pub shown_held : (key : FrameView) (s : St) → Orderly key s → (i j k : ℕ) (v : View) (t : Turn) (d : PartView) → i < length s.homes → get_elem? s.views j ≡ some v → get_elem? v.turns k ≡ some t → t.word ≡ i → Shown s.homes s.views i d → d ≡ t.note
+pub shown_held : (key : LayoutView) (s : St) → Orderly key s → (i j k : ℕ) (v : View) (t : Turn) (d : PartView) → i < length s.homes → get_elem? s.views j ≡ some v → get_elem? v.turns k ≡ some t → t.word ≡ i → Shown s.homes s.views i d → d ≡ t.note
 shown_held key s o i j k v t d near me at-k is shown =
     let one = o.turns i near in let mine = has i k v t at-k is in let part = term_le (has_turn i) s.views j v me in
     ⊎_elim
@@ -140,7 +140,7 @@ set_past (x ∷ xs) zero (suc k) w u ne e = e
 set_past (x ∷ xs) (suc j) zero w u ne e = e
 set_past (x ∷ xs) (suc j) (suc k) w u ne e = set_past xs j k w u (λ h. ne (ap suc h)) e
 
-idle_after : (key : FrameView) (homes : Homes) (views : List View) (l : Linked key homes views) (j : ℕ) (w : View) → 0 < w.portion → (k : ℕ) (u : View) → get_elem? (set views j w) k ≡ some u → u.portion ≡ 0 → u.work ≡ None
+idle_after : (key : LayoutView) (homes : Homes) (views : List View) (l : Linked key homes views) (j : ℕ) (w : View) → 0 < w.portion → (k : ℕ) (u : View) → get_elem? (set views j w) k ≡ some u → u.portion ≡ 0 → u.work ≡ None
 idle_after key homes views l j w alive k u e z = ⊎_elim
     (λ (q : (k ≡ j) × (w ≡ u)). absurd (omega (arith, ap (λ (x : View). x.portion) q.1)))
     (λ (q : (k ≢ j) × (get_elem? views k ≡ some u)). l.idle k u q.1 z)
@@ -153,7 +153,7 @@ same_there views j v w me same k u e = ⊎_elim
     (λ (q : (k ≢ j) × (get_elem? views k ≡ some u)). (u, q.1, refl))
     (at_set views j k w u e)
 
-pub works_set : (key : FrameView) (homes : Homes) (views : List View) (l : Linked key homes views) (j : ℕ) (v w : View) → get_elem? views j ≡ some v → w.work ≡ v.work → SameWorks views (set views j w)
+pub works_set : (key : LayoutView) (homes : Homes) (views : List View) (l : Linked key homes views) (j : ℕ) (v w : View) → get_elem? views j ≡ some v → w.work ≡ v.work → SameWorks views (set views j w)
 works_set key homes views l j v w me same = record {
   origin = λ k u x e has. let o = same_there views j v w me same k u e in (k, o.0, o.1, sym o.2 ∙ has);
   apart = λ a b u u' x x' ne e e' has has'.
@@ -174,7 +174,7 @@ own_turns R self homes views j i v t p me at-i is noted zero u r at-k e =
 own_turns R self homes views j i v t p me at-i is noted (suc k) u r at-k e = (u.note, inr (j, k, v, u, me, at-k, e, refl), self u.note)
 
 -- the turn of the word i is taken, with the part p
-pub links_take : (key : FrameView) (homes : Homes) (views : List View) (l : Linked key homes views) (j i : ℕ) (v w : View) (t : Turn) (p : PartView) → get_elem? views j ≡ some v → i < length homes → get_elem? homes i ≡ some (some (Some p))
+pub links_take : (key : LayoutView) (homes : Homes) (views : List View) (l : Linked key homes views) (j i : ℕ) (v w : View) (t : Turn) (p : PartView) → get_elem? views j ≡ some v → i < length homes → get_elem? homes i ≡ some (some (Some p))
     → w.turns ≡ t ∷ v.turns → t.word ≡ i → t.note ≡ p → w.work ≡ v.work → 0 < w.portion → Linked key (set homes i none) (set views j w)
 links_take key homes views l j i v w t p me near at-i turns is noted work alive =
     let was : (R : PartView → PartView → Type 0) → ((d : PartView) → R d d) → (r : ℕ) (d : PartView) → Shown (set homes i none) (set views j w) r d → WasBy R homes views r d = λ R self r. carried R self homes (set homes i none) views j w r
@@ -187,7 +187,7 @@ links_take key homes views l j i v w t p me near at-i turns is noted work alive 
     (idle_after key homes views l j w alive)
 
 -- a turn is missed
-pub links_miss : (key : FrameView) (homes : Homes) (views : List View) (l : Linked key homes views) (j : ℕ) (v w : View) → get_elem? views j ≡ some v → w.turns ≡ v.turns → w.work ≡ v.work → 0 < w.portion → Linked key homes (set views j w)
+pub links_miss : (key : LayoutView) (homes : Homes) (views : List View) (l : Linked key homes views) (j : ℕ) (v w : View) → get_elem? views j ≡ some v → w.turns ≡ v.turns → w.work ≡ v.work → 0 < w.portion → Linked key homes (set views j w)
 links_miss key homes views l j v w me turns work alive =
     let was : (R : PartView → PartView → Type 0) → ((d : PartView) → R d d) → (r : ℕ) (d : PartView) → Shown homes (set views j w) r d → WasBy R homes views r d = λ R self r. carried R self homes homes views j w r
     (λ q at-r. (q, inl at-r, self q))
@@ -196,7 +196,7 @@ links_miss key homes views l j v w me turns work alive =
     (works_set key homes views l j v w me work)
     (idle_after key homes views l j w alive)
 
-module _ (key : FrameView) (s : St) (o : Orderly key s) (l : Linked key s.homes s.views) (j i new : ℕ) (v w : View) (t : Turn) (ts : List Turn) (p : PartView) (me : get_elem? s.views j ≡ some v) (near : i < length s.homes)
+module _ (key : LayoutView) (s : St) (o : Orderly key s) (l : Linked key s.homes s.views) (j i new : ℕ) (v w : View) (t : Turn) (ts : List Turn) (p : PartView) (me : get_elem? s.views j ≡ some v) (near : i < length s.homes)
     (turns : v.turns ≡ t ∷ ts) (is : t.word ≡ i) (key-is : v.key ≡ key) (alive : 0 < w.portion) where
   was_noted : (k : ℕ) (u : Turn) → get_elem? v.turns k ≡ some u → Shown s.homes s.views u.word u.note
   was_noted k u at-k = inr (j, k, v, u, me, at-k, refl, refl)
@@ -245,7 +245,7 @@ module _ (key : FrameView) (s : St) (o : Orderly key s) (l : Linked key s.homes 
     pub links_lay : Lays v i p w → Linked key Then Views
     links_lay c =
         let n : ℕ = c.it.node in let d₀ : PartView = t.note in
-        let less : n < nodes_in key = subst (λ (f : FrameView). n < nodes_in f) key-is c.within in
+        let less : n < nodes_in key = subst (λ (f : LayoutView). n < nodes_in f) key-is c.within in
         let was : Shown s.homes s.views (2 * n + 1) d₀ = subst (λ (x : ℕ). Shown s.homes s.views x d₀) (is ∙ c.node) (was_noted 0 t first_is) in
         let now : (d : PartView) → Shown Then Views (2 * n + 1) d → d ≡ p = λ d sd. home_now d (subst (λ (x : ℕ). Shown Then Views x d) (sym c.node) sd) in
         let others : (R : PartView → PartView → Type 0) → ((d : PartView) → R d d) → (r : ℕ) (d : PartView) → r ≢ 2 * n + 1 → Shown Then Views r d → WasBy R s.homes s.views r d = λ R self r d ne. carried R self s.homes Then s.views j w r
@@ -320,7 +320,7 @@ module _ (key : FrameView) (s : St) (o : Orderly key s) (l : Linked key s.homes 
     pub links_claim : ClaimsInTurn v i p w → Linked key Then Views
     links_claim c =
         let n : ℕ = c.n in let d₀ : PartView = t.note in let a : Turn = c.t in let u : Turn = c.u in let few = o.few in
-        let less : n < nodes_in key = subst (λ (f : FrameView). n < nodes_in f) key-is c.within in
+        let less : n < nodes_in key = subst (λ (f : LayoutView). n < nodes_in f) key-is c.within in
         let word : i ≡ 2 * n = c.node in
         let ts-is : ts ≡ u ∷ [] = sym (ap left turns) ∙ c.before in
         let second : get_elem? v.turns 1 ≡ some u = ap (λ (x : List Turn). get_elem? x 1) turns ∙ ap (λ (x : List Turn). get_elem? x 0) ts-is in
@@ -440,8 +440,8 @@ module _ (key : FrameView) (s : St) (o : Orderly key s) (l : Linked key s.homes 
         let d₀ : PartView = t.note in let u : Turn = c.u in
         let ts-is : ts ≡ u ∷ [] = sym (ap left turns) ∙ c.before in
         let word : i ≡ 2 * c.e.node = c.node in
-        let at-e : slice_get key.plan.edges c.k ≡ Some c.e = ap (λ (f : FrameView). slice_get f.plan.edges c.k) (sym key-is) ∙ c.there in
-        let at_u : u.word ≡ source_at key.plan c.e = c.at_u ∙ ap (λ (f : FrameView). source_at f.plan c.e) key-is in
+        let at-e : slice_get key.plan.edges c.k ≡ Some c.e = ap (λ (f : LayoutView). slice_get f.plan.edges c.k) (sym key-is) ∙ c.there in
+        let at_u : u.word ≡ source_at key.plan c.e = c.at_u ∙ ap (λ (f : LayoutView). source_at f.plan c.e) key-is in
         let source = o.edges.sources c.k c.e at-e in
         let rest : w.turns ≡ left v.turns = c.now ∙ sym c.before in
         let like : Like d₀ p = subst (λ (x : PartView). Like x p) note_is c.like in
@@ -470,7 +470,7 @@ module _ (key : FrameView) (s : St) (o : Orderly key s) (l : Linked key s.homes 
               subst (λ (y : Edge). JoinedParts x y p) (sym e-is) (subst (λ (y : PartView). JoinedParts y c.e p) (sym x') c.joined))
               (λ ne.
               let old = l.joined k e X.0 d₀ at X.1 (subst (λ (y : ℕ). Shown s.homes s.views y d₀) (word ∙ ap (λ (y : ℕ). 2 * y) (sym z)) was-i) in
-              c.others k e x ne (ap (λ (f : FrameView). slice_get f.plan.edges k) key-is ∙ at) z (subst (λ (y : PartView). JoinedParts x e y) (sym note_is) (X.2.from e d₀ old)))))
+              c.others k e x ne (ap (λ (f : LayoutView). slice_get f.plan.edges k) key-is ∙ at) z (subst (λ (y : PartView). JoinedParts x e y) (sym note_is) (X.2.from e d₀ old)))))
               (λ ne.
               let Q = others (2 * e.node) q (λ z. ne (omega (arith, z, word))) sq in
               Q.2.to e x (X.2.from e Q.0 (l.joined k e X.0 Q.0 at X.1 Q.1)));

@@ -15,7 +15,7 @@ use Rattle.mg_node.specs.Commits.{SomeJobHasEngine, Commits}
 use Rattle.mg_node.proofs.Growing.{engine_further}
 use Rattle.mg_node.specs.Out.{IsMissing, ComesBack}
 use Rattle.mg_node.proofs.StaysOut.{committed_back, shelved_back}
-use Rattle.mg_turns.specs.Parts.{PartView, FrameView, at, an_engine, an_intake, FitsSome, IsOutIn, IsMissingAt, IsMissingIn}
+use Rattle.mg_turns.specs.Parts.{PartView, LayoutView, at, an_engine, an_intake, FitsSome, IsOutIn, IsMissingAt, IsMissingIn}
 use Rattle.mg_turns.specs.Code.Running.{Returned, CellSteps, IsDone, IsPutBack, SomeRound}
 use Rattle.mg_turns.specs.Rounds.{CellRounds, Stops}
 use Rattle.mg_turns.specs.Sights.{has_after}
@@ -129,7 +129,7 @@ pub performed_number : (w : WorkView) (p : PerformedView) (o : OutcomeView) → 
 performed_number w p o done is = ap (λ (x : OutcomeView). x.work.number) is ∙ ap (λ (x : WorkView). x.number) done.same
 
 -- what the steps make of the parts of a node in a table
-pub step_facts : (key : FrameView) (n : ℕ) (p q : PartView) (e f : EngineView) (i k : IntakeView) → CellParts key n p q e i → FitsSome key → CellSteps e f i k → (had : Option WorkView) → ClaimFacts key n p q (an_engine f) (an_intake k) had had
+pub step_facts : (key : LayoutView) (n : ℕ) (p q : PartView) (e f : EngineView) (i k : IntakeView) → CellParts key n p q e i → FitsSome key → CellSteps e f i k → (had : Option WorkView) → ClaimFacts key n p q (an_engine f) (an_intake k) had had
 step_facts key n p q e f i k c exists s had = facts_by key n p q e f i k had had c exists s.first s.gone s.grows s.intake_grows s.ports
     (λ job h hi agree. let l = s.lawful job n (record { engine = h; intake = hi; agree = agree }) in (l.engine, l.intake, l.agree))
     (inl (

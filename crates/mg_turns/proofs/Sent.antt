@@ -20,7 +20,7 @@ use Rattle.mg_node.specs.contracts.engine.Engine as Engine
 use Rattle.mg_node.proofs.Sent.{engine_field, intake_field, maybe}
 use Rattle.mg_turns.specs.contracts.part.Part as Part
 use Rattle.mg_turns.specs.contracts.part.Part.TheInside as PartInside
-use Rattle.mg_turns.specs.contracts.frame.Frame as Frame
+use Rattle.mg_turns.specs.contracts.layout.Layout as Layout
 use Rattle.mg_turns.specs.contracts.rule.Law as Law
 use Rattle.mg_turns.specs.contracts.rule.LawTableRuleOptionPartViewKey.TheImpl as rule
 use Rattle.mg_turns.specs.contracts.view.View as View
@@ -45,7 +45,7 @@ module _ (C : RattleType) (g : Ghosts C.Denot) (s : IsSend C) where
 
   pub net : IsSync (SharedNet.the_field C g).row
   net = struct_sync (shape (SharedNet.the_type C g)) (
-    Table.the_field_sync (Maybe.the_row (Part.the_row C g)) View.the_row (Snapshot.the_row (Frame.the_row C g)) Law.the_row Global.the_row (rule.ghosts C g rule.no_dict rule.no_dict) allocator.ghosts
+    Table.the_field_sync (Maybe.the_row (Part.the_row C g)) View.the_row (Snapshot.the_row (Layout.the_row C g)) Law.the_row Global.the_row (rule.ghosts C g rule.no_dict rule.no_dict) allocator.ghosts
         slot heap.send heap.sync heap.frees,
     (search sendable, (search sendable, (search (way, way_field, sendable, crosses) depth 20 fits 20000, (Room.the_field_sync (Part.the_row C g) part, tt)))),
   )

@@ -8,7 +8,7 @@ use Rattle.mg_node.specs.declared.pending.Pending.{Pending}
 use Rattle.mg_node.specs.Ports.{port_queue}
 use Rattle.mg_node.specs.IntakeStanding.{Stays, IntakeGrows}
 use Rattle.mg_node.specs.Standing.{EngineGrows}
-use Rattle.mg_turns.specs.Parts.{FrameView, at, owner_in, an_engine, an_intake, came_to, tally_by, tally_of, tally_since, ports_by, Grown, Follows}
+use Rattle.mg_turns.specs.Parts.{LayoutView, at, owner_in, an_engine, an_intake, came_to, tally_by, tally_of, tally_since, ports_by, Grown, Follows}
 use Rattle.mg_turns.specs.Rule.{doubled, word_of}
 use Rattle.mg_turns.specs.Code.Plays.{CellWords}
 
@@ -41,7 +41,7 @@ engine_base ports None i e g = absurd g
 engine_base ports (Some x) i e g = g.laid
 
 -- the word of an engine that laid more
-pub cell_words : (key : FrameView) (n : ℕ) (e f : EngineView) (i k : IntakeView) (engine_word laid intake_word : ℕ) → Follows key (2 * n + 1) (an_engine e)
+pub cell_words : (key : LayoutView) (n : ℕ) (e f : EngineView) (i k : IntakeView) (engine_word laid intake_word : ℕ) → Follows key (2 * n + 1) (an_engine e)
     → engine_word ≡ word_of key (2 * n + 1) (an_engine e) → laid ≡ e.laid → intake_word ≡ word_of key (2 * n) (an_intake i)
     → EngineGrows e f → ((port : ℕ) → Stays (port_queue i.waits port) (port_queue k.waits port))
     → CellWords key n f engine_word laid k intake_word
@@ -62,7 +62,7 @@ intake_base ports None None i g h = absurd h
 intake_base ports None (Some x) i g h = came_less x.waits i.waits ports (λ port. (h.ports port).count)
 
 -- the word of an intake to which so many more came
-pub brought_word : (key : FrameView) (word : ℕ) (i j : IntakeView) (more : ℕ) → Follows key word (an_intake i) → came_to j.waits (ports_by key (owner_in key word)) ≡ came_to i.waits (ports_by key (owner_in key word)) + more
+pub brought_word : (key : LayoutView) (word : ℕ) (i j : IntakeView) (more : ℕ) → Follows key word (an_intake i) → came_to j.waits (ports_by key (owner_in key word)) ≡ came_to i.waits (ports_by key (owner_in key word)) + more
     → tally_since key word (an_intake i) + more ≡ tally_since key word (an_intake j)
 brought_word key word i j more follows came =
     let base = intake_base (ports_by key (owner_in key word)) (at key word).engine (at key word).intake i follows.grows.engine follows.grows.intake in

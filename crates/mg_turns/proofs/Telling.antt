@@ -31,7 +31,7 @@ use Rattle.mg_node.specs.Windows.{has_ended}
 use Rattle.mg_node.specs.Outputs.{laid_at}
 use Rattle.mg_node.specs.Claims.{IsOver, IsEarly, Claims}
 use Rattle.mg_node.specs.Advances.{raised_output, advance_bound, advanced, any_moved, any_moved_by}
-use Rattle.mg_turns.specs.Parts.{FrameView, nodes_in, an_engine, an_intake, FitsSome}
+use Rattle.mg_turns.specs.Parts.{LayoutView, nodes_in, an_engine, an_intake, FitsSome}
 use Rattle.mg_turns.specs.Sights.{sight}
 use Rattle.mg_turns.specs.Standings.{laid_bound_in, sets_in, known_laid_bound, known_sets}
 use Rattle.mg_turns.specs.Calls.{HasClaimed, TriesClaim, TriesRaise, TriesRun, TriesCommit}
@@ -98,7 +98,7 @@ may_close role claimed i h = end_by i.claimed i.waits h
 
 full : (job : LoggedJob) (n : ℕ) (e : EngineView) → LawfulEngine job (of_node n) e → e.in_flight ≤ length e.window → claimed_to e ≡ e.laid + e.in_flight
 unfolding LawfulEngine
-full job n e h room = (let benches = h.benches in omega (arith, benches, room))
+full job n e h room = (let contexts = h.contexts in omega (arith, contexts, room))
 
 claim_says : {X : Type 0} (job : LoggedJob) (n : ℕ) (r : Claimed X) (e f : EngineView) (i k : IntakeView) → LawfulEngine job (of_node n) e → Claims {C = X} r e f i k → ClaimSays r f k
 claim_says job n (Work w) e f i k h c = tt
@@ -126,10 +126,10 @@ answer_tells Draining n v w h = tt
 answer_tells Ended n v w h = tt
 answer_tells OutOfMemory n v w h = tt
 
-pub claim_tells : {X : Type 0} (result : Tried (Claimed X)) (key : FrameView) (n : ℕ) (v w : View) → v.key ≡ key → n < nodes_in key → FitsSome key → TriesClaim result n v w → ClaimTells result n v w
+pub claim_tells : {X : Type 0} (result : Tried (Claimed X)) (key : LayoutView) (n : ℕ) (v w : View) → v.key ≡ key → n < nodes_in key → FitsSome key → TriesClaim result n v w → ClaimTells result n v w
 claim_tells (Done r) key n v w key-is within exists h =
     let fits = subst FitsSome (sym key-is) exists in
-    let lawful = lawful_e v.key fits.job n (an_engine h.engine) h.engine fits.fits h.found.engine_found.follows (subst (λ (x : FrameView). n < nodes_in x) (sym key-is) within) refl in (
+    let lawful = lawful_e v.key fits.job n (an_engine h.engine) h.engine fits.fits h.found.engine_found.follows (subst (λ (x : LayoutView). n < nodes_in x) (sym key-is) within) refl in (
       record { engine = h.engine_now; intake = h.intake_now; seen = ap (λ (x : View). x.seen) h.left; says = claim_says fits.job n r h.engine h.engine_now h.intake h.intake_now lawful h.claims },
       answer_tells r n v w h,
     )
@@ -200,11 +200,11 @@ run_tells (Busy word) most n v w h = tt
 
 -- Commits.
 
-pub commit_tells : {X : Type 0} (result : TriedCommit X) (key : FrameView) (outcome : OutcomeView) (v w : View) → v.key ≡ key → outcome.work.node < nodes_in key → FitsSome key → TriesCommit result outcome v w → CommitTells result outcome v w
+pub commit_tells : {X : Type 0} (result : TriedCommit X) (key : LayoutView) (outcome : OutcomeView) (v w : View) → v.key ≡ key → outcome.work.node < nodes_in key → FitsSome key → TriesCommit result outcome v w → CommitTells result outcome v w
 commit_tells (Laid n) key outcome v w key-is within exists h =
     let node = outcome.work.node in
     let fits = subst FitsSome (sym key-is) exists in
-    let lawful = lawful_e v.key fits.job node (an_engine h.engine) h.engine fits.fits h.found.follows (subst (λ (x : FrameView). node < nodes_in x) (sym key-is) within) refl in
+    let lawful = lawful_e v.key fits.job node (an_engine h.engine) h.engine fits.fits h.found.follows (subst (λ (x : LayoutView). node < nodes_in x) (sym key-is) within) refl in
     let before = most_below sets_in sets_rise (2 * node + 1) (an_engine h.engine) v.seen h.found.sights in
     let laid = h.commits.counted in
     let now : h.engine_now.laid ≤ known_sets w node = subst (λ (x : View). h.engine_now.laid ≤ known_sets x node) (sym h.left) (last_counts sets_in (2 * node + 1) (an_engine h.engine_now) v.seen) in

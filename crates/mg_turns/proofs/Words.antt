@@ -3,7 +3,7 @@ use Rattle.std.proofs.Common.{◌≡◌, ℕ, ◌+◌, ◌-◌, ◌*◌, ◌/◌
 use Rattle.std.proofs.lemmas.Bool.{lt-ltb, le-ltb}
 use Rattle.mg_node.specs.Lawful.{of_node, of_input}
 use Rattle.mg_turns.specs.Words.{Whose, intake_of, engine_of, whose}
-use Rattle.mg_turns.specs.Parts.{FrameView, nodes_in, owner_in, IsEngineWord}
+use Rattle.mg_turns.specs.Parts.{LayoutView, nodes_in, owner_in, IsEngineWord}
 
 abbrev by_parity : ℕ → Bool → Whose
 by_parity word even = if even then intake_of (word / 2) else engine_of (of_node (word / 2))
@@ -31,7 +31,7 @@ is_engine (intake_of n) = ⊥
 is_engine (engine_of o) = Unit {0}
 
 -- no intake has the word of an engine
-pub source_apart : (key : FrameView) (word n : ℕ) → IsEngineWord key word → n ≤ nodes_in key → word ≡ 2 * n → ⊥
+pub source_apart : (key : LayoutView) (word n : ℕ) → IsEngineWord key word → n ≤ nodes_in key → word ≡ 2 * n → ⊥
 source_apart key word n source within e =
     subst is_engine (sym source.is ∙ (ap (owner_in key) e ∙ intake_at (nodes_in key) n within)) tt
 

@@ -15,7 +15,7 @@ use Rattle.mg_node.specs.Delivery.{Delivers}
 use Rattle.mg_node.specs.Leading.{output_at}
 use Rattle.mg_node.specs.IntakeStanding.{HasGrown}
 use Rattle.mg_node.specs.Ports.{port_queue}
-use Rattle.mg_turns.specs.Parts.{FrameView, an_engine, an_intake, source_at}
+use Rattle.mg_turns.specs.Parts.{LayoutView, an_engine, an_intake, source_at}
 use Rattle.mg_turns.specs.Sights.{Finds, FindsCell, Missed, MissedOne, left_one, left_two, cell_left, has_after}
 use Rattle.mg_turns.specs.Rounds.{CellRounds, Stops}
 use Rattle.mg_turns.specs.Told.{committed_in, RunEnds}
@@ -30,7 +30,7 @@ use Rattle.mg_turns.specs.declared.tried.TriedShelf.{TriedShelf}
 use Rattle.mg_turns.specs.declared.tried.TriedShelf.TheVariants.{Shelved as Put, Busy as ShelfBusy}
 
 -- the plan and the parts from which a net was shared
-abbrev pub key_of : {X : Type 0} → SharedNet X → FrameView
+abbrev pub key_of : {X : Type 0} → SharedNet X → LayoutView
 key_of net = net.table.shared.key.value
 
 -- what a seat knows: its view

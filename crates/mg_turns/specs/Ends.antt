@@ -1,16 +1,16 @@
 -- What a shared net gives back at its end: each part is what became of the one that was shared; the cells agree, and no work is out.
 use Rattle.std.specs.Prelude.{◌≡◌, ℕ, ◌+◌, ◌*◌, ◌<◌, List, Some, length, slice_get}
-use Rattle.mg_turns.specs.Parts.{PartView, FrameView, at, nodes_in, Follows, AgreeParts, IsMissingIn, source_at, JoinedParts}
+use Rattle.mg_turns.specs.Parts.{PartView, LayoutView, at, nodes_in, Follows, AgreeParts, IsMissingIn, source_at, JoinedParts}
 use Rattle.mg_calc.specs.declared.edge.Edge.{Edge}
 use Rattle.mg_turns.specs.Rule.{Sights}
 use Rattle.mg_turns.specs.declared.view.View.{View}
 
--- a frame with other parts
-abbrev pub with_parts : FrameView → List PartView → FrameView
+-- a layout with other parts
+abbrev pub with_parts : LayoutView → List PartView → LayoutView
 with_parts key parts = record { plan = key.plan; parts = parts }
 
 -- the parts that a net gives back to the last seat, whose view is v
-pub record Unshared (key : FrameView) (v : View) (parts : List PartView) : Type 0 where
+pub record Unshared (key : LayoutView) (v : View) (parts : List PartView) : Type 0 where
   pub count : length parts ≡ length key.parts
   pub follows : (i : ℕ) → i < length key.parts → Follows key i (at (with_parts key parts) i)
   -- no part is less than what the seat saw of it

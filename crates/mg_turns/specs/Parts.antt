@@ -1,4 +1,4 @@
--- Parts of a net as they lie in the slots of a table, and the frame from which they were shared.
+-- Parts of a net as they lie in the slots of a table, and the layout from which they were shared.
 use Rattle.std.specs.Prelude.{◌≡◌, ◌≢◌, ℕ, zero, suc, pos, ◌+◌, ◌-◌, ◌*◌, ◌<◌, ◌≤◌, map, List, [], length, Option, Some, None, slice_index_or, slice_index, slice_get, option_map, refl}
 use Rattle.std.specs.Coded.{Coded, code_by, coded×, coded_list, coded_option}
 use Rattle.mg_value.specs.Payload.{Plain}
@@ -30,12 +30,12 @@ abbrev pub part_code : Coded PartView
 part_code = code_by (Option EngineView × Option IntakeView) (coded× (coded_option engine_code) (coded_option intake_code)) (λ p. (p.engine, p.intake)) (λ p. record { engine = p.0; intake = p.1 }) (λ _. refl)
 
 -- a plan and the parts of its net, each at the place of its word
-pub record FrameView : Type 0 where
+pub record LayoutView : Type 0 where
   pub plan : Plan
   pub parts : List PartView
 
-abbrev pub frame_code : Coded FrameView
-frame_code = code_by (Plan × List PartView) (coded× plan_code (coded_list part_code)) (λ f. (f.plan, f.parts)) (λ p. record { plan = p.0; parts = p.1 }) (λ _. refl)
+abbrev pub layout_code : Coded LayoutView
+layout_code = code_by (Plan × List PartView) (coded× plan_code (coded_list part_code)) (λ f. (f.plan, f.parts)) (λ p. record { plan = p.0; parts = p.1 }) (λ _. refl)
 
 abbrev pub blank_part : PartView
 blank_part = record { engine = None; intake = None }
@@ -43,17 +43,17 @@ blank_part = record { engine = None; intake = None }
 abbrev pub blank_plan : Plan
 blank_plan = record { nodes = []; streams = []; edges = []; order = []; inputs = []; outputs = []; sides = []; limit = pos 0; workers = 0 }
 
-abbrev pub blank_frame : FrameView
-blank_frame = record { plan = blank_plan; parts = [] }
+abbrev pub blank_layout : LayoutView
+blank_layout = record { plan = blank_plan; parts = [] }
 
-abbrev pub at : FrameView → ℕ → PartView
+abbrev pub at : LayoutView → ℕ → PartView
 at key i = slice_index_or key.parts i blank_part
 
-abbrev pub nodes_in : FrameView → ℕ
+abbrev pub nodes_in : LayoutView → ℕ
 nodes_in key = length key.plan.nodes
 
 -- whose part lies at a word
-abbrev pub owner_in : FrameView → ℕ → Whose
+abbrev pub owner_in : LayoutView → ℕ → Whose
 owner_in key word = whose (nodes_in key) word
 
 -- how many packets came to an intake on its first n ports; those that are gone are counted
@@ -68,17 +68,17 @@ tally_by ports None (Some i) = came_to i.waits ports
 tally_by ports None None = 0
 
 -- how many ports the intake of a word has; 0 at the word of an engine
-abbrev pub ports_by : FrameView → Whose → ℕ
+abbrev pub ports_by : LayoutView → Whose → ℕ
 ports_by key (intake_of consumer) = length (ports_of key.plan consumer)
 ports_by key (engine_of owner) = 0
 
 -- how far the part of a word has come, in sets, calls or answers that an engine laid, or packets that came to an intake
-abbrev pub tally_of : FrameView → ℕ → PartView → ℕ
+abbrev pub tally_of : LayoutView → ℕ → PartView → ℕ
 tally_of key word p = tally_by (ports_by key (owner_in key word)) p.engine p.intake
 
 -- the tally of a part: how many packets came to an intake, on all ports together, since it was shared, or how many sets, calls or answers
 -- an engine laid since then
-abbrev pub tally_since : FrameView → ℕ → PartView → ℕ
+abbrev pub tally_since : LayoutView → ℕ → PartView → ℕ
 tally_since key word p = tally_of key word p - tally_of key word (at key word)
 
 -- either both are there, and R holds of them; or neither is there
@@ -98,13 +98,13 @@ abbrev pub LawfulPart : LoggedJob → Whose → PartView → Type 0
 LawfulPart job (intake_of consumer) p = (i : IntakeView) → p.intake ≡ Some i → LawfulIntake job consumer i
 LawfulPart job (engine_of owner) p = (e : EngineView) → p.engine ≡ Some e → LawfulEngine job owner e
 
--- the parts of a frame are lawful for a job
-pub record Fits (job : LoggedJob) (key : FrameView) : Type 0 where
+-- the parts of a layout are lawful for a job
+pub record Fits (job : LoggedJob) (key : LayoutView) : Type 0 where
   pub plan : job.job.plan ≡ key.plan
   pub parts : (word : ℕ) → word < length key.parts → LawfulPart job (owner_in key word) (at key word)
 
--- there is a job for which the parts of a frame are lawful
-pub record FitsSome (key : FrameView) : Type 0 where
+-- there is a job for which the parts of a layout are lawful
+pub record FitsSome (key : LayoutView) : Type 0 where
   pub job : LoggedJob
   pub fits : Fits job key
 
@@ -155,7 +155,7 @@ claimed_by (Some i) = i.claimed
 
 -- a part is what became of the one that was shared at this word: it is of its kind and lawful for each job for which all that was shared
 -- is, its standing grew, and it gave up no packet. Of the collector's intake, whose word is behind those of the nodes, nothing was claimed.
-pub record Follows (key : FrameView) (word : ℕ) (p : PartView) : Type 0 where
+pub record Follows (key : LayoutView) (word : ℕ) (p : PartView) : Type 0 where
   pub kind : IsKind (owner_in key word) p
   pub lawful : (job : LoggedJob) → Fits job key → LawfulPart job (owner_in key word) p
   pub grows : PartGrows (at key word) p
@@ -193,8 +193,8 @@ writer_by (Some (Node n port)) = of_node n
 abbrev pub source_at : Plan → Edge → ℕ
 source_at plan e = word_at (length plan.nodes) (engine_of (writer_by (option_map (λ s. s.producer) (slice_get plan.streams e.stream))))
 
--- a word is that of an engine, of a node or a graph input of the frame
-pub record IsEngineWord (key : FrameView) (word : ℕ) : Type 0 where
+-- a word is that of an engine, of a node or a graph input of the layout
+pub record IsEngineWord (key : LayoutView) (word : ℕ) : Type 0 where
   pub owner : Owner
   pub is : owner_in key word ≡ engine_of owner
   pub within : word < length key.parts
@@ -205,7 +205,7 @@ JoinedParts p e q = (g : EngineView) (i : IntakeView) → p.engine ≡ Some g �
 
 -- what the rule wants of the plan: edges lead from engines to intakes, and no two to one port; and an engine still keeps the first
 -- packet that a port hasn't got
-pub record EdgesFit (key : FrameView) : Type 0 where
+pub record EdgesFit (key : LayoutView) : Type 0 where
   pub sources : (k : ℕ) (e : Edge) → slice_get key.plan.edges k ≡ Some e → IsEngineWord key (source_at key.plan e)
   pub consumers : (k : ℕ) (e : Edge) → slice_get key.plan.edges k ≡ Some e → e.node ≤ nodes_in key
   pub ports : (k : ℕ) (e : Edge) → slice_get key.plan.edges k ≡ Some e → slice_get (ports_of key.plan e.node) e.port ≡ Some e.stream

@@ -6,13 +6,13 @@ use lib.ListN.{get_elem?}
 use Rattle.atomic_table.specs.Table.{State}
 use Rattle.mg_node.specs.Views.{WorkView}
 pub use Rattle.mg_turns.specs.Sums.{total}
-use Rattle.mg_turns.specs.Parts.{PartView, FrameView, at, nodes_in, tally_since, owner_in, IsKind, PartGrows, Follows, AgreeParts, IsOutIn, IsMissingIn, source_at, JoinedParts, EdgesFit}
+use Rattle.mg_turns.specs.Parts.{PartView, LayoutView, at, nodes_in, tally_since, owner_in, IsKind, PartGrows, Follows, AgreeParts, IsOutIn, IsMissingIn, source_at, JoinedParts, EdgesFit}
 use Rattle.mg_calc.specs.declared.edge.Edge.{Edge}
 use Rattle.mg_turns.specs.Turns.{Turn, Sight}
 use Rattle.mg_turns.specs.declared.view.View.{View}
 
 -- a view by its fields
-abbrev pub view : FrameView → ℕ → ℕ → ℕ → Option ℕ → List Turn → Option WorkView → List Sight → View
+abbrev pub view : LayoutView → ℕ → ℕ → ℕ → Option ℕ → List Turn → Option WorkView → List Sight → View
 view key portion misses splits missed turns work seen =
     record { key = key; portion = portion; misses = misses; splits = splits; missed = missed; turns = turns; work = work; seen = seen }
 
@@ -21,11 +21,11 @@ abbrev pub doubled : ℕ → ℕ
 doubled tally = tally * 2 % 18446744073709551616
 
 -- the word of a part while it is free
-abbrev pub word_of : FrameView → ℕ → PartView → ℕ
+abbrev pub word_of : LayoutView → ℕ → PartView → ℕ
 word_of key word p = doubled (tally_since key word p)
 
 -- the part of a free word is in its slot, the word has its tally, and it is what became of the part that was shared there
-abbrev pub Lies : FrameView → List (maybe.Option (Option PartView)) → ℕ → ℕ → Type 0
+abbrev pub Lies : LayoutView → List (maybe.Option (Option PartView)) → ℕ → ℕ → Type 0
 Lies key homes i w = (p : PartView) × (get_elem? homes i ≡ some (some (Some p))) × (w ≡ word_of key i p) × Follows key i p
 
 -- a part is no less than what each of some sights of its word saw
@@ -42,7 +42,7 @@ abbrev pub has_turn : ℕ → View → ℕ
 has_turn i v = total (is_turn_of i) v.turns
 
 -- the view of the seat that has a net when it is shared: it has the whole portion
-abbrev pub first_view : FrameView → View
+abbrev pub first_view : LayoutView → View
 first_view key = view key 4294967296 0 0 None [] None []
 
 -- the slots of a table
@@ -70,7 +70,7 @@ abbrev pub WorksApart : List View → Type 0
 WorksApart views = (j k : ℕ) (v u : View) (w x : WorkView) → j ≢ k → get_elem? views j ≡ some v → get_elem? views k ≡ some u → v.work ≡ Some w → u.work ≡ Some x → w.node ≡ x.node → w.number ≢ x.number
 
 -- what holds between the parts and the views of a table
-pub record Linked (key : FrameView) (homes : Homes) (views : List View) : Type 0 where
+pub record Linked (key : LayoutView) (homes : Homes) (views : List View) : Type 0 where
   -- the engine and the intake of a node agree
   pub matched : (n : ℕ) (p q : PartView) → n < nodes_in key → Shown homes views (2 * n + 1) p → Shown homes views (2 * n) q → AgreeParts p q
   -- each work of a view is out of its engine, no two views have the same one, and each work that is out is in a view
@@ -84,7 +84,7 @@ pub record Linked (key : FrameView) (homes : Homes) (views : List View) : Type 0
   pub idle : (j : ℕ) (v : View) → get_elem? views j ≡ some v → v.portion ≡ 0 → v.work ≡ None
 
 -- what holds of the words, the slots and the views of a table
-pub record Orderly (key : FrameView) (s : State (Option PartView) View) : Type 0 where
+pub record Orderly (key : LayoutView) (s : State (Option PartView) View) : Type 0 where
   pub wide : length s.words ≡ length s.homes
   pub long : length s.homes ≡ length key.parts
   pub few : 2 * nodes_in key < length key.parts
@@ -107,8 +107,8 @@ pub record Orderly (key : FrameView) (s : State (Option PartView) View) : Type 0
   -- no view saw more of a part than the note of the seat that has its turn
   pub seen_held : (j k : ℕ) (v : View) (t : Turn) → get_elem? s.views j ≡ some v → get_elem? v.turns k ≡ some t → (l : ℕ) (u : View) → get_elem? s.views l ≡ some u → Sights t.word t.note u.seen
 
--- a frame that can be shared: its edges fit, the cells agree, and no work is out
-pub record Ready (key : FrameView) : Type 0 where
+-- a layout that can be shared: its edges fit, the cells agree, and no work is out
+pub record Ready (key : LayoutView) : Type 0 where
   pub few : 2 * nodes_in key < length key.parts
   pub edges : EdgesFit key
   pub joined : (k : ℕ) (e : Edge) → slice_get key.plan.edges k ≡ Some e → JoinedParts (at key (source_at key.plan e)) e (at key (2 * e.node))
@@ -117,7 +117,7 @@ pub record Ready (key : FrameView) : Type 0 where
   pub none : (n number : ℕ) → n < nodes_in key → IsMissingIn (at key (2 * n + 1)) number → ⊥
 
 -- the rule of a table that has the words of its parts alone
-abbrev pub Ruled : FrameView → State (Option PartView) View → Type 0
+abbrev pub Ruled : LayoutView → State (Option PartView) View → Type 0
 Ruled key s = Orderly key s × Linked key s.homes s.views
 
 -- every eighth word, from the first on, a number of them: the words of the parts stand eight apart in the table, so that those of two parts
@@ -127,9 +127,9 @@ each_eighth zero words = []
 each_eighth (suc n) words = slice_index words 0 ∷ each_eighth n (drop 8 words)
 
 -- a table with the words of its parts alone
-abbrev pub parts_alone : FrameView → State (Option PartView) View → State (Option PartView) View
+abbrev pub parts_alone : LayoutView → State (Option PartView) View → State (Option PartView) View
 parts_alone key s = record { words = each_eighth (length key.parts) s.words; homes = s.homes; views = s.views }
 
 -- the rule of a table
-abbrev pub RuledApart : FrameView → State (Option PartView) View → Type 0
+abbrev pub RuledApart : LayoutView → State (Option PartView) View → Type 0
 RuledApart key s = (length s.words ≡ 8 * length key.parts) × Ruled key (parts_alone key s)

@@ -22,7 +22,7 @@ use Rattle.mg_node.specs.declared.claimed.Claimed.TheVariants.{Answered, NotRead
 use Rattle.mg_node.specs.Windows.{has_ended}
 use Rattle.mg_node.specs.Shelves.{back}
 use Rattle.mg_node.specs.Advances.{advance_bound}
-use Rattle.mg_turns.specs.Parts.{FrameView, at, an_engine, an_intake, first_in, source_at}
+use Rattle.mg_turns.specs.Parts.{LayoutView, at, an_engine, an_intake, first_in, source_at}
 use Rattle.mg_turns.specs.Sights.{sight}
 use Rattle.mg_turns.specs.Rounds.{GivesNone}
 use Rattle.mg_turns.specs.Standings.{known_came, known_bound, known_laid, known_laid_bound, known_sets}
@@ -35,7 +35,7 @@ use Rattle.mg_turns.specs.declared.tried.TriedCommit.TheVariants.{Laid, Busy as 
 -- Deliveries.
 
 -- the number of the output from which an edge leads, at its engine
-abbrev pub output_of : FrameView → Edge → ℕ
+abbrev pub output_of : LayoutView → Edge → ℕ
 output_of key e = e.stream - first_in (at key (source_at key.plan e))
 
 -- at least this many packets came to the edge's port since the seat last saw it
@@ -43,11 +43,11 @@ abbrev pub HasCome : ℕ → Edge → View → View → Type 0
 HasCome n e v w = known_came v e.node e.port + n ≤ known_came w e.node e.port
 
 -- the edge's port has all packets that were laid at the edge's output, as far as the seat knows
-abbrev pub HasAll : FrameView → Edge → View → Type 0
+abbrev pub HasAll : LayoutView → Edge → View → Type 0
 HasAll key e w = known_laid w (source_at key.plan e) (output_of key e) ≤ known_came w e.node e.port
 
 -- what a delivery that found memory tells: at least n packets came
-pub record TellsMoved (n : ℕ) (key : FrameView) (e : Edge) (v w : View) : Type 0 where
+pub record TellsMoved (n : ℕ) (key : LayoutView) (e : Edge) (v w : View) : Type 0 where
   pub came : HasCome n e v w
   -- all that was laid is there, or 256 packets more came
   pub enough : HasAll key e w ⊎ HasCome 256 e v w
@@ -55,7 +55,7 @@ pub record TellsMoved (n : ℕ) (key : FrameView) (e : Edge) (v w : View) : Type
   pub bound : HasAll key e w → known_laid_bound w (source_at key.plan e) (output_of key e) ≤ known_bound w e.node e.port
 
 -- what the answer of a delivery tells
-abbrev pub AppendTells : Tried Delivered → FrameView → Edge → View → View → Type 0
+abbrev pub AppendTells : Tried Delivered → LayoutView → Edge → View → View → Type 0
 AppendTells (Done (Moved n raised)) key e v w = TellsMoved n key e v w
 AppendTells (Done (NoMemory n)) key e v w = HasCome n e v w
 AppendTells (Busy word) key e v w = ⊤

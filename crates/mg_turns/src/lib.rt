@@ -2,8 +2,8 @@
 //! changes. Answers to the definitions of `specs/Rule.antt`.
 #![tactic(auto)]
 
-mod frame;
 mod held;
+mod layout;
 mod memory;
 mod part;
 mod room;
@@ -15,7 +15,7 @@ mod tried;
 mod view;
 mod way;
 
-pub use frame::Frame;
+pub use layout::Layout;
 pub use part::Part;
 pub use seat::NetSeat;
 pub use shared::SharedNet;

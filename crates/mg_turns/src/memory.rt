@@ -6,7 +6,7 @@ ghost use Rattle.mg_turns.specs.Code.Ways.{way_of};
 
 use crate::room::Room;
 use crate::way::{Way, ways_of};
-use crate::{Frame, Part};
+use crate::{Layout, Part};
 use mg_calc::Calculator;
 use std::alloc::{AllocError, Global};
 
@@ -32,18 +32,18 @@ fn free_words(alloc: Global, size: usize) -> Result<Vec<u64>, AllocError>
 }
 
 impl<C: Calculator> Rooms<C> {
-    /// Takes the memory for a table of the parts of a frame.
-    pub fn new(alloc: Global, frame: &Frame<C>) -> Result<Rooms<C>, AllocError>
-        requires ready { Ready frame.now }
-        requires few { length frame.now.parts ≤ 2 ^ 32 }
-        ensures words { IfOk result (λ r. r.words.items ≡ replicate (8 * length frame.now.parts) zero) }
-        ensures ways { IfOk result (λ r. r.ways.items ≡ map (way_of frame.now.plan) frame.now.plan.edges) }
-        ensures slots { IfOk result (λ r. (r.slots.items ≡ []) × (length frame.now.parts ≤ vec_capacity r.slots)) }
-        ensures room { IfOk result (λ r. r.room.table.shared.key ≡ length frame.now.parts) }
+    /// Takes the memory for a table of the parts of a layout.
+    pub fn new(alloc: Global, layout: &Layout<C>) -> Result<Rooms<C>, AllocError>
+        requires ready { Ready layout.now }
+        requires few { length layout.now.parts ≤ 2 ^ 32 }
+        ensures words { IfOk result (λ r. r.words.items ≡ replicate (8 * length layout.now.parts) zero) }
+        ensures ways { IfOk result (λ r. r.ways.items ≡ map (way_of layout.now.plan) layout.now.plan.edges) }
+        ensures slots { IfOk result (λ r. (r.slots.items ≡ []) × (length layout.now.parts ≤ vec_capacity r.slots)) }
+        ensures room { IfOk result (λ r. r.room.table.shared.key ≡ length layout.now.parts) }
     {
-        let size = frame.parts.len();
+        let size = layout.parts.len();
         let words = free_words(alloc, 8 * size)?;
-        let ways = ways_of(alloc, &frame.plan)?;
+        let ways = ways_of(alloc, &layout.plan)?;
         let slots = Vec::with_capacity(alloc, size)?;
         let room = Room::new(alloc, size)?;
         Ok(Rooms {

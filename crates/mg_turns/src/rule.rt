@@ -3,7 +3,7 @@ ghost use Rattle.mg_turns.specs.Sights.{kept_after, handed, joined};
 ghost use Rattle.std.specs.Prelude.{◌≡◌, ℕ};
 ghost use Rattle.atomic_table.specs.Table.{rest};
 
-use crate::frame::Frame;
+use crate::layout::Layout;
 use crate::part::Part;
 use crate::view::View;
 use atomic_table::{Join, Play, Split, TableRule};
@@ -11,8 +11,8 @@ use mg_calc::Calculator;
 use std::marker::{Brand, PhantomData};
 use std::snapshot::Snapshot;
 
-/// The key of a table: the frame that was shared.
-pub type Key<C> = Snapshot<Frame<C>>;
+/// The key of a table: the layout that was shared.
+pub type Key<C> = Snapshot<Layout<C>>;
 
 /// The rule of a table of parts.
 pub struct Law;

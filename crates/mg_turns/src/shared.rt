@@ -14,7 +14,7 @@ use crate::rule::{Key, Law};
 use crate::seat::NetSeat;
 use crate::view::View;
 use crate::way::{Way, ways_of};
-use crate::{Frame, Part};
+use crate::{Layout, Part};
 use atomic_table::{Refused, Table};
 use mg_calc::Calculator;
 use std::alloc::Global;
@@ -32,7 +32,7 @@ pub struct SharedNet<C: Calculator> {
     room: Room<Part<C>>,
     ghost roomy: { room.table.shared.key ≡ size },
     ghost sized: { (table.shared.table_id.words ≡ 8 * size) × (table.shared.table_id.slots ≡ size) × (size ≤ 2 ^ 32) },
-    ghost framed: { (nodes_in table.shared.key.value ≡ nodes) × (length table.shared.key.value.parts ≡ size) × (2 * nodes < size) },
+    ghost laid_out: { (nodes_in table.shared.key.value ≡ nodes) × (length table.shared.key.value.parts ≡ size) × (2 * nodes < size) },
     ghost led: { ways.items ≡ map (way_of table.shared.key.value.plan) table.shared.key.value.plan.edges },
 }
 
@@ -55,19 +55,19 @@ impl<C: Calculator> SharedNet<C> {
         self.ways.len()
     }
 
-    /// Shares the parts of a frame. The seat has the whole portion, 2^32. Where there is no memory the frame comes back.
-    pub fn share(alloc: Global, frame: Frame<C>) -> Result<(SharedNet<C>, NetSeat<C>), Frame<C>>
-        requires ready { Ready frame }
-        requires few { length frame.parts ≤ 2 ^ 32 }
-        ensures seat { IfOk result (λ r. IsSeatOf r.0 r.1 × (view_of r.1 ≡ first_view frame)) }
-        ensures key { IfOk result (λ r. key_of r.0 ≡ frame) }
-        ensures unchanged { IfErr result (λ f. f ≡ frame) }
+    /// Shares the parts of a layout. The seat has the whole portion, 2^32. Where there is no memory the layout comes back.
+    pub fn share(alloc: Global, layout: Layout<C>) -> Result<(SharedNet<C>, NetSeat<C>), Layout<C>>
+        requires ready { Ready layout }
+        requires few { length layout.parts ≤ 2 ^ 32 }
+        ensures seat { IfOk result (λ r. IsSeatOf r.0 r.1 × (view_of r.1 ≡ first_view layout)) }
+        ensures key { IfOk result (λ r. key_of r.0 ≡ layout) }
+        ensures unchanged { IfErr result (λ f. f ≡ layout) }
     {
-        let key = Snapshot::of(&frame);
-        let Ok(rooms) = Rooms::new(alloc, &frame) else {
-            return Err(frame);
+        let key = Snapshot::of(&layout);
+        let Ok(rooms) = Rooms::new(alloc, &layout) else {
+            return Err(layout);
         };
-        let Frame { plan, parts } = frame;
+        let Layout { plan, parts } = layout;
         let Rooms {
             words,
             ways,
@@ -92,7 +92,7 @@ impl<C: Calculator> SharedNet<C> {
                     misses: 0,
                 },
             )),
-            Err(Refused { slots }) => Err(Frame {
+            Err(Refused { slots }) => Err(Layout {
                 plan,
                 parts: all_out(slots, room.open()),
             }),

@@ -1,7 +1,7 @@
 ghost use Rattle.std.specs.Prelude.{ℕ, List, Option};
 ghost use Rattle.std.specs.Borrow.{ftrue};
 ghost use Rattle.mg_node.specs.Views.{WorkView};
-ghost use Rattle.mg_turns.specs.Parts.{FrameView, frame_code};
+ghost use Rattle.mg_turns.specs.Parts.{LayoutView, layout_code};
 ghost use Rattle.mg_turns.specs.Turns.{Turn, Sight, turns_code, sights_code, held_code};
 
 use std::marker::Model;
@@ -9,7 +9,7 @@ use std::marker::Model;
 // What a seat knows, in contracts alone. No value of it is made.
 pub struct View {
     // The plan and the parts as they were shared.
-    pub ghost key: { FrameView } by { frame_code },
+    pub ghost key: { LayoutView } by { layout_code },
     // The seat's share of the whole, 2^32.
     pub ghost portion: { ℕ },
     // How often the seat found a word held.

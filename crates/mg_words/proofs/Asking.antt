@@ -9,7 +9,7 @@ use Rattle.clap.specs.declared.error.kind.ErrorKind.{ErrorKind}
 use Rattle.clap.specs.declared.error.kind.ErrorKind.TheVariants.{OutOfMemory}
 use Rattle.clap.proofs.FaultLemmas.{leaf_fault}
 use Rattle.mg_words.specs.CommandLine.{command_with, command, placed, verbs}
-use Rattle.mg_words.specs.Words.{asked_at, asked_by, asked_from, asked_of, command_in, line_of}
+use Rattle.mg_words.specs.Words.{request_at, request_by, request_from, request_of, command_in, line_of}
 use Rattle.mg_words.proofs.Laid.{laid, rows-laid}
 use Rattle.mg_words.proofs.Singles.{Agree, IsSingle, level-fault, laid_shape}
 
@@ -50,21 +50,21 @@ module _ (names : Bor (List (Bor Text))) (are : HasVerbs names) (words : List Te
   same-matches : matches_of command words ≡ matches_of (command_with names) words
   same-matches = ap (λ (at : Bor (List (Bor Text))). matches_of (command_with at) words) (sym (laid-verbs names are)) ∙ matches-laid names words
 
-  taken-asks : (rows : List Row) → rows ≡ matches_of (command_with names) words → fault_of (command_with names) words ≡ [] → asked_by (command_in (line_of rows)) ≡ asked_of words
-  unfolding asked_of
-  taken-asks rows found none = sym (ap₂ asked_from (same-faults ∙ none) (same-matches ∙ sym found))
+  taken-asks : (rows : List Row) → rows ≡ matches_of (command_with names) words → fault_of (command_with names) words ≡ [] → request_by (command_in (line_of rows)) ≡ request_of words
+  unfolding request_of
+  taken-asks rows found none = sym (ap₂ request_from (same-faults ∙ none) (same-matches ∙ sym found))
 
-  among-asks : (kinds : Kinds) (kind : ErrorKind) (rows : List Row) → IsSingle kinds → IsAmong kind kinds → asked_at kind ≡ asked_from kinds rows
+  among-asks : (kinds : Kinds) (kind : ErrorKind) (rows : List Row) → IsSingle kinds → IsAmong kind kinds → request_at kind ≡ request_from kinds rows
   among-asks [] kind rows single among = absurd among
-  among-asks (k ∷ ks) kind rows single (inl is) = ap asked_at is
+  among-asks (k ∷ ks) kind rows single (inl is) = ap request_at is
   among-asks (k ∷ ks) kind rows single (inr more) = absurd (subst (IsAmong kind) single more)
 
-  refused-asks : (kind : ErrorKind) → (kind ≡ OutOfMemory) ⊎ IsAmong kind (fault_of (command_with names) words) → kind ≢ OutOfMemory → asked_at kind ≡ asked_of words
-  unfolding asked_of
+  refused-asks : (kind : ErrorKind) → (kind ≡ OutOfMemory) ⊎ IsAmong kind (fault_of (command_with names) words) → kind ≢ OutOfMemory → request_at kind ≡ request_of words
+  unfolding request_of
   refused-asks kind (inl short) some = absurd (some short)
   refused-asks kind (inr among) some =
       among-asks (fault_of (command_with names) words) kind (matches_of command words) (faults-laid names words).single among
-      ∙ ap (λ (kinds : Kinds). asked_from kinds (matches_of command words)) (sym same-faults)
+      ∙ ap (λ (kinds : Kinds). request_from kinds (matches_of command words)) (sym same-faults)
 
 -- The laws of the program's own command, told of any command that equals it.
 module _ (names : Bor (List (Bor Text))) (are : HasVerbs names) (app : App) (is : app ≡ command_with names) (words : List Text) where
@@ -74,8 +74,8 @@ module _ (names : Bor (List (Bor Text))) (are : HasVerbs names) (app : App) (is 
   pub is-free : is_simple_and_free app ≡ true
   is-free = ap is_simple_and_free is ∙ free-with names
 
-  pub taken-asked : (rows : List Row) → rows ≡ matches_of app words → fault_of app words ≡ [] → asked_by (command_in (line_of rows)) ≡ asked_of words
-  taken-asked rows found none = taken-asks names are words rows (found ∙ ap (λ (a : App). matches_of a words) is) (ap (λ (a : App). fault_of a words) (sym is) ∙ none)
+  pub taken-request : (rows : List Row) → rows ≡ matches_of app words → fault_of app words ≡ [] → request_by (command_in (line_of rows)) ≡ request_of words
+  taken-request rows found none = taken-asks names are words rows (found ∙ ap (λ (a : App). matches_of a words) is) (ap (λ (a : App). fault_of a words) (sym is) ∙ none)
 
-  pub refused-asked : (kind : ErrorKind) → (kind ≡ OutOfMemory) ⊎ IsAmong kind (fault_of app words) → kind ≢ OutOfMemory → asked_at kind ≡ asked_of words
-  refused-asked kind has some = refused-asks names are words kind (subst (λ (a : App). (kind ≡ OutOfMemory) ⊎ IsAmong kind (fault_of a words)) is has) some
+  pub refused-request : (kind : ErrorKind) → (kind ≡ OutOfMemory) ⊎ IsAmong kind (fault_of app words) → kind ≢ OutOfMemory → request_at kind ≡ request_of words
+  refused-request kind has some = refused-asks names are words kind (subst (λ (a : App). (kind ≡ OutOfMemory) ⊎ IsAmong kind (fault_of a words)) is has) some

@@ -2,18 +2,18 @@
 use Rattle.std.specs.Prelude.{ℕ, List, Bool, true, false, Option, None, Some, codes, if◌then◌else◌}
 use Rattle.std.specs.Str.{bytes_eq}
 use Rattle.mg_words.specs.declared.limits.TheConstants.{MOST_FILES}
-use Rattle.mg_words.specs.declared.words.Order.{Order}
+use Rattle.mg_words.specs.declared.words.Instruction.{Instruction}
 use Rattle.mg_words.specs.declared.words.Verb.{Verb}
 use Rattle.mg_words.specs.declared.words.Verb.TheVariants.{Check, Expand, Use}
 use Rattle.mg_words.specs.declared.words.Way.TheVariants.{Run, Solve, Generate, Trace, Replay}
 
 -- a command: what it does and how, and the names of its files, that of the main graph first and then those of its library
 pub record Command : Type 0 where
-  pub order : Order
+  pub instruction : Instruction
   pub files : List (List ℕ)
 
-abbrev pub command : Order → List (List ℕ) → Command
-command order files = record { order = order; files = files }
+abbrev pub command : Instruction → List (List ℕ) → Command
+command instruction files = record { instruction = instruction; files = files }
 
 -- what a word says that is done, where COMMAND may be that word
 abbrev pub verb_of : List ℕ → Option Verb

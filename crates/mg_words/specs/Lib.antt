@@ -3,4 +3,4 @@ pub mod CommandLine
 pub mod Command
 pub mod Help
 pub mod Words
-pub mod Asked
+pub mod Request

@@ -13,7 +13,7 @@ use Rattle.mg_words.specs.Command.{Command, command, most_files, verb_of}
 use Rattle.mg_words.specs.Help.{help_text, version_text}
 use Rattle.mg_words.specs.declared.options.Options.{Options}
 use Rattle.mg_words.specs.declared.options.TheConstants.{MOST_LIMIT}
-use Rattle.mg_words.specs.declared.words.Order.{Order}
+use Rattle.mg_words.specs.declared.words.Instruction.{Instruction}
 use Rattle.mg_words.specs.declared.words.Verb.{Verb}
 
 -- What words say that `clap` takes --
@@ -66,47 +66,47 @@ abbrev pub limit_in : Options → Option ℤ
 limit_in options = if options.no_queue_limit then Some (negsuc 0) else option_map (λ size. pos (min size MOST_LIMIT)) options.max_queue_size
 
 -- what a command does and how, by its options and its verb
-abbrev pub order_in : Options → Verb → Order
-order_in options verb = record { verb = verb; limit = limit_in options; workers = options.workers; number = unwrap_or options.number 0; report = options.report }
+abbrev pub instruction_in : Options → Verb → Instruction
+instruction_in options verb = record { verb = verb; limit = limit_in options; workers = options.workers; number = unwrap_or options.number 0; report = options.report }
 
 -- the command that words stand for, where they keep the rules and COMMAND is one of its words
 abbrev pub command_in : Line → Option Command
-command_in line = if keeps_rules line then option_map (λ verb. command (order_in line.options verb) line.files) (verb_of line.word) else None
+command_in line = if keeps_rules line then option_map (λ verb. command (instruction_in line.options verb) line.files) (verb_of line.word) else None
 
 -- What the words ask for --
 
 -- What words ask for: the note on how the program is used, a text of the program's own, or a command.
-pub data Asked : Type 0 where
-  asks_usage : Asked
-  asks_text : List ℕ → Asked
-  asks_command : Command → Asked
+pub data Request : Type 0 where
+  asks_usage : Request
+  asks_text : List ℕ → Request
+  asks_command : Command → Request
 
 -- what words ask for that `clap` takes, by the command for which they stand, if any
-abbrev pub asked_by : Option Command → Asked
-asked_by None = asks_usage
-asked_by (Some command) = asks_command command
+abbrev pub request_by : Option Command → Request
+request_by None = asks_usage
+request_by (Some command) = asks_command command
 
 -- What words ask for that `clap` refuses for this reason. A call for the help or for the version is no mistake.
-abbrev pub asked_at : ErrorKind → Asked
-asked_at DisplayHelp = asks_text help_text
-asked_at DisplayVersion = asks_text version_text
-asked_at _ = asks_usage
+abbrev pub request_at : ErrorKind → Request
+request_at DisplayHelp = asks_text help_text
+request_at DisplayVersion = asks_text version_text
+request_at _ = asks_usage
 
 -- what words ask for, by the reason for which `clap` refuses them, if any, and by what it takes of them
-abbrev pub asked_from : Kinds → List Row → Asked
-asked_from [] rows = asked_by (command_in (line_of rows))
-asked_from (kind ∷ kinds) rows = asked_at kind
+abbrev pub request_from : Kinds → List Row → Request
+request_from [] rows = request_by (command_in (line_of rows))
+request_from (kind ∷ kinds) rows = request_at kind
 
 -- what the words after the program's name ask for
-unfoldable pub asked_of : List Text → Asked
-asked_of words = asked_from (fault_of lines.command words) (matches_of lines.command words)
+unfoldable pub request_of : List Text → Request
+request_of words = request_from (fault_of lines.command words) (matches_of lines.command words)
 
 -- the command for which words ask, where they ask for one
-abbrev pub command_by : Asked → Option Command
+abbrev pub command_by : Request → Option Command
 command_by asks_usage = None
 command_by (asks_text text) = None
 command_by (asks_command command) = Some command
 
 -- the command for which words ask, where they ask for one
 abbrev pub command_of : List Text → Option Command
-command_of words = command_by (asked_of words)
+command_of words = command_by (request_of words)

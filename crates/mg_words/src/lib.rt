@@ -1,5 +1,5 @@
-//! What the words of a command line ask for: a command with its order and its files, or a text of the program's own.
-//! Answers to `asked_of` of `specs/Words.antt`.
+//! What the words of a command line ask for: a command with its instruction and its files, or a text of the program's own.
+//! Answers to `request_of` of `specs/Words.antt`.
 #![tactic(auto)]
 
 mod command_line;
@@ -10,4 +10,4 @@ mod words;
 
 pub use help::{help_text, usage_text, version_text};
 pub use limits::{MOST_FILES, MOST_WORKERS};
-pub use words::{Asked, Order, Verb, Way, asked_of};
+pub use words::{Instruction, Request, Verb, Way, request_of};

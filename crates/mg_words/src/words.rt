@@ -3,7 +3,7 @@ ghost use Rattle.std.specs.Prelude.{◌≡◌, ◌≢◌, ◌++◌, ℕ, List, I
 ghost use Rattle.clap.specs.Words.{found_of, rows_of};
 ghost use Rattle.mg_words.specs.Command as commands;
 ghost use Rattle.mg_words.specs.Words as asking;
-ghost use Rattle.mg_words.specs.Asked.{asked_view};
+ghost use Rattle.mg_words.specs.Request.{request_view};
 
 use crate::command_line::command;
 use crate::limits::MOST_FILES;
@@ -41,7 +41,7 @@ pub enum Verb {
 
 /// What a command does with a graph, and how.
 #[derive(Clone, Copy, Debug, PartialEq, Eq)]
-pub struct Order {
+pub struct Instruction {
     pub verb: Verb,
     /// The limit of queues in packets, where the words say one; below 0 there is none. Solving a graph doesn't use it.
     pub limit: Option<i32>,
@@ -55,7 +55,7 @@ pub struct Order {
 
 /// What the words of a command line ask for.
 #[derive(Debug, Drop)]
-pub enum Asked {
+pub enum Request {
     /// The words are no command.
     Usage,
     /// The text that says what the program is and how it is used.
@@ -63,63 +63,63 @@ pub enum Asked {
     /// The program's version.
     Version,
     /// A command: what it does, and the names of its files, that of the main graph first.
-    Command(Order, Vec<MgText>),
+    Command(Instruction, Vec<MgText>),
 }
 
 /// Returns what the words after the program's name ask for.
-pub fn asked_of(alloc: Global, words: &[MgText]) -> Result<Asked, AllocError>
-    ensures { IfOk result (λ asked. asked_view asked ≡ asking.asked_of words.now) }
+pub fn request_of(alloc: Global, words: &[MgText]) -> Result<Request, AllocError>
+    ensures { IfOk result (λ request. request_view request ≡ asking.request_of words.now) }
 {
     let mut texts = Vec::new(alloc);
     for word in words {
         texts.push(word.as_str())?;
     }
-    asked_by(alloc, texts.as_slice())
+    request_by(alloc, texts.as_slice())
 }
 
-fn asked_by<'a>(alloc: Global, words: &'a [&'a str]) -> Result<Asked, AllocError>
-    ensures { IfOk result (λ asked. asked_view asked ≡ asking.asked_of (map (λ word. word.now) words.now)) }
+fn request_by<'a>(alloc: Global, words: &'a [&'a str]) -> Result<Request, AllocError>
+    ensures { IfOk result (λ request. request_view request ≡ asking.request_of (map (λ word. word.now) words.now)) }
 {
     let command = command(alloc)?;
     match command.try_get_matches_from(words) {
-        Ok(matches) => asked_from(alloc, &matches),
-        Err(error) => asked_at(error.kind()),
+        Ok(matches) => request_from(alloc, &matches),
+        Err(error) => request_at(error.kind()),
     }
 }
 
 // Returns what words ask for that `clap` refuses, by its reason.
-fn asked_at(kind: ErrorKind) -> Result<Asked, AllocError>
+fn request_at(kind: ErrorKind) -> Result<Request, AllocError>
     ensures some { OnOk result (kind ≢ ErrorKind.OutOfMemory) }
-    ensures asked { IfOk result (λ asked. asked_view asked ≡ asking.asked_at kind) }
+    ensures request { IfOk result (λ request. request_view request ≡ asking.request_at kind) }
 {
     match kind {
         ErrorKind::OutOfMemory => Err(AllocError),
-        ErrorKind::DisplayHelp => Ok(Asked::Help),
-        ErrorKind::DisplayVersion => Ok(Asked::Version),
-        _ => Ok(Asked::Usage),
+        ErrorKind::DisplayHelp => Ok(Request::Help),
+        ErrorKind::DisplayVersion => Ok(Request::Version),
+        _ => Ok(Request::Usage),
     }
 }
 
 // Returns what words ask for that `clap` takes.
-fn asked_from(alloc: Global, matches: &ArgMatches<'_>) -> Result<Asked, AllocError>
-    ensures { IfOk result (λ asked. asked_view asked ≡ asking.asked_by (asking.command_in (asking.line_of (rows_of (found_of matches.now))))) }
+fn request_from(alloc: Global, matches: &ArgMatches<'_>) -> Result<Request, AllocError>
+    ensures { IfOk result (λ request. request_view request ≡ asking.request_by (asking.command_in (asking.line_of (rows_of (found_of matches.now))))) }
 {
     let files = files_of(alloc, matches)?;
-    let order = order_in(word_of(matches), files.len(), Options::of(matches));
-    Ok(asked_with(order, files))
+    let instruction = instruction_in(word_of(matches), files.len(), Options::of(matches));
+    Ok(request_with(instruction, files))
 }
 
-fn asked_with(order: Option<Order>, files: Vec<MgText>) -> Asked
-    ensures { asked_view result ≡ asking.asked_by (option_map (λ o. commands.command o files.items) order) }
+fn request_with(instruction: Option<Instruction>, files: Vec<MgText>) -> Request
+    ensures { request_view result ≡ asking.request_by (option_map (λ o. commands.command o files.items) instruction) }
 {
-    match order {
-        Some(order) => Asked::Command(order, files),
-        None => Asked::Usage,
+    match instruction {
+        Some(instruction) => Request::Command(instruction, files),
+        None => Request::Usage,
     }
 }
 
 // Returns what a command does, where COMMAND, the number of files and the options are those of one.
-fn order_in(word: &str, files: usize, options: Options) -> Option<Order>
+fn instruction_in(word: &str, files: usize, options: Options) -> Option<Instruction>
     ensures { (all : List (List ℕ)) → length all ≡ files → option_map (λ o. commands.command o all) result ≡ asking.command_in (record { word = word.now; files = all; options = options }) }
 {
     if keeps_rules(word, files, options) {
@@ -129,11 +129,11 @@ fn order_in(word: &str, files: usize, options: Options) -> Option<Order>
     }
 }
 
-fn ordered(verb: Option<Verb>, options: Options) -> Option<Order>
-    ensures { result ≡ option_map (asking.order_in options) verb }
+fn ordered(verb: Option<Verb>, options: Options) -> Option<Instruction>
+    ensures { result ≡ option_map (asking.instruction_in options) verb }
 {
     match verb {
-        Some(verb) => Some(Order {
+        Some(verb) => Some(Instruction {
             verb,
             limit: options.limit(),
             workers: options.workers,

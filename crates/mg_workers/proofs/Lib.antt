@@ -1,4 +1,4 @@
 mod Places
 mod Weaves
-mod Frames
+mod Layouts
 mod Returning

@@ -25,18 +25,18 @@ use Rattle.mg_sched.proofs.Finding.{found}
 use Rattle.mg_sched.proofs.NothingGone.{gones, HadGone, has_from}
 use Rattle.mg_sched.proofs.WoundNets.{order_of}
 use Rattle.mg_turns.specs.Words.{Whose, intake_of, engine_of}
-use Rattle.mg_turns.specs.Parts.{PartView, FrameView, blank_part, at, nodes_in, owner_in, an_engine, an_intake, LawfulPart, Grown, gone_in, first_in, arrived_by, claimed_by, source_at}
+use Rattle.mg_turns.specs.Parts.{PartView, LayoutView, blank_part, at, nodes_in, owner_in, an_engine, an_intake, LawfulPart, Grown, gone_in, first_in, arrived_by, claimed_by, source_at}
 use Rattle.mg_turns.specs.Ends.{Unshared}
 use Rattle.mg_turns.specs.declared.view.View.{View}
 use Rattle.mg_turns.proofs.Words.{intake_at, engine_at, input_at}
 use Rattle.mg_turns.proofs.Appends.{gone_get}
-use Rattle.mg_workers.specs.Woven.{woven, frame_of}
+use Rattle.mg_workers.specs.Woven.{woven, layout_of}
 use Rattle.mg_workers.specs.Shared.{KeptView, IsSharedOf}
 use Rattle.mg_workers.specs.Became.{Became}
 use Rattle.mg_workers.specs.Code.Weaving.{engines_in, intakes_in, AreKinds}
 use Rattle.mg_workers.proofs.Places.{intake_slot, engine_slot, input_slot}
 use Rattle.mg_workers.proofs.Weaves.{IsWoven, is_woven}
-use Rattle.mg_workers.proofs.Frames.{fits, parts_long, edges_fit, leads_from}
+use Rattle.mg_workers.proofs.Layouts.{fits, parts_long, edges_fit, leads_from}
 
 is_there : (o : Option OutcomeView) → (o ≡ None → ⊥) → is_some o ≡ true
 is_there None not_none = absurd (not_none refl)
@@ -58,12 +58,12 @@ count_grows (Some x) i port g = (g.ports port).count
 taken_at : (is : List IntakeView) (n : ℕ) (i : IntakeView) → slice_get is n ≡ Some i → unwrap_or (option_map (λ (x : IntakeView). x.claimed) (slice_get is n)) 0 ≡ i.claimed
 taken_at is n i there = ap (λ (o : Option IntakeView). unwrap_or (option_map (λ (x : IntakeView). x.claimed) o) 0) there
 
-module _ (job : LoggedJob) (ps : PartsView) (h : ArePartsOf job ps) (v : View) (parts : List PartView) (u : Unshared (frame_of ps) v parts) where
+module _ (job : LoggedJob) (ps : PartsView) (h : ArePartsOf job ps) (v : View) (parts : List PartView) (u : Unshared (layout_of ps) v parts) where
   abbrev n : ℕ
   n = length ps.plan.nodes
 
-  abbrev key : FrameView
-  key = frame_of ps
+  abbrev key : LayoutView
+  key = layout_of ps
 
   abbrev es : List EngineView
   es = engines_in parts
@@ -169,7 +169,7 @@ module _ (job : LoggedJob) (ps : PartsView) (h : ArePartsOf job ps) (v : View) (
     edges = edge_back;
     rest = record {
       given = h.rest.given;
-      desks = h.rest.desks;
+      work_queues = h.rest.work_queues;
       empty = h.rest.empty;
       limits = h.rest.limits;
       counts = λ number e q engine at_e at_q low there going.
@@ -221,7 +221,7 @@ module _ (job : LoggedJob) (ps : PartsView) (h : ArePartsOf job ps) (v : View) (
   pub woven_again : parts ≡ woven n es is
   woven_again = woven_back.woven_is
 
--- Works that come back from desks leave what an engine has given up.
+-- Works that come back from work queues leave what an engine has given up.
 
 shelved_gone : (engine : EngineView) (works : List WorkView) → gones (all_shelved engine works) ≡ gones engine
 shelved_gone engine [] = refl
@@ -235,10 +235,10 @@ apart_gone before ps place engine some apart there =
       | inl less ↦
           (let count = back.engine_count in
           let old = found before.engines place (let within = slice_get_within ps.engines place engine there in omega (arith, within, count)) in
-          let many = some.stands.desks in
-          let desk = found before.desks place (omega (arith, less, many)) in
-          let is = some_same (slice_get ps.engines place) engine (all_shelved old.0 desk.0.works) there (back.shelves place old.0 desk.0 less old.1 desk.1) in
-          record { old = old.0; at = old.1; gone = ap gones is ∙ shelved_gone old.0 desk.0.works })
+          let many = some.stands.work_queues in
+          let work_queue = found before.work_queues place (omega (arith, less, many)) in
+          let is = some_same (slice_get ps.engines place) engine (all_shelved old.0 work_queue.0.works) there (back.shelves place old.0 work_queue.0 less old.1 work_queue.1) in
+          record { old = old.0; at = old.1; gone = ap gones is ∙ shelved_gone old.0 work_queue.0.works })
       | inr past ↦ record { old = engine; at = sym (back.others place past) ∙ there; gone = refl }
     ]
 
@@ -258,9 +258,9 @@ same_became before now ps some apart put stands = record {
 
 -- What a shared net became while threads had it.
 
-module _ (before : NetView) (some : StandsForSome before) (key : FrameView) (kept : KeptView) (s : IsSharedOf before key kept) (v : View) (parts : List PartView) (u : Unshared key v parts) where
-  own : Unshared (frame_of s.parts) v parts
-  own = subst (λ (k : FrameView). Unshared k v parts) s.shared u
+module _ (before : NetView) (some : StandsForSome before) (key : LayoutView) (kept : KeptView) (s : IsSharedOf before key kept) (v : View) (parts : List PartView) (u : Unshared key v parts) where
+  own : Unshared (layout_of s.parts) v parts
+  own = subst (λ (k : LayoutView). Unshared k v parts) s.shared u
 
   abbrev back : PartsView
   back = record { plan = kept.plan; engines = engines_in parts; intakes = intakes_in parts; rest = kept.rest }
@@ -274,7 +274,7 @@ module _ (before : NetView) (some : StandsForSome before) (key : FrameView) (kep
   are_back = record { job = some.job; parts_of = of_job some.job some.stands }
 
   pub kinds_of : (nodes : ℕ) → nodes ≡ nodes_in key → AreKinds nodes parts
-  kinds_of nodes is = subst (λ (k : ℕ). AreKinds k parts) (ap (λ (k : FrameView). nodes_in k) (sym s.shared) ∙ sym is) (kinds_back some.job s.parts (s.of some.job some.stands) v parts own)
+  kinds_of nodes is = subst (λ (k : ℕ). AreKinds k parts) (ap (λ (k : LayoutView). nodes_in k) (sym s.shared) ∙ sym is) (kinds_back some.job s.parts (s.of some.job some.stands) v parts own)
 
   pub rooms : (engines intakes : ℕ) → length kept.plan.nodes + length kept.plan.inputs ≤ engines → length kept.plan.nodes + 1 ≤ intakes → (length (engines_in parts) ≤ engines) × (length (intakes_in parts) ≤ intakes)
   rooms engines intakes many few =

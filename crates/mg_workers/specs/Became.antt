@@ -16,7 +16,7 @@ pub record Became (before now : NetView) : Type 0 where
   pub spare : now.spare ≡ before.spare
   pub whole : (stream number : ℕ) → HasFrom before stream number → HasFrom now stream number
 
--- A net is another one as it was, except that the works that lay on its desks stand in their windows again.
+-- A net is another one as it was, except that the works that lay in its work queues stand in their windows again.
 pub record CameBack (before now : NetView) : Type 0 where
   pub parts : PartsView
   pub apart : HasComeApart before parts

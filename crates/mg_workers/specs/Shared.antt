@@ -10,11 +10,11 @@ use Rattle.mg_sched.specs.Views.{NetView}
 use Rattle.mg_sched.specs.StandsFor.{StandsFor}
 use Rattle.mg_sched.specs.ComesApart.{RestView, PartsView, HasComeApart, ArePartsOf}
 use Rattle.mg_sched.specs.Codes.{rest_code}
-use Rattle.mg_turns.specs.Parts.{FrameView, FitsSome, EdgesFit, nodes_in}
+use Rattle.mg_turns.specs.Parts.{LayoutView, FitsSome, EdgesFit, nodes_in}
 use Rattle.mg_turns.specs.Calls.{key_of, view_of, IsSeatOf, HasOutcome}
 use Rattle.mg_turns.specs.declared.shared.SharedNet.{SharedNet}
 use Rattle.mg_turns.specs.declared.seat.NetSeat.{NetSeat}
-use Rattle.mg_workers.specs.Woven.{frame_of}
+use Rattle.mg_workers.specs.Woven.{layout_of}
 
 -- a seat is of a net whose parts are those of some job, and it has no work
 pub record IsShared {X : Type 0} {g : Ghosts X} (net : SharedNet X) (seat : NetSeat X g) : Type 0 where
@@ -45,9 +45,9 @@ abbrev pub kept_code : Coded KeptView
 kept_code = code_by (Plan × RestView) (coded× plan_code rest_code) (λ k. (k.plan, k.rest)) (λ p. record { plan = p.0; rest = p.1 }) (λ _. refl)
 
 -- a net came apart into the parts that are shared and what is kept aside; for each job for which it stood, these are the parts of one net
-pub record IsSharedOf (before : NetView) (key : FrameView) (kept : KeptView) : Type 0 where
+pub record IsSharedOf (before : NetView) (key : LayoutView) (kept : KeptView) : Type 0 where
   pub parts : PartsView
   pub apart : HasComeApart before parts
   pub of : (job : LoggedJob) → StandsFor job before → ArePartsOf job parts
-  pub shared : key ≡ frame_of parts
+  pub shared : key ≡ layout_of parts
   pub stays : kept ≡ record { plan = parts.plan; rest = parts.rest }

@@ -4,7 +4,7 @@ use Rattle.std.specs.Prelude.{ℕ, zero, suc, List, [], ◌∷◌, ◌++◌, map
 use Rattle.mg_node.specs.Views.{IntakeView, EngineView}
 use Rattle.mg_calc.specs.declared.plan.Plan.{Plan}
 use Rattle.mg_sched.specs.ComesApart.{PartsView}
-use Rattle.mg_turns.specs.Parts.{PartView, FrameView, an_engine, an_intake}
+use Rattle.mg_turns.specs.Parts.{PartView, LayoutView, an_engine, an_intake}
 
 -- the intakes and engines of a net as one list in the order of their words: those of each node in turn, and then the others
 abbrev pub woven : ℕ → List EngineView → List IntakeView → List PartView
@@ -13,10 +13,10 @@ woven (suc n) [] is = map an_intake is
 woven (suc n) (e ∷ es) [] = map an_engine (e ∷ es)
 woven (suc n) (e ∷ es) (i ∷ is) = an_intake i ∷ an_engine e ∷ woven n es is
 
--- the frame of a plan and the parts of its net
-abbrev pub frame_by : Plan → List EngineView → List IntakeView → FrameView
-frame_by plan es is = record { plan = plan; parts = woven (length plan.nodes) es is }
+-- the layout of a plan and the parts of its net
+abbrev pub layout_by : Plan → List EngineView → List IntakeView → LayoutView
+layout_by plan es is = record { plan = plan; parts = woven (length plan.nodes) es is }
 
--- the frame of the parts into which a net came apart
-abbrev pub frame_of : PartsView → FrameView
-frame_of parts = frame_by parts.plan parts.engines parts.intakes
+-- the layout of the parts into which a net came apart
+abbrev pub layout_of : PartsView → LayoutView
+layout_of parts = layout_by parts.plan parts.engines parts.intakes

@@ -8,7 +8,7 @@ ghost use Rattle.mg_turns.specs.Parts.{Fits};
 ghost use Rattle.mg_turns.specs.Rule.{Ready, first_view};
 ghost use Rattle.mg_turns.specs.Ends.{Unshared};
 ghost use Rattle.mg_turns.specs.Calls.{key_of, view_of, IsSeatOf};
-ghost use Rattle.mg_workers.specs.Woven.{frame_by, frame_of};
+ghost use Rattle.mg_workers.specs.Woven.{layout_by, layout_of};
 ghost use Rattle.mg_workers.specs.Shared.{IsShared, IsSharedOf};
 ghost use Rattle.mg_workers.specs.Became.{Became, CameBack};
 
@@ -18,7 +18,7 @@ use crate::weaving::weave;
 use mg_calc::{Calculator, Plan, TryClone};
 use mg_node::{Engine, Intake};
 use mg_sched::{Net, NetParts};
-use mg_turns::{Frame, NetSeat, Part, SharedNet};
+use mg_turns::{Layout, NetSeat, Part, SharedNet};
 use std::alloc::{AllocError, Global};
 
 /// A net that is shared, its first seat, which has the whole portion, and what stays aside.
@@ -48,9 +48,9 @@ fn share_parts<C: Calculator>(
     intakes: &mut Vec<Intake>,
 ) -> Option<(SharedNet<C>, NetSeat<C>)>
     requires counts { (length plan.now.nodes ≤ vec_len engines.old) × (vec_len intakes.old ≡ length plan.now.nodes + 1) }
-    requires ready { Ready (frame_by plan.now engines.old.items intakes.old.items) }
-    ensures seat { IfSome result (λ r. IsSeatOf r.0 r.1 × (view_of r.1 ≡ first_view (frame_by plan.now engines.old.items intakes.old.items))) }
-    ensures key { IfSome result (λ r. key_of r.0 ≡ frame_by plan.now engines.old.items intakes.old.items) }
+    requires ready { Ready (layout_by plan.now engines.old.items intakes.old.items) }
+    ensures seat { IfSome result (λ r. IsSeatOf r.0 r.1 × (view_of r.1 ≡ first_view (layout_by plan.now engines.old.items intakes.old.items))) }
+    ensures key { IfSome result (λ r. key_of r.0 ≡ layout_by plan.now engines.old.items intakes.old.items) }
     ensures emptied { OnSome result ((engines.new.items ≡ []) × (intakes.new.items ≡ [])) }
     ensures unchanged { IsNone result → (engines.new.items ≡ engines.old.items) × (intakes.new.items ≡ intakes.old.items) }
     ensures room { (vec_capacity engines.new ≡ vec_capacity engines.old) × (vec_capacity intakes.new ≡ vec_capacity intakes.old) }
@@ -66,17 +66,17 @@ fn share_parts<C: Calculator>(
         unweave(nodes, parts, engines, intakes);
         return None;
     }
-    match SharedNet::share(alloc, Frame::new(copy, parts)) {
+    match SharedNet::share(alloc, Layout::new(copy, parts)) {
         Ok(shared) => Some(shared),
-        Err(frame) => {
-            let (_, parts) = frame.into_parts();
+        Err(layout) => {
+            let (_, parts) = layout.into_parts();
             unweave(nodes, parts, engines, intakes);
             None
         }
     }
 }
 
-/// Shares a net whose nodes are begun. The works on its desks stand in their windows again, as they are. The first seat has the whole
+/// Shares a net whose nodes are begun. The works in its work queues stand in their windows again, as they are. The first seat has the whole
 /// portion, 2^32. Where there is no memory the net comes back, as it was but for these works.
 pub fn share<C: Calculator>(alloc: Global, net: Net<C>) -> Result<Shared<C>, Net<C>>
     requires running { IsRunning net }
@@ -128,7 +128,7 @@ pub fn unshare<C: Calculator>(net: SharedNet<C>, seat: NetSeat<C>, kept: Kept<C>
     ensures running { IsRunning result }
 
     // Its parts are those that were shared, and each has come at least as far as the seat saw.
-    ensures parts { Unshared (key_of net) (view_of seat) (frame_of (parts_in result)).parts }
+    ensures parts { Unshared (key_of net) (view_of seat) (layout_of (parts_in result)).parts }
 
     // The net is one that the shared net may have become.
     ensures became { (before : NetView) → StandsForSome before → IsSharedOf before (key_of net) kept → Became before result }

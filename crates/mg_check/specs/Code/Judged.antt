@@ -10,7 +10,7 @@ use Rattle.mg_check.specs.Choosing.{Chosen}
 use Rattle.mg_check.specs.Drafts.{DraftView, names_at, draft_of, has_bad_ports, has_bad_options, is_unsupported}
 use Rattle.mg_check.specs.DraftView.{draft_view, drafts_view}
 use Rattle.mg_check.specs.declared.draft.Draft.{Draft}
-use Rattle.mg_check.specs.declared.drafting.Judgement.{Judgement}
+use Rattle.mg_check.specs.declared.drafting.NodeDrafts.{NodeDrafts}
 use Rattle.mg_check.specs.declared.node_draft.Wrong.{Wrong}
 use Rattle.mg_check.specs.declared.node_draft.Wrong.TheVariants as wrong
 use Rattle.mg_check.specs.declared.port_texts.PortTexts.{PortTexts}
@@ -45,10 +45,10 @@ abbrev pub wrong_in : Result Draft Wrong → Option Wrong
 wrong_in (Ok draft) = None
 wrong_in (Err wrong) = Some wrong
 
--- The judgement has the drafts of the nodes, and for each node what is wrong with it.
-pub record AreJudged (judgement : Judgement) (outers : List OuterShape) (cs : List Chosen) : Type 0 where
-  pub drafts : drafts_view judgement.drafts.items ≡ filter_map (draft_of outers) cs
-  pub wrongs : judgement.wrongs.items ≡ map (wrong_of outers) cs
+-- The drafts has the drafts of the nodes, and for each node what is wrong with it.
+pub record AreJudged (node_drafts : NodeDrafts) (outers : List OuterShape) (cs : List Chosen) : Type 0 where
+  pub drafts : drafts_view node_drafts.drafts.items ≡ filter_map (draft_of outers) cs
+  pub wrongs : node_drafts.wrongs.items ≡ map (wrong_of outers) cs
 
 -- whether this is what is wrong with a node
 abbrev pub is_wrong : Wrong → Option Wrong → Bool

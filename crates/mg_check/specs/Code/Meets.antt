@@ -2,30 +2,30 @@
 use Rattle.std.specs.Prelude.{ℕ, List, [], ◌∷◌, false, not, ◌&&◌, ◌||◌, Option, None, Some, if◌then◌else◌, slice_get, slice_set, map, zip}
 use Rattle.mg_value.specs.declared.kind.Kind.{Kind}
 use Rattle.mg_calc.specs.declared.edge.Edge.{Edge}
-use Rattle.mg_check.specs.Meeting.{PortReading, is_any, is_kind, met_kind, clashes}
-use Rattle.mg_check.specs.declared.met.Met.{Met}
+use Rattle.mg_check.specs.Meeting.{PortReading, is_any, is_kind, inferred_kind, clashes}
+use Rattle.mg_check.specs.declared.met.Inferred.{Inferred}
 
 -- what is known of a stream by the port that writes it
-abbrev pub begun : Kind → Met
+abbrev pub begun : Kind → Inferred
 begun kind = record { kind = kind; clash = false }
 
 -- what is known of a stream after one more port, of this kind
-abbrev pub meet : Met → Kind → Met
-meet met kind =
-    if is_any met.kind then record { kind = kind; clash = met.clash }
-    else record { kind = met.kind; clash = met.clash || not (is_any kind) && not (is_kind kind met.kind) }
+abbrev pub meet : Inferred → Kind → Inferred
+meet inferred kind =
+    if is_any inferred.kind then record { kind = kind; clash = inferred.clash }
+    else record { kind = inferred.kind; clash = inferred.clash || not (is_any kind) && not (is_kind kind inferred.kind) }
 
 -- what is known of all streams after one more port, which reads the stream of a number; the last argument is what was known of that one
-abbrev pub meet_by : List Met → ℕ → Kind → Option Met → List Met
+abbrev pub meet_by : List Inferred → ℕ → Kind → Option Inferred → List Inferred
 meet_by mets stream kind None = mets
-meet_by mets stream kind (Some met) = slice_set mets stream (meet met kind)
+meet_by mets stream kind (Some inferred) = slice_set mets stream (meet inferred kind)
 
 -- what is known of all streams after one more port, which reads the stream of a number
-abbrev pub meet_at : List Met → ℕ → Kind → List Met
+abbrev pub meet_at : List Inferred → ℕ → Kind → List Inferred
 meet_at mets stream kind = meet_by mets stream kind (slice_get mets stream)
 
 -- what is known of all streams after all these ports
-abbrev pub meet_all : List Met → List PortReading → List Met
+abbrev pub meet_all : List Inferred → List PortReading → List Inferred
 meet_all mets [] = mets
 meet_all mets (r ∷ rs) = meet_all (meet_at mets r.stream r.kind) rs
 
@@ -34,5 +34,5 @@ abbrev pub readings_of : List Edge → List Kind → List PortReading
 readings_of edges kinds = map (λ e. record { stream = e.0.stream; kind = e.1 }) (zip edges kinds)
 
 -- what is known of a stream at which these kinds met
-abbrev pub met_of : List Kind → Met
-met_of kinds = record { kind = met_kind kinds; clash = clashes kinds }
+abbrev pub inferred_of : List Kind → Inferred
+inferred_of kinds = record { kind = inferred_kind kinds; clash = clashes kinds }

@@ -8,10 +8,10 @@ use Rattle.mg_subgraph.specs.Refusals.{port_names}
 use Rattle.mg_check.specs.Names.{number_among}
 use Rattle.mg_check.specs.Planning.{plan_streams, plan_sides}
 use Rattle.mg_check.specs.Joining.{two_producers, no_producer, side_missing, kind_clash, back_edge_misplaced, cycle, too_many, edges, writers, order, stream_meetings, stream_names, side_names}
-use Rattle.mg_check.specs.Code.Meets.{met_of}
+use Rattle.mg_check.specs.Code.Meets.{inferred_of}
 use Rattle.mg_check.specs.declared.wiring.Wiring.{Wiring}
-use Rattle.mg_check.specs.declared.joint.Joint.{Joint}
-use Rattle.mg_check.specs.declared.met.Met.{Met}
+use Rattle.mg_check.specs.declared.plan_names.PlanNames.{PlanNames}
+use Rattle.mg_check.specs.declared.met.Inferred.{Inferred}
 use Rattle.mg_check.specs.declared.planning.Shown.{Shown}
 use Rattle.mg_check.specs.declared.fault.CheckFault.{CheckFault}
 use Rattle.mg_check.specs.declared.fault.CheckFault.TheVariants.{KindClash, TooMany}
@@ -24,19 +24,19 @@ abbrev pub wiring_refusal : GraphView → List DraftView → Option CheckFault
 wiring_refusal graph ds = option_or (kind_clash graph ds) (option_or (back_edge_misplaced ds) (option_or (cycle graph ds) (too_many graph ds)))
 
 -- a clash of kinds, by what is known of streams
-abbrev pub clash_by : List (List ℕ) → List Met → Option CheckFault
-clash_by names mets = option_map KindClash (option_and_then (λ n. slice_get names n) (position (λ met. met.clash) mets))
+abbrev pub clash_by : List (List ℕ) → List Inferred → Option CheckFault
+clash_by names mets = option_map KindClash (option_and_then (λ n. slice_get names n) (position (λ inferred. inferred.clash) mets))
 
 -- The names are those of the graph's streams and side packets, of which none has two producers.
-pub record AreJoint (joint : Joint) (graph : GraphView) (ds : List DraftView) : Type 0 where
-  pub of_streams : joint.streams ≡ stream_names graph ds
-  pub of_sides : joint.sides ≡ side_names graph ds
+pub record ArePlanNames (plan_names : PlanNames) (graph : GraphView) (ds : List DraftView) : Type 0 where
+  pub of_streams : plan_names.streams ≡ stream_names graph ds
+  pub of_sides : plan_names.sides ≡ side_names graph ds
   pub once : two_producers graph ds ≡ None
 
 -- The wiring has the edges of the graph, what meets at its streams, who writes them, and the order of its nodes.
 pub record AreWired (wiring : Wiring) (graph : GraphView) (ds : List DraftView) : Type 0 where
   pub all_edges : wiring.edges.items ≡ edges graph ds
-  pub all_mets : wiring.mets.items ≡ map met_of (stream_meetings graph ds)
+  pub all_mets : wiring.mets.items ≡ map inferred_of (stream_meetings graph ds)
   pub all_writers : wiring.writers.items ≡ writers graph ds
   pub in_order : wiring.order.items ≡ order graph ds
 

@@ -5,13 +5,13 @@ use Rattle.mg_value.specs.Plain.{Plain}
 use Rattle.mg_calc.specs.Side.{PlainSide, given_at, fixed}
 use Rattle.mg_calc.specs.declared.plan_stream.PlanStream.{PlanStream}
 use Rattle.mg_calc.specs.declared.plan_stream.Producer.{Producer}
-use Rattle.mg_check.specs.declared.met.Met.{Met}
+use Rattle.mg_check.specs.declared.met.Inferred.{Inferred}
 
 -- the plan's stream by its name, what is known of its kind, and its producer
-abbrev pub stream_of : List ℕ × (Met × Producer) → PlanStream
+abbrev pub stream_of : List ℕ × (Inferred × Producer) → PlanStream
 stream_of e = record { name = e.0; kind = e.1.0.kind; producer = e.1.1 }
 
-abbrev pub streams_of : List (List ℕ) → List Met → List Producer → List PlanStream
+abbrev pub streams_of : List (List ℕ) → List Inferred → List Producer → List PlanStream
 streams_of names mets writers = map stream_of (zip names (zip mets writers))
 
 -- the side packets that are handed in, whose places are counted from a number on

@@ -6,7 +6,7 @@ use Rattle.mg_levels.specs.Levels.{order_of}
 use Rattle.mg_node.specs.Job.{LoggedJob}
 use Rattle.mg_node.specs.Lawful.{LawfulWork, LawfulOutcome}
 use Rattle.mg_node.specs.Views.{WorkView, OutcomeView}
-use Rattle.mg_turns.specs.Parts.{FrameView, Fits, nodes_in}
+use Rattle.mg_turns.specs.Parts.{LayoutView, Fits, nodes_in}
 use Rattle.mg_turns.specs.Calls.{key_of, view_of}
 use Rattle.mg_turns.specs.declared.shared.SharedNet.{SharedNet}
 use Rattle.mg_turns.specs.declared.seat.NetSeat.{NetSeat}
@@ -16,11 +16,11 @@ use Rattle.mg_crew.specs.declared.shop.Tools.{Tools}
 use Rattle.mg_crew.specs.Code.Places.{IsPlaceAt}
 
 -- an outcome is lawful for each job for which the net's parts are lawful
-abbrev pub FitsOutcome : FrameView → OutcomeView → Type 0
+abbrev pub FitsOutcome : LayoutView → OutcomeView → Type 0
 FitsOutcome key outcome = (job : LoggedJob) → Fits job key → LawfulOutcome job outcome
 
 -- a work is lawful for each job for which the net's parts are lawful
-abbrev pub FitsWork : FrameView → WorkView → Type 0
+abbrev pub FitsWork : LayoutView → WorkView → Type 0
 FitsWork key work = (job : LoggedJob) → Fits job key → LawfulWork job work
 
 -- the sources that stand in the chart are nodes of the levels

@@ -6,7 +6,7 @@ use Rattle.mg_stream.specs.Queue.{Waiting}
 use Rattle.mg_calc.specs.declared.cause.Cause.{Cause}
 use Rattle.mg_calc.specs.declared.node_fault.Phase.{Phase}
 use Rattle.mg_node.specs.declared.fronts.FrontEnd.{FrontEnd}
-use Rattle.mg_node.specs.Views.{BenchView, PerformedView, EntryView, EngineView}
+use Rattle.mg_node.specs.Views.{ContextView, PerformedView, EntryView, EngineView}
 use Rattle.mg_node.specs.Lawful.{StandForAll, is_close}
 use Rattle.mg_node.specs.Commits.{raised_before, calls_in_phase, Front, with_ready, front_laid, front_of, fault_at, HasFront}
 use Rattle.mg_node.specs.Windows.{ready_of}
@@ -30,23 +30,23 @@ counted_in (entry ∷ entries) = calls_in_phase entry.phase + counted_in entries
 abbrev pub front_end_of : ℕ → Phase → Option Cause → FrontEnd
 front_end_of node phase cause = record { laid = calls_in_phase phase; closed = is_close phase; fault = option_map (λ c. record { node = node; phase = phase; cause = c }) cause }
 
--- the first entry of a window, which is ready, is laid, and its bench is idle
-pub record IsFirstLaid (offset : Option ℤ) (node : ℕ) (before now : List (Waiting Plain)) (window window_now : List EntryView) (idle idle_now : List BenchView) (end : FrontEnd) : Type 0 where
+-- the first entry of a window, which is ready, is laid, and its context is idle
+pub record IsFirstLaid (offset : Option ℤ) (node : ℕ) (before now : List (Waiting Plain)) (window window_now : List EntryView) (idle idle_now : List ContextView) (end : FrontEnd) : Type 0 where
   pub entry : EntryView
   pub first : window ≡ entry ∷ window_now
   pub performed : PerformedView
   pub ready : ready_of entry ≡ Some performed
-  pub idle_is : idle_now ≡ idle ++ performed.work.bench ∷ []
+  pub idle_is : idle_now ≡ idle ++ performed.work.context ∷ []
   pub cause : Option Cause
   pub laid : IsLaid offset entry.phase (raised_before offset entry.phase) performed.answer before now cause
   pub end_is : end ≡ front_end_of node entry.phase cause
 
 -- a front before it is laid, of a node that goes on
-abbrev pub start_of : List (StreamPrefix Plain) → ℕ → List EntryView → List BenchView → Front
+abbrev pub start_of : List (StreamPrefix Plain) → ℕ → List EntryView → List ContextView → Front
 start_of whole laid window idle = record { outputs = whole; laid = laid; window = window; idle = idle; closed = false; fault = None }
 
--- the outputs, the counts, the window and the benches after laying are those of a front
-pub record HasCome (front : Front) (node laid : ℕ) (now : List (Waiting Plain)) (window_now : List EntryView) (idle_now : List BenchView) (end : FrontEnd) : Type 0 where
+-- the outputs, the counts, the window and the contexts after laying are those of a front
+pub record HasCome (front : Front) (node laid : ℕ) (now : List (Waiting Plain)) (window_now : List EntryView) (idle_now : List ContextView) (end : FrontEnd) : Type 0 where
   pub outputs : Stand now front.outputs
   pub laid_is : laid + end.laid ≡ front.laid
   pub window : window_now ≡ front.window
@@ -55,7 +55,7 @@ pub record HasCome (front : Front) (node laid : ℕ) (now : List (Waiting Plain)
   pub fault : end.fault ≡ option_map (fault_at node) front.fault
 
 -- all that is ready at the front of a window is laid: whatever whole prefixes the outputs stood for
-pub record IsFrontLaid (offset : Option ℤ) (node : ℕ) (before now : List (Waiting Plain)) (window window_now : List EntryView) (idle idle_now : List BenchView) (end : FrontEnd) : Type 0 where
+pub record IsFrontLaid (offset : Option ℤ) (node : ℕ) (before now : List (Waiting Plain)) (window window_now : List EntryView) (idle idle_now : List ContextView) (end : FrontEnd) : Type 0 where
   pub gone : map (λ q. q.gone) now ≡ map (λ q. q.gone) before
   pub front : (whole : List (StreamPrefix Plain)) (laid : ℕ) → Stand before whole → HasCome (front_laid offset window (start_of whole laid window idle)) node laid now window_now idle_now end
 

@@ -1,37 +1,37 @@
--- A set that is shown to a calculator in its bench, while the bench stays idle, and what is laid of the answer.
+-- A set that is shown to a calculator in its context, while the context stays idle, and what is laid of the answer.
 use Rattle.std.specs.Prelude.{◌≡◌, ℕ, ◌+◌, List, [], ◌∷◌, ◌++◌, map, Option, option_map, IfSome, IfNone, Result}
 use Rattle.mg_value.specs.Payload.{Plain}
 use Rattle.mg_value.specs.Prefix.{StreamPrefix}
 use Rattle.mg_calc.specs.declared.cause.Cause.{Cause}
 use Rattle.mg_calc.specs.declared.emission.Laid.{Laid}
 use Rattle.mg_calc.specs.declared.node_fault.Phase.TheVariants.{Process}
-use Rattle.mg_node.specs.Views.{IntakeView, BenchView, WorkView, EngineView}
+use Rattle.mg_node.specs.Views.{IntakeView, ContextView, WorkView, EngineView}
 use Rattle.mg_node.specs.Lawful.{StandForAll}
 use Rattle.mg_node.specs.Claims.{Takes, Hands, work_of}
 use Rattle.mg_node.specs.Commits.{raised_before, laid_by, outputs_by, failure_by, fault_at}
 use Rattle.mg_node.specs.Running.{IsPerformed}
 
--- the work of a set, on a bench
-abbrev pub work_at : ℕ → ℕ → ℕ → BenchView → WorkView
-work_at node number at bench = record { node = node; number = number; phase = Process at; bench = bench }
+-- the work of a set, on a context
+abbrev pub work_at : ℕ → ℕ → ℕ → ContextView → WorkView
+work_at node number at context = record { node = node; number = number; phase = Process at; context = context }
 
--- a bench's calculator was shown the bench's set at a time: a work of that set on the bench is thereby performed, whatever its node and
+-- a context's calculator was shown the context's set at a time: a work of that set on the context is thereby performed, whatever its node and
 -- number
-abbrev pub HasShown : ℕ → Result (List Laid) Cause → BenchView → BenchView → Type 0
+abbrev pub HasShown : ℕ → Result (List Laid) Cause → ContextView → ContextView → Type 0
 HasShown at answer before now = (node number : ℕ) → IsPerformed (work_at node number at before) (record { work = work_at node number at now; answer = answer })
 
--- the last idle bench takes the next set, and its calculator is shown that; where memory is short, only the bench's set has changed there
+-- the last idle context takes the next set, and its calculator is shown that; where memory is short, only the context's set has changed there
 pub record Shows (answer : Option (Result (List Laid) Cause)) (at : ℕ) (engine engine_now : EngineView) (intake intake_now : IntakeView) : Type 0 where
-  pub rest : List BenchView
-  pub bench : BenchView
-  pub filled : BenchView
-  pub bench_now : BenchView
-  pub idle : engine.idle ≡ rest ++ bench ∷ []
-  pub now_is : engine_now ≡ record engine { idle = rest ++ bench_now ∷ [] }
-  pub told : filled.told ≡ bench.told
+  pub rest : List ContextView
+  pub context : ContextView
+  pub filled : ContextView
+  pub context_now : ContextView
+  pub idle : engine.idle ≡ rest ++ context ∷ []
+  pub now_is : engine_now ≡ record engine { idle = rest ++ context_now ∷ [] }
+  pub told : filled.told ≡ context.told
   pub takes : Takes intake intake_now filled.set
-  pub shown : IfSome answer (λ a. HasShown at a filled bench_now)
-  pub unchanged : IfNone answer (bench_now ≡ filled)
+  pub shown : IfSome answer (λ a. HasShown at a filled context_now)
+  pub unchanged : IfNone answer (context_now ≡ filled)
 
 -- an answer to the set at a time is laid, whatever whole prefixes the outputs stood for
 pub record LaysAnswer (at : ℕ) (answer : Result (List Laid) Cause) (before now : EngineView) : Type 0 where
@@ -41,7 +41,7 @@ pub record LaysAnswer (at : ℕ) (answer : Result (List Laid) Cause) (before now
       → StandForAll now.outputs (outputs_by (raised_before before.offset (Process at) whole) (laid_by before.offset (Process at) (raised_before before.offset (Process at) whole) answer))
       × (now.fault ≡ option_map (fault_at before.node) (failure_by (Process at) (laid_by before.offset (Process at) (raised_before before.offset (Process at) whole) answer)))
 
--- the work of the set that the last idle bench has is handed out
+-- the work of the set that the last idle context has is handed out
 pub record HandsShown (at : ℕ) (work : WorkView) (engine engine_now : EngineView) : Type 0 where
-  pub hands : Hands engine engine_now (Process at) 1 work.bench
-  pub work_is : work ≡ work_of engine (Process at) work.bench
+  pub hands : Hands engine engine_now (Process at) 1 work.context
+  pub work_is : work ≡ work_of engine (Process at) work.context

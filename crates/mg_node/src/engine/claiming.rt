@@ -14,7 +14,7 @@ use super::Engine;
 use crate::entry::Entry;
 use crate::replied::{Replied, reply};
 use crate::window::{first_unrun, hand_out, is_empty};
-use crate::{Bench, Claimed, Intake, Role, Work};
+use crate::{Claimed, Context, Intake, Role, Work};
 use mg_calc::{Calculator, Phase};
 use mg_policy::Readiness;
 
@@ -78,8 +78,8 @@ impl<C: Calculator> Engine<C> {
         if number >= u64::from(calls) {
             return self.claim_close();
         }
-        let bench = self.take_bench(Phase::Call(number), 1);
-        Claimed::Work(Work::new(self.node, number, Phase::Call(number), bench))
+        let context = self.take_context(Phase::Call(number), 1);
+        Claimed::Work(Work::new(self.node, number, Phase::Call(number), context))
     }
 
     // Claims the next set.
@@ -94,9 +94,9 @@ impl<C: Calculator> Engine<C> {
             Readiness::Close => self.claim_close(),
             Readiness::Ready { at } => {
                 let number = self.claimed;
-                let mut bench = self.take_bench(Phase::Process(at), 1);
-                bench.fill(at, intake);
-                Claimed::Work(Work::new(self.node, number, Phase::Process(at), bench))
+                let mut context = self.take_context(Phase::Process(at), 1);
+                context.fill(at, intake);
+                Claimed::Work(Work::new(self.node, number, Phase::Process(at), context))
             }
         }
     }
@@ -131,19 +131,19 @@ impl<C: Calculator> Engine<C> {
             return Claimed::Draining;
         }
         let number = self.claimed;
-        let bench = self.take_bench(Phase::Close, 0);
-        Claimed::Work(Work::new(self.node, number, Phase::Close, bench))
+        let context = self.take_context(Phase::Close, 0);
+        Claimed::Work(Work::new(self.node, number, Phase::Close, context))
     }
 
-    // Takes the last idle bench for a work that is handed out.
-    pub(super) fn take_bench(&mut self, phase: Phase, more: u64) -> Bench<C>
+    // Takes the last idle context for a work that is handed out.
+    pub(super) fn take_context(&mut self, phase: Phase, more: u64) -> Context<C>
         requires room { length self.old.window < self.old.in_flight }
         requires fits { self.old.claimed + more < 2 ^ 64 }
         ensures { Hands self.old self.new phase more result }
     {
-        let bench = self.idle.take_last();
+        let context = self.idle.take_last();
         self.window.push_back_reserved(Entry::out(phase));
         self.claimed += more;
-        bench
+        context
     }
 }

@@ -14,8 +14,8 @@ ghost use Rattle.mg_calc.specs.declared.plan_node.PlanNode as PlanNode;
 
 use super::Engine;
 use crate::laid::queue_of;
-use crate::parts::{empty_outputs, first_of, own_benches, role_of};
-use crate::{Bench, Role};
+use crate::parts::{empty_outputs, first_of, own_contexts, role_of};
+use crate::{Context, Role};
 use mg_calc::{Calculator, Plan, PlanNode};
 use mg_route::Holder;
 use mg_value::{InputSet, Prefix};
@@ -50,11 +50,11 @@ impl<C: Calculator> Engine<C> {
         let Ok(set) = InputSet::new(alloc, planned.inputs.len()) else {
             return Err(holder);
         };
-        let Ok(mut idle) = own_benches(alloc, planned, planned.in_flight - 1) else {
+        let Ok(mut idle) = own_contexts(alloc, planned, planned.in_flight - 1) else {
             return Err(holder);
         };
-        let bench = Bench::new(alloc, holder, set)?;
-        idle.push_reserved(bench);
+        let context = Context::new(alloc, holder, set)?;
+        idle.push_reserved(context);
         Ok(Engine {
             alloc,
             role: role_of(&planned.law),
@@ -79,10 +79,10 @@ impl<C: Calculator> Engine<C> {
         ensures { (planned : PlanNode) (number : ℕ) (told : HolderView) → self.old ≡ fresh_engine planned number told
             → self.new ≡ fresh_engine planned number (holder_view true (C.told calculator)) }
     {
-        let Some(bench) = self.idle.pop() else {
+        let Some(context) = self.idle.pop() else {
             return;
         };
-        self.idle.push_reserved(bench.with(calculator));
+        self.idle.push_reserved(context.with(calculator));
     }
 
     /// The engine of a graph input: its one output has what is known of the input's stream, whose payloads are shared.

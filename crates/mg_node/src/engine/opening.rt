@@ -59,20 +59,20 @@ impl<C: Calculator> Engine<C> {
     // Opens the calculator, and keeps its answer in the window.
     fn open(&mut self, sides: &GivenList) -> Result<(), AllocError>
         requires window { self.old.window ≡ [] }
-        requires bench { 0 < length self.old.idle }
+        requires context { 0 < length self.old.idle }
         ensures opened { (node : PlanNode) (number : ℕ) (told : HolderView) → self.old ≡ fresh_engine node number told
             → OnOk result (HasOpened node number told sides.now self.new) }
         ensures unchanged { OnErr result (self.new ≡ self.old) }
     {
-        let mut bench = self.idle.take_last();
-        match bench.open(self.alloc, sides) {
+        let mut context = self.idle.take_last();
+        match context.open(self.alloc, sides) {
             Some(answer) => {
-                let entry = Entry::opened(self.node, bench, answer);
+                let entry = Entry::opened(self.node, context, answer);
                 self.window.push_back_reserved(entry);
                 Ok(())
             }
             None => {
-                self.idle.push_reserved(bench);
+                self.idle.push_reserved(context);
                 Err(AllocError)
             }
         }

@@ -1,4 +1,4 @@
-//! Doing the next set at once: it is shown to a calculator in its bench, and the answer is laid.
+//! Doing the next set at once: it is shown to a calculator in its context, and the answer is laid.
 ghost use Rattle.std.specs.Prelude.{◌≡◌, ◌<◌, ◌≤◌, ◌+◌, ◌^◌, ℕ, length, None, true, OnOk, OnErr, IfErr};
 ghost use Rattle.mg_policy.specs.declared.readiness.Readiness as Readiness;
 ghost use Rattle.mg_node.specs.Job.{LoggedJob};
@@ -20,7 +20,7 @@ use mg_time::Timestamp;
 
 impl<C: Calculator> Engine<C> {
     /// Claims the next set, shows it to the node's calculator and lays the answer, where no work is under way. The calculator stays in its
-    /// bench, and the gate is round its call. Where a claim may answer with something else than a set nothing changes. At want of memory
+    /// context, and the gate is round its call. Where a claim may answer with something else than a set nothing changes. At want of memory
     /// the work is handed out as it is claimed, or stands in its window as performed.
     pub fn work_at_once<G: Gate>(&mut self, intake: &mut Intake, gate: &G) -> AtOnce<C>
         requires cell { AreCell self.old intake.old }
@@ -50,7 +50,7 @@ impl<C: Calculator> Engine<C> {
         }
     }
 
-    // Whether the node goes on and is shown sets, no work is under way, and a bench is idle.
+    // Whether the node goes on and is shown sets, no work is under way, and a context is idle.
     fn may_show(&self) -> bool
         ensures may { result ≡ true → MayShow self.now }
         ensures only { MayShow self.now → result ≡ true }
@@ -86,7 +86,7 @@ impl<C: Calculator> Engine<C> {
         }
     }
 
-    // Shows the next set to the calculator of the last idle bench, and returns its answer, or `None` where there is no memory.
+    // Shows the next set to the calculator of the last idle context, and returns its answer, or `None` where there is no memory.
     fn show<G: Gate>(
         &mut self,
         at: Timestamp,
@@ -98,12 +98,12 @@ impl<C: Calculator> Engine<C> {
         requires next { IsNext intake.old.waits (Readiness.Ready at) }
         ensures { Shows result at self.old self.new intake.old intake.new }
     {
-        let mut bench = self.idle.take_last();
-        bench.fill(at, intake);
+        let mut context = self.idle.take_last();
+        context.fill(at, intake);
         gate.enter(self.node, self.claimed);
-        let answer = bench.show(self.alloc, at);
+        let answer = context.show(self.alloc, at);
         gate.leave(self.node, self.claimed);
-        self.idle.push_reserved(bench);
+        self.idle.push_reserved(context);
         answer
     }
 
@@ -132,15 +132,15 @@ impl<C: Calculator> Engine<C> {
         Ok(())
     }
 
-    // Hands out the work of the set in the last idle bench.
+    // Hands out the work of the set in the last idle context.
     fn take_shown(&mut self, at: Timestamp) -> Work<C>
-        requires bench { 0 < length self.old.idle }
+        requires context { 0 < length self.old.idle }
         requires room { length self.old.window < self.old.in_flight }
         requires few { self.old.claimed + 1 < 2 ^ 64 }
         ensures { HandsShown at result self.old self.new }
     {
         let number = self.claimed;
-        let bench = self.take_bench(Phase::Process(at), 1);
-        Work::new(self.node, number, Phase::Process(at), bench)
+        let context = self.take_context(Phase::Process(at), 1);
+        Work::new(self.node, number, Phase::Process(at), context)
     }
 }

@@ -30,7 +30,7 @@ fn closes_despite(fault: Option<NodeFault>) -> bool
 
 impl<C: Calculator> Engine<C> {
     /// Closes the calculator of a node that was opened and had no Close, once a run has ended, also where the node has failed at a set or
-    /// in a call. It is the calculator in the last idle bench, or where no bench is idle, that of the first work in the window, if that
+    /// in a call. It is the calculator in the last idle context, or where no context is idle, that of the first work in the window, if that
     /// came back and wasn't a performed Close. What it emits or answers is dropped, and nothing else changes; the engine isn't used any
     /// more. A node that isn't begun, was closed, or failed in Open or in Close stays as it is. Want of memory changes nothing, and this
     /// may be called again.
@@ -65,20 +65,20 @@ impl<C: Calculator> Engine<C> {
         finish_first(&mut self.window, self.alloc)
     }
 
-    // Closes the calculator of the last idle bench.
+    // Closes the calculator of the last idle context.
     fn finish_last(&mut self) -> Result<(), AllocError>
         requires { 0 < length self.old.idle }
         ensures finished { OnOk result (FinishesLast self.old self.new) }
         ensures unchanged { OnErr result (self.new ≡ self.old) }
     {
-        let mut bench = self.idle.take_last();
-        match bench.finish(self.alloc) {
+        let mut context = self.idle.take_last();
+        match context.finish(self.alloc) {
             Ok(()) => {
-                self.idle.push_reserved(bench);
+                self.idle.push_reserved(context);
                 Ok(())
             }
             Err(_) => {
-                self.idle.push_reserved(bench);
+                self.idle.push_reserved(context);
                 Err(AllocError)
             }
         }

@@ -6,7 +6,7 @@ use Rattle.mg_calc.specs.Plan.{IsValid, IsValidWithFree, OutersFit}
 use Rattle.mg_run.specs.Answer.{Action, refuse, show, run_plan, run_live, solve, generate, generate_live, trace, replay}
 use Rattle.mg_edge.specs.Edge.{StoreTold}
 use Rattle.mg_files.specs.Loads.{LoadedAll}
-use Rattle.mg_run.specs.Task.{Task}
+use Rattle.mg_run.specs.Invocation.{Invocation}
 use Rattle.mg_run.specs.Devices.{Device}
 use Rattle.mg_run.specs.Call.{IsActionOf}
 use Rattle.mg_run.specs.declared.action.Action as code
@@ -55,8 +55,8 @@ CanBeDone outers (generate_live report number plan) = IsValidWithFree plan × Ou
 CanBeDone outers (trace report plan) = IsValid plan × OutersFit plan outers
 CanBeDone outers (replay report plan) = IsValid plan × OutersFit plan outers
 
--- All files of a task were loaded, and this action is what there is to do with them.
-pub record IsDue (task : Task) (store : Device StoreTold) (action : Action) : Type 0 where
+-- All files of an invocation were loaded, and this action is what there is to do with them.
+pub record IsDue (invocation : Invocation) (store : Device StoreTold) (action : Action) : Type 0 where
   pub contents : List (List ℕ)
-  pub loaded : LoadedAll task.files contents store
-  pub due : IsActionOf task contents action
+  pub loaded : LoadedAll invocation.files contents store
+  pub due : IsActionOf invocation contents action

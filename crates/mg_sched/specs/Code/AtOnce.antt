@@ -13,14 +13,14 @@ use Rattle.mg_node.specs.Claims.{Claims}
 use Rattle.mg_node.specs.AtOnce.{DoesAtOnce}
 use Rattle.mg_sched.specs.declared.reached.Reached.{Reached}
 use Rattle.mg_sched.specs.declared.reached.Reached.TheVariants.{Nothing, NotClaimed, Answered, Claimed as OnlyClaimed, Performed, Committed}
-use Rattle.mg_sched.specs.Views.{DeskView, NetView}
-use Rattle.mg_sched.specs.Places.{lengths_of, first_edge, with_engine, with_intake, with_desk}
+use Rattle.mg_sched.specs.Views.{WorkQueueView, NetView}
+use Rattle.mg_sched.specs.Places.{lengths_of, first_edge, with_engine, with_intake, with_work_queue}
 use Rattle.mg_sched.specs.Acts.{Acts, with_noted}
 use Rattle.mg_sched.specs.Runs.{IsRun}
 use Rattle.mg_sched.specs.StandsFor.{StandsForSome, IsRunning}
 
 -- a node's engine claims from its intake, and the limits hear how many packets wait now at each of its ports; what is handed out lies on no
--- desk
+-- work queue
 pub record NodeHandsOut {C : Type 0} (node : ℕ) (claimed : Claimed C) (before now : NetView) : Type 0 where
   pub engine : EngineView
   pub at : slice_get before.engines node ≡ Some engine
@@ -62,16 +62,16 @@ took_none Draining = true
 took_none Ended = true
 took_none claimed = false
 
--- a net with a work behind those on a desk
-abbrev pub with_work : NetView → ℕ → DeskView → WorkView → NetView
-with_work net node desk work = with_desk net node (record desk { works = desk.works ++ work ∷ [] })
+-- a net with a work behind those in a work queue
+abbrev pub with_work : NetView → ℕ → WorkQueueView → WorkView → NetView
+with_work net node work_queue work = with_work_queue net node (record work_queue { works = work_queue.works ++ work ∷ [] })
 
--- a work is handed out: if it lay on the desk of its node, the net would stand for some job, and all nodes would be begun
+-- a work is handed out: if it lay in the work queue of its node, the net would stand for some job, and all nodes would be begun
 pub record IsHandedOut (net : NetView) (node : ℕ) (work : WorkView) : Type 0 where
-  pub desk : DeskView
-  pub on : slice_get net.desks node ≡ Some desk
-  pub stands : StandsForSome (with_work net node desk work)
-  pub running : IsRunning (with_work net node desk work)
+  pub work_queue : WorkQueueView
+  pub on : slice_get net.work_queues node ≡ Some work_queue
+  pub stands : StandsForSome (with_work net node work_queue work)
+  pub running : IsRunning (with_work net node work_queue work)
   pub there : node < length net.plan.nodes
 
 -- a work that is handed out was performed
@@ -93,7 +93,7 @@ steps_of node Nothing = []
 steps_of node NotClaimed = []
 steps_of node reached = Claim node ∷ steps_after node reached
 
--- a net in which a node's next work lies on its desk becomes another one by the steps behind the claim, as far as the work came
+-- a net in which a node's next work lies in its work queue becomes another one by the steps behind the claim, as far as the work came
 abbrev pub ComesOn : ℕ → Reached → NetView → NetView → Type 0
 ComesOn node Nothing before now = ⊥
 ComesOn node NotClaimed before now = ⊥

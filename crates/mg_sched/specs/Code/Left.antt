@@ -13,7 +13,7 @@ use Rattle.mg_node.specs.Ports.{ports_in, port_queue}
 use Rattle.mg_node.specs.Lawful.{is_close}
 use Rattle.mg_node.specs.Shelves.{shelf_at}
 use Rattle.mg_node.specs.Windows.{has_ended}
-use Rattle.mg_sched.specs.Views.{DeskView, NetView}
+use Rattle.mg_sched.specs.Views.{WorkQueueView, NetView}
 use Rattle.mg_sched.specs.Acts.{Acts}
 use Rattle.mg_sched.specs.AtRest.{MayGoOn}
 
@@ -66,11 +66,11 @@ Steps false event before now = (now ≡ before) × Acts event Idle before before
 
 -- no work of a node is claimed and not performed
 abbrev pub HasNoWork : NetView → ℕ → Type 0
-HasNoWork net node = (desk : DeskView) → slice_get net.desks node ≡ Some desk → desk.works ≡ []
+HasNoWork net node = (work_queue : WorkQueueView) → slice_get net.work_queues node ≡ Some work_queue → work_queue.works ≡ []
 
 -- a node has works that are claimed and not performed, and the first has this number
 abbrev pub HasWork : NetView → ℕ → ℕ → Type 0
-HasWork net node number = (desk : DeskView) → slice_get net.desks node ≡ Some desk → IsSomeAnd (slice_get desk.works 0) (λ w. w.number ≡ number)
+HasWork net node number = (work_queue : WorkQueueView) → slice_get net.work_queues node ≡ Some work_queue → IsSomeAnd (slice_get work_queue.works 0) (λ w. w.number ≡ number)
 
 -- no work of a node is performed and not committed
 abbrev pub HasNoShelf : NetView → ℕ → Type 0

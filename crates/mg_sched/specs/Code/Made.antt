@@ -15,7 +15,7 @@ use Rattle.mg_node.specs.Intakes.{IsFresh}
 use Rattle.mg_node.specs.Fresh.{own_told, fresh_engine}
 use Rattle.mg_node.specs.Outputs.{input_engine}
 use Rattle.mg_throttle.specs.Throttle.{AreLimitsOf, limit_of, new_queue}
-use Rattle.mg_sched.specs.Views.{DeskView, NetView}
+use Rattle.mg_sched.specs.Views.{WorkQueueView, NetView}
 
 -- what holds of each element of a list, by its place
 abbrev pub AtPlaces : {X : Type 0} → (ℕ → X → Type 0) → List X → Type 0
@@ -63,9 +63,9 @@ pub record IsIntakeAt (plan : Plan) (consumer : ℕ) (intake : IntakeView) : Typ
   pub fresh : IsFresh plan consumer intake
   pub lawful : (job : LoggedJob) (streams : List (StreamPrefix Plain)) → job.job.plan ≡ plan → Solves job streams → LawfulIntake job consumer intake
 
--- the desk of a node, where nothing lies
-abbrev pub IsDeskAt : Plan → ℕ → DeskView → Type 0
-IsDeskAt plan place desk = (node : PlanNode) → slice_get plan.nodes place ≡ Some node → desk ≡ record { room = node.in_flight; works = [] }
+-- the work queue of a node, where nothing lies
+abbrev pub IsWorkQueueAt : Plan → ℕ → WorkQueueView → Type 0
+IsWorkQueueAt plan place work_queue = (node : PlanNode) → slice_get plan.nodes place ≡ Some node → work_queue ≡ record { room = node.in_flight; works = [] }
 
 -- the parts of a net that was made, by the calculators of its nodes
 pub record HasParts (plan : Plan) (inputs : Inputs) (told : ℕ → PlanNode → HolderView) (net : NetView) : Type 0 where
@@ -75,8 +75,8 @@ pub record HasParts (plan : Plan) (inputs : Inputs) (told : ℕ → PlanNode →
   pub engines : AtPlaces (IsEngineAt plan inputs.streams told) net.engines
   pub intake_count : length net.intakes ≡ length plan.nodes + 1
   pub intakes : AtPlaces (IsIntakeAt plan) net.intakes
-  pub desk_count : length net.desks ≡ length plan.nodes
-  pub desks : AtPlaces (IsDeskAt plan) net.desks
+  pub work_queue_count : length net.work_queues ≡ length plan.nodes
+  pub work_queues : AtPlaces (IsWorkQueueAt plan) net.work_queues
   pub of : AreLimitsOf plan net.limits
   pub queues : net.limits.queues ≡ map (new_queue (length plan.nodes) (limit_of plan.limit)) plan.edges
   pub kept : net.kept ≡ replicate (length plan.streams) false

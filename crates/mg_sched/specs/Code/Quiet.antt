@@ -13,7 +13,7 @@ use Rattle.mg_node.specs.Advances.{is_advanced}
 use Rattle.mg_node.specs.Claims.{Claims}
 use Rattle.mg_node.specs.Shelves.{shelf_at}
 use Rattle.mg_ready.specs.Ready.{ReadyNodes, IsIn, ChangesOnly}
-use Rattle.mg_sched.specs.Views.{DeskView, NetView}
+use Rattle.mg_sched.specs.Views.{WorkQueueView, NetView}
 use Rattle.mg_calc.specs.declared.event.Effect.TheVariants.{Idle}
 use Rattle.mg_sched.specs.Places.{source_of}
 use Rattle.mg_sched.specs.Acts.{Acts}
@@ -35,14 +35,14 @@ IsAt plan Relax place = ⊤
 pub record OnlyAt (place : ℕ) (before now : NetView) : Type 0 where
   pub engines : (other : ℕ) → other ≢ place → slice_get now.engines other ≡ slice_get before.engines other
   pub intakes : (other : ℕ) → other ≢ place → slice_get now.intakes other ≡ slice_get before.intakes other
-  pub desks : (other : ℕ) → other ≢ place → slice_get now.desks other ≡ slice_get before.desks other
+  pub work_queues : (other : ℕ) → other ≢ place → slice_get now.work_queues other ≡ slice_get before.work_queues other
 
 -- an agenda has noted the places whose parts are no longer as they were
 pub record Notes (before : NetView) (agenda : AgendaView) (now : NetView) (agenda_now : AgendaView) : Type 0 where
   pub grows : (place : ℕ) → IsIn agenda.touched place → IsIn agenda_now.touched place
   pub engines : (place : ℕ) → ¬ IsIn agenda_now.touched place → slice_get now.engines place ≡ slice_get before.engines place
   pub intakes : (place : ℕ) → ¬ IsIn agenda_now.touched place → slice_get now.intakes place ≡ slice_get before.intakes place
-  pub desks : (place : ℕ) → ¬ IsIn agenda_now.touched place → slice_get now.desks place ≡ slice_get before.desks place
+  pub work_queues : (place : ℕ) → ¬ IsIn agenda_now.touched place → slice_get now.work_queues place ≡ slice_get before.work_queues place
 
 -- Parts with nothing to do.
 
@@ -51,25 +51,25 @@ abbrev pub HasBrought : EngineView → Edge → IntakeView → Type 0
 HasBrought engine e intake = Delivers (Moved 0 false) (output_at engine e) e.port 4294967295 intake.waits intake.waits
 
 -- a node has no work to claim, to perform or to commit, and no output to raise
-pub record IsDone (engine : EngineView) (intake : IntakeView) (desk : DeskView) : Type 0 where
+pub record IsDone (engine : EngineView) (intake : IntakeView) (work_queue : WorkQueueView) : Type 0 where
   pub claims : Claims {C = ℕ} NotReady engine engine intake intake
       ⊎ (Claims {C = ℕ} InFlightFull engine engine intake intake
       ⊎ (Claims {C = ℕ} Draining engine engine intake intake
       ⊎ Claims {C = ℕ} Ended engine engine intake intake))
-  pub works : desk.works ≡ []
+  pub works : work_queue.works ≡ []
   pub shelf : (number : ℕ) → shelf_at engine number ≡ None
   pub raises : is_advanced engine intake.waits ≡ false
 
 -- each node that isn't touched has nothing to do, and along each edge between two places that aren't touched all has come
-pub record RestBut (plan : Plan) (engines : List EngineView) (intakes : List IntakeView) (desks : List DeskView) (touched : ReadyNodes) : Type 0 where
+pub record RestBut (plan : Plan) (engines : List EngineView) (intakes : List IntakeView) (work_queues : List WorkQueueView) (touched : ReadyNodes) : Type 0 where
   pub edges : (number place : ℕ) (e : Edge) (engine : EngineView) (intake : IntakeView) → slice_get plan.edges number ≡ Some e → e.node ≤ length plan.nodes → source_of plan e ≡ Some place
       → ¬ IsIn touched place → ¬ IsIn touched e.node → slice_get engines place ≡ Some engine → slice_get intakes e.node ≡ Some intake → HasBrought engine e intake
-  pub nodes : (node : ℕ) (engine : EngineView) (intake : IntakeView) (desk : DeskView) → node < length plan.nodes → ¬ IsIn touched node
-      → slice_get engines node ≡ Some engine → slice_get intakes node ≡ Some intake → slice_get desks node ≡ Some desk → IsDone engine intake desk
+  pub nodes : (node : ℕ) (engine : EngineView) (intake : IntakeView) (work_queue : WorkQueueView) → node < length plan.nodes → ¬ IsIn touched node
+      → slice_get engines node ≡ Some engine → slice_get intakes node ≡ Some intake → slice_get work_queues node ≡ Some work_queue → IsDone engine intake work_queue
 
 -- nothing of a net has anything to do but at the places that an agenda has noted
 abbrev pub RestsBut : NetView → AgendaView → Type 0
-RestsBut net agenda = RestBut net.plan net.engines net.intakes net.desks agenda.touched
+RestsBut net agenda = RestBut net.plan net.engines net.intakes net.work_queues agenda.touched
 
 -- an agenda that is kept from sweep to sweep, if there is one, is for the nets of a plan
 abbrev pub IsKeptBy : Plan → Option AgendaView → Type 0
@@ -77,9 +77,9 @@ IsKeptBy plan None = ⊤
 IsKeptBy plan (Some agenda) = IsAgendaOf plan agenda
 
 -- an agenda is kept, and nothing has anything to do but at the places that it has noted
-abbrev pub RestsButKept : Plan → List EngineView → List IntakeView → List DeskView → Option AgendaView → Type 0
-RestsButKept plan engines intakes desks None = ⊥
-RestsButKept plan engines intakes desks (Some agenda) = RestBut plan engines intakes desks agenda.touched
+abbrev pub RestsButKept : Plan → List EngineView → List IntakeView → List WorkQueueView → Option AgendaView → Type 0
+RestsButKept plan engines intakes work_queues None = ⊥
+RestsButKept plan engines intakes work_queues (Some agenda) = RestBut plan engines intakes work_queues agenda.touched
 
 -- What is touched from outside between two sweeps.
 

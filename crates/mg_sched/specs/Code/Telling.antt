@@ -6,17 +6,17 @@ use Rattle.mg_node.specs.Ports.{port_queue}
 use Rattle.mg_node.specs.Windows.{has_ended}
 use Rattle.mg_throttle.specs.declared.queue.Queue.{Queue}
 use Rattle.mg_throttle.specs.Throttle.{AreLimitsOf}
-use Rattle.mg_sched.specs.Views.{DeskView, NetView}
-use Rattle.mg_sched.specs.Places.{with_engine, with_desk, with_limits}
+use Rattle.mg_sched.specs.Views.{WorkQueueView, NetView}
+use Rattle.mg_sched.specs.Places.{with_engine, with_work_queue, with_limits}
 use Rattle.mg_sched.specs.ComesApart.{all_shelved}
 
--- the works on the desk of a node stand in its window again
+-- the works in the work queue of a node stand in its window again
 pub record PutsBackAt (node : ℕ) (before now : NetView) : Type 0 where
   pub engine : EngineView
   pub at : slice_get before.engines node ≡ Some engine
-  pub desk : DeskView
-  pub on : slice_get before.desks node ≡ Some desk
-  pub now_is : now ≡ with_desk (with_engine before node (all_shelved engine desk.works)) node (record desk { works = [] })
+  pub work_queue : WorkQueueView
+  pub on : slice_get before.work_queues node ≡ Some work_queue
+  pub now_is : now ≡ with_work_queue (with_engine before node (all_shelved engine work_queue.works)) node (record work_queue { works = [] })
 
 -- the limits of a net know what waits at the first `noted` consumers, and which of the first `stopped` nodes have ended; and no queue of a
 -- node that goes on was stopped

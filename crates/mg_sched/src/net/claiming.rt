@@ -1,7 +1,7 @@
 //! How works are claimed.
 ghost use Rattle.std.specs.Prelude.{◌≡◌, ◌<◌, ◌≤◌, ◌+◌, ◌^◌, ℕ, length, slice_get, Some, true, false};
 ghost use Rattle.mg_sched.specs.StandsFor.{StandsForSome, IsRunning};
-ghost use Rattle.mg_sched.specs.Views.{DeskView};
+ghost use Rattle.mg_sched.specs.Views.{WorkQueueView};
 ghost use Rattle.mg_sched.specs.Code.AtOnce.{NodeHandsOut, took_none, with_work};
 ghost use Rattle.mg_node.specs.Ports.{ports_in, port_queue};
 ghost use Rattle.mg_sched.specs.Places.{lengths_of, first_edge};
@@ -102,7 +102,7 @@ impl<C: Calculator> Net<C> {
         self.first_edges[place as usize]
     }
 
-    // Claims the next work of a node, lays it on the node's desk, and tells the limits how many packets wait.
+    // Claims the next work of a node, lays it in the node's work queue, and tells the limits how many packets wait.
     fn claim_next(&mut self, node: u32) -> Effect
         requires there { node < length self.old.plan.nodes }
         requires stands { StandsForSome self.old }
@@ -111,7 +111,7 @@ impl<C: Calculator> Net<C> {
     {
         match self.hand_out(node) {
             Claimed::Work(work) => {
-                self.put_on_desk(node, work);
+                self.put_on_work_queue(node, work);
                 Effect::Did
             }
             Claimed::Answered => Effect::Did,
@@ -140,14 +140,14 @@ impl<C: Calculator> Net<C> {
         claimed
     }
 
-    // Lays a work behind those on a node's desk.
-    pub(super) fn put_on_desk(&mut self, node: u32, work: Work<C>)
-        requires there { node < length self.old.desks }
-        requires room { (desk : DeskView) → slice_get self.old.desks node ≡ Some desk → length desk.works < desk.room }
-        ensures { (desk : DeskView) → slice_get self.old.desks node ≡ Some desk → self.new ≡ with_work self.old node desk work }
+    // Lays a work behind those in a node's work queue.
+    pub(super) fn put_on_work_queue(&mut self, node: u32, work: Work<C>)
+        requires there { node < length self.old.work_queues }
+        requires room { (work_queue : WorkQueueView) → slice_get self.old.work_queues node ≡ Some work_queue → length work_queue.works < work_queue.room }
+        ensures { (work_queue : WorkQueueView) → slice_get self.old.work_queues node ≡ Some work_queue → self.new ≡ with_work self.old node work_queue work }
     {
         self.known = false;
-        self.desks[node as usize].put(work);
+        self.work_queues[node as usize].put(work);
     }
 
     // Tells the limits how many packets wait at each port of a consumer.

@@ -30,7 +30,7 @@ fn joined<C: Calculator>(parts: NetParts<C>) -> Net<C>
     let NetRest {
         alloc,
         given,
-        desks,
+        work_queues,
         limits,
         spare,
         boxes,
@@ -43,7 +43,7 @@ fn joined<C: Calculator>(parts: NetParts<C>) -> Net<C>
         given,
         engines,
         intakes,
-        desks,
+        work_queues,
         limits,
         first_edges,
         own_feeders,

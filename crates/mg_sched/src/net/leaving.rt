@@ -5,21 +5,21 @@ ghost use Rattle.mg_calc.specs.declared.plan_node.PlanNode.{PlanNode};
 ghost use Rattle.mg_calc.specs.Told.{CalculatorTold};
 ghost use Rattle.mg_node.specs.Views.{EngineView};
 ghost use Rattle.mg_node.specs.Job.{LoggedJob};
-ghost use Rattle.mg_sched.specs.Views.{DeskView};
+ghost use Rattle.mg_sched.specs.Views.{WorkQueueView};
 ghost use Rattle.mg_sched.specs.GivesBack.{cell_told, with_told, with_cells, given_back, StoodFor};
 
 use super::Net;
-use crate::desk::Desk;
+use crate::work_queue::WorkQueue;
 use mg_calc::{Calculator, Plan};
 use mg_node::Engine;
 
 // Returns the calculator of a cell, if it was handed in.
-fn calculator_of<C: Calculator>(engine: Engine<C>, desk: Desk<C>) -> Option<C>
-    ensures { option_map C.told result ≡ cell_told engine desk }
+fn calculator_of<C: Calculator>(engine: Engine<C>, work_queue: WorkQueue<C>) -> Option<C>
+    ensures { option_map C.told result ≡ cell_told engine work_queue }
 {
     match engine.into_calculator() {
         Some(calculator) => Some(calculator),
-        None => desk.into_calculator(),
+        None => work_queue.into_calculator(),
     }
 }
 
@@ -39,18 +39,20 @@ fn put_in_place<C: Calculator>(places: &mut [Option<C>], number: Option<u32>, ca
 fn put_back<C: Calculator>(
     plan: &Plan,
     engines: Vec<Engine<C>>,
-    desks: Vec<Desk<C>>,
+    work_queues: Vec<WorkQueue<C>>,
     places: &mut [Option<C>],
 )
-    ensures { map (option_map C.told) places.new ≡ with_cells (map (option_map C.told) places.old) plan.now.nodes engines.items desks.items }
+    ensures { map (option_map C.told) places.new ≡ with_cells (map (option_map C.told) places.old) plan.now.nodes engines.items work_queues.items }
 {
     let mut engines = engines.into_iter();
-    let mut desks = desks.into_iter();
+    let mut work_queues = work_queues.into_iter();
     for node in 0..plan.nodes.len() {
         let number = plan.nodes.as_slice()[node as usize].box_number;
         let Some(engine) = engines.next() else { return };
-        let Some(desk) = desks.next() else { return };
-        put_in_place(places, number, calculator_of(engine, desk));
+        let Some(work_queue) = work_queues.next() else {
+            return
+        };
+        put_in_place(places, number, calculator_of(engine, work_queue));
     }
 }
 
@@ -75,21 +77,21 @@ impl<C: Calculator> Net<C> {
         // A net that stands for a job, begun or not, or was wound up since, gives back as many calculators as were handed in. The
         // calculator of a node stands at the place of its box number, and one that no node uses is as it lay.
         ensures count { (job : LoggedJob) → StoodFor job self → length result.items ≡ length job.boxes }
-        ensures own { (job : LoggedJob) (number place : ℕ) (node : PlanNode) (engine : EngineView) (desk : DeskView) → StoodFor job self
-            → slice_get self.plan.nodes number ≡ Some node → node.box_number ≡ Some place → slice_get self.engines number ≡ Some engine → slice_get self.desks number ≡ Some desk
-            → (slice_get (map C.told result.items) place ≡ cell_told engine desk) × (is_some (cell_told engine desk) ≡ true) }
+        ensures own { (job : LoggedJob) (number place : ℕ) (node : PlanNode) (engine : EngineView) (work_queue : WorkQueueView) → StoodFor job self
+            → slice_get self.plan.nodes number ≡ Some node → node.box_number ≡ Some place → slice_get self.engines number ≡ Some engine → slice_get self.work_queues number ≡ Some work_queue
+            → (slice_get (map C.told result.items) place ≡ cell_told engine work_queue) × (is_some (cell_told engine work_queue) ≡ true) }
         ensures unused { (job : LoggedJob) (place : ℕ) (told : CalculatorTold) → StoodFor job self → slice_get self.spare place ≡ Some (Some told)
             → slice_get (map C.told result.items) place ≡ Some told }
     {
         let Net {
             plan,
             engines,
-            desks,
+            work_queues,
             mut spare,
             boxes,
             ..
         } = self;
-        put_back(&plan, engines, desks, &mut spare);
+        put_back(&plan, engines, work_queues, &mut spare);
         all_in(spare, boxes)
     }
 }

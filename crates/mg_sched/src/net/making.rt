@@ -35,7 +35,7 @@ fn parts_of<C: Calculator>(
       given = p.kept.given;
       engines = p.cells.engines.items;
       intakes = p.cells.intakes.items;
-      desks = p.cells.desks.items;
+      work_queues = p.cells.work_queues.items;
       limits = p.rules.limits;
       spare = [];
       kept = p.rules.kept.items;
@@ -69,7 +69,7 @@ fn joined<C: Calculator>(alloc: Global, plan: &Plan, parts: Parts<C>, boxes: Vec
       given = parts.kept.given;
       engines = parts.cells.engines.items;
       intakes = parts.cells.intakes.items;
-      desks = parts.cells.desks.items;
+      work_queues = parts.cells.work_queues.items;
       limits = parts.rules.limits;
       spare = [];
       kept = parts.rules.kept.items;
@@ -86,7 +86,7 @@ fn joined<C: Calculator>(alloc: Global, plan: &Plan, parts: Parts<C>, boxes: Vec
     let Cells {
         mut engines,
         intakes,
-        desks,
+        work_queues,
     } = cells;
     let Rules {
         limits,
@@ -104,7 +104,7 @@ fn joined<C: Calculator>(alloc: Global, plan: &Plan, parts: Parts<C>, boxes: Vec
         given,
         engines,
         intakes,
-        desks,
+        work_queues,
         limits,
         first_edges,
         own_feeders,

@@ -3,29 +3,29 @@ ghost use Rattle.std.specs.Prelude.{◌≡◌, ◌≢◌, ◌<◌, [], length, A
 ghost use Rattle.mg_node.specs.Job.{LoggedJob};
 ghost use Rattle.mg_node.specs.Shelves.{IsOut};
 ghost use Rattle.mg_sched.specs.StandsFor.{StandsFor, StandsForSome, IsRunning};
-ghost use Rattle.mg_sched.specs.ComesApart.{all_shelved, PutsBack, NoneOnDesks, HasComeApart, ArePartsOf};
+ghost use Rattle.mg_sched.specs.ComesApart.{all_shelved, PutsBack, NoneOnWorkQueues, HasComeApart, ArePartsOf};
 ghost use Rattle.mg_sched.specs.Code.Telling.{PutsBackAt};
 
 use super::{IndexedPlan, Net, NetRest};
-use crate::desk::Desk;
 use crate::net_parts::NetParts;
+use crate::work_queue::WorkQueue;
 use mg_calc::Calculator;
 use mg_node::{Engine, Outcome};
 
-// Puts all works that lie on a desk back into the window of their engine, as they are.
-fn put_back<C: Calculator>(engine: &mut Engine<C>, desk: &mut Desk<C>)
-    requires out { All (IsOut engine.old) desk.old.works }
-    requires apart { AllPairs (λ a b. a.number ≢ b.number) desk.old.works }
-    ensures engine { engine.new ≡ all_shelved engine.old desk.old.works }
-    ensures desk { desk.new ≡ record desk.old { works = [] } }
+// Puts all works that lie in a work queue back into the window of their engine, as they are.
+fn put_back<C: Calculator>(engine: &mut Engine<C>, work_queue: &mut WorkQueue<C>)
+    requires out { All (IsOut engine.old) work_queue.old.works }
+    requires apart { AllPairs (λ a b. a.number ≢ b.number) work_queue.old.works }
+    ensures engine { engine.new ≡ all_shelved engine.old work_queue.old.works }
+    ensures work_queue { work_queue.new ≡ record work_queue.old { works = [] } }
 {
-    while let Some(work) = desk.take_last() {
+    while let Some(work) = work_queue.take_last() {
         engine.shelve(Outcome::unrun(work));
     }
 }
 
 impl<C: Calculator> Net<C> {
-    /// Takes a net apart: the works that lie on desks stand in their windows again, as they are, and each part comes out. Nothing is
+    /// Takes a net apart: the works that lie in work queues stand in their windows again, as they are, and each part comes out. Nothing is
     /// copied, and no memory is taken. The parts are those of each job for which the net stood, and `put_together` makes a net of them
     /// again.
     pub fn apart(self) -> NetParts<C>
@@ -45,7 +45,7 @@ impl<C: Calculator> Net<C> {
             given,
             engines,
             intakes,
-            desks,
+            work_queues,
             limits,
             first_edges,
             own_feeders,
@@ -67,7 +67,7 @@ impl<C: Calculator> Net<C> {
             rest: NetRest {
                 alloc,
                 given,
-                desks,
+                work_queues,
                 limits,
                 spare,
                 boxes,
@@ -76,15 +76,15 @@ impl<C: Calculator> Net<C> {
         }
     }
 
-    /// Puts all works that lie on desks back into their windows, as they are: what is claimed isn't performed. The net still stands for
+    /// Puts all works that lie in work queues back into their windows, as they are: what is claimed isn't performed. The net still stands for
     /// each job for which it stood.
     pub fn put_back_all(&mut self)
         requires running { IsRunning self.old }
         requires stands { StandsForSome self.old }
-        ensures puts_back { PutsBack (length self.old.plan.nodes) self.old.engines self.new.engines self.old.desks self.new.desks }
-        ensures others { self.new ≡ record self.old { engines = self.new.engines; desks = self.new.desks } }
+        ensures puts_back { PutsBack (length self.old.plan.nodes) self.old.engines self.new.engines self.old.work_queues self.new.work_queues }
+        ensures others { self.new ≡ record self.old { engines = self.new.engines; work_queues = self.new.work_queues } }
         ensures stands { (job : LoggedJob) → StandsFor job self.old → StandsFor job self.new }
-        ensures none { NoneOnDesks self.new }
+        ensures none { NoneOnWorkQueues self.new }
     {
         for node in 0..self.plan.nodes.len() {
             self.put_back_at(node);
@@ -100,6 +100,6 @@ impl<C: Calculator> Net<C> {
     {
         self.known = false;
         let place = node as usize;
-        put_back(&mut self.engines[place], &mut self.desks[place]);
+        put_back(&mut self.engines[place], &mut self.work_queues[place]);
     }
 }

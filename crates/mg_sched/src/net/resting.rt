@@ -91,7 +91,7 @@ impl<C: Calculator> Net<C> {
         }
     }
 
-    // Whether a node has a work to commit or to claim, or an output to raise, which is done. No work lies on its desk.
+    // Whether a node has a work to commit or to claim, or an output to raise, which is done. No work lies in its work queue.
     fn lays_at(&mut self, node: u32) -> Result<bool, AllocError>
         requires running { IsRunning self.old }
         requires stands { StandsForSome self.old }
@@ -112,7 +112,7 @@ impl<C: Calculator> Net<C> {
         }
     }
 
-    // Whether a node has a work to claim or an output to raise, which is done. No work lies on its desk, and none in its window is
+    // Whether a node has a work to claim or an output to raise, which is done. No work lies in its work queue, and none in its window is
     // performed and not committed.
     fn takes_at(&mut self, node: u32) -> Result<bool, AllocError>
         requires running { IsRunning self.old }

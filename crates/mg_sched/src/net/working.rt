@@ -11,7 +11,7 @@ use mg_edge::Gate;
 use mg_node::{Outcome, perform};
 
 impl<C: Calculator> Net<C> {
-    /// Performs a node's work of this number, if it lies on the node's desk. The work stands in the node's window then, as performed and
+    /// Performs a node's work of this number, if it lies in the node's work queue. The work stands in the node's window then, as performed and
     /// not committed.
     pub(super) fn perform<G: Gate>(&mut self, node: u32, number: u64, gate: &G) -> Effect
         requires there { node < length self.old.plan.nodes }
@@ -21,7 +21,7 @@ impl<C: Calculator> Net<C> {
     {
         self.known = false;
         let place = node as usize;
-        let Some((lay, work)) = self.desks[place].take(number) else {
+        let Some((lay, work)) = self.work_queues[place].take(number) else {
             return Effect::Idle;
         };
         match perform(self.alloc, work, gate) {
@@ -30,7 +30,7 @@ impl<C: Calculator> Net<C> {
                 Effect::Did
             }
             Err(work) => {
-                self.desks[place].put_back(lay, work);
+                self.work_queues[place].put_back(lay, work);
                 Effect::OutOfMemory
             }
         }

@@ -1,9 +1,9 @@
-//! How a node's next work is claimed, performed and committed at once, and lies on no desk and in no window in between.
+//! How a node's next work is claimed, performed and committed at once, and lies in no work queue and in no window in between.
 ghost use Rattle.std.specs.Prelude.{◌≡◌, ◌<◌, length, slice_get, Some, None, IfOk, OnOk, OnErr};
 ghost use Rattle.mg_calc.specs.declared.event.Event.TheVariants.{Claim as ToClaim};
 ghost use Rattle.mg_node.specs.Views.{WorkView};
 ghost use Rattle.mg_node.specs.Running.{IsPerformed};
-ghost use Rattle.mg_sched.specs.Views.{DeskView};
+ghost use Rattle.mg_sched.specs.Views.{WorkQueueView};
 ghost use Rattle.mg_sched.specs.StandsFor.{StandsForSome, IsRunning};
 ghost use Rattle.mg_sched.specs.Acts.{IsHeldSource};
 ghost use Rattle.mg_sched.specs.Sweeps.{Becomes};
@@ -72,7 +72,7 @@ fn did_nothing<C: Calculator>(done: &AtOnce<C>) -> bool
 }
 
 impl<C: Calculator> Net<C> {
-    /// Claims a node's next work, and performs and commits it at once: the work lies on the node's desk or in its window only where there
+    /// Claims a node's next work, and performs and commits it at once: the work lies in the node's work queue or in its window only where there
     /// is no memory for the next step. Tells whether something was done.
     pub(super) fn work_at_once<G: Gate, H: Hears>(
         &mut self,
@@ -109,7 +109,7 @@ impl<C: Calculator> Net<C> {
             AtOnce::Other => self.turn_over(node, gate),
             AtOnce::NotReady => Reached::Nothing,
             AtOnce::Claimed(work) => {
-                self.put_on_desk(node, work);
+                self.put_on_work_queue(node, work);
                 Reached::Claimed
             }
             AtOnce::Performed(number) => Reached::Performed(number),
@@ -159,14 +159,14 @@ impl<C: Calculator> Net<C> {
     // Performs and commits a work that is handed out.
     fn finish<G: Gate>(&mut self, node: u32, work: Work<C>, gate: &G) -> Reached
         requires { IsHandedOut self.old node work }
-        ensures { (desk : DeskView) → slice_get self.old.desks node ≡ Some desk → StandsForSome (with_work self.old node desk work)
-            → IsRunning (with_work self.old node desk work) → ComesOn node result (with_work self.old node desk work) self.new }
+        ensures { (work_queue : WorkQueueView) → slice_get self.old.work_queues node ≡ Some work_queue → StandsForSome (with_work self.old node work_queue work)
+            → IsRunning (with_work self.old node work_queue work) → ComesOn node result (with_work self.old node work_queue work) self.new }
     {
         let number = work.number();
         match perform(self.alloc, work, gate) {
             Ok(performed) => self.lay(node, number, performed),
             Err(work) => {
-                self.put_on_desk(node, work);
+                self.put_on_work_queue(node, work);
                 Reached::Claimed
             }
         }
@@ -175,9 +175,9 @@ impl<C: Calculator> Net<C> {
     // Commits a work that is handed out and was performed.
     fn lay(&mut self, node: u32, number: u64, performed: Performed<C>) -> Reached
         requires { IsPerformedOut self.old node number performed }
-        ensures { (desk : DeskView) (work : WorkView) → slice_get self.old.desks node ≡ Some desk → StandsForSome (with_work self.old node desk work)
-            → IsRunning (with_work self.old node desk work) → IsPerformed work performed → number ≡ work.number
-            → ComesOn node result (with_work self.old node desk work) self.new }
+        ensures { (work_queue : WorkQueueView) (work : WorkView) → slice_get self.old.work_queues node ≡ Some work_queue → StandsForSome (with_work self.old node work_queue work)
+            → IsRunning (with_work self.old node work_queue work) → IsPerformed work performed → number ≡ work.number
+            → ComesOn node result (with_work self.old node work_queue work) self.new }
     {
         self.known = false;
         let engine = &mut self.engines[node as usize];

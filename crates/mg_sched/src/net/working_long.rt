@@ -198,7 +198,7 @@ impl<C: Calculator> Net<C> {
         ensures some { IfSome result (λ number. HasWork self.now node number) }
         ensures none { IfNone result (HasNoWork self.now node) }
     {
-        self.desks[node as usize].first()
+        self.work_queues[node as usize].first()
     }
 
     // The number of the first work of a node that is performed and not committed.

@@ -1,13 +1,13 @@
 -- The engine and the intake of a node while both are out of their slots.
 use Rattle.std.specs.Prelude.{◌≡◌, ℕ, ◌+◌, ◌*◌, ◌<◌, ◌∷◌, None}
 use Rattle.mg_node.specs.Views.{IntakeView, EngineView}
-use Rattle.mg_turns.specs.Parts.{FrameView, an_engine, an_intake, nodes_in, Follows}
+use Rattle.mg_turns.specs.Parts.{LayoutView, an_engine, an_intake, nodes_in, Follows}
 use Rattle.mg_turns.specs.Rule.{word_of}
 use Rattle.mg_turns.specs.Sights.{FindsCell}
 use Rattle.mg_turns.specs.Code.Plays.{Sat, turn_of_word, turning}
 
 -- a seat took the turns of a node's engine and intake, and their parts out of their slots
-pub record TakesCell (key : FrameView) (m : Sat) (node : ℕ) (e : EngineView) (engine_word laid : ℕ) (i : IntakeView) (intake_word : ℕ) (n : Sat) : Type 0 where
+pub record TakesCell (key : LayoutView) (m : Sat) (node : ℕ) (e : EngineView) (engine_word laid : ℕ) (i : IntakeView) (intake_word : ℕ) (n : Sat) : Type 0 where
   pub found : FindsCell m.0 node e i
   pub within : node < nodes_in key
   pub engine : Follows key (2 * node + 1) (an_engine e)

@@ -4,7 +4,7 @@ use mathlib.Core.Option.{some}
 use lib.ListN.{get_elem?}
 use Rattle.atomic_table.specs.Table.{Me, Step, rest}
 use Rattle.mg_node.specs.Views.{IntakeView, WorkView, EngineView}
-use Rattle.mg_turns.specs.Parts.{PartView, FrameView, blank_frame, nodes_in, tally_since, an_engine, an_intake, PartGrows, Follows, AgreeParts, IsOutIn, IsMissingIn, source_at, JoinedParts}
+use Rattle.mg_turns.specs.Parts.{PartView, LayoutView, blank_layout, nodes_in, tally_since, an_engine, an_intake, PartGrows, Follows, AgreeParts, IsOutIn, IsMissingIn, source_at, JoinedParts}
 use Rattle.mg_calc.specs.declared.edge.Edge.{Edge}
 use Rattle.mg_turns.specs.Turns.{Turn, Sight}
 use Rattle.mg_turns.specs.Rule.{view, doubled, word_of, Sights}
@@ -33,7 +33,7 @@ abbrev pub with_miss : View → ℕ → View
 with_miss v word = view v.key v.portion (v.misses + 1) v.splits (Some word) v.turns v.work v.seen
 
 -- the turn of a word, of which the seat notes this part
-abbrev pub turn_of_word : FrameView → ℕ → PartView → Turn
+abbrev pub turn_of_word : LayoutView → ℕ → PartView → Turn
 turn_of_word key word p = record { word = word; tally = word_of key word p / 2; note = p }
 
 -- what is known of a part whose turn is taken: it is what became of the one that was shared, and no less than what the seat saw; it agrees
@@ -181,7 +181,7 @@ HasTurn v word p = (t : Turn) × (ts : List Turn) × (v.turns ≡ t ∷ ts) × (
 
 -- the view of a seat that was joined to another one
 abbrev pub spent_view : View
-spent_view = view blank_frame 0 0 0 None [] None []
+spent_view = view blank_layout 0 0 0 None [] None []
 
 -- between two calls a seat has a portion, and neither a turn nor a part
 abbrev pub Idle : Sat → Type 0
@@ -263,7 +263,7 @@ abbrev pub MissedPair : Sat → ℕ → ℕ → ℕ → Sat → Type 0
 MissedPair m first second word n = Missed first second word m.0 n.0 × (n.1 ≡ m.1)
 
 -- what is known of the words of a cell that is out: the engine's word had this tally when `laid` sets were laid
-pub record CellWords (key : FrameView) (node : ℕ) (e : EngineView) (engine_word laid : ℕ) (i : IntakeView) (intake_word : ℕ) : Type 0 where
+pub record CellWords (key : LayoutView) (node : ℕ) (e : EngineView) (engine_word laid : ℕ) (i : IntakeView) (intake_word : ℕ) : Type 0 where
   pub tally : ℕ
   pub found : engine_word ≡ doubled tally
   pub more : laid ≤ e.laid

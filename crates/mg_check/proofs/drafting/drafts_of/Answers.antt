@@ -13,10 +13,10 @@ returns-in_err-check_wrongs-clause-err c =
     let nodes = map node_view c.args.nodes.now in
     let stock = c.in_ok-stock.ensures in
     let chose = c.in_ok-choices.ensures in
-    let judged : AreJudged c.in_ok-judgement.judgement outers (choices_view c.in_ok-choices.choices.list.items) =
-    subst (λ l. AreJudged c.in_ok-judgement.judgement outers (choices_view l)) c.as_slice.ensures.value c.in_ok-judgement.ensures in
-    let same : fault_by c.in_ok-judgement.judgement.wrongs.items ≡ node_refusal outers nodes =
-    refusal_is outers nodes c.in_ok-stock.stock c.in_ok-choices.choices c.in_ok-judgement.judgement (c.in_ok-check_known.ensures.ok outers stock) (c.in_ok-check_boxes.ensures.ok outers nodes stock chose.wanted) stock chose
+    let judged : AreJudged c.in_ok-node_drafts.node_drafts outers (choices_view c.in_ok-choices.choices.list.items) =
+    subst (λ l. AreJudged c.in_ok-node_drafts.node_drafts outers (choices_view l)) c.as_slice.ensures.value c.in_ok-node_drafts.ensures in
+    let same : fault_by c.in_ok-node_drafts.node_drafts.wrongs.items ≡ node_refusal outers nodes =
+    refusal_is outers nodes c.in_ok-stock.stock c.in_ok-choices.choices c.in_ok-node_drafts.node_drafts (c.in_ok-check_known.ensures.ok outers stock) (c.in_ok-check_boxes.ensures.ok outers nodes stock chose.wanted) stock chose
     judged in
     let p = err_from_is_err_and c.from_residual-in_err-check_wrongs.result c.from_residual-in_err-check_wrongs.ensures.1 in
     rw (p.1, p.2) (λ ne. sym same ∙ (ap fault_by (sym c.as_slice-2.ensures.value) ∙ c.in_err-check_wrongs.ensures.err ne))
@@ -27,9 +27,9 @@ returns-clause-ok c =
     let nodes = map node_view c.args.nodes.now in
     let stock = c.in_ok-stock.ensures in
     let chose = c.in_ok-choices.ensures in
-    let judged : AreJudged c.in_ok-judgement.judgement outers (choices_view c.in_ok-choices.choices.list.items) =
-    subst (λ l. AreJudged c.in_ok-judgement.judgement outers (choices_view l)) c.as_slice.ensures.value c.in_ok-judgement.ensures in
-    let same : fault_by c.in_ok-judgement.judgement.wrongs.items ≡ node_refusal outers nodes =
-    refusal_is outers nodes c.in_ok-stock.stock c.in_ok-choices.choices c.in_ok-judgement.judgement (c.in_ok-check_known.ensures.ok outers stock) (c.in_ok-check_boxes.ensures.ok outers nodes stock chose.wanted) stock chose
+    let judged : AreJudged c.in_ok-node_drafts.node_drafts outers (choices_view c.in_ok-choices.choices.list.items) =
+    subst (λ l. AreJudged c.in_ok-node_drafts.node_drafts outers (choices_view l)) c.as_slice.ensures.value c.in_ok-node_drafts.ensures in
+    let same : fault_by c.in_ok-node_drafts.node_drafts.wrongs.items ≡ node_refusal outers nodes =
+    refusal_is outers nodes c.in_ok-stock.stock c.in_ok-choices.choices c.in_ok-node_drafts.node_drafts (c.in_ok-check_known.ensures.ok outers stock) (c.in_ok-check_boxes.ensures.ok outers nodes stock chose.wanted) stock chose
     judged in
-    (sym same ∙ (ap fault_by (sym c.as_slice-2.ensures.value) ∙ c.in_ok-check_wrongs.ensures.ok), drafts_are outers nodes c.in_ok-stock.stock c.in_ok-choices.choices c.in_ok-judgement.judgement stock chose judged)
+    (sym same ∙ (ap fault_by (sym c.as_slice-2.ensures.value) ∙ c.in_ok-check_wrongs.ensures.ok), drafts_are outers nodes c.in_ok-stock.stock c.in_ok-choices.choices c.in_ok-node_drafts.node_drafts stock chose judged)

@@ -13,7 +13,7 @@ pub returns-in_err-check_kinds-clause-err : goal.returns-in_err-check_kinds-clau
 returns-in_err-check_kinds-clause-err c =
     let graph = graph_view c.args.graph.now in
     let ds = drafts_view c.args.drafts.now in
-    let same_kinds = sym (clash_is c.args.joint.now.streams c.as_slice.result.now c.args.wiring.now.mets.items graph ds c.requires.joint.of_streams c.as_slice.ensures.value c.requires.wiring.all_mets) in
+    let same_kinds = sym (clash_is c.args.plan_names.now.streams c.as_slice.result.now c.args.wiring.now.mets.items graph ds c.requires.plan_names.of_streams c.as_slice.ensures.value c.requires.wiring.all_mets) in
     let p = err_from_is_err_and c.from_residual.result c.from_residual.ensures.1 in
     rw (p.1, p.2) (λ ne. or_first (kind_clash graph ds) (option_or (back_edge_misplaced ds) (option_or (cycle graph ds) (too_many graph ds))) c.in_err-check_kinds.field-0.0 (same_kinds ∙ c.in_err-check_kinds.ensures.err ne))
 
@@ -21,7 +21,7 @@ pub returns-in_err-check_back-clause-err : goal.returns-in_err-check_back-clause
 returns-in_err-check_back-clause-err c =
     let graph = graph_view c.args.graph.now in
     let ds = drafts_view c.args.drafts.now in
-    let same_kinds = sym (clash_is c.args.joint.now.streams c.as_slice.result.now c.args.wiring.now.mets.items graph ds c.requires.joint.of_streams c.as_slice.ensures.value c.requires.wiring.all_mets) in
+    let same_kinds = sym (clash_is c.args.plan_names.now.streams c.as_slice.result.now c.args.wiring.now.mets.items graph ds c.requires.plan_names.of_streams c.as_slice.ensures.value c.requires.wiring.all_mets) in
     let p = err_from_is_err_and c.from_residual-in_err-check_back.result c.from_residual-in_err-check_back.ensures.1 in
     rw (p.1, p.2) (λ ne. or_next (kind_clash graph ds) (option_or (back_edge_misplaced ds) (option_or (cycle graph ds) (too_many graph ds))) (Some c.in_err-check_back.field-0.0) (same_kinds ∙ c.in_ok-check_kinds.ensures.ok)
     (or_first (back_edge_misplaced ds) (option_or (cycle graph ds) (too_many graph ds)) c.in_err-check_back.field-0.0 c.in_err-check_back.ensures.err))
@@ -33,7 +33,7 @@ pub returns-in_err-check_cycle-clause-err : goal.returns-in_err-check_cycle-clau
 returns-in_err-check_cycle-clause-err c =
     let graph = graph_view c.args.graph.now in
     let ds = drafts_view c.args.drafts.now in
-    let same_kinds = sym (clash_is c.args.joint.now.streams c.as_slice.result.now c.args.wiring.now.mets.items graph ds c.requires.joint.of_streams c.as_slice.ensures.value c.requires.wiring.all_mets) in
+    let same_kinds = sym (clash_is c.args.plan_names.now.streams c.as_slice.result.now c.args.wiring.now.mets.items graph ds c.requires.plan_names.of_streams c.as_slice.ensures.value c.requires.wiring.all_mets) in
     let same_order = sym (cycle_is c.args.drafts.now graph c.as_slice-2.result.now c.args.wiring.now.order.items c.as_slice-2.ensures.value c.requires.wiring.in_order) in
     let p = err_from_is_err_and c.from_residual-in_err-check_cycle.result c.from_residual-in_err-check_cycle.ensures.1 in
     rw (p.1, p.2) (λ ne. or_next (kind_clash graph ds) (option_or (back_edge_misplaced ds) (option_or (cycle graph ds) (too_many graph ds))) (Some c.in_err-check_cycle.field-0.0) (same_kinds ∙ c.in_ok-check_kinds.ensures.ok)
@@ -44,7 +44,7 @@ pub returns-clause-ok : goal.returns-clause-ok
 returns-clause-ok c =
     let graph = graph_view c.args.graph.now in
     let ds = drafts_view c.args.drafts.now in
-    let same_kinds = sym (clash_is c.args.joint.now.streams c.as_slice.result.now c.args.wiring.now.mets.items graph ds c.requires.joint.of_streams c.as_slice.ensures.value c.requires.wiring.all_mets) in
+    let same_kinds = sym (clash_is c.args.plan_names.now.streams c.as_slice.result.now c.args.wiring.now.mets.items graph ds c.requires.plan_names.of_streams c.as_slice.ensures.value c.requires.wiring.all_mets) in
     let same_order = sym (cycle_is c.args.drafts.now graph c.as_slice-2.result.now c.args.wiring.now.order.items c.as_slice-2.ensures.value c.requires.wiring.in_order) in
     let same_counts = sym (count_is graph ds (length c.as_slice-3.result.now) c.len.result (ap length (c.as_slice-3.ensures.value ∙ c.requires.wiring.all_edges)) c.len.ensures) in
     on_ok c.check_counts.result (λ last. or_next (kind_clash graph ds) (option_or (back_edge_misplaced ds) (option_or (cycle graph ds) (too_many graph ds))) None (same_kinds ∙ c.in_ok-check_kinds.ensures.ok)
@@ -55,7 +55,7 @@ pub returns-clause-err : goal.returns-clause-err
 returns-clause-err c =
     let graph = graph_view c.args.graph.now in
     let ds = drafts_view c.args.drafts.now in
-    let same_kinds = sym (clash_is c.args.joint.now.streams c.as_slice.result.now c.args.wiring.now.mets.items graph ds c.requires.joint.of_streams c.as_slice.ensures.value c.requires.wiring.all_mets) in
+    let same_kinds = sym (clash_is c.args.plan_names.now.streams c.as_slice.result.now c.args.wiring.now.mets.items graph ds c.requires.plan_names.of_streams c.as_slice.ensures.value c.requires.wiring.all_mets) in
     let same_order = sym (cycle_is c.args.drafts.now graph c.as_slice-2.result.now c.args.wiring.now.order.items c.as_slice-2.ensures.value c.requires.wiring.in_order) in
     let same_counts = sym (count_is graph ds (length c.as_slice-3.result.now) c.len.result (ap length (c.as_slice-3.ensures.value ∙ c.requires.wiring.all_edges)) c.len.ensures) in
     on_err c.check_counts.result (λ fault last ne. or_next (kind_clash graph ds) (option_or (back_edge_misplaced ds) (option_or (cycle graph ds) (too_many graph ds))) (Some fault) (same_kinds ∙ c.in_ok-check_kinds.ensures.ok)

@@ -3,7 +3,7 @@ use Rattle.mg_check.specs.Code.Meets.{begun}
 use Rattle.mg_check.specs.Joining.{edges, written_kinds, read_kinds}
 use Rattle.mg_config.specs.Config.{graph_view}
 use Rattle.mg_check.specs.DraftView.{drafts_view}
-use Rattle.mg_check.proofs.MetKinds.{all_meetings}
+use Rattle.mg_check.proofs.InferredKinds.{all_meetings}
 use Rattle.mg_check.proofs.meeting.meetings_of.Goals as goal
 
 pub returns : goal.returns

@@ -7,13 +7,13 @@ use Rattle.mg_check.specs.Joining.{two_producers, no_producer, side_missing}
 use Rattle.mg_check.proofs.Refused.{or_first, refused_by_names, refused_by_wiring}
 use Rattle.mg_check.proofs.planning.join.Goals as goal
 
-pub returns-in_err-joint-clause-err : goal.returns-in_err-joint-clause-err
-returns-in_err-joint-clause-err c =
+pub returns-in_err-plan_names-clause-err : goal.returns-in_err-plan_names-clause-err
+returns-in_err-plan_names-clause-err c =
     let graph = graph_view c.args.graph.now in
     let ds = drafts_view c.args.drafts.now in
     let p = err_from_is_err_and c.from_residual.result c.from_residual.ensures.1 in
-    rw (p.1, p.2) (λ ne. refused_by_names graph ds c.in_err-joint.field-0.0
-    (or_first (two_producers graph ds) (option_or (no_producer graph ds) (side_missing graph ds)) c.in_err-joint.field-0.0 (c.in_err-joint.ensures.err ne)))
+    rw (p.1, p.2) (λ ne. refused_by_names graph ds c.in_err-plan_names.field-0.0
+    (or_first (two_producers graph ds) (option_or (no_producer graph ds) (side_missing graph ds)) c.in_err-plan_names.field-0.0 (c.in_err-plan_names.ensures.err ne)))
 
 pub returns-in_err-check_names-clause-err : goal.returns-in_err-check_names-clause-err
 returns-in_err-check_names-clause-err c =

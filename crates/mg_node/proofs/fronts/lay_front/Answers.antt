@@ -9,7 +9,7 @@ loop-offset-init g c = record {
   room = c.requires.room;
   few = omega arith;
   count = omega arith;
-  benches = refl;
+  contexts = refl;
   idle = refl;
   window = refl;
 }

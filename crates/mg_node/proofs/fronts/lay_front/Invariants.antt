@@ -13,7 +13,7 @@ invariant-loop-offset g l = record {
   room : HasRoom l.outputs l.window.items;
   few : l.laid + deque_len l.window ≤ deque_len l.fn.window;
   count : l.laid + counted_in l.window.items ≡ counted_in l.fn.window.items;
-  benches : vec_len l.idle + deque_len l.window ≡ vec_len l.fn.idle + deque_len l.fn.window;
+  contexts : vec_len l.idle + deque_len l.window ≡ vec_len l.fn.idle + deque_len l.fn.window;
   idle : vec_capacity l.idle ≡ vec_capacity l.fn.idle;
   window : deque_capacity l.window ≡ deque_capacity l.fn.window;
 }

@@ -5,7 +5,7 @@ use Rattle.mg_config.specs.Config.{graph_view}
 use Rattle.mg_config.specs.Sound.{IsSound, IsPrintable}
 use Rattle.mg_files.specs.Files.{graphs, AreGraphs}
 use Rattle.mg_words.specs.Command.{command}
-use Rattle.mg_run.specs.Task.{task}
+use Rattle.mg_run.specs.Invocation.{invocation}
 use Rattle.mg_files.specs.Reads.{contents_of, AreNotedOf}
 use Rattle.mg_files.proofs.Together.{all-graphs}
 use Rattle.mg_files.proofs.Texts.{sound_graph, printable_graph}
@@ -26,7 +26,7 @@ returns-in-Ok-clause-due c =
 pub returns-in-Err-clause-due : goal.returns-in-Err-clause-due
 returns-in-Err-clause-due c =
     IfOk-weaker c.refused.result _ _
-    (λ job due. due (task (command c.args.order c.args.names.now) c.args.outers.now) (contents_of c.args.contents.items)
+    (λ job due. due (invocation (command c.args.instruction c.args.names.now) c.args.outers.now) (contents_of c.args.contents.items)
     (subst (λ (contents : List (Vec ℕ)). AreNotedOf c.in-Err.fault c.args.names.now (contents_of contents)) c.deref.ensures.value c.in-Err.ensures.refused)) c.refused.ensures.due
 
 pub returns-in-Err-clause-valid : goal.returns-in-Err-clause-valid

@@ -9,7 +9,7 @@ use Rattle.mg_config.specs.Config.{GraphView, graph_view}
 use Rattle.mg_config.specs.Sound.{IsSound, IsPrintable}
 use Rattle.mg_config.specs.declared.graph.GraphConfig.{GraphConfig}
 use Rattle.mg_subgraph.specs.Expansion.{expansion_of}
-use Rattle.mg_words.specs.declared.words.Order.{Order}
+use Rattle.mg_words.specs.declared.words.Instruction.{Instruction}
 use Rattle.mg_run.specs.Answer as answers
 use Rattle.mg_run.specs.Code.Action.{action_view}
 use Rattle.mg_run.specs.declared.action.Action.{Action}
@@ -25,13 +25,13 @@ of_all all by agree (x ∷ xs) main library some here rest =
     ap (λ (g : GraphConfig). by (graph_view g) (map graph_view library)) here ∙ (ap (λ (gs : List GraphConfig). by (graph_view x) (map graph_view gs)) rest ∙ agree (graph_view x) (map graph_view xs))
 
 -- the same of a result
-due_of : (order : Order) (outers : List OuterShape) (graphs : List GraphConfig) (main : GraphConfig) (library : List GraphConfig) (result : Result Action AllocError)
+due_of : (instruction : Instruction) (outers : List OuterShape) (graphs : List GraphConfig) (main : GraphConfig) (library : List GraphConfig) (result : Result Action AllocError)
     → 0 < length graphs → main ≡ get_or graphs 0 main → library ≡ drop 1 graphs
-    → IfOk result (λ action. action_view action ≡ answers.expanded_action order outers (expansion_of (graph_view main) (map graph_view library)))
-    → IfOk result (λ action. action_view action ≡ answers.graphs_action order outers (map graph_view graphs))
-due_of order outers graphs main library (Ok action) some here rest same =
-    same ∙ of_all (answers.graphs_action order outers) (λ g gs. answers.expanded_action order outers (expansion_of g gs)) (λ g gs. refl) graphs main library some here rest
-due_of order outers graphs main library (Err fault) some here rest same = tt
+    → IfOk result (λ action. action_view action ≡ answers.expanded_action instruction outers (expansion_of (graph_view main) (map graph_view library)))
+    → IfOk result (λ action. action_view action ≡ answers.graphs_action instruction outers (map graph_view graphs))
+due_of instruction outers graphs main library (Ok action) some here rest same =
+    same ∙ of_all (answers.graphs_action instruction outers) (λ g gs. answers.expanded_action instruction outers (expansion_of g gs)) (λ g gs. refl) graphs main library some here rest
+due_of instruction outers graphs main library (Err fault) some here rest same = tt
 
 empty : (xs : List GraphConfig) → length xs ≡ 0 → [] ≡ xs
 empty [] none = refl
@@ -42,7 +42,7 @@ returns-then-is_empty-clause-due c =
     let known = c.args.graphs.ok.0 in
     let counted = sym c.is_empty.ensures ∙ c.if-is_empty.true in
     let none : length c.args.graphs.items ≡ 0 = grind (arith, nat_tests) in
-    ap answers.refuse c.new.ensures.items ∙ ap (λ (gs : List GraphConfig). answers.graphs_action c.args.order c.args.outers.now (map graph_view gs)) (empty c.args.graphs.items none)
+    ap answers.refuse c.new.ensures.items ∙ ap (λ (gs : List GraphConfig). answers.graphs_action c.args.instruction c.args.outers.now (map graph_view gs)) (empty c.args.graphs.items none)
 
 pub main_action-requires-clause-sound : goal.main_action-requires-clause-sound
 main_action-requires-clause-sound c =
@@ -70,4 +70,4 @@ pub returns-clause-due : goal.returns-clause-due
 returns-clause-due c =
     let known = c.args.graphs.ok.0 in
     let some : 0 < length c.args.graphs.items = omega (arith, c.remove-main.ensures.len) in
-    due_of c.args.order c.args.outers.now c.args.graphs.items c.remove-main.result c.as_slice.result.now c.main_action.result some c.remove-main.ensures.value (c.as_slice.ensures.value ∙ c.remove-main.ensures.by_index.2) c.main_action.ensures.due
+    due_of c.args.instruction c.args.outers.now c.args.graphs.items c.remove-main.result c.as_slice.result.now c.main_action.result some c.remove-main.ensures.value (c.as_slice.ensures.value ∙ c.remove-main.ensures.by_index.2) c.main_action.ensures.due

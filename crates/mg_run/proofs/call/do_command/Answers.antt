@@ -2,7 +2,7 @@ use Rattle.std.proofs.Common.{List, All, ap, map, subst}
 use Rattle.mg_calc.specs.Told.{CalculatorTold}
 use Rattle.mg_words.specs.Command.{command}
 use Rattle.mg_run.specs.Boxes.{outers_told, MayBeHandedIn}
-use Rattle.mg_run.specs.Task.{task}
+use Rattle.mg_run.specs.Invocation.{invocation}
 use Rattle.mg_run.specs.Code.Action.{action_view, CanBeDone, IsDue}
 use Rattle.mg_run.specs.Devices.{device}
 use Rattle.mg_run.proofs.Calling.{called-did, called-short}
@@ -20,20 +20,20 @@ do_action-requires-clause-lawful g c κs within =
 
 pub returns-in-Ok-clause-called : goal.returns-in-Ok-clause-called
 returns-in-Ok-clause-called g c =
-    let asked = command c.args.ordered.now.order c.args.ordered.now.files.now in
+    let request = command c.args.ordered.now.instruction c.args.ordered.now.files.now in
     let boxes = map g.C.Calculator.told c.args.boxes.now.items in
     let store = device (g.T.Store.told c.args.store.now) (g.T.Store.told c.due_action.new.store) in
-    let due : IsDue (task asked (outers_told boxes)) store (action_view c.in-Ok.action) =
+    let due : IsDue (invocation asked (outers_told boxes)) store (action_view c.in-Ok.action) =
     due_among asked (map g.C.Calculator.told c.as_slice.result.now) boxes store (action_view c.in-Ok.action) (ap (map g.C.Calculator.told) c.as_slice.ensures.value) c.in-Ok.ensures.due in
-    called-did (action_view c.in-Ok.action) c.do_action.result (task asked (outers_told boxes)) due.contents _ due.loaded due.due (c.do_action.ensures.did store)
+    called-did (action_view c.in-Ok.action) c.do_action.result (invocation asked (outers_told boxes)) due.contents _ due.loaded due.due (c.do_action.ensures.did store)
 
 pub returns-in-Ok-clause-unread : goal.returns-in-Ok-clause-unread
 returns-in-Ok-clause-unread g c =
-    unread-by (task (command c.args.ordered.now.order c.args.ordered.now.files.now) (outers_told (map g.C.Calculator.told c.as_slice.result.now))) c.in-Ok.ensures.due.contents (action_view c.in-Ok.action)
+    unread-by (invocation (command c.args.ordered.now.instruction c.args.ordered.now.files.now) (outers_told (map g.C.Calculator.told c.as_slice.result.now))) c.in-Ok.ensures.due.contents (action_view c.in-Ok.action)
     (device (g.S.Source.told c.args.devices.now.input.now) (g.S.Source.told c.do_action.new.devices.input.now)) c.in-Ok.ensures.due.due c.do_action.ensures.unread
 
 pub returns-in-Err-OutOfMemory-clause-called : goal.returns-in-Err-OutOfMemory-clause-called
 returns-in-Err-OutOfMemory-clause-called g c =
-    called-short (task (command c.args.ordered.now.order c.args.ordered.now.files.now) (outers_told (map g.C.Calculator.told c.args.boxes.now.items))) c.note_out_of_memory.result
+    called-short (invocation (command c.args.ordered.now.instruction c.args.ordered.now.files.now) (outers_told (map g.C.Calculator.told c.args.boxes.now.items))) c.note_out_of_memory.result
     (device (g.T.Store.told c.args.store.now) (g.T.Store.told c.due_action.new.store)) (g.S.Source.told c.args.devices.now.input.now) (g.K.Sink.told c.args.devices.now.output.now)
     (device (g.E.Sink.told c.args.devices.now.notes.now) (g.E.Sink.told c.note_out_of_memory.new.notes)) (map g.C.Calculator.told c.args.boxes.now.items) c.note_out_of_memory.ensures.status c.note_out_of_memory.ensures.noted

@@ -1,17 +1,17 @@
 use Rattle.std.proofs.Common.{subst, map}
 use Rattle.mg_run.specs.Boxes.{outers_told}
-use Rattle.mg_words.specs.Words.{Asked, asked_of}
+use Rattle.mg_words.specs.Words.{Request, request_of}
 use Rattle.mg_run.specs.Devices.{told_at}
 use Rattle.mg_run.specs.Call.{CallEnded}
 use Rattle.mg_run.proofs.Coming.{came-nothing, unread-nothing}
 use Rattle.mg_run.proofs.call.do_words.Goals as goal
 
 pub returns-in-Ok-clause-came : goal.returns-in-Ok-clause-came
-returns-in-Ok-clause-came g c = subst (λ (asked : Asked). CallEnded (outers_told (map g.C.Calculator.told c.args.boxes.now.items)) asked c.do_asked.result
-    (told_at g.T.Store.told g.S.Source.told g.K.Sink.told g.E.Sink.told g.C.Calculator.told c.args.store.now c.do_asked.new.store c.args.devices.now c.do_asked.new.devices c.args.boxes.now c.do_asked.new.boxes)) c.in-Ok.ensures c.do_asked.ensures.came
+returns-in-Ok-clause-came g c = subst (λ (asked : Request). CallEnded (outers_told (map g.C.Calculator.told c.args.boxes.now.items)) asked c.do_request.result
+    (told_at g.T.Store.told g.S.Source.told g.K.Sink.told g.E.Sink.told g.C.Calculator.told c.args.store.now c.do_request.new.store c.args.devices.now c.do_request.new.devices c.args.boxes.now c.do_request.new.boxes)) c.in-Ok.ensures c.do_request.ensures.came
 
 pub returns-in-Err-clause-came : goal.returns-in-Err-clause-came
-returns-in-Err-clause-came g c = came-nothing (outers_told (map g.C.Calculator.told c.args.boxes.now.items)) (asked_of c.args.words.now) _ _ _ _ _ _ c.note_out_of_memory.ensures.status c.note_out_of_memory.ensures.noted
+returns-in-Err-clause-came g c = came-nothing (outers_told (map g.C.Calculator.told c.args.boxes.now.items)) (request_of c.args.words.now) _ _ _ _ _ _ c.note_out_of_memory.ensures.status c.note_out_of_memory.ensures.noted
 
 pub returns-in-Err-clause-unread : goal.returns-in-Err-clause-unread
-returns-in-Err-clause-unread g c = unread-nothing (asked_of c.args.words.now) _
+returns-in-Err-clause-unread g c = unread-nothing (request_of c.args.words.now) _

@@ -17,7 +17,7 @@ action_of-requires-clause-each g c =
 
 pub returns-clause-due : goal.returns-clause-due
 returns-clause-due g c =
-    due_by (command c.args.ordered.now.order c.args.ordered.now.files.now) _ (outers_told (map g.C.Calculator.told c.args.boxes.now)) (contents_of c.in_ok-contents.contents.items) _ (action_view c.in_ok-action.action)
+    due_by (command c.args.ordered.now.instruction c.args.ordered.now.files.now) _ (outers_told (map g.C.Calculator.told c.args.boxes.now)) (contents_of c.in_ok-contents.contents.items) _ (action_view c.in_ok-action.action)
     (c.deref.ensures.value ∙ c.in_ok-outers.ensures.outers) c.in_ok-contents.ensures.all c.in_ok-action.ensures.due
 
 pub returns-clause-can : goal.returns-clause-can

@@ -8,7 +8,7 @@ use Rattle.mg_subgraph.specs.Names.{renamed}
 use Rattle.mg_subgraph.specs.Expanded as expansion
 use Rattle.mg_subgraph.specs.Code.Sizes.{nodes_at, AreGrounded}
 use Rattle.mg_subgraph.specs.Code.Judged.{AreNames, AreUnshared}
-use Rattle.mg_subgraph.specs.Code.Joints.{IsUse}
+use Rattle.mg_subgraph.specs.Code.Bindings.{IsUse}
 use Rattle.mg_subgraph.specs.Refusals.{shared_name}
 use Rattle.mg_subgraph.specs.declared.shared.FileNames.{FileNames}
 use Rattle.mg_config.specs.declared.graph.GraphConfig.{GraphConfig}

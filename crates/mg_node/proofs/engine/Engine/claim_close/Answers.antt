@@ -10,12 +10,12 @@ returns g c = λ intake over. inr (
     record {
       over = over;
       laid = sym (ap (λ (v : EngineView). v.window) c.self.view_is) ∙ c.is_empty.ensures.none c.if-not-is_empty.false;
-      bench = c.take_bench-bench.result;
-      hands = c.take_bench-bench.ensures;
+      context = c.take_context-context.result;
+      hands = c.take_context-context.ensures;
       work_is =
-          (let node = ap (λ (v : EngineView). v.node) c.self-2.view_is ∙ ap (λ (v : EngineView). v.node) c.take_bench-bench.ensures.now in
+          (let node = ap (λ (v : EngineView). v.node) c.self-2.view_is ∙ ap (λ (v : EngineView). v.node) c.take_context-context.ensures.now in
           let number = ap (λ (v : EngineView). v.claimed) c.self.view_is in
-          subst (λ (w : WorkView). c.new.result ≡ w) (λ i. record { node = node i; number = number i; phase = Close; bench = c.take_bench-bench.result }) c.new.ensures);
+          subst (λ (w : WorkView). c.new.result ≡ w) (λ i. record { node = node i; number = number i; phase = Close; context = c.take_context-context.result }) c.new.ensures);
     },
     refl,
   )),

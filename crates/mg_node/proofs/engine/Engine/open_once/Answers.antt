@@ -1,13 +1,13 @@
 use Rattle.std.proofs.Common.{◌<◌, length, ap, sym, ◌∙◌, arith}
 use Rattle.mg_node.specs.Views.{EngineView}
-use Rattle.mg_node.proofs.EngineOpening.{fresh_empty, opened_some, bench_there}
+use Rattle.mg_node.proofs.EngineOpening.{fresh_empty, opened_some, context_there}
 use Rattle.mg_node.proofs.engine.Engine.open_once.Goals as goal
 
 pub open-requires-clause-window : goal.open-requires-clause-window
 open-requires-clause-window g c = sym (ap (λ (v : EngineView). v.window) c.self.view_is) ∙ c.is_empty.ensures.none c.if-is_empty.true
 
-pub open-requires-clause-bench : goal.open-requires-clause-bench
-open-requires-clause-bench g c = bench_there c.args.sides.now c.args.self.now c.requires (sym (ap (λ (v : EngineView). v.window) c.self.view_is) ∙ c.is_empty.ensures.none c.if-is_empty.true)
+pub open-requires-clause-context : goal.open-requires-clause-context
+open-requires-clause-context g c = context_there c.args.sides.now c.args.self.now c.requires (sym (ap (λ (v : EngineView). v.window) c.self.view_is) ∙ c.is_empty.ensures.none c.if-is_empty.true)
 
 pub returns-then-is_empty-clause-opened : goal.returns-then-is_empty-clause-opened
 returns-then-is_empty-clause-opened g c = λ node number told unbegun.

@@ -1,6 +1,6 @@
 use Rattle.std.proofs.Common.{length, ap, arith}
 use Rattle.mg_sched.specs.Views.{NetView}
-use Rattle.mg_sched.proofs.ComingApart.{back_none, back_runs, back_some, back_more, back_end, none_on_desks}
+use Rattle.mg_sched.proofs.ComingApart.{back_none, back_runs, back_some, back_more, back_end, none_on_work_queues}
 use Rattle.mg_sched.proofs.net.Net.put_back_all.Goals as goal
 
 pub loop-node-init : goal.loop-node-init
@@ -28,4 +28,4 @@ returns-clause-puts_back g c =
     (back_end c.args.self.now c.loop-node.self c.loop-node.node (length c.args.self.now.plan.nodes) c.loop-node.invariant (omega (arith, past, upto, count, same))).puts_back)
 
 pub returns-clause-none : goal.returns-clause-none
-returns-clause-none g c = none_on_desks c.args.self.now c.loop-node.self c.requires.stands (returns-clause-puts_back g c)
+returns-clause-none g c = none_on_work_queues c.args.self.now c.loop-node.self c.requires.stands (returns-clause-puts_back g c)

@@ -59,7 +59,7 @@ invariant_of-self g c = (
   c.self.invariant.2,
   c.self.invariant.3,
   c.self.invariant.4,
-  λ is. taken_none c.self.inside.plan c.self.inside.engines.items c.self.inside.intakes.items c.self.inside.desks.items c.len-place.result c.index_mut.result.now c.claim.new.self c.self.inside.agenda c.index_mut.ensures.value c.if-not-claim.ensures.unchanged.0
+  λ is. taken_none c.self.inside.plan c.self.inside.engines.items c.self.inside.intakes.items c.self.inside.work_queues.items c.len-place.result c.index_mut.result.now c.claim.new.self c.self.inside.agenda c.index_mut.ensures.value c.if-not-claim.ensures.unchanged.0
       (last_fits _ c.args.self.now c.len-place.result _ c.self.view_is c.requires.stands c.len-place.ensures refl) (c.self.invariant.5 is),
 )
 
@@ -70,5 +70,5 @@ invariant_of-self-2 g c = (
   c.self.invariant.2,
   c.self.invariant.3,
   touches_kept c.self.inside.plan c.len-place.result c.self.inside.agenda c.touch.new.kept c.touch.ensures c.self.invariant.4,
-  λ is. touches_rests c.self.inside.plan c.self.inside.engines.items c.self.inside.intakes.items c.self.inside.desks.items c.len-place.result c.claim.new.self c.self.inside.agenda c.touch.new.kept c.touch.ensures (c.self.invariant.5 is),
+  λ is. touches_rests c.self.inside.plan c.self.inside.engines.items c.self.inside.intakes.items c.self.inside.work_queues.items c.len-place.result c.claim.new.self c.self.inside.agenda c.touch.new.kept c.touch.ensures (c.self.invariant.5 is),
 )

@@ -27,15 +27,15 @@ returns-in-Other g c = subst (λ (v : NetView). Comes c.args.node c.turn_over.re
 pub returns-in-NotReady : goal.returns-in-NotReady
 returns-in-NotReady g c = none_ready _ c.args.node c.args.self.now c.show.new.self c.requires.stands c.requires.running c.requires.there (c.if-is_held_source.ensures.not_held refl) c.in-NotReady.ensures
 
-pub put_on_desk-requires-clause-there : goal.put_on_desk-requires-clause-there
-put_on_desk-requires-clause-there g c = claimed_below _ c.args.node c.args.self.now c.show.new.self c.requires.stands c.requires.running c.requires.there (c.if-is_held_source.ensures.not_held refl) c.in-Claimed.work c.in-Claimed.ensures
+pub put_on_work_queue-requires-clause-there : goal.put_on_work_queue-requires-clause-there
+put_on_work_queue-requires-clause-there g c = claimed_below _ c.args.node c.args.self.now c.show.new.self c.requires.stands c.requires.running c.requires.there (c.if-is_held_source.ensures.not_held refl) c.in-Claimed.work c.in-Claimed.ensures
 
-pub put_on_desk-requires-clause-room : goal.put_on_desk-requires-clause-room
-put_on_desk-requires-clause-room g c = claimed_room _ c.args.node c.args.self.now c.show.new.self c.requires.stands c.requires.running c.requires.there (c.if-is_held_source.ensures.not_held refl) c.in-Claimed.work c.in-Claimed.ensures
+pub put_on_work_queue-requires-clause-room : goal.put_on_work_queue-requires-clause-room
+put_on_work_queue-requires-clause-room g c = claimed_room _ c.args.node c.args.self.now c.show.new.self c.requires.stands c.requires.running c.requires.there (c.if-is_held_source.ensures.not_held refl) c.in-Claimed.work c.in-Claimed.ensures
 
 pub returns-in-Claimed : goal.returns-in-Claimed
 returns-in-Claimed g c =
-    comes_claimed _ c.args.node c.args.self.now c.show.new.self c.requires.stands c.requires.running c.requires.there (c.if-is_held_source.ensures.not_held refl) c.in-Claimed.work c.put_on_desk.new.self c.in-Claimed.ensures c.put_on_desk.ensures
+    comes_claimed _ c.args.node c.args.self.now c.show.new.self c.requires.stands c.requires.running c.requires.there (c.if-is_held_source.ensures.not_held refl) c.in-Claimed.work c.put_on_work_queue.new.self c.in-Claimed.ensures c.put_on_work_queue.ensures
 
 pub returns-in-Performed : goal.returns-in-Performed
 returns-in-Performed g c = comes_performed _ c.args.node c.args.self.now c.show.new.self c.requires.stands c.requires.running c.requires.there (c.if-is_held_source.ensures.not_held refl) c.in-Performed.number c.in-Performed.ensures

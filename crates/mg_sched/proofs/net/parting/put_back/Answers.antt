@@ -7,6 +7,6 @@ use Rattle.mg_sched.proofs.net.parting.put_back.Goals as goal
 
 pub loop-work-preserved : goal.loop-work-preserved
 loop-work-preserved g c =
-    one_more_back c.args.engine.now c.loop-work.engine c.shelve.new.self c.args.desk.now c.loop-work.desk c.take_last.new.self c.in-Some.work c.loop-work.invariant c.in-Some.ensures.taken c.take_last.ensures.room
+    one_more_back c.args.engine.now c.loop-work.engine c.shelve.new.self c.args.work_queue.now c.loop-work.work_queue c.take_last.new.self c.in-Some.work c.loop-work.invariant c.in-Some.ensures.taken c.take_last.ensures.room
     (c.shelve.ensures.shelved ∙ ap (λ (o : OutcomeView). shelved c.loop-work.engine o) c.unrun.ensures.outcome)
     (subst (λ (n : ℕ). ComesBack c.loop-work.engine c.shelve.new.self n) (ap (λ (o : OutcomeView). o.work.number) c.unrun.ensures.outcome) c.shelve.ensures.comes_back)

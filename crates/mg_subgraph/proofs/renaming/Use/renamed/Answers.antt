@@ -1,5 +1,5 @@
 use Rattle.mg_config.specs.Config.{node_view}
-use Rattle.mg_subgraph.specs.Code.Joints.{new_name}
+use Rattle.mg_subgraph.specs.Code.Bindings.{new_name}
 use Rattle.mg_subgraph.proofs.Meeting.{renamed_whole}
 use Rattle.mg_subgraph.proofs.renaming.Use.renamed.Goals as goal
 

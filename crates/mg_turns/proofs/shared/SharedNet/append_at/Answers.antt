@@ -5,11 +5,11 @@ use Rattle.mg_turns.proofs.Bringing.{source_there, ends_apart, from_engine, to_i
 use Rattle.mg_turns.proofs.shared.SharedNet.append_at.Goals as goal
 
 pub overflow_mul-node : goal.overflow_mul-node
-overflow_mul-node g c = (let n = c.requires.edges.consumers c.args.number c.args.edge c.requires.edge.0 in let f = c.args.self.now.framed in let z = c.args.self.now.sized in omega (arith, n, f.0, f.2, z.2))
+overflow_mul-node g c = (let n = c.requires.edges.consumers c.args.number c.args.edge c.requires.edge.0 in let f = c.args.self.now.laid_out in let z = c.args.self.now.sized in omega (arith, n, f.0, f.2, z.2))
 
 pub take_pair-requires-clause-id : goal.take_pair-requires-clause-id
 take_pair-requires-clause-id g c =
-    let n = c.requires.edges.consumers c.args.number c.args.edge c.requires.edge.0 in let f = c.args.self.now.framed in (
+    let n = c.requires.edges.consumers c.args.number c.args.edge c.requires.edge.0 in let f = c.args.self.now.laid_out in (
       c.requires.of.0,
       source_there (key_of c.args.self.now) c.args.number c.args.edge c.args.source _ c.requires.edges c.requires.edge.0 c.requires.edge.1 f.1,
       omega (arith, n, f.0, f.2),

@@ -5,10 +5,10 @@ use Rattle.mg_turns.proofs.Counting.{it_is_intake, port_there, looked_at, has_co
 use Rattle.mg_turns.proofs.shared.SharedNet.waiting_at.Goals as goal
 
 pub overflow_mul-word : goal.overflow_mul-word
-overflow_mul-word g c = (let n = c.requires.edges.consumers c.args._number c.args.edge c.requires.edge in let f = c.args.self.now.framed in let z = c.args.self.now.sized in omega (arith, n, f.0, f.2, z.2))
+overflow_mul-word g c = (let n = c.requires.edges.consumers c.args._number c.args.edge c.requires.edge in let f = c.args.self.now.laid_out in let z = c.args.self.now.sized in omega (arith, n, f.0, f.2, z.2))
 
 pub take-requires : goal.take-requires
-take-requires g c = (let n = c.requires.edges.consumers c.args._number c.args.edge c.requires.edge in let f = c.args.self.now.framed in (c.requires.of.0, omega (arith, n, f.0, f.2), c.args.seat.now.idle.0, has_none (2 * c.args.edge.node) c.args.seat.now.seat.me.0 c.args.seat.now.idle.1))
+take-requires g c = (let n = c.requires.edges.consumers c.args._number c.args.edge c.requires.edge in let f = c.args.self.now.laid_out in (c.requires.of.0, omega (arith, n, f.0, f.2), c.args.seat.now.idle.0, has_none (2 * c.args.edge.node) c.args.seat.now.seat.me.0 c.args.seat.now.idle.1))
 
 pub into_intake-intake-requires : goal.into_intake-intake-requires
 into_intake-intake-requires g c = it_is_intake c.args.seat.now.seat.me c.take.new.seat.me (key_of c.args.self.now) c.args._number c.args.edge c.in-Some.held.part c.requires.of.1 c.requires.edges c.requires.edge c.in-Some.ensures.taken

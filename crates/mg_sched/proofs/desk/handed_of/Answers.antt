@@ -1,6 +1,0 @@
-use Rattle.mg_route.specs.HolderView.{told_by}
-use Rattle.mg_sched.proofs.GivenBack.{handed_by}
-use Rattle.mg_sched.proofs.desk.handed_of.Goals as goal
-
-pub returns : goal.returns
-returns g c = handed_by g.C.Calculator.told c.into_calculator.result c.args.work.bench.told.handed (told_by c.args.work.bench.told) c.into_calculator.ensures.there c.into_calculator.ensures.told

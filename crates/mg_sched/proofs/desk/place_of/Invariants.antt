@@ -1,6 +1,0 @@
--- None of those so far has the number.
-use Rattle.std.proofs.Common.{◌≢◌, All, take}
-use Rattle.mg_sched.proofs.desk.place_of.Given as goal
-
-abbrev pub invariant-loop-place : goal.invariant-loop-place
-invariant-loop-place g l = All (λ w. w.number ≢ l.number) (take l.place l.works)
