@@ -7,7 +7,7 @@ use Rattle.mg_value.specs.declared.kind.Kind.{Kind}
 use Rattle.mg_value.specs.declared.kind.Kind.TheVariants.{Any, Flag, Int, Text, Items, Record}
 use Rattle.mg_calc.specs.declared.edge.Edge.{Edge}
 use Rattle.mg_check.specs.Meeting.{PortReading, is_any, is_kind, inferred_kind, clashes, kinds_at, meetings}
-use Rattle.mg_check.specs.declared.met.Inferred.{Inferred}
+use Rattle.mg_check.specs.declared.inferred.Inferred.{Inferred}
 use Rattle.mg_check.specs.Code.Meets.{begun, meet, meet_by, meet_at, meet_all, readings_of, inferred_of}
 use Rattle.mg_check.proofs.Filling.{zip_end, zip_get, past_one}
 

@@ -18,7 +18,7 @@ use Rattle.mg_check.specs.Planning.{plan_streams, plan_nodes, plan_sides, plan_o
 use Rattle.mg_check.specs.Code.Meets.{inferred_of}
 use Rattle.mg_check.specs.Code.Streams.{streams_of}
 use Rattle.mg_check.specs.Code.Edges.{node_edges_from}
-use Rattle.mg_check.specs.declared.met.Inferred.{Inferred}
+use Rattle.mg_check.specs.declared.inferred.Inferred.{Inferred}
 
 inferred_streams : (names : List (List ℕ)) (kinds : List (List Kind)) (ws : List Producer) → streams_of names (map inferred_of kinds) ws ≡ map (λ e. record { name = e.0; kind = inferred_kind e.1.0; producer = e.1.1 }) (zip names (zip kinds ws))
 inferred_streams [] kinds ws = refl

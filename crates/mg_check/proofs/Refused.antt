@@ -8,7 +8,7 @@ use Rattle.mg_check.specs.Names.{first_again}
 use Rattle.mg_check.specs.Order.{left_out}
 use Rattle.mg_check.specs.Code.Meets.{inferred_of}
 use Rattle.mg_check.specs.declared.draft.Draft.{Draft}
-use Rattle.mg_check.specs.declared.met.Inferred.{Inferred}
+use Rattle.mg_check.specs.declared.inferred.Inferred.{Inferred}
 use Rattle.mg_check.specs.declared.fault.CheckFault.TheVariants.{KindClash, BackEdgeMisplaced, TwoProducers}
 use Rattle.mg_config.specs.Config.{GraphView}
 use Rattle.mg_check.specs.Drafts.{DraftView}

@@ -7,7 +7,7 @@ use Rattle.mg_calc.specs.Side.{PlainSide, given_at}
 use Rattle.mg_calc.specs.declared.plan_stream.PlanStream.{PlanStream}
 use Rattle.mg_calc.specs.declared.plan_stream.Producer.{Producer}
 use Rattle.mg_check.specs.Code.Streams.{streams_of, given_from}
-use Rattle.mg_check.specs.declared.met.Inferred.{Inferred}
+use Rattle.mg_check.specs.declared.inferred.Inferred.{Inferred}
 use Rattle.mg_check.proofs.Filling.{moved_over, found}
 
 none_at : {Y : Type 0} (xs : List Y) (i : ℕ) → length xs ≤ i → slice_get xs i ≡ None

@@ -139,7 +139,7 @@ pub(crate) fn meetings_of(
     edges: &[Edge],
 ) -> Result<Vec<Inferred>, AllocError>
     ensures { IfOk result (λ mets. edges.now ≡ joining.edges (graph_view graph.now) (drafts_view drafts.now)
-        → mets.items ≡ map meets.met_of (joining.stream_meetings (graph_view graph.now) (drafts_view drafts.now))) }
+        → mets.items ≡ map meets.inferred_of (joining.stream_meetings (graph_view graph.now) (drafts_view drafts.now))) }
 {
     let written = written_kinds(alloc, graph, drafts)?;
     let read = read_kinds(alloc, graph, drafts)?;

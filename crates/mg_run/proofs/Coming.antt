@@ -37,22 +37,22 @@ use Rattle.mg_run.proofs.Ending.{ended_statuses, called-ended}
 use Rattle.mg_run.proofs.Risen.{store-risen, read-risen, write-risen, risen-steady}
 
 -- There was no memory to judge the words.
-came-short : (outers : List OuterShape) (asked : Request) (store : StoreTold) (input : SourceTold) (output : SinkTold) (notes : Device SinkTold) (boxes : List CalculatorTold) → TookNotes notes memory_note
-    → CallEnded outers asked OutOfMemory (devices (device store store) (device input input) (device output output) notes (device boxes boxes))
+came-short : (outers : List OuterShape) (request : Request) (store : StoreTold) (input : SourceTold) (output : SinkTold) (notes : Device SinkTold) (boxes : List CalculatorTold) → TookNotes notes memory_note
+    → CallEnded outers request OutOfMemory (devices (device store store) (device input input) (device output output) notes (device boxes boxes))
 came-short outers asks_usage store input output notes boxes noted = record { noted = inr (refl, noted); unloaded = refl; unread = refl; unwritten = refl; uncalled = refl }
 came-short outers (asks_text text) store input output notes boxes noted = record { written = inr (refl, refl, noted); unloaded = refl; unread = refl; uncalled = refl }
 came-short outers (asks_command command) store input output notes boxes noted = short-nothing (invocation command outers) (device store store) input output notes boxes noted
 
-pub came-nothing : (outers : List OuterShape) (asked : Request) (status : Status) (store : StoreTold) (input : SourceTold) (output : SinkTold) (notes : Device SinkTold) (boxes : List CalculatorTold)
-    → status ≡ OutOfMemory → TookNotes notes memory_note → CallEnded outers asked status (devices (device store store) (device input input) (device output output) notes (device boxes boxes))
-came-nothing outers asked status store input output notes boxes is noted =
-    subst (λ (s : Status). CallEnded outers asked s (devices (device store store) (device input input) (device output output) notes (device boxes boxes))) (sym is)
-    (came-short outers asked store input output notes boxes noted)
+pub came-nothing : (outers : List OuterShape) (request : Request) (status : Status) (store : StoreTold) (input : SourceTold) (output : SinkTold) (notes : Device SinkTold) (boxes : List CalculatorTold)
+    → status ≡ OutOfMemory → TookNotes notes memory_note → CallEnded outers request status (devices (device store store) (device input input) (device output output) notes (device boxes boxes))
+came-nothing outers request status store input output notes boxes is noted =
+    subst (λ (s : Status). CallEnded outers request s (devices (device store store) (device input input) (device output output) notes (device boxes boxes))) (sym is)
+    (came-short outers request store input output notes boxes noted)
 
 -- The words were no command, and the note says so.
-pub usage-came : (outers : List OuterShape) (asked : Request) (all : CallDevices) (done : Bool) → request ≡ asks_usage → Sent done all.notes.before all.notes.now usage_note
-    → Untouched all.store → Untouched all.input → Untouched all.output → Untouched all.boxes → CallEnded outers asked Usage all
-usage-came outers asked all done is sent unloaded unread unwritten uncalled =
+pub usage-came : (outers : List OuterShape) (request : Request) (all : CallDevices) (done : Bool) → request ≡ asks_usage → Sent done all.notes.before all.notes.now usage_note
+    → Untouched all.store → Untouched all.input → Untouched all.output → Untouched all.boxes → CallEnded outers request Usage all
+usage-came outers request all done is sent unloaded unread unwritten uncalled =
     subst (λ (a : Request). CallEnded outers a Usage all) (sym is)
     (record { noted = inl (refl, noted-from done all.notes usage_note sent); unloaded = unloaded; unread = unread; unwritten = unwritten; uncalled = uncalled })
 
@@ -66,7 +66,7 @@ told-status text all told = by told.written
     by (inl (inr failed)) = let e = failed.0 in cc
     by (inr short) = let e = short.0 in cc
 
-asks-by-status : (outers : List OuterShape) (asked : Request) (status : Status) (all : CallDevices) → CallEnded outers asked status all → status ≡ Usage → request ≡ asks_usage
+asks-by-status : (outers : List OuterShape) (request : Request) (status : Status) (all : CallDevices) → CallEnded outers request status all → status ≡ Usage → request ≡ asks_usage
 asks-by-status outers asks_usage status all came is = refl
 asks-by-status outers (asks_text text) status all came is = absurd (told-status text all (subst (λ (s : Status). WasTold text s all) is came))
 asks-by-status outers (asks_command command) status all came is = absurd (subst (λ (s : Status). Called s (invocation command outers) all) is came)
@@ -78,36 +78,36 @@ usage-status status all was some = by was.noted
     by (inl noted) = noted.0
     by (inr short) = absurd (some short.0)
 
-pub came-note : (outers : List OuterShape) (asked : Request) (status : Status) (all : CallDevices) → CallEnded outers asked status all → request ≡ asks_usage → WasUsage status all
-came-note outers asked status all came is = subst (λ (a : Request). CallEnded outers a status all) is came
+pub came-note : (outers : List OuterShape) (request : Request) (status : Status) (all : CallDevices) → CallEnded outers request status all → request ≡ asks_usage → WasUsage status all
+came-note outers request status all came is = subst (λ (a : Request). CallEnded outers a status all) is came
 
-pub came-usage : (outers : List OuterShape) (asked : Request) (status : Status) (all : CallDevices) → CallEnded outers asked status all → status ≢ OutOfMemory → (status ≡ Usage) ↔ (request ≡ asks_usage)
-came-usage outers asked status all came some = (asks-by-status outers asked status all came, λ is. usage-status status all (came-note outers asked status all came is) some)
+pub came-usage : (outers : List OuterShape) (request : Request) (status : Status) (all : CallDevices) → CallEnded outers request status all → status ≢ OutOfMemory → (status ≡ Usage) ↔ (request ≡ asks_usage)
+came-usage outers request status all came some = (asks-by-status outers request status all came, λ is. usage-status status all (came-note outers request status all came is) some)
 
-pub came-told : (outers : List OuterShape) (asked : Request) (status : Status) (all : CallDevices) → CallEnded outers asked status all → (text : List ℕ) → request ≡ asks_text text → WasTold text status all
-came-told outers asked status all came text is = subst (λ (a : Request). CallEnded outers a status all) is came
+pub came-told : (outers : List OuterShape) (request : Request) (status : Status) (all : CallDevices) → CallEnded outers request status all → (text : List ℕ) → request ≡ asks_text text → WasTold text status all
+came-told outers request status all came text is = subst (λ (a : Request). CallEnded outers a status all) is came
 
 -- A command --
 
-pub came-called : (outers : List OuterShape) (asked : Request) (status : Status) (all : CallDevices) → CallEnded outers asked status all → IfSome (command_by request) (λ command. Called status (invocation command outers) all)
+pub came-called : (outers : List OuterShape) (request : Request) (status : Status) (all : CallDevices) → CallEnded outers request status all → IfSome (command_by request) (λ command. Called status (invocation command outers) all)
 came-called outers asks_usage status all came = tt
 came-called outers (asks_text text) status all came = tt
 came-called outers (asks_command command) status all came = came
 
-pub came-answered : (outers : List OuterShape) (asked : Request) (status : Status) (all : CallDevices) → CallEnded outers asked status all
+pub came-answered : (outers : List OuterShape) (request : Request) (status : Status) (all : CallDevices) → CallEnded outers request status all
     → IfSome (command_by request) (λ command. NoneFailed all → status ≢ OutOfMemory → IsAnswered status (invocation command outers) all)
 came-answered outers asks_usage status all came = tt
 came-answered outers (asks_text text) status all came = tt
 came-answered outers (asks_command command) status all came = answered-from status (invocation command outers) all came
 
-pub unread-nothing : (asked : Request) (input : SourceTold) → IfSome (command_by request) (λ command. reads_input command.instruction.verb ≡ false → Untouched (device input input))
+pub unread-nothing : (request : Request) (input : SourceTold) → IfSome (command_by request) (λ command. reads_input command.instruction.verb ≡ false → Untouched (device input input))
 unread-nothing asks_usage input = tt
 unread-nothing (asks_text text) input = tt
 unread-nothing (asks_command command) input = λ is. refl
 
 -- The input's end --
 
-pub came-ended : (outers : List OuterShape) (asked : Request) (status : Status) (all : CallDevices) → CallEnded outers asked status all
+pub came-ended : (outers : List OuterShape) (request : Request) (status : Status) (all : CallDevices) → CallEnded outers request status all
     → IfSome (command_by request) (λ command. reads_input command.instruction.verb ≡ true → IsOneOf status ended_statuses → InputHasEnded all.input)
 came-ended outers asks_usage status all came = tt
 came-ended outers (asks_text text) status all came = tt
@@ -115,12 +115,12 @@ came-ended outers (asks_command command) status all came = called-ended status (
 
 -- Faults --
 
-pub came-store : (outers : List OuterShape) (asked : Request) (status : Status) (all : CallDevices) → CallEnded outers asked status all → HasRisen all.store.before.faults all.store.now.faults → IsOneOf status (StoreFault ∷ OutOfMemory ∷ [])
+pub came-store : (outers : List OuterShape) (request : Request) (status : Status) (all : CallDevices) → CallEnded outers request status all → HasRisen all.store.before.faults all.store.now.faults → IsOneOf status (StoreFault ∷ OutOfMemory ∷ [])
 came-store outers asks_usage status all came risen = absurd (risen-steady _ _ risen (ap (λ s. s.faults) came.unloaded))
 came-store outers (asks_text text) status all came risen = absurd (risen-steady _ _ risen (ap (λ s. s.faults) came.unloaded))
 came-store outers (asks_command command) status all came risen = store-risen status (invocation command outers) all came risen
 
-pub came-read : (outers : List OuterShape) (asked : Request) (status : Status) (all : CallDevices) → CallEnded outers asked status all → HasRisen all.input.before.faults all.input.now.faults
+pub came-read : (outers : List OuterShape) (request : Request) (status : Status) (all : CallDevices) → CallEnded outers request status all → HasRisen all.input.before.faults all.input.now.faults
     → IsOneOf status (ReadFault ∷ WriteFault ∷ OutOfMemory ∷ [])
 came-read outers asks_usage status all came risen = absurd (risen-steady _ _ risen (ap (λ s. s.faults) came.unread))
 came-read outers (asks_text text) status all came risen = absurd (risen-steady _ _ risen (ap (λ s. s.faults) came.unread))
@@ -148,7 +148,7 @@ told-write text status all told risen = by told.written risen
     by (inl (inl good)) (inl risen) = absurd (risen-steady _ _ risen good.1.steady)
     by (inl (inl good)) (inr risen) = absurd (risen-steady _ _ risen (ap (λ s. s.faults) good.2))
 
-pub came-write : (outers : List OuterShape) (asked : Request) (status : Status) (all : CallDevices) → CallEnded outers asked status all → EitherRisen all → IsOneOf status write_statuses
+pub came-write : (outers : List OuterShape) (request : Request) (status : Status) (all : CallDevices) → CallEnded outers request status all → EitherRisen all → IsOneOf status write_statuses
 came-write outers asks_usage status all came risen = usage-write status all came
 came-write outers (asks_text text) status all came risen = told-write text status all came risen
 came-write outers (asks_command command) status all came risen = inr (write-risen status (invocation command outers) all came risen)
@@ -170,13 +170,13 @@ told-noted text all told = by told.written
     by (inl (inr failed)) = let e = failed.0 in cc
     by (inr short) = short.2
 
-noted-by : (outers : List OuterShape) (asked : Request) (all : CallDevices) → CallEnded outers asked OutOfMemory all → TookNotes all.notes memory_note
+noted-by : (outers : List OuterShape) (request : Request) (all : CallDevices) → CallEnded outers request OutOfMemory all → TookNotes all.notes memory_note
 noted-by outers asks_usage all came = usage-noted all came
 noted-by outers (asks_text text) all came = told-noted text all came
 noted-by outers (asks_command command) all came = came.noted
 
-pub came-noted : (outers : List OuterShape) (asked : Request) (status : Status) (all : CallDevices) → CallEnded outers asked status all → status ≡ OutOfMemory → TookNotes all.notes memory_note
-came-noted outers asked status all came is = noted-by outers asked all (subst (λ (s : Status). CallEnded outers asked s all) is came)
+pub came-noted : (outers : List OuterShape) (request : Request) (status : Status) (all : CallDevices) → CallEnded outers request status all → status ≡ OutOfMemory → TookNotes all.notes memory_note
+came-noted outers request status all came is = noted-by outers request all (subst (λ (s : Status). CallEnded outers request s all) is came)
 
 -- The calculators --
 
@@ -207,7 +207,7 @@ called-boxes Stalled invocation all called = did-boxes called.action Stalled all
 called-boxes ReadFault invocation all called = did-boxes called.action ReadFault all called.did
 called-boxes WriteFault invocation all called = did-boxes called.action WriteFault all called.did
 
-pub came-boxes : (outers : List OuterShape) (asked : Request) (status : Status) (all : CallDevices) → CallEnded outers asked status all → length all.boxes.now ≡ length all.boxes.before
+pub came-boxes : (outers : List OuterShape) (request : Request) (status : Status) (all : CallDevices) → CallEnded outers request status all → length all.boxes.now ≡ length all.boxes.before
 came-boxes outers asks_usage status all came = ap length came.uncalled
 came-boxes outers (asks_text text) status all came = ap length came.uncalled
 came-boxes outers (asks_command command) status all came = called-boxes status (invocation command outers) all came
@@ -294,19 +294,19 @@ called-uncalled Stalled invocation all is called = call-uncalled Stalled invocat
 called-uncalled ReadFault invocation all is called = call-uncalled ReadFault invocation all is called
 called-uncalled WriteFault invocation all is called = call-uncalled WriteFault invocation all is called
 
-pub came-uncalled : (outers : List OuterShape) (asked : Request) (status : Status) (all : CallDevices) → CallEnded outers asked status all
+pub came-uncalled : (outers : List OuterShape) (request : Request) (status : Status) (all : CallDevices) → CallEnded outers request status all
     → IfSome (command_by request) (λ command. calls_boxes command.instruction.verb ≡ false → Untouched all.boxes)
 came-uncalled outers asks_usage status all came = tt
 came-uncalled outers (asks_text text) status all came = tt
 came-uncalled outers (asks_command command) status all came = λ is. called-uncalled status (invocation command outers) all is came
 
 -- The devices apart: what each tells is what those told that were held together.
-pub came_apart : (outers : List OuterShape) (asked : Request) (status : Status) (store : Device StoreTold) (ib ia : SourceTold) (ob oa nb na : SinkTold) (boxes : Device (List CalculatorTold)) (i : SourceTold) (o n : SinkTold) → i ≡ ia → o ≡ oa → n ≡ na
-    → CallEnded outers asked status (devices store (device ib ia) (device ob oa) (device nb na) boxes) → CallEnded outers asked status (devices store (device ib i) (device ob o) (device nb n) boxes)
-came_apart outers asked status store ib ia ob oa nb na boxes i o n same_i same_o same_n came =
-    subst (λ (s : SourceTold). CallEnded outers asked status (devices store (device ib s) (device ob o) (device nb n) boxes)) (sym same_i)
-    (subst (λ (k : SinkTold). CallEnded outers asked status (devices store (device ib ia) (device ob k) (device nb n) boxes)) (sym same_o)
-    (subst (λ (e : SinkTold). CallEnded outers asked status (devices store (device ib ia) (device ob oa) (device nb e) boxes)) (sym same_n) came))
+pub came_apart : (outers : List OuterShape) (request : Request) (status : Status) (store : Device StoreTold) (ib ia : SourceTold) (ob oa nb na : SinkTold) (boxes : Device (List CalculatorTold)) (i : SourceTold) (o n : SinkTold) → i ≡ ia → o ≡ oa → n ≡ na
+    → CallEnded outers request status (devices store (device ib ia) (device ob oa) (device nb na) boxes) → CallEnded outers request status (devices store (device ib i) (device ob o) (device nb n) boxes)
+came_apart outers request status store ib ia ob oa nb na boxes i o n same_i same_o same_n came =
+    subst (λ (s : SourceTold). CallEnded outers request status (devices store (device ib s) (device ob o) (device nb n) boxes)) (sym same_i)
+    (subst (λ (k : SinkTold). CallEnded outers request status (devices store (device ib ia) (device ob k) (device nb n) boxes)) (sym same_o)
+    (subst (λ (e : SinkTold). CallEnded outers request status (devices store (device ib ia) (device ob oa) (device nb e) boxes)) (sym same_n) came))
 
 pub unread_apart : (command : Option Command) (ib ia i : SourceTold) → i ≡ ia → IfSome command (λ c. reads_input c.instruction.verb ≡ false → Untouched (device ib ia)) → IfSome command (λ c. reads_input c.instruction.verb ≡ false → Untouched (device ib i))
 unread_apart command ib ia i same unread = subst (λ (s : SourceTold). IfSome command (λ c. reads_input c.instruction.verb ≡ false → Untouched (device ib s))) (sym same) unread

@@ -12,11 +12,11 @@ use Rattle.mg_run.specs.Answer.{Action}
 use Rattle.mg_run.specs.Call.{IsActionOf}
 use Rattle.mg_run.specs.Code.Action.{IsDue}
 
-pub due_by : (asked : Command) (known outers : List OuterShape) (contents : List (List ℕ)) (store : Device StoreTold) (action : Action) → known ≡ outers
-    → LoadedAll request.files contents store → IsActionOf (invocation asked known) contents action → IsDue (invocation asked outers) store action
-due_by asked known outers contents store action same loaded due =
-    record { contents = contents; loaded = loaded; due = subst (λ (o : List OuterShape). IsActionOf (invocation asked o) contents action) same due }
+pub due_by : (request : Command) (known outers : List OuterShape) (contents : List (List ℕ)) (store : Device StoreTold) (action : Action) → known ≡ outers
+    → LoadedAll request.files contents store → IsActionOf (invocation request known) contents action → IsDue (invocation request outers) store action
+due_by request known outers contents store action same loaded due =
+    record { contents = contents; loaded = loaded; due = subst (λ (o : List OuterShape). IsActionOf (invocation request o) contents action) same due }
 
-pub due_among : (asked : Command) (handed boxes : List CalculatorTold) (store : Device StoreTold) (action : Action) → handed ≡ boxes → IsDue (invocation asked (outers_told handed)) store action
-    → IsDue (invocation asked (outers_told boxes)) store action
-due_among asked handed boxes store action same due = subst (λ (bs : List CalculatorTold). IsDue (invocation asked (outers_told bs)) store action) same due
+pub due_among : (request : Command) (handed boxes : List CalculatorTold) (store : Device StoreTold) (action : Action) → handed ≡ boxes → IsDue (invocation request (outers_told handed)) store action
+    → IsDue (invocation request (outers_told boxes)) store action
+due_among request handed boxes store action same due = subst (λ (bs : List CalculatorTold). IsDue (invocation request (outers_told bs)) store action) same due

@@ -261,7 +261,7 @@ called_headline ReadFault invocation all called runs one = call_headline ReadFau
 called_headline WriteFault invocation all called runs one = call_headline WriteFault invocation all called runs (λ e. cc) (λ e. cc)
 called_headline OutOfMemory invocation all called runs one = absurd (memory_ran one)
 
-pub came-headline : (outers : List OuterShape) (asked : Request) (status : Status) (all : CallDevices) → CallEnded outers asked status all
+pub came-headline : (outers : List OuterShape) (request : Request) (status : Status) (all : CallDevices) → CallEnded outers request status all
     → IfSome (command_by request) (λ command. RunsGraph command.instruction.verb → IsOneOf status ran_statuses → RanGraph (invocation command outers) status all)
 came-headline outers asks_usage status all came = tt
 came-headline outers (asks_text text) status all came = tt

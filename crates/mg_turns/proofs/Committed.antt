@@ -21,7 +21,7 @@ use Rattle.mg_node.specs.Claims.{AreSame, Hands, TakesUnrun, Claims}
 use Rattle.mg_node.specs.Commits.{calls_in_phase, Front, with_ready, front_laid, answer_laid, has_stopped, committed_entry, window_with, front_of, fault_at, Commits}
 use Rattle.mg_node.proofs.FrontSteps.{front_stays}
 use Rattle.mg_node.proofs.EngineFronts.{is_some_map, committed_whole}
-use Rattle.mg_node.proofs.Layouts.{get_other, put_there}
+use Rattle.mg_node.proofs.Frames.{get_other, put_there}
 use Rattle.mg_node.proofs.Making.{some_same}
 use Rattle.mg_turns.specs.Told.{count_committed, committed_in, StandsBack, RunEnds}
 use Rattle.mg_turns.specs.Code.Running.{NoneCommitted}

@@ -1,4 +1,4 @@
--- What an `Request` of the code stands for.
+-- What a `Request` of the code stands for.
 use Rattle.mg_words.specs.Command.{command}
 use Rattle.mg_words.specs.Help.{help_text, version_text}
 use Rattle.mg_words.specs.Words.{Request, asks_usage, asks_text, asks_command}

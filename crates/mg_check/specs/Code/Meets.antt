@@ -3,7 +3,7 @@ use Rattle.std.specs.Prelude.{ℕ, List, [], ◌∷◌, false, not, ◌&&◌, �
 use Rattle.mg_value.specs.declared.kind.Kind.{Kind}
 use Rattle.mg_calc.specs.declared.edge.Edge.{Edge}
 use Rattle.mg_check.specs.Meeting.{PortReading, is_any, is_kind, inferred_kind, clashes}
-use Rattle.mg_check.specs.declared.met.Inferred.{Inferred}
+use Rattle.mg_check.specs.declared.inferred.Inferred.{Inferred}
 
 -- what is known of a stream by the port that writes it
 abbrev pub begun : Kind → Inferred

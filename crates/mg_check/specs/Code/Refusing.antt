@@ -11,7 +11,7 @@ use Rattle.mg_check.specs.Joining.{two_producers, no_producer, side_missing, kin
 use Rattle.mg_check.specs.Code.Meets.{inferred_of}
 use Rattle.mg_check.specs.declared.wiring.Wiring.{Wiring}
 use Rattle.mg_check.specs.declared.plan_names.PlanNames.{PlanNames}
-use Rattle.mg_check.specs.declared.met.Inferred.{Inferred}
+use Rattle.mg_check.specs.declared.inferred.Inferred.{Inferred}
 use Rattle.mg_check.specs.declared.planning.Shown.{Shown}
 use Rattle.mg_check.specs.declared.fault.CheckFault.{CheckFault}
 use Rattle.mg_check.specs.declared.fault.CheckFault.TheVariants.{KindClash, TooMany}

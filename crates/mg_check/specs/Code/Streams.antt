@@ -5,7 +5,7 @@ use Rattle.mg_value.specs.Plain.{Plain}
 use Rattle.mg_calc.specs.Side.{PlainSide, given_at, fixed}
 use Rattle.mg_calc.specs.declared.plan_stream.PlanStream.{PlanStream}
 use Rattle.mg_calc.specs.declared.plan_stream.Producer.{Producer}
-use Rattle.mg_check.specs.declared.met.Inferred.{Inferred}
+use Rattle.mg_check.specs.declared.inferred.Inferred.{Inferred}
 
 -- the plan's stream by its name, what is known of its kind, and its producer
 abbrev pub stream_of : List ℕ × (Inferred × Producer) → PlanStream

@@ -11,7 +11,7 @@ returns-in-Ok c =
     let words = map (λ word. word.now) c.args.words.now in
     let app = app_of c.in_ok-command.command in
     IfOk-weaker c.request_from.result _ _
-    (λ asked is. is ∙ taken-request given.0 given.1 app given.2 words (rows_of (found_of c.in-Ok.matches))
+    (λ request is. is ∙ taken-request given.0 given.1 app given.2 words (rows_of (found_of c.in-Ok.matches))
     (c.in-Ok.ensures.matches (is-simple given.0 given.1 app given.2 words)).0 (c.in-Ok.ensures.kinds (is-free given.0 given.1 app given.2 words)))
     c.request_from.ensures
 
@@ -25,5 +25,5 @@ returns-in-Err c =
     let words = map (λ word. word.now) c.args.words.now in
     let app = app_of c.in_ok-command.command in
     let has = subst (λ kind. (kind ≡ OutOfMemory) ⊎ IsAmong kind (fault_of app words)) (sym c.kind.ensures) (c.in-Err.ensures.kinds (is-free given.0 given.1 app given.2 words)) in
-    both c.request_at.result _ _ _ c.request_at.ensures.some c.request_at.ensures.asked
-    (λ some asked is. is ∙ refused-request given.0 given.1 app given.2 words c.kind.result has some)
+    both c.request_at.result _ _ _ c.request_at.ensures.some c.request_at.ensures.request
+    (λ some request is. is ∙ refused-request given.0 given.1 app given.2 words c.kind.result has some)
