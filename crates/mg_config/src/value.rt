@@ -53,7 +53,7 @@ pub fn truth_in_value(value: &TreeValue) -> Option<bool>
     }
 }
 
-/// Returns the text of a value, or the empty text where the value is no quoted text.
+// Returns the text of a value, or the empty text where the value is no quoted text.
 fn lent_text(value: &TreeValue) -> &str
     ensures { result.now ≡ values.text_of_value (value_view value.now) }
 {

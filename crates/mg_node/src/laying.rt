@@ -87,6 +87,7 @@ fn lay_emission(
     requires room { HasRoomFor outputs.old (Ok emission) }
     ensures { IsLaid offset phase.now (λ whole. whole) (Ok emission) outputs.old outputs.new result }
 {
+    // The length is asked for what its clause says of it: that it has 32 bits.
     let _ = emission.len();
     match emission.into_one() {
         Ok(laid) => lay_one(offset, phase, outputs, laid),
@@ -102,6 +103,7 @@ fn lay_one(offset: Option<i64>, phase: &Phase, outputs: &mut [Queue], laid: Laid
     ensures { IsLaid offset phase.now (λ whole. whole) (Ok (laid ∷ [])) outputs.old outputs.new result }
 {
     let Laid { packets, bound } = laid;
+    // As above.
     let _ = packets.len();
     match packets.into_one() {
         Ok(packet) => {
