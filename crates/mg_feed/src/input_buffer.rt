@@ -102,13 +102,8 @@ impl InputBuffer {
         ensures heard { Heard (input_buffer self.old) (input_buffer self.new) result (json_refusal (before_seen (input_buffer self.old)) (json_value text.now))
             (with_said (input_buffer self.old).graph (input_buffer self.old).given (option_and_then form_of (json_value text.now))) }
     {
-        if let Some(packet_line) = packet_line_of(alloc, text, scratch) {
-            self.packet(
-                alloc,
-                packet_line.stream,
-                &packet_line.time,
-                &packet_line.value,
-            )?;
+        if let Some(line) = packet_line_of(alloc, text, scratch) {
+            self.packet(alloc, line.stream, &line.time, &line.value)?;
             return Ok(true);
         }
         let named = self.tree(alloc, scratch, text)?;
