@@ -14,7 +14,7 @@ pub record NetGoesOn (before now : NetView) : Type 0 where
   pub count : length (layout_of (parts_in now)).parts ≡ length (layout_of parts).parts
   pub follows : (word : ℕ) → word < length (layout_of parts).parts → Follows (layout_of parts) word (at (layout_of (parts_in now)) word)
 
--- what workers leave of a net: the net as it was; the net as it was but that the works in its work queues stand in their windows again; or a net
--- whose parts have gone on
+-- what workers leave of a net: the net as it was; the net as it was but that the works in its work queues stand in their windows again;
+-- or a net whose parts have gone on
 abbrev pub Leaves : NetView → NetView → Type 0
 Leaves before now = (now ≡ before) ⊎ (CameBack before now ⊎ NetGoesOn before now)

@@ -21,7 +21,7 @@ use Rattle.mg_node.proofs.LayingAll.{outputs_at, failure_at}
 abbrev pub behind_work : LoggedJob → List (StreamPrefix Plain) → PlanNode → ℕ → Phase → Outcome
 behind_work job streams node n phase = come_to job streams node (n + calls_in_phase phase) (is_close phase)
 
--- a node's work of a number was performed, with an answer, at a context
+-- a node's work of a number was performed, with an answer, in a context
 pub record IsDone (job : LoggedJob) (streams : List (StreamPrefix Plain)) (node : PlanNode) (n : ℕ) (phase : Phase) (context : ContextView) (answer : Result (List Laid) Cause) : Type 0 where
   pub fits : FitsHolder node context.told
   pub places : length context.set ≡ length node.inputs

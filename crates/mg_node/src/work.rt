@@ -30,7 +30,7 @@ impl<C: Calculator> Model for Work<C> {
 }
 
 impl<C: Calculator> Work<C> {
-    /// The work of a node with this number, to be done in a phase on a context.
+    /// The work of a node with this number, to be done in a phase by a context.
     pub(crate) fn new(node: u32, number: u64, phase: Phase, context: Context<C>) -> Work<C>
         ensures { result ≡ record { node = node; number = number; phase = phase; context = context } }
     {

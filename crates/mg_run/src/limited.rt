@@ -65,7 +65,7 @@ fn worked_by(workers: u32, plan: Plan) -> Plan
 
 /// Returns a plan with the limit of queues and the number of workers that an instruction asks for.
 pub fn as_asked(instruction: Instruction, plan: Plan) -> Plan
-    ensures request { result ≡ answers.as_asked instruction plan }
+    ensures asked { result ≡ answers.as_asked instruction plan }
     ensures valid { IsValid plan → IsValid result }
     ensures valid_with_free { IsValidWithFree plan → IsValidWithFree result }
     ensures fit { (outers : List OuterShape) → OutersFit plan outers → OutersFit result outers }

@@ -56,7 +56,7 @@ abbrev pub all_shelved : EngineView → List WorkView → EngineView
 all_shelved engine [] = engine
 all_shelved engine (work ∷ works) = shelved (all_shelved engine works) (unrun_of work)
 
--- the works in the work queues of the first `count` nodes stand in their windows again, and these work queues are empty; all else is what it was
+-- the works in the work queues of the first `count` nodes stand in their windows again, and these queues are empty; all else is what it was
 pub record PutsBack (count : ℕ) (engines engines_now : List EngineView) (work_queues work_queues_now : List WorkQueueView) : Type 0 where
   pub engine_count : length engines_now ≡ length engines
   pub work_queue_count : length work_queues_now ≡ length work_queues
@@ -77,8 +77,8 @@ pub record HasComeApart (net : NetView) (parts : PartsView) : Type 0 where
 
 -- Parts that are of one net.
 
--- what stays of a net fits a job, its plan and these engines: there is a work queue for each node, with room for its works, on which nothing
--- lies; the limits are those of the plan; and the queues of a node that goes on count
+-- what stays of a net fits a job, its plan and these engines: there is an empty work queue for each node, with room for its works; the
+-- limits are those of the plan; and the queues of a node that goes on count
 pub record IsRestOf (job : LoggedJob) (plan : Plan) (engines : List EngineView) (rest : RestView) : Type 0 where
   pub given : rest.given ≡ job.job.inputs.sides
   pub work_queues : length rest.work_queues ≡ length plan.nodes

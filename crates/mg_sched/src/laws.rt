@@ -154,8 +154,8 @@ pub fn what_comes_back_had_a_front()
         → (told : CalculatorTold) × (slice_get (given_back net) place ≡ Some told) × HadFront later solution node told }
 {}
 
-/// Wherever a run ends, once no work lies in a work queue and all nodes are wound up, no calculator is left open: the calculator of a node comes
-/// back with Close behind Open and some of its sets, or its Open failed.
+/// Wherever a run ends, once no work lies in a work queue and all nodes are wound up, no calculator is left open: the calculator of a node
+/// comes back with Close behind Open and some of its sets, or its Open failed.
 pub fn what_comes_back_had_close()
     ensures { (job : LoggedJob) (net wound : NetView) (solution : List (StreamPrefix Plain)) (number place : ℕ) (node : PlanNode)
         → StandsFor job net → IsRunning net → NoneOnWorkQueues net → WindsUpNet net wound → wound.wound ≡ length net.plan.nodes → Solves job solution

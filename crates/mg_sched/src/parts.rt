@@ -108,7 +108,7 @@ pub(crate) fn intakes_of(alloc: Global, plan: &Plan) -> Result<Vec<Intake>, Allo
     Ok(intakes)
 }
 
-/// Returns the work queues of the nodes, on which nothing lies.
+/// Returns the work queues of the nodes, in which nothing lies.
 pub(crate) fn work_queues_of<C: Calculator>(
     alloc: Global,
     plan: &Plan,

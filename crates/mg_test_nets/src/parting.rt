@@ -1,5 +1,5 @@
-//! Nets that come apart on their way and are put together again, with works in their work queues and in their windows: they come to the same
-//! as if they hadn't, also where something went along an edge meanwhile.
+//! Nets that come apart on their way and are put together again, with works in their work queues and in their windows: they come to the
+//! same as if they hadn't, also where something went along an edge meanwhile.
 ghost use Rattle.std.specs.Prelude.{IfOk};
 ghost use Rattle.mg_nets.specs.Driven.{IsDriven};
 
@@ -47,8 +47,8 @@ fn idle_at(alloc: Global, driver: Driver, events: &'static [Event]) -> Result<Dr
     driven(alloc, driver, &mut Steps { events, effect })
 }
 
-// Returns the steps until the first set of the sum lies in its work queue: the packets come to the loopback and to the sum, the loopback answers
-// the first one with nothing, and its bound rises behind that and goes on to the sum.
+// Returns the steps until the first set of the sum lies in its work queue: the packets come to the loopback and to the sum, the loopback
+// answers the first one with nothing, and its bound rises behind that and goes on to the sum.
 fn claims_first() -> &'static [Event] {
     &[
         Event::Deliver { edge: 1 },
@@ -94,7 +94,7 @@ fn parted_thrice(alloc: Global, case: &Case) -> Result<Driver, Fail>
 }
 
 #[test]
-fn a_work_on_a_work_queue_is_handed_out_again(rt: HostRuntime) -> Result<(), Fail> {
+fn a_work_in_a_work_queue_is_handed_out_again(rt: HostRuntime) -> Result<(), Fail> {
     let case = summed();
     let driver = parted_thrice(rt.alloc(), &case)?;
     expect(rt.alloc(), driver, &mut Settle, &case)

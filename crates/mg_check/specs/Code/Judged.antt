@@ -45,7 +45,7 @@ abbrev pub wrong_in : Result Draft Wrong → Option Wrong
 wrong_in (Ok draft) = None
 wrong_in (Err wrong) = Some wrong
 
--- The drafts has the drafts of the nodes, and for each node what is wrong with it.
+-- What was judged has the drafts of the nodes, and for each node what is wrong with it.
 pub record AreJudged (node_drafts : NodeDrafts) (outers : List OuterShape) (cs : List Chosen) : Type 0 where
   pub drafts : drafts_view node_drafts.drafts.items ≡ filter_map (draft_of outers) cs
   pub wrongs : node_drafts.wrongs.items ≡ map (wrong_of outers) cs

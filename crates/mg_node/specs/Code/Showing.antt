@@ -11,16 +11,16 @@ use Rattle.mg_node.specs.Claims.{Takes, Hands, work_of}
 use Rattle.mg_node.specs.Commits.{raised_before, laid_by, outputs_by, failure_by, fault_at}
 use Rattle.mg_node.specs.Running.{IsPerformed}
 
--- the work of a set, on a context
+-- the work of a set, in a context
 abbrev pub work_at : ℕ → ℕ → ℕ → ContextView → WorkView
 work_at node number at context = record { node = node; number = number; phase = Process at; context = context }
 
--- a context's calculator was shown the context's set at a time: a work of that set on the context is thereby performed, whatever its node and
--- number
+-- a context's calculator was shown the context's set at a time: a work of that set in the context is thereby performed, whatever its
+-- node and number
 abbrev pub HasShown : ℕ → Result (List Laid) Cause → ContextView → ContextView → Type 0
 HasShown at answer before now = (node number : ℕ) → IsPerformed (work_at node number at before) (record { work = work_at node number at now; answer = answer })
 
--- the last idle context takes the next set, and its calculator is shown that; where memory is short, only the context's set has changed there
+-- the last idle context takes the next set, and its calculator is shown that; where memory is short, only the set has changed there
 pub record Shows (answer : Option (Result (List Laid) Cause)) (at : ℕ) (engine engine_now : EngineView) (intake intake_now : IntakeView) : Type 0 where
   pub rest : List ContextView
   pub context : ContextView

@@ -7,8 +7,8 @@ use crate::leaving::{from_contexts, from_window};
 use mg_calc::Calculator;
 
 impl<C: Calculator> Engine<C> {
-    /// The calculator that was handed in, if one stands in this engine: in a context that no work has, or in an outcome that came back to the
-    /// window. The calculator of a work that is out is with that work.
+    /// The calculator that was handed in, if one stands in this engine: in a context that no work has, or in an outcome that came back to
+    /// the window. The calculator of a work that is out is with that work.
     pub fn into_calculator(self) -> Option<C>
         ensures { option_map C.told result ≡ first_handed self }
     {

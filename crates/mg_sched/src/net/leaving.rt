@@ -50,7 +50,7 @@ fn put_back<C: Calculator>(
         let number = plan.nodes.as_slice()[node as usize].box_number;
         let Some(engine) = engines.next() else { return };
         let Some(work_queue) = work_queues.next() else {
-            return
+            return;
         };
         put_in_place(places, number, calculator_of(engine, work_queue));
     }

@@ -76,8 +76,8 @@ impl<C: Calculator> Net<C> {
         }
     }
 
-    /// Puts all works that lie in work queues back into their windows, as they are: what is claimed isn't performed. The net still stands for
-    /// each job for which it stood.
+    /// Puts all works that lie in work queues back into their windows, as they are: what is claimed isn't performed. The net still stands
+    /// for each job for which it stood.
     pub fn put_back_all(&mut self)
         requires running { IsRunning self.old }
         requires stands { StandsForSome self.old }

@@ -11,8 +11,8 @@ use mg_edge::Gate;
 use mg_node::{Outcome, perform};
 
 impl<C: Calculator> Net<C> {
-    /// Performs a node's work of this number, if it lies in the node's work queue. The work stands in the node's window then, as performed and
-    /// not committed.
+    /// Performs a node's work of this number, if it lies in the node's work queue. The work stands in the node's window then, as performed
+    /// and not committed.
     pub(super) fn perform<G: Gate>(&mut self, node: u32, number: u64, gate: &G) -> Effect
         requires there { node < length self.old.plan.nodes }
         requires stands { StandsForSome self.old }

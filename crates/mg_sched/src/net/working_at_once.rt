@@ -72,8 +72,8 @@ fn did_nothing<C: Calculator>(done: &AtOnce<C>) -> bool
 }
 
 impl<C: Calculator> Net<C> {
-    /// Claims a node's next work, and performs and commits it at once: the work lies in the node's work queue or in its window only where there
-    /// is no memory for the next step. Tells whether something was done.
+    /// Claims a node's next work, and performs and commits it at once: the work lies in the node's work queue or in its window only where
+    /// there is no memory for the next step. Tells whether something was done.
     pub(super) fn work_at_once<G: Gate, H: Hears>(
         &mut self,
         node: u32,

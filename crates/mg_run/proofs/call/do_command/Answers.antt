@@ -20,12 +20,12 @@ do_action-requires-clause-lawful g c κs within =
 
 pub returns-in-Ok-clause-called : goal.returns-in-Ok-clause-called
 returns-in-Ok-clause-called g c =
-    let request = command c.args.ordered.now.instruction c.args.ordered.now.files.now in
+    let done = command c.args.ordered.now.instruction c.args.ordered.now.files.now in
     let boxes = map g.C.Calculator.told c.args.boxes.now.items in
     let store = device (g.T.Store.told c.args.store.now) (g.T.Store.told c.due_action.new.store) in
-    let due : IsDue (invocation request (outers_told boxes)) store (action_view c.in-Ok.action) =
-    due_among request (map g.C.Calculator.told c.as_slice.result.now) boxes store (action_view c.in-Ok.action) (ap (map g.C.Calculator.told) c.as_slice.ensures.value) c.in-Ok.ensures.due in
-    called-did (action_view c.in-Ok.action) c.do_action.result (invocation request (outers_told boxes)) due.contents _ due.loaded due.due (c.do_action.ensures.did store)
+    let due : IsDue (invocation done (outers_told boxes)) store (action_view c.in-Ok.action) =
+    due_among done (map g.C.Calculator.told c.as_slice.result.now) boxes store (action_view c.in-Ok.action) (ap (map g.C.Calculator.told) c.as_slice.ensures.value) c.in-Ok.ensures.due in
+    called-did (action_view c.in-Ok.action) c.do_action.result (invocation done (outers_told boxes)) due.contents _ due.loaded due.due (c.do_action.ensures.did store)
 
 pub returns-in-Ok-clause-unread : goal.returns-in-Ok-clause-unread
 returns-in-Ok-clause-unread g c =
