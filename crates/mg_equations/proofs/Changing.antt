@@ -1,6 +1,6 @@
 -- Whether a round changes its streams, and that the rounds come to an end.
-use Rattle.std.proofs.Common.{◌≡◌, ℕ, zero, suc, ◌+◌, ◌-◌, ◌^◌, ◌<◌, ◌≤◌, ◌==◌, ◌&&◌, ◌||◌, Bool, true, false, not, List, [], ◌∷◌, ◌++◌, append-nil, All, length, length-append, Result, Ok, Err, IfOk, refl, sym, ap, ap₂, subst, ◌∙◌, arith, inl, inr, ◌⊎◌}
-use Rattle.std.specs.List.{AllByRecursion, list_any}
+use Rattle.std.proofs.Common.{◌≡◌, ℕ, zero, suc, ◌+◌, ◌-◌, ◌^◌, ◌<◌, ◌≤◌, ◌==◌, ◌&&◌, Bool, true, false, not, List, [], ◌∷◌, ◌++◌, append-nil, All, length, length-append, Result, Ok, Err, IfOk, refl, sym, ap, subst, ◌∙◌, arith, inl, inr}
+use Rattle.std.specs.List.{AllByRecursion}
 use Rattle.std.proofs.lemmas.Bool.{cases_lt}
 use Rattle.std.proofs.lemmas.Bool.Decides.{nat_tests, eqb_tells}
 use Rattle.std.proofs.lemmas.List.{nil_from_length, length-replicate}
@@ -11,12 +11,12 @@ use Rattle.mg_value.specs.Prefix.{Stamped, StreamPrefix, IsPrefix, Ascends, firs
 use Rattle.mg_value.specs.Extension.{IsExtendedBy, AreExtendedBy}
 use Rattle.mg_value.proofs.Extending.{same_prefix}
 use Rattle.mg_value.proofs.PrefixSteps.{next_above}
-use Rattle.mg_calc.specs.Equations.{Job, IsJob, next_round, round, MeetsEquations, IsSolution}
+use Rattle.mg_calc.specs.Equations.{Job, IsJob, stream_of, next_round, round, MeetsEquations, IsSolution}
 use Rattle.mg_calc.proofs.Jobs.{any_state, job_known}
 use Rattle.mg_calc.proofs.Rounds.{equations_are_as_many}
 use Rattle.mg_calc.proofs.Solutions.{round_keeps, rounds_ascend}
 use Rattle.mg_equations.specs.declared.solving.Streams.{Streams}
-use Rattle.mg_equations.specs.Changes.{is_changed, changes}
+use Rattle.mg_equations.specs.Changes.{is_changed}
 
 -- one stream
 pub unchanged_one : (s t : StreamPrefix Plain) → IsExtendedBy s t → is_changed s t ≡ false → s ≡ t
@@ -43,19 +43,6 @@ stays_or_rises s t e =
     let up = e.bound in
     let long : length t.packets ≡ length s.packets + length e.further = ap length e.packets ∙ length-append s.packets e.further in
     omega (arith, up, long)
-
-pub or_none : (a b : Bool) → (a || b) ≡ false → (a ≡ false) × (b ≡ false)
-or_none true b none = absurd cc
-or_none false b none = (refl, none)
-
--- all streams: where none is changed, they are the same
-pub unchanged : (xs ys : List (StreamPrefix Plain)) → AreExtendedBy xs ys → list_any (λ change. change) (changes xs ys) ≡ false → xs ≡ ys
-unchanged [] [] e none = refl
-unchanged [] (y ∷ ys) e none = absurd e
-unchanged (x ∷ xs) [] e none = absurd e
-unchanged (x ∷ xs) (y ∷ ys) e none =
-    let each = or_none (is_changed x y) (list_any (λ change. change) (changes xs ys)) none in
-    ap₂ (λ (s : StreamPrefix Plain) (ss : List (StreamPrefix Plain)). s ∷ ss) (unchanged_one x y e.0 each.0) (unchanged xs ys e.1 each.1)
 
 -- How far streams may still rise: a stream has at most as many packets as timestamps below its bound.
 abbrev pub room : List (StreamPrefix Plain) → ℕ
@@ -85,24 +72,27 @@ room_stays (x ∷ xs) (y ∷ ys) e =
     let here = stays_or_rises x y e.0 in
     omega (arith, rest, here)
 
-pub room_falls : (xs ys : List (StreamPrefix Plain)) → AreExtendedBy xs ys → AllByRecursion IsPrefix ys → list_any (λ change. change) (changes xs ys) ≡ true → room ys < room xs
-room_falls [] [] e k some = absurd cc
-room_falls [] (y ∷ ys) e k some = absurd e
-room_falls (x ∷ xs) [] e k some = absurd e
-room_falls (x ∷ xs) (y ∷ ys) e k some =
-    let most = has_room y k.0 in
-    elim (either (is_changed x y) (list_any (λ change. change) (changes xs ys)) some) [
-      | inl here ↦ (let up = changed_one x y e.0 here in let rest = room_stays xs ys e.1 in omega (arith, most, up, rest))
-      | inr later ↦ (let up = stays_or_rises x y e.0 in let rest = room_falls xs ys e.1 k.1 later in omega (arith, up, rest))
-    ]
-  where
-    either : (a b : Bool) → (a || b) ≡ true → (a ≡ true) ⊎ (b ≡ true)
-    either true b some = inl refl
-    either false b some = inr some
+-- a stream has changed
+abbrev pub SomeChanges : List (StreamPrefix Plain) → List (StreamPrefix Plain) → Type 0
+SomeChanges xs ys = (s : ℕ) × (s < length xs) × (is_changed (stream_of xs s) (stream_of ys s) ≡ true)
 
-other_than : (xs ys : List (StreamPrefix Plain)) → AreExtendedBy xs ys → AllByRecursion IsPrefix ys → list_any (λ change. change) (changes xs ys) ≡ true → ys ≡ xs → ⊥
+room_falls : (xs ys : List (StreamPrefix Plain)) (s : ℕ) → AreExtendedBy xs ys → AllByRecursion IsPrefix ys → s < length xs → is_changed (stream_of xs s) (stream_of ys s) ≡ true → room ys < room xs
+room_falls [] ys s e k below some = absurd (omega (arith, below))
+room_falls (x ∷ xs) [] s e k below some = absurd e
+room_falls (x ∷ xs) (y ∷ ys) zero e k below some =
+    let most = has_room y k.0 in
+    let up = changed_one x y e.0 some in
+    let rest = room_stays xs ys e.1 in
+    omega (arith, most, up, rest)
+room_falls (x ∷ xs) (y ∷ ys) (suc s) e k below some =
+    let most = has_room y k.0 in
+    let up = stays_or_rises x y e.0 in
+    let rest = room_falls xs ys s e.1 k.1 (omega (arith, below)) some in
+    omega (arith, most, up, rest)
+
+other_than : (xs ys : List (StreamPrefix Plain)) → AreExtendedBy xs ys → AllByRecursion IsPrefix ys → SomeChanges xs ys → ys ≡ xs → ⊥
 other_than xs ys e k some same =
-    let falls = room_falls xs ys e k some in
+    let falls = room_falls xs ys some.0 e k some.1 some.2 in
     let rooms = ap room same in
     omega (arith, falls, rooms)
 
@@ -139,7 +129,7 @@ next_long job streams next is reached next_is =
     reached_long job streams is reached ∙ sym (ap length (next_is ∙ ap (next_round job) reached.is) ∙ round_long job is (suc reached.number))
 
 -- a round that changes something is reached next, and leaves less room
-pub reached_further : (job : Job) (streams next : List (StreamPrefix Plain)) → IsJob job → AreReached job streams → next ≡ next_round job streams → list_any (λ change. change) (changes streams next) ≡ true → AreReached job next
+pub reached_further : (job : Job) (streams next : List (StreamPrefix Plain)) → IsJob job → AreReached job streams → next ≡ next_round job streams → SomeChanges streams next → AreReached job next
 reached_further job streams next is reached next_is some = record {
   number = suc reached.number;
   is = next_is ∙ ap (next_round job) reached.is;
@@ -151,16 +141,16 @@ reached_further job streams next is reached next_is some = record {
   ]);
 }
 
-pub less_room : (job : Job) (streams next : List (StreamPrefix Plain)) → IsJob job → AreReached job streams → next ≡ next_round job streams → list_any (λ change. change) (changes streams next) ≡ true → room next < room streams
+pub less_room : (job : Job) (streams next : List (StreamPrefix Plain)) → IsJob job → AreReached job streams → next ≡ next_round job streams → SomeChanges streams next → room next < room streams
 less_room job streams next is reached next_is some =
-    room_falls streams next (next_extends job streams next is reached next_is) (next_keeps job streams next is reached next_is) some
+    room_falls streams next some.0 (next_extends job streams next is reached next_is) (next_keeps job streams next is reached next_is) some.1 some.2
 
 -- and one that changes nothing is the solution
-pub reached_solution : (job : Job) (streams next : List (StreamPrefix Plain)) → IsJob job → AreReached job streams → next ≡ next_round job streams → list_any (λ change. change) (changes streams next) ≡ false → IsSolution job streams
-reached_solution job streams next is reached next_is none = record {
+pub reached_solution : (job : Job) (streams next : List (StreamPrefix Plain)) → IsJob job → AreReached job streams → next ≡ next_round job streams → streams ≡ next → IsSolution job streams
+reached_solution job streams next is reached next_is same = record {
   number = reached.number;
   reached = reached.is;
-  meets = sym (unchanged streams next (next_extends job streams next is reached next_is) none ∙ next_is);
+  meets = sym (same ∙ next_is);
   first = reached.first;
 }
 

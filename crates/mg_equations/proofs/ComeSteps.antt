@@ -1,9 +1,9 @@
 -- Nodes go on, by their laws.
-use Rattle.std.proofs.Common.{◌≡◌, ℕ, zero, suc, ◌<◌, ◌≤◌, ◌==◌, Bool, replicate, List, [], ◌∷◌, get_or, length, length-drop, All, None, Some, slice_get, refl, sym, ap, ap₂, subst, ◌∙◌, arith, inl, inr}
-use Rattle.std.proofs.lemmas.Bool.{cases_Bool}
+use Rattle.std.proofs.Common.{◌≡◌, ℕ, zero, suc, ◌<◌, ◌≤◌, ◌==◌, Bool, true, false, replicate, List, [], ◌∷◌, map, get_or, length, length-drop, All, None, Some, slice_get, refl, sym, ap, ap₂, subst, ◌∙◌, arith, inl, inr}
 use Rattle.std.proofs.lemmas.Option.{slice_get_within, slice_get-get_or, get_or_from_slice_get}
 use Rattle.std.proofs.lemmas.List.{length-replicate, get_or_default}
-use Rattle.std.proofs.lemmas.List.Elements.{All-weaker, length_all_zip, recursion_from_All}
+use Rattle.std.specs.List.{AllByRecursion}
+use Rattle.std.proofs.lemmas.List.Elements.{All-weaker, Contains-get_or, recursion_from_All}
 use Rattle.mg_time.specs.Time.{pre_stream, done, IsAllowed}
 use Rattle.mg_value.specs.Payload.{Plain}
 use Rattle.mg_value.specs.Prefix.{Stamped, StreamPrefix, IsPrefix, empty_prefix, closed}
@@ -19,17 +19,18 @@ use Rattle.mg_calc.specs.declared.port_kind.PortKind.{PortKind}
 use Rattle.mg_calc.specs.Shape.{IsOuter, IsShapeOf, HasInputs}
 use Rattle.mg_calc.specs.Plan.{HasNumbers}
 use Rattle.mg_calc.specs.Outcome.{Outcome, opened, node_outcome, loopback_outcome}
-use Rattle.mg_calc.specs.Equations.{Job, IsJob, sides_of, inputs_of, outcome_by, outcome_of}
+use Rattle.mg_calc.specs.Equations.{Job, IsJob, sides_of, stream_of, inputs_of, outcome_by, outcome_of}
 use Rattle.mg_equations.specs.declared.outcome.Outcome.{Outcome as CodeOutcome}
 use Rattle.mg_equations.specs.declared.progress.Progress.{Progress}
 use Rattle.mg_equations.specs.Begun.{begun_by}
 use Rattle.mg_equations.specs.Seen.{seen}
-use Rattle.mg_equations.specs.Progress.{AreWithin, HasRead, LoopbackHasAnswered, HasCome, HaveCome, CanGoOn, ShowsMore, AnswersMore, NodeGoesOn, GoesOnIf, AllGoOn, reads_change}
+use Rattle.mg_equations.specs.Growing.{AreChanged}
+use Rattle.mg_equations.specs.Progress.{AreWithin, HasRead, LoopbackHasAnswered, HasCome, HaveCome, CanGoOn, ShowsMore, AnswersMore, NodeGoesOn}
+use Rattle.mg_equations.specs.RoundNodes.{GoesOnIf, HaveTurned}
 use Rattle.mg_equations.proofs.NodeSteps.{few_sets, node_counts, opened_counts}
 use Rattle.mg_equations.proofs.OutcomeSteps.{outer_outcome, inputs_are}
 use Rattle.mg_equations.proofs.PortSteps.{inputs_long}
-use Rattle.mg_equations.specs.Changes.{changes}
-use Rattle.mg_equations.proofs.RoundSteps.{node_at, inputs_same}
+use Rattle.mg_equations.proofs.RoundSteps.{node_at}
 use Rattle.mg_calc.proofs.Settling.{outcome_of_inputs_by}
 use Rattle.mg_equations.proofs.ProgressSteps.{shown_more, shown_first, answered_more, within_later, within_gone}
 
@@ -258,17 +259,13 @@ come_same job before streams node progress same outcome come = record {
   turns = λ loop. subst (λ (ss : List (StreamPrefix Plain)). LoopbackHasAnswered (port_of ss 1) (port_of ss 0) progress) same (come.turns loop);
 }
 
-pub goes_if : (job : Job) (before streams : List (StreamPrefix Plain)) (node : PlanNode) (first then : Progress) → MayGoOn job before streams node → HasCome job before node first
-    → GoesOnIf (reads_change (changes before streams) node) node streams first then → HasCome job streams node then
-goes_if job before streams node first then may come goes = elim (cases_Bool (reads_change (changes before streams) node)) [
-  | inl reads ↦ goes_further job before streams node first then may come (subst (λ (test : Bool). GoesOnIf test node streams first then) reads goes)
-  | inr none ↦
-      (let long = length_all_zip IsExtendedBy before streams may.extended in
-      let same : inputs_of before node ≡ inputs_of streams node = inputs_same before streams node.inputs may.extended (recursion_from_All (λ (i : ℕ). i < length before) node.inputs may.was_known) none in
-      let stays : then ≡ first = subst (λ (test : Bool). GoesOnIf test node streams first then) none goes in
-      subst (HasCome job streams node) (sym stays)
-      (come_same job before streams node first (inputs_are before node.inputs may.was_known ∙ same ∙ sym (inputs_are streams node.inputs may.known)) (outcome_of_inputs_by node.law job node before streams same) come))
-]
+goes_if : (gone : Bool) (job : Job) (before streams : List (StreamPrefix Plain)) (node : PlanNode) (first then : Progress) → MayGoOn job before streams node → HasCome job before node first
+    → (gone ≡ false → inputs_of before node ≡ inputs_of streams node) → GoesOnIf gone node streams first then → HasCome job streams node then
+goes_if true job before streams node first then may come stays goes = goes_further job before streams node first then may come goes
+goes_if false job before streams node first then may come stays goes =
+    let same : inputs_of before node ≡ inputs_of streams node = stays refl in
+    subst (HasCome job streams node) (sym goes)
+    (come_same job before streams node first (inputs_are before node.inputs may.was_known ∙ same ∙ sym (inputs_are streams node.inputs may.known)) (outcome_of_inputs_by node.law job node before streams same) come)
 
 -- all nodes
 node_may : (job : Job) (before streams : List (StreamPrefix Plain)) (k : ℕ) (node : PlanNode) → IsJob job → length before ≡ length job.plan.streams → length streams ≡ length job.plan.streams → All IsPrefix before → All IsPrefix streams → AreExtendedBy before streams → slice_get job.plan.nodes k ≡ Some node
@@ -293,12 +290,29 @@ pub all_can : (job : Job) (before streams : List (StreamPrefix Plain)) (nodes : 
     → CanGoOn node (inputs_at streams node.inputs) progress
 all_can job before streams nodes g come k node progress at there = come_can job before streams node progress (node_may job before streams k node g.is g.was_many g.many g.prefixes g.grown g.extended at) (come.each k node progress at there)
 
-pub all_come : (job : Job) (before streams : List (StreamPrefix Plain)) (nodes now : List Progress) → AreGrownTo job before streams → HaveCome job before nodes → AllGoOn job.plan.nodes streams (changes before streams) nodes now → HaveCome job streams now
-all_come job before streams nodes now g come all = record {
-  many = all.many ∙ come.many;
+-- a node that hasn't gone on reads no other streams than before
+same_inputs : (xs ys : List (StreamPrefix Plain)) (ports : List ℕ) → AllByRecursion (λ s. stream_of xs s ≡ stream_of ys s) ports → map (stream_of xs) ports ≡ map (stream_of ys) ports
+same_inputs xs ys [] all = refl
+same_inputs xs ys (port ∷ ports) all = ap₂ (λ (s : StreamPrefix Plain) (ss : List (StreamPrefix Plain)). s ∷ ss) all.0 (same_inputs xs ys ports all.1)
+
+pub stays_at : (job : Job) (before streams : List (StreamPrefix Plain)) (changed due : List ℕ) (nodes now : List Progress) (k : ℕ) (node : PlanNode) → IsJob job → length before ≡ length job.plan.streams → AreChanged changed before streams
+    → (turned : HaveTurned job.plan streams changed nodes now due) → slice_get job.plan.nodes k ≡ Some node → turned.gone k ≡ false → inputs_of before node ≡ inputs_of streams node
+stays_at job before streams changed due nodes now k node is long change turned at not =
+    let below = slice_get_within job.plan.nodes k node at in
+    let known = (node_at job before k node is long below (sym (get_or_from_slice_get job.plan.nodes k node node at))).known in
+    same_inputs before streams node.inputs (recursion_from_All (λ (s : ℕ). stream_of before s ≡ stream_of streams s) node.inputs (λ port d there. elim (change.all (get_or node.inputs port d) (known port d there)) [
+      | inl same ↦ same
+      | inr c ↦ absurd (turned.stays k node (get_or node.inputs port d) at not (Contains-get_or node.inputs port d there) c)
+    ]))
+
+pub all_come : (job : Job) (before streams : List (StreamPrefix Plain)) (changed due : List ℕ) (nodes now : List Progress) → AreGrownTo job before streams → HaveCome job before nodes → AreChanged changed before streams → HaveTurned job.plan streams changed nodes now due
+    → HaveCome job streams now
+all_come job before streams changed due nodes now g come change turned = record {
+  many = turned.many ∙ come.many;
   each = λ k node progress at there. (
-      let below : k < length nodes = (let within = slice_get_within now k progress there in let many = all.many in omega (arith, within, many)) in
+      let below : k < length nodes = (let within = slice_get_within now k progress there in let many = turned.many in omega (arith, within, many)) in
       let first = get_or nodes k progress in
       let was : slice_get nodes k ≡ Some first = slice_get-get_or nodes k progress below in
-      goes_if job before streams node first progress (node_may job before streams k node g.is g.was_many g.many g.prefixes g.grown g.extended at) (come.each k node first at was) (all.each k node first progress at was there));
+      goes_if (turned.gone k) job before streams node first progress (node_may job before streams k node g.is g.was_many g.many g.prefixes g.grown g.extended at) (come.each k node first at was)
+      (λ not. stays_at job before streams changed due nodes now k node g.is g.was_many change turned at not) (turned.each k node first progress at was there));
 }

@@ -1,10 +1,13 @@
 pub mod Changing
 pub mod ComeSteps
-pub mod GrowSteps
+pub mod DueSteps
 pub mod NodeSteps
 pub mod OutcomeSteps
+pub mod Places
 pub mod PortSteps
 pub mod ProgressSteps
+pub mod ReaderSteps
 pub mod RoundSteps
 pub mod SolveSteps
 pub mod TakenEmissions
+pub mod RoundNodeSteps

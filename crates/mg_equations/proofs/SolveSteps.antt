@@ -1,106 +1,259 @@
 -- A turn of the rounds: streams that have become those of the next round, by nodes that had come to them.
-use Rattle.std.proofs.Common.{◌≡◌, ℕ, ◌++◌, ◌<◌, Bool, true, false, List, map, All, length, Some, slice_get, Result, Ok, Err, IfOk, sym, ap, subst, ◌∙◌}
-use Rattle.std.specs.List.{flat_map, list_any, filter_map, enumerate_from}
+use Rattle.std.proofs.Common.{◌≡◌, ℕ, zero, suc, ◌+◌, ◌++◌, ◌<◌, ◌≤◌, Bool, true, false, List, [], ◌∷◌, map, replicate, All, length, Some, slice_get, get_or, nat_lt, Result, Ok, Err, IfOk, option_map, unwrap_or, ◌⊎◌, inl, inr, refl, sym, ap, subst, ◌∙◌, arith}
+use Rattle.std.specs.Prelude.{Contains}
+use Rattle.std.specs.List.{AllByRecursion, flat_map, range_with_len, filter_map, enumerate_from}
+use Rattle.std.proofs.lemmas.Bool.{cases_Bool, ltb-true, ltb-false}
+use Rattle.std.proofs.lemmas.List.{get_or_append_left, map-id}
+use Rattle.std.proofs.lemmas.List.FromFn.{get_or-range_with_len, length-range_with_len, map-range_with_len_more}
+use Rattle.std.proofs.lemmas.Option.{same_Some, slice_get-map, slice_get-get_or, get_or_from_slice_get, unwrap_or-slice_get}
 use Rattle.mg_value.specs.Payload.{Plain}
-use Rattle.mg_value.specs.Prefix.{StreamPrefix, IsPrefix}
-use Rattle.mg_value.specs.Extension.{AreExtendedBy}
+use Rattle.mg_value.specs.Prefix.{StreamPrefix, IsPrefix, empty_prefix}
 use Rattle.mg_value.specs.Settled.{inputs_of as inputs_at}
 use Rattle.mg_calc.specs.declared.plan_node.PlanNode.{PlanNode}
-use Rattle.mg_calc.specs.Equations.{Job, IsJob, next_round, IsSolution}
+use Rattle.mg_calc.specs.declared.plan_stream.PlanStream.{PlanStream}
+use Rattle.mg_calc.specs.declared.plan_stream.Producer.{Producer}
+use Rattle.mg_calc.specs.declared.plan_stream.Producer.TheVariants.{Input, Node}
+use Rattle.mg_calc.specs.declared.law.Law.TheVariants.{Loopback}
+use Rattle.mg_calc.specs.Equations.{Job, IsJob, stream_of, outcome_of, next_round, IsSolution}
 use Rattle.mg_calc.specs.Meaning.{counts, faults}
+use Rattle.mg_calc.specs.Outcome.{Outcome}
+use Rattle.mg_calc.specs.Plan.{producers}
+use Rattle.mg_calc.proofs.Earlier.{at_place}
+use Rattle.mg_calc.proofs.Jobs.{any_state, job_known}
+use Rattle.mg_calc.proofs.Outcomes.{KeepsTimes}
+use Rattle.mg_calc.proofs.Rounds.{outcome_has_outputs}
+use Rattle.mg_calc.proofs.Settling.{outcome_of_inputs_by}
 use Rattle.mg_equations.specs.declared.progress.Progress.{Progress}
 use Rattle.mg_equations.specs.declared.solving.Streams.{Streams}
-use Rattle.mg_equations.specs.Changes.{changes}
+use Rattle.mg_equations.specs.declared.round_nodes.RoundNodes.{RoundNodes}
+use Rattle.mg_equations.specs.Growing.{given_streams, IsGivenBy, MayGrow, AreChanged}
 use Rattle.mg_equations.specs.Rounds.{numbered_fault}
-use Rattle.mg_equations.specs.Progress.{HaveCome, CanGoOn, AllGoOn, outcomes}
-use Rattle.mg_equations.proofs.Changing.{AreReached, room, unchanged, next_extends, next_prefixes, next_many, reached_long, reached_prefixes, reached_further, reached_solution, less_room, told_solution}
-use Rattle.mg_equations.proofs.RoundSteps.{next_streams_are, changes_long, counts_are, faults_are}
-use Rattle.mg_equations.proofs.ComeSteps.{AreGrownTo, all_can, all_come}
+use Rattle.mg_equations.specs.Progress.{HaveCome, CanGoOn, outcomes}
+use Rattle.mg_equations.specs.RoundNodes.{IsBegun, HaveTurned}
+use Rattle.mg_equations.proofs.Changing.{AreReached, SomeChanges, room, next_extends, next_prefixes, next_many, reached_keep, reached_long, reached_prefixes, reached_further, reached_solution, less_room, told_solution}
+use Rattle.mg_equations.proofs.ComeSteps.{AreGrownTo, all_can, all_come, stays_at}
+use Rattle.mg_equations.proofs.DueSteps.{same_streams}
+use Rattle.mg_equations.proofs.Places.{GivesEach, StandsAt, IsPart, IsWriter, stands_at, writer_at}
+use Rattle.mg_equations.proofs.RoundSteps.{next_streams_are, counts_are, faults_are}
 
--- the streams that nodes give
-abbrev given_by : Job → List Progress → List (StreamPrefix Plain)
-given_by job nodes = job.inputs.streams ++ flat_map (λ outcome. outcome.outputs) (outcomes nodes)
+-- A round has been solved: the nodes have come to its streams, and the next round changes none but those that are due.
+pub record IsUnderWay (job : Job) (streams : List (StreamPrefix Plain)) (turn : RoundNodes) (due : List ℕ) : Type 0 where
+  pub reached : AreReached job streams
+  pub come : HaveCome job streams turn.nodes.items
+  pub begun : IsBegun turn
+  pub within : All (λ s. s < length job.plan.streams) due
+  pub others : (s : ℕ) → s < length streams → Contains due s ⊎ (stream_of streams s ≡ stream_of (next_round job streams) s)
 
-pub may_grow : (job : Job) (streams : List (StreamPrefix Plain)) (nodes read : List Progress) → IsJob job → AreReached job streams → HaveCome job streams nodes → read ≡ nodes
-    → AreExtendedBy streams (job.inputs.streams ++ flat_map (λ outcome. outcome.outputs) (outcomes read))
-may_grow job streams nodes read is reached come same = next_extends job streams (given_by job read) is reached (ap (given_by job) same ∙ next_streams_are job streams nodes come)
+-- the numbers of streams, one more
+pub numbers_more : (n : ℕ) → range_with_len 0 n ++ n ∷ [] ≡ range_with_len 0 (n + 1)
+numbers_more n = ap (λ (l : List ℕ). l ++ n ∷ []) (sym (map-id (range_with_len 0 n))) ∙ sym (map-range_with_len_more (λ (m : ℕ). m) 0 n n (omega arith)) ∙ map-id (range_with_len 0 (n + 1))
 
-pub record IsTurn (job : Job) (before streams : List (StreamPrefix Plain)) (changed : List Bool) (nodes : List Progress) : Type 0 where
-  pub is : IsJob job
-  pub reached : AreReached job before
-  pub come : HaveCome job before nodes
-  pub next : streams ≡ next_round job before
-  pub changed_are : changed ≡ changes before streams
+-- at first all streams are due
+pub first_way : (job : Job) (streams : List (StreamPrefix Plain)) (turn : RoundNodes) (nodes : List Progress) (due : List ℕ) → IsJob job → streams ≡ replicate (length job.plan.streams) empty_prefix → HaveCome job streams nodes → turn.nodes.items ≡ nodes → IsBegun turn
+    → due ≡ range_with_len 0 (length job.plan.streams) → IsUnderWay job streams turn due
+first_way job streams turn nodes due is streams_are come nodes_are begun due_is =
+    let n = length job.plan.streams in
+    let reached : AreReached job streams = record { number = 0; is = streams_are; first = λ earlier below. absurd (omega (arith, below)) } in
+    record {
+      reached = reached;
+      come = subst (HaveCome job streams) (sym nodes_are) come;
+      begun = begun;
+      within = subst (λ (l : List ℕ). All (λ s. s < n) l) (sym due_is) (λ k d below.
+          (let inside : k < n = omega (arith, below, length-range_with_len 0 n) in
+          let at = get_or-range_with_len 0 n k d inside in
+          omega (arith, inside, at)));
+      others = λ s below. (
+          let inside : s < n = (let long = reached_long job streams is reached in omega (arith, below, long)) in
+          let at : get_or (range_with_len 0 n) s s ≡ 0 + s = get_or-range_with_len 0 n s s inside in
+          inl (subst (λ (l : List ℕ). Contains l s) (sym due_is) (s, omega (arith, inside, length-range_with_len 0 n), omega (arith, at))));
+    }
 
-pub turn_is : (job : Job) (before streams : List (StreamPrefix Plain)) (changed : List Bool) (nodes read : List Progress) → IsJob job → AreReached job before → HaveCome job before nodes → read ≡ nodes
-    → streams ≡ job.inputs.streams ++ flat_map (λ outcome. outcome.outputs) (outcomes read) → changed ≡ changes before (job.inputs.streams ++ flat_map (λ outcome. outcome.outputs) (outcomes read)) → IsTurn job before streams changed nodes
-turn_is job before streams changed nodes read is reached come same grown told = record {
-  is = is;
-  reached = reached;
-  come = come;
-  next = grown ∙ ap (given_by job) same ∙ next_streams_are job before nodes come;
-  changed_are = told ∙ ap (changes before) (sym grown);
+-- What the nodes of a job give.
+outcomes_give : (job : Job) (streams : List (StreamPrefix Plain)) → IsJob job → AllByRecursion IsPrefix streams → GivesEach (λ (n : PlanNode). (outcome_of job streams n).outputs) job.plan.nodes job.plan.nodes
+outcomes_give job streams is keep = record {
+  many = refl;
+  each = λ k node other at there.
+      (let known = job_known job is in
+      let has = outcome_has_outputs any_state job node streams (at_place (λ (n : PlanNode). KeepsTimes n.law (any_state n.law)) job.plan.nodes k node known.times at) (at_place (λ (n : PlanNode). n.law ≡ Loopback → length n.outputs ≡ 1) job.plan.nodes k node known.loops at) keep in
+      ap (λ (n : PlanNode). length (outcome_of job streams n).outputs) (same_Some other node (sym there ∙ at)) ∙ has);
 }
 
-grown_to : (job : Job) (before streams : List (StreamPrefix Plain)) (changed : List Bool) (nodes : List Progress) → IsTurn job before streams changed nodes → AreGrownTo job before streams
-grown_to job before streams changed nodes turn = record {
-  is = turn.is;
-  was_many = reached_long job before turn.is turn.reached;
-  many = next_many job before streams turn.is turn.reached turn.next;
-  prefixes = reached_prefixes job before turn.is turn.reached;
-  grown = next_prefixes job before streams turn.is turn.reached turn.next;
-  extended = next_extends job before streams turn.is turn.reached turn.next;
+nodes_give : (job : Job) (streams : List (StreamPrefix Plain)) (nodes : List Progress) → IsJob job → AllByRecursion IsPrefix streams → HaveCome job streams nodes → GivesEach (λ (p : Progress). p.outcome.outputs.items) job.plan.nodes nodes
+nodes_give job streams nodes is keep come = record {
+  many = come.many;
+  each = λ k node progress at there. ap (λ (o : Outcome). length o.outputs) (come.each k node progress at there).outcome ∙ (outcomes_give job streams is keep).each k node node at at;
+}
+
+given_by : (job : Job) (nodes : List Progress) (s : ℕ) (p : Producer) → StandsAt (λ (q : Progress). q.outcome.outputs.items) job.plan.nodes job.inputs.streams nodes s p → GivesEach (λ (q : Progress). q.outcome.outputs.items) job.plan.nodes nodes
+    → IsGivenBy job.inputs.streams nodes p (stream_of (given_streams job.inputs.streams nodes) s)
+given_by job nodes s (Input input) stands g =
+    let inputs = job.inputs.streams in
+    let rest = flat_map (λ (q : Progress). q.outcome.outputs.items) nodes in
+    ap (slice_get inputs) stands.0 ∙ slice_get-get_or inputs s empty_prefix stands.1 ∙ ap Some (sym (get_or_append_left inputs rest empty_prefix s stands.1))
+given_by job nodes s (Node k port) part g =
+    let outputs = part.element.outcome.outputs.items in
+    let below : port < length outputs = (let long = g.each k part.node part.element part.there part.beside in let within = part.within in omega (arith, long, within)) in
+    let there : slice_get outputs port ≡ Some (get_or outputs port empty_prefix) = slice_get-get_or outputs port empty_prefix below in
+    let is : stream_of (given_streams job.inputs.streams nodes) s ≡ get_or outputs port empty_prefix = get_or_from_slice_get (given_streams job.inputs.streams nodes) s (get_or outputs port empty_prefix) empty_prefix (part.same ∙ there) in
+    (part.element, part.beside, there ∙ ap Some (sym is))
+
+producer_at : (job : Job) (s : ℕ) (stream : PlanStream) → IsJob job → slice_get job.plan.streams s ≡ Some stream → slice_get (producers job.plan) s ≡ Some stream.producer
+producer_at job s stream is at = ap (λ l. slice_get l s) (sym is.plan.producers) ∙ slice_get-map (λ (x : PlanStream). x.producer) job.plan.streams s ∙ ap (option_map (λ (x : PlanStream). x.producer)) at
+
+-- the streams that are due may grow
+pub may_grow : (job : Job) (streams : List (StreamPrefix Plain)) (turn : RoundNodes) (due : List ℕ) (nodes : List Progress) (numbers : List ℕ) → IsJob job → IsUnderWay job streams turn due → nodes ≡ turn.nodes.items → numbers ≡ due
+    → MayGrow job.plan job.inputs.streams nodes numbers streams
+may_grow job streams turn due nodes numbers is way nodes_are numbers_are =
+    let come : HaveCome job streams nodes = subst (HaveCome job streams) (sym nodes_are) way.come in
+    let next : given_streams job.inputs.streams nodes ≡ next_round job streams = next_streams_are job streams nodes come in
+    let long = reached_long job streams is way.reached in
+    subst (λ (l : List ℕ). MayGrow job.plan job.inputs.streams nodes l streams) (sym numbers_are) (record {
+      many = long;
+      given = λ s stream at.
+          (let g = nodes_give job streams nodes is (reached_keep job streams is way.reached) come in
+          given_by job nodes s stream.producer (stands_at (λ (q : Progress). q.outcome.outputs.items) job.plan job.inputs.streams nodes s stream.producer is.inputs.streams g (producer_at job s stream is at)) g);
+      extended = next_extends job streams (given_streams job.inputs.streams nodes) is way.reached next;
+      within = subst (λ (n : ℕ). All (λ s. s < n) due) (sym long) way.within;
+      others = λ s below. elim (way.others s below) [ inl c ↦ inl c | inr same ↦ inr (same ∙ ap (λ (ss : List (StreamPrefix Plain)). stream_of ss s) (sym next)) ];
+    })
+
+-- A turn: the streams have grown, and a list has those that have changed.
+pub record IsTurn (job : Job) (before streams : List (StreamPrefix Plain)) (changed : List ℕ) (turn : RoundNodes) : Type 0 where
+  pub is : IsJob job
+  pub reached : AreReached job before
+  pub come : HaveCome job before turn.nodes.items
+  pub begun : IsBegun turn
+  pub next : streams ≡ next_round job before
+  pub changed_are : AreChanged changed before streams
+
+pub turn_is : (job : Job) (before streams : List (StreamPrefix Plain)) (changed due : List ℕ) (turn : RoundNodes) (nodes : List Progress) → IsJob job → IsUnderWay job before turn due → nodes ≡ turn.nodes.items
+    → streams ≡ given_streams job.inputs.streams nodes → AreChanged changed before (given_streams job.inputs.streams nodes) → IsTurn job before streams changed turn
+turn_is job before streams changed due turn nodes is way nodes_are grown told = record {
+  is = is;
+  reached = way.reached;
+  come = way.come;
+  begun = way.begun;
+  next = grown ∙ next_streams_are job before nodes (subst (HaveCome job before) (sym nodes_are) way.come);
+  changed_are = subst (AreChanged changed before) (sym grown) told;
+}
+
+grown_to : (job : Job) (before streams : List (StreamPrefix Plain)) (changed : List ℕ) (turn : RoundNodes) → IsTurn job before streams changed turn → AreGrownTo job before streams
+grown_to job before streams changed turn t = record {
+  is = t.is;
+  was_many = reached_long job before t.is t.reached;
+  many = next_many job before streams t.is t.reached t.next;
+  prefixes = reached_prefixes job before t.is t.reached;
+  grown = next_prefixes job before streams t.is t.reached t.next;
+  extended = next_extends job before streams t.is t.reached t.next;
 }
 
 -- whether something has changed
-pub told_change : (job : Job) (before streams : List (StreamPrefix Plain)) (changed read : List Bool) (nodes : List Progress) (change : Bool) {told : Bool} → IsTurn job before streams changed nodes → read ≡ changed → change ≡ list_any (λ c. c) read → change ≡ told
-    → list_any (λ c. c) (changes before streams) ≡ told
-told_change job before streams changed read nodes change turn same any test = ap (list_any (λ (c : Bool). c)) (sym turn.changed_are ∙ sym same) ∙ sym any ∙ test
+some_changes : (before streams : List (StreamPrefix Plain)) (changed : List ℕ) → AreChanged changed before streams → nat_lt 0 (length changed) ≡ true → SomeChanges before streams
+some_changes before streams [] change some = absurd (let many : 0 < 0 = ltb-true 0 0 some in omega (arith, many))
+some_changes before streams (s ∷ changed) change some = let first = change.only 0 s (omega arith) in (s, first.0, first.1)
+
+pub turn_changes : (job : Job) (before streams : List (StreamPrefix Plain)) (changed read : List ℕ) (turn : RoundNodes) (change : Bool) → IsTurn job before streams changed turn → read ≡ changed → change ≡ nat_lt 0 (length read) → change ≡ true → SomeChanges before streams
+turn_changes job before streams changed read turn change t same tells holds = some_changes before streams changed t.changed_are (ap (λ (l : List ℕ). nat_lt 0 (length l)) (sym same) ∙ sym tells ∙ holds)
+
+none_changed : (before streams : List (StreamPrefix Plain)) (changed : List ℕ) → AreChanged changed before streams → length before ≡ length streams → nat_lt 0 (length changed) ≡ false → before ≡ streams
+none_changed before streams (s ∷ changed) change long none = absurd (let few : suc (length changed) ≤ 0 = ltb-false 0 (suc (length changed)) none in omega (arith, few))
+none_changed before streams [] change long none = same_streams before streams long (λ s below. elim (change.all s below) [
+  | inl same ↦ same
+  | inr c ↦ absurd (let bad = c.1 in omega (arith, bad))
+])
+
+pub turn_stays : (job : Job) (before streams : List (StreamPrefix Plain)) (changed read : List ℕ) (turn : RoundNodes) (change : Bool) → IsTurn job before streams changed turn → read ≡ changed → change ≡ nat_lt 0 (length read) → change ≡ false → before ≡ streams
+turn_stays job before streams changed read turn change t same tells not =
+    none_changed before streams changed t.changed_are (reached_long job before t.is t.reached ∙ sym (next_many job before streams t.is t.reached t.next))
+    (ap (λ (l : List ℕ). nat_lt 0 (length l)) (sym same) ∙ sym tells ∙ not)
 
 -- where nothing has, the streams are the solution
-pub turn_solution : {E : Type 0} (job : Job) (before streams : List (StreamPrefix Plain)) (changed : List Bool) (nodes : List Progress) (result : Result Streams E) → IsTurn job before streams changed nodes → list_any (λ c. c) (changes before streams) ≡ false
+pub turn_solution : {E : Type 0} (job : Job) (before streams : List (StreamPrefix Plain)) (changed : List ℕ) (turn : RoundNodes) (result : Result Streams E) → IsTurn job before streams changed turn → before ≡ streams
     → IfOk result (λ s. s.prefixes ≡ streams) → IfOk result (λ s. IsSolution job s.prefixes)
-turn_solution job before streams changed nodes result turn none told =
-    let same = unchanged before streams (next_extends job before streams turn.is turn.reached turn.next) none in
-    told_solution job streams result told (subst (IsSolution job) same (reached_solution job before streams turn.is turn.reached turn.next none))
+turn_solution job before streams changed turn result t same told = told_solution job streams result told (subst (IsSolution job) same (reached_solution job before streams t.is t.reached t.next same))
 
-pub turn_counts : {E : Type 0} (job : Job) (before streams : List (StreamPrefix Plain)) (changed : List Bool) (nodes read : List Progress) (result : Result Streams E) → IsTurn job before streams changed nodes → list_any (λ c. c) (changes before streams) ≡ false → read ≡ nodes
+pub turn_counts : {E : Type 0} (job : Job) (before streams : List (StreamPrefix Plain)) (changed : List ℕ) (turn : RoundNodes) (read : List Progress) (result : Result Streams E) → IsTurn job before streams changed turn → before ≡ streams → read ≡ turn.nodes.items
     → IfOk result (λ s. s.prefixes ≡ streams) → IfOk result (λ s. s.sets ≡ map (λ outcome. outcome.taken) (outcomes read)) → IfOk result (λ s. s.sets ≡ counts job s.prefixes)
-turn_counts job before streams changed nodes read (Ok s) turn none here prefixes told =
-    let same = unchanged before streams (next_extends job before streams turn.is turn.reached turn.next) none in
-    told ∙ ap (λ (ps : List Progress). map (λ outcome. outcome.taken) (outcomes ps)) here ∙ counts_are job before nodes turn.come ∙ ap (counts job) (same ∙ sym prefixes)
-turn_counts job before streams changed nodes read (Err e) turn none here prefixes told = tt
+turn_counts job before streams changed turn read (Ok s) t same here prefixes told =
+    told ∙ ap (λ (ps : List Progress). map (λ outcome. outcome.taken) (outcomes ps)) here ∙ counts_are job before turn.nodes.items t.come ∙ ap (counts job) (same ∙ sym prefixes)
+turn_counts job before streams changed turn read (Err e) t same here prefixes told = tt
 
-pub turn_faults : {E : Type 0} (job : Job) (before streams : List (StreamPrefix Plain)) (changed : List Bool) (nodes read : List Progress) (result : Result Streams E) → IsTurn job before streams changed nodes → list_any (λ c. c) (changes before streams) ≡ false → read ≡ nodes
+pub turn_faults : {E : Type 0} (job : Job) (before streams : List (StreamPrefix Plain)) (changed : List ℕ) (turn : RoundNodes) (read : List Progress) (result : Result Streams E) → IsTurn job before streams changed turn → before ≡ streams → read ≡ turn.nodes.items
     → IfOk result (λ s. s.prefixes ≡ streams) → IfOk result (λ s. s.faults ≡ filter_map numbered_fault (enumerate_from 0 (map (λ outcome. outcome.fault) (outcomes read)))) → IfOk result (λ s. s.faults ≡ faults job s.prefixes)
-turn_faults job before streams changed nodes read (Ok s) turn none here prefixes told =
-    let same = unchanged before streams (next_extends job before streams turn.is turn.reached turn.next) none in
-    told ∙ ap (λ (ps : List Progress). filter_map numbered_fault (enumerate_from 0 (map (λ outcome. outcome.fault) (outcomes ps)))) here ∙ faults_are job before nodes turn.come ∙ ap (faults job) (same ∙ sym prefixes)
-turn_faults job before streams changed nodes read (Err e) turn none here prefixes told = tt
+turn_faults job before streams changed turn read (Ok s) t same here prefixes told =
+    told ∙ ap (λ (ps : List Progress). filter_map numbered_fault (enumerate_from 0 (map (λ outcome. outcome.fault) (outcomes ps)))) here ∙ faults_are job before turn.nodes.items t.come ∙ ap (faults job) (same ∙ sym prefixes)
+turn_faults job before streams changed turn read (Err e) t same here prefixes told = tt
 
 -- and where something has, the nodes go on
-pub turn_prefixes : (job : Job) (before streams now : List (StreamPrefix Plain)) (changed : List Bool) (nodes : List Progress) → IsTurn job before streams changed nodes → now ≡ streams → All IsPrefix now
-turn_prefixes job before streams now changed nodes turn same = subst (λ (ss : List (StreamPrefix Plain)). All IsPrefix ss) (sym same) (next_prefixes job before streams turn.is turn.reached turn.next)
+pub turn_prefixes : (job : Job) (before streams now : List (StreamPrefix Plain)) (changed : List ℕ) (turn : RoundNodes) → IsTurn job before streams changed turn → now ≡ streams → All IsPrefix now
+turn_prefixes job before streams now changed turn t same = subst (λ (ss : List (StreamPrefix Plain)). All IsPrefix ss) (sym same) (next_prefixes job before streams t.is t.reached t.next)
 
-pub turn_many : (job : Job) (before streams now : List (StreamPrefix Plain)) (changed : List Bool) (nodes : List Progress) → IsTurn job before streams changed nodes → now ≡ streams → length now ≡ length job.plan.streams
-turn_many job before streams now changed nodes turn same = ap length same ∙ next_many job before streams turn.is turn.reached turn.next
+pub turn_many : (job : Job) (before streams now : List (StreamPrefix Plain)) (changed : List ℕ) (turn : RoundNodes) → IsTurn job before streams changed turn → now ≡ streams → length now ≡ length job.plan.streams
+turn_many job before streams now changed turn t same = ap length same ∙ next_many job before streams t.is t.reached t.next
 
-pub turn_changes : (job : Job) (before streams now : List (StreamPrefix Plain)) (changed read : List Bool) (nodes : List Progress) → IsTurn job before streams changed nodes → now ≡ streams → read ≡ changed → length read ≡ length now
-turn_changes job before streams now changed read nodes turn same is =
-    ap length (is ∙ turn.changed_are) ∙ changes_long before streams (next_extends job before streams turn.is turn.reached turn.next) ∙ sym (ap length same)
+pub turn_known : (job : Job) (before streams : List (StreamPrefix Plain)) (changed read : List ℕ) (turn : RoundNodes) → IsTurn job before streams changed turn → read ≡ changed → All (λ s. s < length job.plan.streams) read
+turn_known job before streams changed read turn t same =
+    let long = reached_long job before t.is t.reached in
+    subst (λ (l : List ℕ). All (λ s. s < length job.plan.streams) l) (sym same) (λ k d below. (let only = t.changed_are.only k d below in let first = only.0 in omega (arith, first, long)))
 
-pub turn_can : (job : Job) (before streams now : List (StreamPrefix Plain)) (changed : List Bool) (nodes : List Progress) → IsTurn job before streams changed nodes → now ≡ streams → (k : ℕ) (node : PlanNode) (progress : Progress) → slice_get job.plan.nodes k ≡ Some node → slice_get nodes k ≡ Some progress
+pub turn_can : (job : Job) (before streams now : List (StreamPrefix Plain)) (changed : List ℕ) (turn : RoundNodes) → IsTurn job before streams changed turn → now ≡ streams → (k : ℕ) (node : PlanNode) (progress : Progress) → slice_get job.plan.nodes k ≡ Some node → slice_get turn.nodes.items k ≡ Some progress
     → CanGoOn node (inputs_at now node.inputs) progress
-turn_can job before streams now changed nodes turn same k node progress at there =
-    subst (λ (ss : List (StreamPrefix Plain)). CanGoOn node (inputs_at ss node.inputs) progress) (sym same) (all_can job before streams nodes (grown_to job before streams changed nodes turn) turn.come k node progress at there)
+turn_can job before streams now changed turn t same k node progress at there =
+    subst (λ (ss : List (StreamPrefix Plain)). CanGoOn node (inputs_at ss node.inputs) progress) (sym same) (all_can job before streams turn.nodes.items (grown_to job before streams changed turn t) t.come k node progress at there)
 
-pub turn_come : (job : Job) (before streams now : List (StreamPrefix Plain)) (changed read : List Bool) (nodes then : List Progress) → IsTurn job before streams changed nodes → now ≡ streams → read ≡ changed → AllGoOn job.plan.nodes now read nodes then → HaveCome job streams then
-turn_come job before streams now changed read nodes then turn same is all =
-    all_come job before streams nodes then (grown_to job before streams changed nodes turn) turn.come
-    (subst (λ (cs : List Bool). AllGoOn job.plan.nodes streams cs nodes then) (is ∙ turn.changed_are) (subst (λ (ss : List (StreamPrefix Plain)). AllGoOn job.plan.nodes ss read nodes then) same all))
+-- the streams that aren't due are those of the next round
+part_same : (job : Job) (before streams : List (StreamPrefix Plain)) (s k port : ℕ) (node : PlanNode) → slice_get job.plan.nodes k ≡ Some node → outcome_of job before node ≡ outcome_of job streams node
+    → IsPart (λ (n : PlanNode). (outcome_of job before n).outputs) job.plan.nodes job.plan.nodes (next_round job before) s k port → IsPart (λ (n : PlanNode). (outcome_of job streams n).outputs) job.plan.nodes job.plan.nodes (next_round job streams) s k port
+    → stream_of (next_round job before) s ≡ stream_of (next_round job streams) s
+part_same job before streams s k port node at same was is =
+    let was_at : slice_get (next_round job before) s ≡ slice_get (outcome_of job before node).outputs port = was.same ∙ ap (λ (n : PlanNode). slice_get (outcome_of job before n).outputs port) (same_Some was.element node (sym was.beside ∙ at)) in
+    let is_at : slice_get (next_round job streams) s ≡ slice_get (outcome_of job streams node).outputs port = is.same ∙ ap (λ (n : PlanNode). slice_get (outcome_of job streams n).outputs port) (same_Some is.element node (sym is.beside ∙ at)) in
+    sym (unwrap_or-slice_get (next_round job before) s empty_prefix) ∙ ap (λ o. unwrap_or o empty_prefix) (was_at ∙ ap (λ (o : Outcome). slice_get o.outputs port) same ∙ sym is_at) ∙ unwrap_or-slice_get (next_round job streams) s empty_prefix
 
-pub turn_further : (job : Job) (before streams : List (StreamPrefix Plain)) (changed : List Bool) (nodes : List Progress) → IsTurn job before streams changed nodes → list_any (λ c. c) (changes before streams) ≡ true → AreReached job streams
-turn_further job before streams changed nodes turn some = reached_further job before streams turn.is turn.reached turn.next some
+due_or_same : (job : Job) (before streams : List (StreamPrefix Plain)) (changed due : List ℕ) (nodes now : List Progress) (s : ℕ) (p : Producer) → IsJob job → AreReached job before → AreReached job streams → AreChanged changed before streams
+    → HaveTurned job.plan streams changed nodes now due → slice_get (producers job.plan) s ≡ Some p → Contains due s ⊎ (stream_of (next_round job before) s ≡ stream_of (next_round job streams) s)
+due_or_same job before streams changed due nodes now s (Input input) is was reached change turned at =
+    let stands = stands_at (λ (n : PlanNode). (outcome_of job before n).outputs) job.plan job.inputs.streams job.plan.nodes s (Input input) is.inputs.streams (outcomes_give job before is (reached_keep job before is was)) at in
+    inr (get_or_append_left job.inputs.streams (flat_map (λ (n : PlanNode). (outcome_of job before n).outputs) job.plan.nodes) empty_prefix s stands.1
+    ∙ sym (get_or_append_left job.inputs.streams (flat_map (λ (n : PlanNode). (outcome_of job streams n).outputs) job.plan.nodes) empty_prefix s stands.1))
+due_or_same job before streams changed due nodes now s (Node k port) is was reached change turned at =
+    let writer : IsWriter job.plan s k port = writer_at job.plan s k port is.plan at in
+    elim (cases_Bool (turned.gone k)) [
+      | inl holds ↦ inl (turned.written k writer.node s writer.there holds writer.writes)
+      | inr not ↦
+          (let same = stays_at job before streams changed due nodes now k writer.node is (reached_long job before is was) change turned writer.there not in
+          inr (part_same job before streams s k port writer.node writer.there (outcome_of_inputs_by writer.node.law job writer.node before streams same)
+          (stands_at (λ (n : PlanNode). (outcome_of job before n).outputs) job.plan job.inputs.streams job.plan.nodes s (Node k port) is.inputs.streams (outcomes_give job before is (reached_keep job before is was)) at)
+          (stands_at (λ (n : PlanNode). (outcome_of job streams n).outputs) job.plan job.inputs.streams job.plan.nodes s (Node k port) is.inputs.streams (outcomes_give job streams is (reached_keep job streams is reached)) at)))
+    ]
 
-pub turn_less : (job : Job) (before streams : List (StreamPrefix Plain)) (changed : List Bool) (nodes : List Progress) → IsTurn job before streams changed nodes → list_any (λ c. c) (changes before streams) ≡ true → room streams < room before
-turn_less job before streams changed nodes turn some = less_room job before streams turn.is turn.reached turn.next some
+some_there : {X : Type 0} (xs : List X) (i : ℕ) → i < length xs → (x : X) × (slice_get xs i ≡ Some x)
+some_there [] i below = absurd (omega (arith, below))
+some_there (x ∷ xs) zero below = (x, refl)
+some_there (x ∷ xs) (suc i) below = some_there xs i (omega (arith, below))
+
+pub turn_further : (job : Job) (before streams : List (StreamPrefix Plain)) (changed : List ℕ) (turn : RoundNodes) → IsTurn job before streams changed turn → SomeChanges before streams → AreReached job streams
+turn_further job before streams changed turn t some = reached_further job before streams t.is t.reached t.next some
+
+pub turn_less : (job : Job) (before streams : List (StreamPrefix Plain)) (changed : List ℕ) (turn : RoundNodes) → IsTurn job before streams changed turn → SomeChanges before streams → room streams < room before
+turn_less job before streams changed turn t some = less_room job before streams t.is t.reached t.next some
+
+pub turned_way : (job : Job) (before streams now : List (StreamPrefix Plain)) (changed read due : List ℕ) (turn then : RoundNodes) → IsTurn job before streams changed turn → SomeChanges before streams → now ≡ streams → read ≡ changed → IsBegun then
+    → HaveTurned job.plan now read turn.nodes.items then.nodes.items due → IsUnderWay job streams then due
+turned_way job before streams now changed read due turn then t some now_is read_is begun all =
+    let turned : HaveTurned job.plan streams changed turn.nodes.items then.nodes.items due =
+    subst (λ (l : List ℕ). HaveTurned job.plan streams l turn.nodes.items then.nodes.items due) read_is (subst (λ (ss : List (StreamPrefix Plain)). HaveTurned job.plan ss read turn.nodes.items then.nodes.items due) now_is all) in
+    let reached : AreReached job streams = turn_further job before streams changed turn t some in
+    let long = reached_long job streams t.is reached in
+    record {
+      reached = reached;
+      come = all_come job before streams changed due turn.nodes.items then.nodes.items (grown_to job before streams changed turn t) t.come t.changed_are turned;
+      begun = begun;
+      within = turned.within;
+      others = λ s below.
+          (let stream = some_there job.plan.streams s (omega (arith, below, long)) in
+          elim (due_or_same job before streams changed due turn.nodes.items then.nodes.items s stream.0.producer t.is t.reached reached t.changed_are turned (producer_at job s stream.0 t.is stream.1)) [
+            | inl c ↦ inl c
+            | inr same ↦ inr (ap (λ (ss : List (StreamPrefix Plain)). stream_of ss s) t.next ∙ same)
+          ]);
+    }

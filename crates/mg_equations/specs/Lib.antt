@@ -1,5 +1,8 @@
 pub mod Begun
 pub mod Changes
+pub mod Growing
 pub mod Progress
+pub mod Readers
 pub mod Rounds
 pub mod Seen
+pub mod RoundNodes

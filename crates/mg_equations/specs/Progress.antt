@@ -1,7 +1,7 @@
 -- How a node goes on once its input streams have grown, from what has become of it and from how many packets it has read. The
 -- streams are those at its ports.
 use Rattle.std.specs.Prelude.{◌≡◌, ℕ, ◌+◌, ◌-◌, ◌^◌, ◌<◌, ◌≤◌, ◌==◌, Bool, true, false, List, [], ◌∷◌, map, drop, length, Some, None, slice_get, slice_index_or}
-use Rattle.std.specs.List.{fold, list_any}
+use Rattle.std.specs.List.{fold}
 use Rattle.mg_time.specs.Time.{done}
 use Rattle.mg_value.specs.Payload.{Plain}
 use Rattle.mg_value.specs.Prefix.{Stamped, StreamPrefix, first_time}
@@ -90,18 +90,3 @@ NodeGoesOn (SideOnce at) node ss before now = now ≡ before
 NodeGoesOn Constants node ss before now = now ≡ before
 NodeGoesOn Loopback node ss before now = AnswersMore (port_of ss 1) (port_of ss 0) before now
 NodeGoesOn law node ss before now = ShowsMore (before.reached == done) node ss before now
-
--- whether a node reads a stream that has changed
-abbrev pub reads_change : List Bool → PlanNode → Bool
-reads_change changed node = list_any (λ i. slice_index_or changed i false) node.inputs
-
--- a node has gone on if it reads a changed stream, and otherwise stays as it was
-abbrev pub GoesOnIf : Bool → PlanNode → List (StreamPrefix Plain) → Progress → Progress → Type 0
-GoesOnIf true node streams before now = NodeGoesOn node.law node (inputs_of streams node.inputs) before now
-GoesOnIf false node streams before now = now ≡ before
-
--- the nodes that read a changed stream have gone on, and the others stay as they were
-pub record AllGoOn (nodes : List PlanNode) (streams : List (StreamPrefix Plain)) (changed : List Bool) (before now : List Progress) : Type 0 where
-  pub many : length now ≡ length before
-  pub each : (k : ℕ) (node : PlanNode) (first then : Progress) → slice_get nodes k ≡ Some node → slice_get before k ≡ Some first → slice_get now k ≡ Some then
-      → GoesOnIf (reads_change changed node) node streams first then

@@ -8,7 +8,9 @@ mod node;
 mod outcome;
 mod output;
 mod progress;
+mod readers;
 mod round;
+mod round_nodes;
 mod solving;
 
 pub use solving::{Streams, solve};

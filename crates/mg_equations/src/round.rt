@@ -1,21 +1,20 @@
 //! Rounds: the outputs of the nodes give the streams of the next round, and with these the nodes go on.
-ghost use Rattle.std.specs.Prelude.{◌≡◌, ℕ, ◌<◌, ◌++◌, ◌∷◌, [], All, Some, length, slice_get, slice_set, IfOk, OnOk};
-ghost use Rattle.std.specs.List.{flat_map};
-ghost use Rattle.mg_value.specs.Prefix.{IsPrefix};
-ghost use Rattle.mg_value.specs.Extension.{AreExtendedBy, IsExtendedBy};
-ghost use Rattle.mg_value.specs.Settled.{inputs_of as inputs_at};
-ghost use Rattle.mg_calc.specs.declared.plan_node.PlanNode.{PlanNode as Node};
+ghost use Rattle.std.specs.Prelude.{◌≡◌, ◌<◌, ◌++◌, ◌∷◌, [], All, Some, if◌then◌else◌, length, slice_get, slice_set, IfOk, OnOk};
+ghost use Rattle.mg_value.specs.Payload.{Plain};
+ghost use Rattle.mg_value.specs.Prefix.{StreamPrefix, IsPrefix};
+ghost use Rattle.mg_value.specs.Extension.{IsExtendedBy};
+ghost use Rattle.mg_calc.specs.declared.plan_stream.PlanStream.{PlanStream};
 ghost use Rattle.mg_calc.specs.Equations.{IsJob, stream_of};
-ghost use Rattle.mg_calc.specs.Plan.{IsValid, HasNumbers};
+ghost use Rattle.mg_calc.specs.Plan.{HasNumbers};
 ghost use Rattle.mg_calc.specs.Shape.{IsServed, IsShapeOf};
-ghost use Rattle.mg_equations.specs.declared.progress.Progress.{Progress as Kept};
-ghost use Rattle.mg_equations.specs.Changes.{changes, is_changed};
-ghost use Rattle.mg_equations.specs.Progress.{HasCome, HaveCome, CanGoOn, GoesOnIf, AllGoOn, outcomes, reads_change};
+ghost use Rattle.mg_equations.specs.Changes.{is_changed};
+ghost use Rattle.mg_equations.specs.Growing.{given_streams, IsGivenBy, MayGrow, AreChanged};
+ghost use Rattle.mg_equations.specs.Progress.{HasCome, HaveCome};
 
 use crate::node::begun;
 use crate::output::Output;
 use crate::progress::Progress;
-use mg_calc::{Inputs, Plan, PlanNode};
+use mg_calc::{Inputs, Plan, PlanNode, Producer};
 use mg_value::{PrefixList, Rest};
 use std::alloc::{AllocError, Global};
 
@@ -58,109 +57,69 @@ fn first(
     Ok(progress)
 }
 
-// Makes the next stream one that extends it, by copying only what is new, and notes whether it has changed.
-fn grow_next(
-    later: &Rest<'_>,
-    streams: &mut Vec<Output>,
-    changed: &mut Vec<bool>,
-) -> Result<(), AllocError>
-    requires below { length changed.old.items < length streams.old.items }
-    requires extends { IsExtendedBy (stream_of streams.old.items (length changed.old.items)) later.now }
-    ensures streams { OnOk result (streams.new.items ≡ slice_set streams.old.items (length changed.old.items) later.now) }
-    ensures changed { OnOk result (changed.new.items ≡ changed.old.items ++ is_changed (stream_of streams.old.items (length changed.old.items)) later.now ∷ []) }
+// Returns a stream as its producer gives it: a graph input, or a node at one of its outputs.
+fn latest<'a>(inputs: &'a PrefixList, nodes: &'a [Progress], producer: Producer) -> Rest<'a>
+    requires { (stream : StreamPrefix Plain) × IsGivenBy inputs.now nodes.now producer stream }
+    ensures { (stream : StreamPrefix Plain) → IsGivenBy inputs.now nodes.now producer stream → result ≡ stream }
 {
-    let number = changed.len();
-    let change = streams[number].grow(later)?;
-    changed.push(change)?;
+    match producer {
+        Producer::Input(input) => Rest::of(&inputs.as_slice()[input as usize]),
+        Producer::Node { node, port } => {
+            nodes[node as usize].outcome.outputs[port as usize].rest(0)
+        }
+    }
+}
+
+// Makes a stream the one that its producer gives, by copying only what is new. Returns whether it has changed.
+fn grow_one(
+    plan: &Plan,
+    inputs: &PrefixList,
+    nodes: &[Progress],
+    streams: &mut Vec<Output>,
+    number: u32,
+) -> Result<bool, AllocError>
+    requires known { number < length plan.now.streams }
+    requires below { number < length streams.old.items }
+    requires given { (stream : PlanStream) → slice_get plan.now.streams number ≡ Some stream
+        → IsGivenBy inputs.now nodes.now stream.producer (stream_of (given_streams inputs.now nodes.now) number) }
+    requires extends { IsExtendedBy (stream_of streams.old.items number) (stream_of (given_streams inputs.now nodes.now) number) }
+    ensures streams { OnOk result (streams.new.items ≡ slice_set streams.old.items number (stream_of (given_streams inputs.now nodes.now) number)) }
+    ensures change { IfOk result (λ change. change ≡ is_changed (stream_of streams.old.items number) (stream_of (given_streams inputs.now nodes.now) number)) }
+{
+    let place = number as usize;
+    let producer = plan.streams.as_slice()[place].producer;
+    let later = latest(inputs, nodes, producer);
+    streams[place].grow(&later)
+}
+
+// Notes a number, if it is to be noted.
+fn note_if(noted: &mut Vec<u32>, number: u32, change: bool) -> Result<(), AllocError>
+    ensures { OnOk result (noted.new.items ≡ noted.old.items ++ (if change then number ∷ [] else [])) }
+{
+    if change {
+        noted.push(number)?;
+    }
     Ok(())
 }
 
 /// Makes the streams those of the next round, which are the graph inputs and then the outputs of each node, by copying only what is
-/// new. Returns for each stream whether it has changed.
-pub fn grown(
-    alloc: Global,
-    inputs: &PrefixList,
-    nodes: &[Progress],
-    streams: &mut Vec<Output>,
-) -> Result<Vec<bool>, AllocError>
-    requires { AreExtendedBy streams.old.items (inputs.now ++ flat_map (λ outcome. outcome.outputs) (outcomes nodes.now)) }
-    ensures streams { OnOk result (streams.new.items ≡ inputs.now ++ flat_map (λ outcome. outcome.outputs) (outcomes nodes.now)) }
-    ensures changed { IfOk result (λ changed. changed.items ≡ changes streams.old.items (inputs.now ++ flat_map (λ outcome. outcome.outputs) (outcomes nodes.now))) }
-{
-    let mut changed = Vec::with_capacity(alloc, streams.len())?;
-    for prefix in inputs.as_slice() {
-        grow_next(&Rest::of(prefix), streams, &mut changed)?;
-    }
-    for node in nodes {
-        for output in node.outcome.outputs.as_slice() {
-            grow_next(&output.rest(0), streams, &mut changed)?;
-        }
-    }
-    Ok(changed)
-}
-
-// Whether a node reads a stream that the round before has changed.
-fn reads_change(node: &PlanNode, changed: &[bool]) -> bool
-    requires { All (λ i. i < length changed.now) node.now.inputs }
-    ensures { result ≡ reads_change changed.now node.now }
-{
-    for input in node.inputs.as_slice() {
-        if changed[*input as usize] {
-            return true;
-        }
-    }
-    false
-}
-
-// Lets a node go on if it reads a changed stream.
-fn go_on_if(
-    alloc: Global,
-    node: &PlanNode,
-    streams: &[Output],
-    changed: &[bool],
-    progress: &mut Progress,
-) -> Result<(), AllocError>
-    requires streams { All IsPrefix streams.now }
-    requires known { All (λ i. i < length streams.now) node.now.inputs }
-    requires changed { length changed.now ≡ length streams.now }
-    requires ports { HasNumbers node.now }
-    requires shape { IsShapeOf node.now.law node.now.shape }
-    requires served { IsServed node.now.law }
-    requires can { CanGoOn node.now (inputs_at streams.now node.now.inputs) progress.old }
-    ensures { OnOk result (GoesOnIf (reads_change changed.now node.now) node.now streams.now progress.old progress.new) }
-{
-    if reads_change(node, changed) {
-        progress.go_on(alloc, node, streams)
-    } else {
-        Ok(())
-    }
-}
-
-/// Lets the nodes go on that read a changed stream.
-pub fn go_on_all(
+/// new. Only the streams that are due are looked at. Returns those that have changed.
+pub fn grow_due(
     alloc: Global,
     plan: &Plan,
-    streams: &[Output],
-    changed: &[bool],
-    nodes: &mut Vec<Progress>,
-) -> Result<(), AllocError>
-    requires plan { IsValid plan.now }
-    requires streams { All IsPrefix streams.now }
-    requires many { length streams.now ≡ length plan.now.streams }
-    requires changed { length changed.now ≡ length streams.now }
-    requires nodes { length nodes.old.items ≡ length plan.now.nodes }
-    requires can { (k : ℕ) (node : Node) (progress : Kept) → slice_get plan.now.nodes k ≡ Some node → slice_get nodes.old.items k ≡ Some progress
-        → CanGoOn node (inputs_at streams.now node.inputs) progress }
-    ensures { OnOk result (AllGoOn plan.now.nodes streams.now changed.now nodes.old.items nodes.new.items) }
+    inputs: &PrefixList,
+    nodes: &[Progress],
+    due: &[u32],
+    streams: &mut Vec<Output>,
+) -> Result<Vec<u32>, AllocError>
+    requires { MayGrow plan.now inputs.now nodes.now due.now streams.old.items }
+    ensures streams { OnOk result (streams.new.items ≡ given_streams inputs.now nodes.now) }
+    ensures changed { IfOk result (λ changed. AreChanged changed.items streams.old.items (given_streams inputs.now nodes.now)) }
 {
-    for i in 0..plan.nodes.len() as usize {
-        go_on_if(
-            alloc,
-            &plan.nodes.as_slice()[i],
-            streams,
-            changed,
-            &mut nodes[i],
-        )?;
+    let mut changed = Vec::new(alloc);
+    for number in due {
+        let change = grow_one(plan, inputs, nodes, streams, *number)?;
+        note_if(&mut changed, *number, change)?;
     }
-    Ok(())
+    Ok(changed)
 }

@@ -1,6 +1,6 @@
 //! The solution of a job: rounds from nothing on, up to the first that changes nothing.
-ghost use Rattle.std.specs.Prelude.{◌≡◌, ◌<◌, ◌^◌, length, map, replicate, IfOk};
-ghost use Rattle.std.specs.List.{list_any, filter_map, enumerate_from};
+ghost use Rattle.std.specs.Prelude.{◌≡◌, ◌<◌, ◌^◌, nat_lt, length, map, replicate, IfOk};
+ghost use Rattle.std.specs.List.{range_with_len, filter_map, enumerate_from};
 ghost use Rattle.mg_value.specs.Prefix.{empty_prefix};
 ghost use Rattle.mg_calc.specs.Equations.{IsSolution};
 ghost use Rattle.mg_calc.specs.Meaning.{counts, faults};
@@ -10,7 +10,9 @@ ghost use Rattle.mg_equations.specs.Rounds.{numbered_fault};
 
 use crate::output::Output;
 use crate::progress::Progress;
-use crate::round::{first_nodes, go_on_all, grown};
+use crate::readers::readers_of;
+use crate::round::{first_nodes, grow_due};
+use crate::round_nodes::RoundNodes;
 use mg_calc::{Inputs, NodeFault, NodeFaultList, Plan};
 use mg_value::{BlockList, CountList, PrefixList};
 use std::alloc::{AllocError, Global};
@@ -30,8 +32,8 @@ pub struct Streams {
 /// Solves the equations of a graph for what is handed in.
 ///
 /// Streams are computed in rounds, and no calculator that is handed in is called. A round computes only the nodes that read a stream
-/// which the round before has changed, each from where it stood, so that all rounds together read each packet once at each port.
-/// Payloads are shared.
+/// which the round before has changed, each from where it stood, so that all rounds together read each packet once at each port, and
+/// looks only at these nodes and at the streams that they write. Payloads are shared.
 pub fn solve(alloc: Global, plan: &Plan, inputs: &Inputs) -> Result<Streams, AllocError>
     requires plan { IsValid plan.now }
     requires inputs { InputsFit plan.now inputs.now }
@@ -39,15 +41,35 @@ pub fn solve(alloc: Global, plan: &Plan, inputs: &Inputs) -> Result<Streams, All
     ensures sets { IfOk result (λ s. s.sets ≡ counts (record { plan = plan.now; inputs = inputs.now }) s.prefixes) }
     ensures faults { IfOk result (λ s. s.faults ≡ faults (record { plan = plan.now; inputs = inputs.now }) s.prefixes) }
 {
+    let readers = readers_of(alloc, plan)?;
     let mut streams = nothing_known(alloc, plan.streams.len())?;
-    let mut nodes = first_nodes(alloc, plan, inputs, &streams)?;
+    let mut turn = RoundNodes::begun(alloc, first_nodes(alloc, plan, inputs, &streams)?)?;
+    let mut due = all_streams(alloc, plan.streams.len())?;
     'rounds: loop {
-        let changed = grown(alloc, &inputs.streams, &nodes, &mut streams)?;
-        if !has_change(changed.as_slice()) {
-            return told(alloc, streams, &nodes);
+        let changed = grow_due(
+            alloc,
+            plan,
+            &inputs.streams,
+            &turn.nodes,
+            &due,
+            &mut streams,
+        )?;
+        if !has_change(&changed) {
+            return told(alloc, streams, &turn.nodes);
         }
-        go_on_all(alloc, plan, &streams, &changed, &mut nodes)?;
+        due = turn.take(alloc, plan, &streams, &readers, &changed)?;
     }
+}
+
+// Returns the numbers of `count` streams.
+fn all_streams(alloc: Global, count: u32) -> Result<Vec<u32>, AllocError>
+    ensures { IfOk result (λ streams. streams.items ≡ range_with_len 0 count) }
+{
+    let mut streams = Vec::with_capacity(alloc, count as usize)?;
+    for number in 0..count {
+        streams.push(number)?;
+    }
+    Ok(streams)
 }
 
 // Returns `count` streams of which nothing is known.
@@ -62,10 +84,10 @@ fn nothing_known(alloc: Global, count: u32) -> Result<Vec<Output>, AllocError>
 }
 
 // Whether any stream has changed.
-fn has_change(changed: &[bool]) -> bool
-    ensures { result ≡ list_any (λ change. change) changed.now }
+fn has_change(changed: &[u32]) -> bool
+    ensures { result ≡ nat_lt 0 (length changed.now) }
 {
-    changed.iter().any(|change| *change)
+    !changed.is_empty()
 }
 
 // Returns the faults of the nodes that have failed, in node order.

@@ -1,13 +1,10 @@
 -- The streams are those of a round, the nodes have come to what becomes of them, and each round leaves less room for further ones.
-use Rattle.mg_equations.specs.Progress.{HaveCome}
-use Rattle.mg_equations.proofs.Changing.{AreReached, room}
+use Rattle.mg_equations.proofs.Changing.{room}
+use Rattle.mg_equations.proofs.SolveSteps.{IsUnderWay}
 use Rattle.mg_equations.proofs.solving.solve.Given as goal
 
 abbrev pub invariant-rounds : goal.invariant-rounds
-invariant-rounds l = record {
-  reached : AreReached (record { plan = l.plan; inputs = l.inputs }) l.streams.items;
-  come : HaveCome (record { plan = l.plan; inputs = l.inputs }) l.streams.items l.nodes.items;
-}
+invariant-rounds l = IsUnderWay (record { plan = l.plan; inputs = l.inputs }) l.streams.items l.turn l.due.items
 
 abbrev pub decreases-rounds : goal.decreases-rounds
 decreases-rounds l = room l.streams.items

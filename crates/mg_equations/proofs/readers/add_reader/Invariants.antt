@@ -1,0 +1,7 @@
+-- The node is added to the readers of the first streams.
+use Rattle.std.proofs.Common.{take}
+use Rattle.mg_equations.specs.Readers.{IsAdded}
+use Rattle.mg_equations.proofs.readers.add_reader.Given as goal
+
+abbrev pub invariant-loop-input : goal.invariant-loop-input
+invariant-loop-input l = IsAdded (take l.input-index l.input-items) l.node l.fn.readers.items l.readers.items
