@@ -16,7 +16,7 @@ use Rattle.mg_calc.proofs.Jobs.{any_state, job_known}
 use Rattle.mg_calc.proofs.Rounds.{equations_are_as_many}
 use Rattle.mg_calc.proofs.Solutions.{round_keeps, rounds_ascend}
 use Rattle.mg_equations.specs.declared.solving.Streams.{Streams}
-use Rattle.mg_equations.specs.Changes.{is_changed}
+use Rattle.mg_equations.specs.Code.Changes.{is_changed}
 
 -- one stream
 pub unchanged_one : (s t : StreamPrefix Plain) → IsExtendedBy s t → is_changed s t ≡ false → s ≡ t

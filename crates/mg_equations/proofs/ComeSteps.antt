@@ -22,11 +22,11 @@ use Rattle.mg_calc.specs.Outcome.{Outcome, opened, node_outcome, loopback_outcom
 use Rattle.mg_calc.specs.Equations.{Job, IsJob, sides_of, stream_of, inputs_of, outcome_by, outcome_of}
 use Rattle.mg_equations.specs.declared.outcome.Outcome.{Outcome as CodeOutcome}
 use Rattle.mg_equations.specs.declared.progress.Progress.{Progress}
-use Rattle.mg_equations.specs.Begun.{begun_by}
-use Rattle.mg_equations.specs.Seen.{seen}
-use Rattle.mg_equations.specs.Growing.{AreChanged}
-use Rattle.mg_equations.specs.Progress.{AreWithin, HasRead, LoopbackHasAnswered, HasCome, HaveCome, CanGoOn, ShowsMore, AnswersMore, NodeGoesOn}
-use Rattle.mg_equations.specs.RoundNodes.{GoesOnIf, HaveTurned}
+use Rattle.mg_equations.specs.Code.Begun.{begun_by}
+use Rattle.mg_equations.specs.Code.Seen.{seen}
+use Rattle.mg_equations.specs.Code.Growing.{AreChanged}
+use Rattle.mg_equations.specs.Code.Progress.{AreWithin, HasRead, LoopbackHasAnswered, HasCome, HaveCome, CanGoOn, ShowsMore, AnswersMore, NodeGoesOn}
+use Rattle.mg_equations.specs.Code.RoundNodes.{GoesOnIf, HaveGoneOn}
 use Rattle.mg_equations.proofs.NodeSteps.{few_sets, node_counts, opened_counts}
 use Rattle.mg_equations.proofs.OutcomeSteps.{outer_outcome, inputs_are}
 use Rattle.mg_equations.proofs.PortSteps.{inputs_long}
@@ -296,23 +296,23 @@ same_inputs xs ys [] all = refl
 same_inputs xs ys (port ∷ ports) all = ap₂ (λ (s : StreamPrefix Plain) (ss : List (StreamPrefix Plain)). s ∷ ss) all.0 (same_inputs xs ys ports all.1)
 
 pub stays_at : (job : Job) (before streams : List (StreamPrefix Plain)) (changed due : List ℕ) (nodes now : List Progress) (k : ℕ) (node : PlanNode) → IsJob job → length before ≡ length job.plan.streams → AreChanged changed before streams
-    → (turned : HaveTurned job.plan streams changed nodes now due) → slice_get job.plan.nodes k ≡ Some node → turned.gone k ≡ false → inputs_of before node ≡ inputs_of streams node
-stays_at job before streams changed due nodes now k node is long change turned at not =
+    → (gone_on : HaveGoneOn job.plan streams changed nodes now due) → slice_get job.plan.nodes k ≡ Some node → gone_on.gone k ≡ false → inputs_of before node ≡ inputs_of streams node
+stays_at job before streams changed due nodes now k node is long change gone_on at not =
     let below = slice_get_within job.plan.nodes k node at in
     let known = (node_at job before k node is long below (sym (get_or_from_slice_get job.plan.nodes k node node at))).known in
     same_inputs before streams node.inputs (recursion_from_All (λ (s : ℕ). stream_of before s ≡ stream_of streams s) node.inputs (λ port d there. elim (change.all (get_or node.inputs port d) (known port d there)) [
       | inl same ↦ same
-      | inr c ↦ absurd (turned.stays k node (get_or node.inputs port d) at not (Contains-get_or node.inputs port d there) c)
+      | inr c ↦ absurd (gone_on.stays k node (get_or node.inputs port d) at not (Contains-get_or node.inputs port d there) c)
     ]))
 
-pub all_come : (job : Job) (before streams : List (StreamPrefix Plain)) (changed due : List ℕ) (nodes now : List Progress) → AreGrownTo job before streams → HaveCome job before nodes → AreChanged changed before streams → HaveTurned job.plan streams changed nodes now due
+pub all_come : (job : Job) (before streams : List (StreamPrefix Plain)) (changed due : List ℕ) (nodes now : List Progress) → AreGrownTo job before streams → HaveCome job before nodes → AreChanged changed before streams → HaveGoneOn job.plan streams changed nodes now due
     → HaveCome job streams now
-all_come job before streams changed due nodes now g come change turned = record {
-  many = turned.many ∙ come.many;
+all_come job before streams changed due nodes now g come change gone_on = record {
+  many = gone_on.many ∙ come.many;
   each = λ k node progress at there. (
-      let below : k < length nodes = (let within = slice_get_within now k progress there in let many = turned.many in omega (arith, within, many)) in
+      let below : k < length nodes = (let within = slice_get_within now k progress there in let many = gone_on.many in omega (arith, within, many)) in
       let first = get_or nodes k progress in
       let was : slice_get nodes k ≡ Some first = slice_get-get_or nodes k progress below in
-      goes_if (turned.gone k) job before streams node first progress (node_may job before streams k node g.is g.was_many g.many g.prefixes g.grown g.extended at) (come.each k node first at was)
-      (λ not. stays_at job before streams changed due nodes now k node g.is g.was_many change turned at not) (turned.each k node first progress at was there));
+      goes_if (gone_on.gone k) job before streams node first progress (node_may job before streams k node g.is g.was_many g.many g.prefixes g.grown g.extended at) (come.each k node first at was)
+      (λ not. stays_at job before streams changed due nodes now k node g.is g.was_many change gone_on at not) (gone_on.each k node first progress at was there));
 }

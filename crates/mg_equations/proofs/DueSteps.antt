@@ -4,7 +4,7 @@ use Rattle.std.specs.Prelude.{Contains}
 use Rattle.std.proofs.lemmas.Bool.{cases_eq, cases_lt, eq-eqb}
 use Rattle.std.proofs.lemmas.Option.{slice_get-get_or}
 use Rattle.std.proofs.lemmas.List.{get_or_default}
-use Rattle.std.proofs.lemmas.List.Elements.{Contains-append_left, Contains-push, All-push, All-nil, length_all_zip}
+use Rattle.std.proofs.lemmas.List.Elements.{Contains-append_left, Contains-push, All-push, length_all_zip}
 use Rattle.mg_value.specs.Payload.{Plain}
 use Rattle.mg_value.specs.Prefix.{StreamPrefix, empty_prefix}
 use Rattle.mg_value.specs.Extension.{IsExtendedBy, AreExtendedBy}
@@ -13,9 +13,9 @@ use Rattle.mg_calc.specs.declared.plan.Plan.{Plan}
 use Rattle.mg_calc.specs.declared.plan_stream.PlanStream.{PlanStream}
 use Rattle.mg_calc.specs.Equations.{stream_of}
 use Rattle.mg_calc.proofs.Rounds.{stream_extends}
-use Rattle.mg_equations.specs.Changes.{is_changed}
+use Rattle.mg_equations.specs.Code.Changes.{is_changed}
 use Rattle.mg_equations.specs.declared.progress.Progress.{Progress}
-use Rattle.mg_equations.specs.Growing.{given_streams, IsGivenBy, AreChanged}
+use Rattle.mg_equations.specs.Code.Growing.{given_streams, IsGivenBy, AreChanged}
 use Rattle.mg_equations.proofs.Changing.{unchanged_one}
 
 -- streams that are the same, one by one
@@ -40,14 +40,6 @@ pub record HaveGrown (before next : List (StreamPrefix Plain)) (due : List ℕ) 
   pub each : (s : ℕ) → s < length before → (stream_of now s ≡ stream_of before s) ⊎ ((stream_of now s ≡ stream_of next s) × Contains changed s)
   pub done : (j : ℕ) → j < i → j < length due → stream_of now (get_or due j 0) ≡ stream_of next (get_or due j 0)
   pub only : All (λ s. (s < length before) × (is_changed (stream_of before s) (stream_of next s) ≡ true)) changed
-
-pub none_grown : (before next : List (StreamPrefix Plain)) (due changed : List ℕ) → changed ≡ [] → HaveGrown before next due 0 before changed
-none_grown before next due changed none = subst (HaveGrown before next due 0 before) (sym none) (record {
-  many = refl;
-  each = λ s below. inl refl;
-  done = λ j early there. absurd (omega (arith, early));
-  only = All-nil (λ s. (s < length before) × (is_changed (stream_of before s) (stream_of next s) ≡ true));
-})
 
 pub one_extends : (before next : List (StreamPrefix Plain)) (due : List ℕ) (i : ℕ) (now : List (StreamPrefix Plain)) (changed : List ℕ) (s : ℕ) → AreExtendedBy before next → HaveGrown before next due i now changed → s < length before
     → IsExtendedBy (stream_of now s) (stream_of next s)

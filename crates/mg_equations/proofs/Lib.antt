@@ -9,5 +9,4 @@ pub mod ProgressSteps
 pub mod ReaderSteps
 pub mod RoundSteps
 pub mod SolveSteps
-pub mod TakenEmissions
 pub mod RoundNodeSteps

@@ -15,8 +15,8 @@ use Rattle.mg_value.proofs.Lemmas.{port-extended, sets-gone, reach-gone, none-go
 use Rattle.mg_calc.specs.declared.plan_node.PlanNode.{PlanNode}
 use Rattle.mg_calc.specs.Outcome.{Outcome, shown, ended, opened, node_outcome, loopback_outcome}
 use Rattle.mg_equations.specs.declared.progress.Progress.{Progress}
-use Rattle.mg_equations.specs.Seen.{seen, with_answers}
-use Rattle.mg_equations.specs.Progress.{AreWithin, HasRead, LoopbackHasAnswered, IsShownMore, ShowsMore, AnswersMore}
+use Rattle.mg_equations.specs.Code.Seen.{seen, with_answers}
+use Rattle.mg_equations.specs.Code.Progress.{AreWithin, HasRead, LoopbackHasAnswered, IsShownMore, ShowsMore, AnswersMore}
 use Rattle.mg_equations.proofs.NodeSteps.{node_resumed, node_over, reach_same}
 
 -- Sets.

@@ -1,25 +1,17 @@
 -- The lists of readers grow.
-use Rattle.std.proofs.Common.{◌≡◌, ℕ, zero, suc, ◌+◌, ◌<◌, ◌≤◌, List, [], ◌∷◌, ◌++◌, All, Some, length, take, replicate, set, slice_get, get_or, length-set, get_or-set_same, get_or-set_other, inl, inr, refl, sym, ap, ◌∙◌, subst, arith}
+use Rattle.std.proofs.Common.{◌≡◌, ℕ, ◌+◌, ◌<◌, ◌≤◌, List, [], ◌∷◌, ◌++◌, All, Some, length, take, set, slice_get, get_or, length-set, get_or-set_same, get_or-set_other, inl, inr, sym, ap, ◌∙◌, subst, arith}
 use Rattle.std.specs.Prelude.{Contains}
 use Rattle.std.proofs.lemmas.Bool.{cases_eq, cases_lt}
 use Rattle.std.proofs.lemmas.Option.{same_Some}
-use Rattle.std.proofs.lemmas.List.{take_more, length-replicate}
-use Rattle.std.proofs.lemmas.List.Elements.{Contains-append_left, Contains-push, Contains-push_cases, All-push, All-nil}
+use Rattle.std.proofs.lemmas.List.{take_more}
+use Rattle.std.proofs.lemmas.List.Elements.{Contains-append_left, Contains-push, Contains-push_cases, All-push}
 use Rattle.mg_calc.specs.declared.plan.Plan.{Plan}
 use Rattle.mg_calc.specs.declared.plan_node.PlanNode.{PlanNode}
-use Rattle.mg_equations.specs.Readers.{HasReaders, IsAdded}
+use Rattle.mg_equations.specs.Code.Readers.{HasReaders, IsAdded}
 
 -- a row is put at a place
 put_same : (rows : List (List ℕ)) (s t : ℕ) (row : List ℕ) → s < length rows → t ≡ s → get_or (set rows s row) t [] ≡ row
 put_same rows s t row below same = ap (λ n. get_or (set rows s row) n []) same ∙ get_or-set_same rows s row [] below
-
-pub added_none : (inputs : List ℕ) (node : ℕ) (readers : List (List ℕ)) → IsAdded (take 0 inputs) node readers readers
-added_none inputs node readers = record {
-  many = refl;
-  stays = λ s k c. c;
-  there = λ s c. absurd (let bad = c.1 in omega (arith, bad));
-  within = λ count s below all. all;
-}
 
 pub added_more : (inputs : List ℕ) (node : ℕ) (before now then : List (List ℕ)) (i s : ℕ) (row : List ℕ) → IsAdded (take i inputs) node before now → i < length inputs → s ≡ get_or inputs i s → s < length now
     → row ≡ get_or now s [] ++ node ∷ [] → then ≡ set now s row → IsAdded (take (i + 1) inputs) node before then
@@ -43,18 +35,6 @@ added_more inputs node before now then i s row h below is there row_is then_is =
       | inl same ↦ subst (λ (l : List ℕ). Contains l k) (sym (put_same now s t row there same ∙ row_is)) (Contains-append_left (get_or now s []) (node ∷ []) k (subst (λ n. Contains (get_or now n []) k) same c))
       | inr other ↦ subst (λ (l : List ℕ). Contains l k) (sym (get_or-set_other now s t row [] other)) c
     ]
-
-nobody : (n s : ℕ) → get_or (replicate {A = List ℕ} n []) s [] ≡ []
-nobody zero s = refl
-nobody (suc n) zero = refl
-nobody (suc n) (suc s) = nobody n s
-
-pub has_none : (plan : Plan) (readers : List (List ℕ)) → readers ≡ replicate (length plan.streams) [] → HasReaders plan 0 readers
-has_none plan readers is = subst (HasReaders plan 0) (sym is) (record {
-  many = length-replicate (length plan.streams) [];
-  there = λ k node s below at c. absurd (omega (arith, below));
-  within = λ s. subst (λ (l : List ℕ). All (λ k. k < length plan.nodes) l) (sym (nobody (length plan.streams) s)) (All-nil (λ k. k < length plan.nodes));
-})
 
 pub has_more : (plan : Plan) (k : ℕ) (node : PlanNode) (before now : List (List ℕ)) → HasReaders plan k before → k < length plan.nodes → slice_get plan.nodes k ≡ Some node → IsAdded node.inputs k before now → HasReaders plan (k + 1) now
 has_more plan k node before now h below at added = record {

@@ -1,8 +1,8 @@
 -- Nodes go on one after the other, each once.
-use Rattle.std.proofs.Common.{◌≡◌, ℕ, zero, suc, ◌+◌, ◌<◌, ◌≤◌, Bool, true, false, List, [], ◌∷◌, ◌++◌, All, Some, length, drop, set, option_map, slice_get, get_or, unwrap_or, length-set, get_or-set_same, get_or-set_other, inl, inr, ⊎_elim, refl, sym, ap, ◌∙◌, subst, arith}
+use Rattle.std.proofs.Common.{◌≡◌, ℕ, zero, suc, ◌+◌, ◌<◌, Bool, true, false, List, [], ◌∷◌, ◌++◌, All, Some, length, drop, set, option_map, slice_get, get_or, unwrap_or, length-set, get_or-set_same, get_or-set_other, inl, inr, ⊎_elim, refl, sym, ap, ◌∙◌, subst, arith}
 use Rattle.std.specs.Prelude.{Contains}
 use Rattle.std.specs.List.{flat_map}
-use Rattle.std.proofs.lemmas.Bool.{cases_Bool, cases_eq, cases_lt}
+use Rattle.std.proofs.lemmas.Bool.{cases_eq, cases_lt}
 use Rattle.std.proofs.lemmas.Option.{same_Some, slice_get_within, slice_get-get_or, slice_get_cases}
 use Rattle.std.proofs.lemmas.List.{get_or_default}
 use Rattle.std.proofs.lemmas.List.Elements.{Contains-append_left, Contains-push, Contains-get_or, All-push, All-nil}
@@ -12,12 +12,11 @@ use Rattle.mg_value.specs.Settled.{inputs_of as inputs_at}
 use Rattle.mg_calc.specs.declared.plan.Plan.{Plan}
 use Rattle.mg_calc.specs.declared.plan_node.PlanNode.{PlanNode}
 use Rattle.mg_calc.specs.Plan.{IsValid}
-use Rattle.mg_route.proofs.LayingLemmas.{from_here, at_end}
 use Rattle.mg_equations.specs.declared.progress.Progress.{Progress}
 use Rattle.mg_equations.specs.declared.round_nodes.RoundNodes.{RoundNodes}
-use Rattle.mg_equations.specs.Progress.{CanGoOn, NodeGoesOn}
-use Rattle.mg_equations.specs.Readers.{HasReaders}
-use Rattle.mg_equations.specs.RoundNodes.{has_gone, outputs_at, IsBegun, Goes, GoesOnIf, HaveGone, HaveTurned}
+use Rattle.mg_equations.specs.Code.Progress.{CanGoOn, NodeGoesOn}
+use Rattle.mg_equations.specs.Code.Readers.{HasReaders}
+use Rattle.mg_equations.specs.Code.RoundNodes.{has_gone, outputs_at, Goes, GoesOnIf, HaveGone, HaveGoneOn}
 use Rattle.mg_equations.proofs.Places.{contains_flat, all_flat, outputs_within}
 
 set_other : {X : Type 0} (xs : List X) (i : ℕ) (x : X) (k : ℕ) → (k ≡ i → ⊥) → slice_get (set xs i x) k ≡ slice_get xs k
@@ -32,23 +31,12 @@ set_here [] i x below = absurd (omega (arith, below))
 set_here (y ∷ xs) zero x below = refl
 set_here (y ∷ xs) (suc i) x below = set_here xs i x (omega (arith, below))
 
--- at first none has gone on
-pub gone_none : (nodes : List PlanNode) (streams : List (StreamPrefix Plain)) (numbers : List ℕ) (turn : RoundNodes) → IsBegun turn → HaveGone nodes streams turn.nodes.items numbers 0 turn
-gone_none nodes streams numbers turn begun = record {
-  many = refl;
-  marks = begun.marks;
-  each = λ k node before now at was is. subst (λ (gone : Bool). GoesOnIf gone node streams before now) (sym (begun.none k)) (same_Some now before (sym is ∙ was));
-  listed = λ k holds. absurd (let bad : true ≡ false = sym holds ∙ begun.none k in cc);
-  within = subst (λ (l : List ℕ). All (λ k. k < length turn.nodes.items) l) (sym begun.listed) (All-nil (λ k. k < length turn.nodes.items));
-  done = λ j early there. absurd (omega (arith, early));
-}
-
 -- a node that hasn't gone on is what it was at first
-pub still_can : (nodes : List PlanNode) (streams : List (StreamPrefix Plain)) (first : List Progress) (numbers : List ℕ) (i k : ℕ) (turn : RoundNodes) (node : PlanNode) (progress : Progress) → HaveGone nodes streams first numbers i turn
+pub still_can : (nodes : List PlanNode) (streams : List (StreamPrefix Plain)) (first : List Progress) (numbers : List ℕ) (i k : ℕ) (going : RoundNodes) (node : PlanNode) (progress : Progress) → HaveGone nodes streams first numbers i going
     → ((n : ℕ) (other : PlanNode) (then : Progress) → slice_get nodes n ≡ Some other → slice_get first n ≡ Some then → CanGoOn other (inputs_at streams other.inputs) then)
-    → has_gone turn k ≡ false → slice_get nodes k ≡ Some node → slice_get turn.nodes.items k ≡ Some progress → CanGoOn node (inputs_at streams node.inputs) progress
-still_can nodes streams first numbers i k turn node progress h can not at is =
-    let below : k < length first = (let many = h.many in omega (arith, many, slice_get_within turn.nodes.items k progress is)) in
+    → has_gone going k ≡ false → slice_get nodes k ≡ Some node → slice_get going.nodes.items k ≡ Some progress → CanGoOn node (inputs_at streams node.inputs) progress
+still_can nodes streams first numbers i k going node progress h can not at is =
+    let below : k < length first = (let many = h.many in omega (arith, many, slice_get_within going.nodes.items k progress is)) in
     let was : slice_get first k ≡ Some (get_or first k progress) = slice_get-get_or first k progress below in
     let stays : progress ≡ get_or first k progress = subst (λ (gone : Bool). GoesOnIf gone node streams (get_or first k progress) progress) not (h.each k node (get_or first k progress) progress at was is) in
     subst (CanGoOn node (inputs_at streams node.inputs)) (sym stays) (can k node (get_or first k progress) at was)
@@ -114,16 +102,6 @@ pub gone_more : (nodes : List PlanNode) (streams : List (StreamPrefix Plain)) (f
     → Goes (has_gone before k) nodes streams k before now → k ≡ get_or numbers i k → k < length first → HaveGone nodes streams first numbers (i + 1) now
 gone_more nodes streams first numbers i k before now h goes is below = gone_by (has_gone before k) nodes streams first numbers i k before now refl h goes is below
 
-pub gone_all : (nodes : List PlanNode) (streams : List (StreamPrefix Plain)) (first : List Progress) (numbers : List ℕ) (i n : ℕ) (turn : RoundNodes) → HaveGone nodes streams first numbers i turn → n ≤ i → HaveGone nodes streams first numbers n turn
-gone_all nodes streams first numbers i n turn h over = record {
-  many = h.many;
-  marks = h.marks;
-  each = h.each;
-  listed = h.listed;
-  within = h.within;
-  done = λ j early there. h.done j (omega (arith, early, over)) there;
-}
-
 -- what a call has done that lets a node go on
 pub went_on : (nodes : List PlanNode) (streams : List (StreamPrefix Plain)) (k : ℕ) (before now : RoundNodes) (node : PlanNode) (old progress : Progress) → has_gone before k ≡ false → slice_get nodes k ≡ Some node → slice_get before.nodes.items k ≡ Some old
     → now.nodes.items ≡ set before.nodes.items k progress → now.gone.items ≡ set before.gone.items k true → now.listed.items ≡ before.listed.items ++ k ∷ []
@@ -144,33 +122,7 @@ pub record AreUnmarked (before : List Bool) (listed : List ℕ) (i : ℕ) (now :
   pub many : length now ≡ length before
   pub left : (k : ℕ) → get_or now k false ≡ true → Contains (drop i listed) k
 
-pub unmarked_none : (marks : List Bool) (listed : List ℕ) → ((k : ℕ) → get_or marks k false ≡ true → Contains listed k) → AreUnmarked marks listed 0 marks
-unmarked_none marks listed all = record { many = refl; left = all }
-
-behind_it : (x k : ℕ) (xs : List ℕ) → (k ≡ x → ⊥) → Contains (x ∷ xs) k → Contains xs k
-behind_it x k xs other (zero, below, is) = absurd (other (sym is))
-behind_it x k xs other (suc j, below, is) = (j, omega (arith, below), is)
-
-pub unmarked_more : (before : List Bool) (listed : List ℕ) (i s : ℕ) (now then : List Bool) → AreUnmarked before listed i now → i < length listed → s ≡ get_or listed i s → s < length before → then ≡ set now s false → AreUnmarked before listed (i + 1) then
-unmarked_more before listed i s now then h there is below then_is = subst (AreUnmarked before listed (i + 1)) (sym then_is) (record {
-  many = length-set now s false ∙ h.many;
-  left = λ k holds. elim (cases_eq k s) [
-    | inl same ↦ absurd (
-        let inside : s < length now = (let many = h.many in omega (arith, many, below)) in
-        let not : get_or (set now s false) k false ≡ false = ap (λ n. get_or (set now s false) n false) same ∙ get_or-set_same now s false false inside in
-        let bad : true ≡ false = sym holds ∙ not in
-        cc)
-    | inr other ↦ behind_it s k (drop (i + 1) listed) other (subst (λ (l : List ℕ). Contains l k) (from_here listed i s there is) (h.left k (sym (get_or-set_other now s k false false other) ∙ holds)))
-  ];
-})
-
-pub unmarked_all : (before : List Bool) (listed : List ℕ) (i : ℕ) (now : List Bool) → AreUnmarked before listed i now → length listed ≤ i → (k : ℕ) → get_or now k false ≡ false
-unmarked_all before listed i now h over k = elim (cases_Bool (get_or now k false)) [
-  | inl holds ↦ absurd (let c = subst (λ (l : List ℕ). Contains l k) (at_end listed i over) (h.left k holds) in let bad = c.1 in omega (arith, bad))
-  | inr not ↦ not
-]
-
--- The nodes and the streams of a turn.
+-- The nodes and the streams of a round.
 pub outputs_are : (nodes : List PlanNode) (k : ℕ) (node : PlanNode) → slice_get nodes k ≡ Some node → outputs_at nodes k ≡ node.outputs
 outputs_are nodes k node at = ap (λ o. unwrap_or (option_map (λ (n : PlanNode). n.outputs) o) []) at
 
@@ -185,21 +137,21 @@ known_outputs plan k valid =
     (λ past. subst (λ (l : List ℕ). All (λ s. s < length plan.streams) l) (sym (ap (λ o. unwrap_or (option_map (λ (n : PlanNode). n.outputs) o) []) past.1)) (All-nil (λ s. s < length plan.streams)))
     (slice_get_cases plan.nodes k).1
 
-pub all_turned : (plan : Plan) (streams : List (StreamPrefix Plain)) (readers : List (List ℕ)) (changed numbers : List ℕ) (first now : List Progress) (turn : RoundNodes) (due : List ℕ) → IsValid plan → HasReaders plan (length plan.nodes) readers
-    → numbers ≡ flat_map (λ s. get_or readers s []) changed → HaveGone plan.nodes streams first numbers (length numbers) turn → due ≡ flat_map (outputs_at plan.nodes) turn.listed.items → now ≡ turn.nodes.items
-    → HaveTurned plan streams changed first now due
-all_turned plan streams readers changed numbers first now turn due valid read numbers_are h due_is now_is =
-    subst (λ (ps : List Progress). HaveTurned plan streams changed first ps due) (sym now_is) (record {
-      gone = has_gone turn;
+pub all_gone_on : (plan : Plan) (streams : List (StreamPrefix Plain)) (readers : List (List ℕ)) (changed numbers : List ℕ) (first now : List Progress) (going : RoundNodes) (due : List ℕ) → IsValid plan → HasReaders plan (length plan.nodes) readers
+    → numbers ≡ flat_map (λ s. get_or readers s []) changed → HaveGone plan.nodes streams first numbers (length numbers) going → due ≡ flat_map (outputs_at plan.nodes) going.listed.items → now ≡ going.nodes.items
+    → HaveGoneOn plan streams changed first now due
+all_gone_on plan streams readers changed numbers first now going due valid read numbers_are h due_is now_is =
+    subst (λ (ps : List Progress). HaveGoneOn plan streams changed first ps due) (sym now_is) (record {
+      gone = has_gone going;
       many = h.many;
       each = h.each;
       stays = λ k node s at not reads change. (
           let reader : Contains (get_or readers s []) k = read.there k node s (slice_get_within plan.nodes k node at) at reads in
           let c : Contains numbers k = subst (λ (l : List ℕ). Contains l k) (sym numbers_are) (contains_flat (λ n. get_or readers n []) changed s k change reader) in
           let is : get_or numbers c.0 0 ≡ k = get_or_default numbers c.0 0 k c.1 ∙ c.2 in
-          let bad : true ≡ false = sym (h.done c.0 c.1 c.1) ∙ ap (has_gone turn) is ∙ not in
+          let bad : true ≡ false = sym (h.done c.0 c.1 c.1) ∙ ap (has_gone going) is ∙ not in
           absurd cc);
       written = λ k node s at holds writes. subst (λ (l : List ℕ). Contains l s) (sym due_is)
-          (contains_flat (outputs_at plan.nodes) turn.listed.items k s (h.listed k holds) (subst (λ (l : List ℕ). Contains l s) (sym (outputs_are plan.nodes k node at)) writes));
-      within = subst (λ (l : List ℕ). All (λ s. s < length plan.streams) l) (sym due_is) (all_flat (λ s. s < length plan.streams) (outputs_at plan.nodes) turn.listed.items (λ k. known_outputs plan k valid));
+          (contains_flat (outputs_at plan.nodes) going.listed.items k s (h.listed k holds) (subst (λ (l : List ℕ). Contains l s) (sym (outputs_are plan.nodes k node at)) writes));
+      within = subst (λ (l : List ℕ). All (λ s. s < length plan.streams) l) (sym due_is) (all_flat (λ s. s < length plan.streams) (outputs_at plan.nodes) going.listed.items (λ k. known_outputs plan k valid));
     })

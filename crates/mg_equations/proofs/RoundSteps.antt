@@ -15,10 +15,10 @@ use Rattle.mg_calc.proofs.Earlier.{at_place, some_same}
 use Rattle.mg_equations.specs.declared.progress.Progress.{Progress}
 use Rattle.mg_calc.specs.declared.node_fault.NodeFault.{NodeFault}
 use Rattle.mg_calc.specs.Meaning.{fault_of, faults, counts}
-use Rattle.mg_equations.specs.Rounds.{numbered_fault}
-use Rattle.mg_equations.specs.Seen.{seen}
-use Rattle.mg_equations.specs.Growing.{given_streams}
-use Rattle.mg_equations.specs.Progress.{HasCome, HaveCome, outcomes}
+use Rattle.mg_equations.specs.Code.Rounds.{numbered_fault}
+use Rattle.mg_equations.specs.Code.Seen.{seen}
+use Rattle.mg_equations.specs.Code.Growing.{given_streams}
+use Rattle.mg_equations.specs.Code.Progress.{HasCome, HaveCome, outcomes}
 
 -- what a node of a job has
 pub record IsNodeOf (job : Job) (streams : List (StreamPrefix Plain)) (node : PlanNode) : Type 0 where
@@ -48,16 +48,6 @@ pushed_at [] x (suc k) y is = absurd cc
 pushed_at (z ∷ xs) x zero y is = inl is
 pushed_at (z ∷ xs) x (suc k) y is = elim (pushed_at xs x k y is) [ inl here ↦ inl here | inr last ↦ inr (ap (λ (n : ℕ). suc n) last.0, last.1) ]
 
-pub begun_none : (job : Job) (streams : List (StreamPrefix Plain)) → HaveBegun job streams [] 0
-begun_none job streams = record { many = refl; each = λ k node progress at there. absurd (nothing k progress there) }
-  where
-    nobody : List Progress
-    nobody = []
-
-    nothing : (k : ℕ) (progress : Progress) → slice_get nobody k ≡ Some progress → ⊥
-    nothing zero progress there = absurd cc
-    nothing (suc k) progress there = absurd cc
-
 pub begun_more : (job : Job) (streams : List (StreamPrefix Plain)) (nodes : List Progress) (i : ℕ) (node : PlanNode) (progress : Progress) → HaveBegun job streams nodes i → slice_get job.plan.nodes i ≡ Some node → HasCome job streams node progress
     → HaveBegun job streams (nodes ++ progress ∷ []) (i + 1)
 begun_more job streams nodes i node progress h at come = record {
@@ -70,9 +60,6 @@ begun_more job streams nodes i node progress h at come = record {
         subst (λ (p : Progress). HasCome job streams other p) last.1 (subst (λ (n : PlanNode). HasCome job streams n progress) same come))
   ];
 }
-
-pub begun_all : (job : Job) (streams : List (StreamPrefix Plain)) (nodes : List Progress) (i : ℕ) → length job.plan.nodes ≡ i → HaveBegun job streams nodes i → HaveCome job streams nodes
-begun_all job streams nodes i all h = record { many = h.many ∙ sym all; each = h.each }
 
 -- What has become of all nodes.
 outcomes_by : (job : Job) (streams : List (StreamPrefix Plain)) (nodes : List PlanNode) (progresses : List Progress) → length progresses ≡ length nodes

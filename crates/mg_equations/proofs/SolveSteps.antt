@@ -1,4 +1,4 @@
--- A turn of the rounds: streams that have become those of the next round, by nodes that had come to them.
+-- A round that goes on: streams that have become those of the next round, by nodes that had come to them.
 use Rattle.std.proofs.Common.{◌≡◌, ℕ, zero, suc, ◌+◌, ◌++◌, ◌<◌, ◌≤◌, Bool, true, false, List, [], ◌∷◌, map, replicate, All, length, Some, slice_get, get_or, nat_lt, Result, Ok, Err, IfOk, option_map, unwrap_or, ◌⊎◌, inl, inr, refl, sym, ap, subst, ◌∙◌, arith}
 use Rattle.std.specs.Prelude.{Contains}
 use Rattle.std.specs.List.{AllByRecursion, flat_map, range_with_len, filter_map, enumerate_from}
@@ -26,10 +26,10 @@ use Rattle.mg_calc.proofs.Settling.{outcome_of_inputs_by}
 use Rattle.mg_equations.specs.declared.progress.Progress.{Progress}
 use Rattle.mg_equations.specs.declared.solving.Streams.{Streams}
 use Rattle.mg_equations.specs.declared.round_nodes.RoundNodes.{RoundNodes}
-use Rattle.mg_equations.specs.Growing.{given_streams, IsGivenBy, MayGrow, AreChanged}
-use Rattle.mg_equations.specs.Rounds.{numbered_fault}
-use Rattle.mg_equations.specs.Progress.{HaveCome, CanGoOn, outcomes}
-use Rattle.mg_equations.specs.RoundNodes.{IsBegun, HaveTurned}
+use Rattle.mg_equations.specs.Code.Growing.{given_streams, IsGivenBy, MayGrow, AreChanged}
+use Rattle.mg_equations.specs.Code.Rounds.{numbered_fault}
+use Rattle.mg_equations.specs.Code.Progress.{HaveCome, CanGoOn, outcomes}
+use Rattle.mg_equations.specs.Code.RoundNodes.{IsBegun, HaveGoneOn}
 use Rattle.mg_equations.proofs.Changing.{AreReached, SomeChanges, room, next_extends, next_prefixes, next_many, reached_keep, reached_long, reached_prefixes, reached_further, reached_solution, less_room, told_solution}
 use Rattle.mg_equations.proofs.ComeSteps.{AreGrownTo, all_can, all_come, stays_at}
 use Rattle.mg_equations.proofs.DueSteps.{same_streams}
@@ -37,10 +37,10 @@ use Rattle.mg_equations.proofs.Places.{GivesEach, StandsAt, IsPart, IsWriter, st
 use Rattle.mg_equations.proofs.RoundSteps.{next_streams_are, counts_are, faults_are}
 
 -- A round has been solved: the nodes have come to its streams, and the next round changes none but those that are due.
-pub record IsUnderWay (job : Job) (streams : List (StreamPrefix Plain)) (turn : RoundNodes) (due : List ℕ) : Type 0 where
+pub record IsUnderWay (job : Job) (streams : List (StreamPrefix Plain)) (going : RoundNodes) (due : List ℕ) : Type 0 where
   pub reached : AreReached job streams
-  pub come : HaveCome job streams turn.nodes.items
-  pub begun : IsBegun turn
+  pub come : HaveCome job streams going.nodes.items
+  pub begun : IsBegun going
   pub within : All (λ s. s < length job.plan.streams) due
   pub others : (s : ℕ) → s < length streams → Contains due s ⊎ (stream_of streams s ≡ stream_of (next_round job streams) s)
 
@@ -49,9 +49,9 @@ pub numbers_more : (n : ℕ) → range_with_len 0 n ++ n ∷ [] ≡ range_with_l
 numbers_more n = ap (λ (l : List ℕ). l ++ n ∷ []) (sym (map-id (range_with_len 0 n))) ∙ sym (map-range_with_len_more (λ (m : ℕ). m) 0 n n (omega arith)) ∙ map-id (range_with_len 0 (n + 1))
 
 -- at first all streams are due
-pub first_way : (job : Job) (streams : List (StreamPrefix Plain)) (turn : RoundNodes) (nodes : List Progress) (due : List ℕ) → IsJob job → streams ≡ replicate (length job.plan.streams) empty_prefix → HaveCome job streams nodes → turn.nodes.items ≡ nodes → IsBegun turn
-    → due ≡ range_with_len 0 (length job.plan.streams) → IsUnderWay job streams turn due
-first_way job streams turn nodes due is streams_are come nodes_are begun due_is =
+pub first_way : (job : Job) (streams : List (StreamPrefix Plain)) (going : RoundNodes) (nodes : List Progress) (due : List ℕ) → IsJob job → streams ≡ replicate (length job.plan.streams) empty_prefix → HaveCome job streams nodes → going.nodes.items ≡ nodes → IsBegun going
+    → due ≡ range_with_len 0 (length job.plan.streams) → IsUnderWay job streams going due
+first_way job streams going nodes due is streams_are come nodes_are begun due_is =
     let n = length job.plan.streams in
     let reached : AreReached job streams = record { number = 0; is = streams_are; first = λ earlier below. absurd (omega (arith, below)) } in
     record {
@@ -101,9 +101,9 @@ producer_at : (job : Job) (s : ℕ) (stream : PlanStream) → IsJob job → slic
 producer_at job s stream is at = ap (λ l. slice_get l s) (sym is.plan.producers) ∙ slice_get-map (λ (x : PlanStream). x.producer) job.plan.streams s ∙ ap (option_map (λ (x : PlanStream). x.producer)) at
 
 -- the streams that are due may grow
-pub may_grow : (job : Job) (streams : List (StreamPrefix Plain)) (turn : RoundNodes) (due : List ℕ) (nodes : List Progress) (numbers : List ℕ) → IsJob job → IsUnderWay job streams turn due → nodes ≡ turn.nodes.items → numbers ≡ due
+pub may_grow : (job : Job) (streams : List (StreamPrefix Plain)) (going : RoundNodes) (due : List ℕ) (nodes : List Progress) (numbers : List ℕ) → IsJob job → IsUnderWay job streams going due → nodes ≡ going.nodes.items → numbers ≡ due
     → MayGrow job.plan job.inputs.streams nodes numbers streams
-may_grow job streams turn due nodes numbers is way nodes_are numbers_are =
+may_grow job streams going due nodes numbers is way nodes_are numbers_are =
     let come : HaveCome job streams nodes = subst (HaveCome job streams) (sym nodes_are) way.come in
     let next : given_streams job.inputs.streams nodes ≡ next_round job streams = next_streams_are job streams nodes come in
     let long = reached_long job streams is way.reached in
@@ -117,18 +117,18 @@ may_grow job streams turn due nodes numbers is way nodes_are numbers_are =
       others = λ s below. elim (way.others s below) [ inl c ↦ inl c | inr same ↦ inr (same ∙ ap (λ (ss : List (StreamPrefix Plain)). stream_of ss s) (sym next)) ];
     })
 
--- A turn: the streams have grown, and a list has those that have changed.
-pub record IsTurn (job : Job) (before streams : List (StreamPrefix Plain)) (changed : List ℕ) (turn : RoundNodes) : Type 0 where
+-- A round goes on: the streams have grown, and a list has those that have changed.
+pub record IsGoing (job : Job) (before streams : List (StreamPrefix Plain)) (changed : List ℕ) (going : RoundNodes) : Type 0 where
   pub is : IsJob job
   pub reached : AreReached job before
-  pub come : HaveCome job before turn.nodes.items
-  pub begun : IsBegun turn
+  pub come : HaveCome job before going.nodes.items
+  pub begun : IsBegun going
   pub next : streams ≡ next_round job before
   pub changed_are : AreChanged changed before streams
 
-pub turn_is : (job : Job) (before streams : List (StreamPrefix Plain)) (changed due : List ℕ) (turn : RoundNodes) (nodes : List Progress) → IsJob job → IsUnderWay job before turn due → nodes ≡ turn.nodes.items
-    → streams ≡ given_streams job.inputs.streams nodes → AreChanged changed before (given_streams job.inputs.streams nodes) → IsTurn job before streams changed turn
-turn_is job before streams changed due turn nodes is way nodes_are grown told = record {
+pub going_is : (job : Job) (before streams : List (StreamPrefix Plain)) (changed due : List ℕ) (going : RoundNodes) (nodes : List Progress) → IsJob job → IsUnderWay job before going due → nodes ≡ going.nodes.items
+    → streams ≡ given_streams job.inputs.streams nodes → AreChanged changed before (given_streams job.inputs.streams nodes) → IsGoing job before streams changed going
+going_is job before streams changed due going nodes is way nodes_are grown told = record {
   is = is;
   reached = way.reached;
   come = way.come;
@@ -137,8 +137,8 @@ turn_is job before streams changed due turn nodes is way nodes_are grown told = 
   changed_are = subst (AreChanged changed before) (sym grown) told;
 }
 
-grown_to : (job : Job) (before streams : List (StreamPrefix Plain)) (changed : List ℕ) (turn : RoundNodes) → IsTurn job before streams changed turn → AreGrownTo job before streams
-grown_to job before streams changed turn t = record {
+grown_to : (job : Job) (before streams : List (StreamPrefix Plain)) (changed : List ℕ) (going : RoundNodes) → IsGoing job before streams changed going → AreGrownTo job before streams
+grown_to job before streams changed going t = record {
   is = t.is;
   was_many = reached_long job before t.is t.reached;
   many = next_many job before streams t.is t.reached t.next;
@@ -152,8 +152,8 @@ some_changes : (before streams : List (StreamPrefix Plain)) (changed : List ℕ)
 some_changes before streams [] change some = absurd (let many : 0 < 0 = ltb-true 0 0 some in omega (arith, many))
 some_changes before streams (s ∷ changed) change some = let first = change.only 0 s (omega arith) in (s, first.0, first.1)
 
-pub turn_changes : (job : Job) (before streams : List (StreamPrefix Plain)) (changed read : List ℕ) (turn : RoundNodes) (change : Bool) → IsTurn job before streams changed turn → read ≡ changed → change ≡ nat_lt 0 (length read) → change ≡ true → SomeChanges before streams
-turn_changes job before streams changed read turn change t same tells holds = some_changes before streams changed t.changed_are (ap (λ (l : List ℕ). nat_lt 0 (length l)) (sym same) ∙ sym tells ∙ holds)
+pub going_changes : (job : Job) (before streams : List (StreamPrefix Plain)) (changed read : List ℕ) (going : RoundNodes) (change : Bool) → IsGoing job before streams changed going → read ≡ changed → change ≡ nat_lt 0 (length read) → change ≡ true → SomeChanges before streams
+going_changes job before streams changed read going change t same tells holds = some_changes before streams changed t.changed_are (ap (λ (l : List ℕ). nat_lt 0 (length l)) (sym same) ∙ sym tells ∙ holds)
 
 none_changed : (before streams : List (StreamPrefix Plain)) (changed : List ℕ) → AreChanged changed before streams → length before ≡ length streams → nat_lt 0 (length changed) ≡ false → before ≡ streams
 none_changed before streams (s ∷ changed) change long none = absurd (let few : suc (length changed) ≤ 0 = ltb-false 0 (suc (length changed)) none in omega (arith, few))
@@ -162,44 +162,44 @@ none_changed before streams [] change long none = same_streams before streams lo
   | inr c ↦ absurd (let bad = c.1 in omega (arith, bad))
 ])
 
-pub turn_stays : (job : Job) (before streams : List (StreamPrefix Plain)) (changed read : List ℕ) (turn : RoundNodes) (change : Bool) → IsTurn job before streams changed turn → read ≡ changed → change ≡ nat_lt 0 (length read) → change ≡ false → before ≡ streams
-turn_stays job before streams changed read turn change t same tells not =
+pub going_stays : (job : Job) (before streams : List (StreamPrefix Plain)) (changed read : List ℕ) (going : RoundNodes) (change : Bool) → IsGoing job before streams changed going → read ≡ changed → change ≡ nat_lt 0 (length read) → change ≡ false → before ≡ streams
+going_stays job before streams changed read going change t same tells not =
     none_changed before streams changed t.changed_are (reached_long job before t.is t.reached ∙ sym (next_many job before streams t.is t.reached t.next))
     (ap (λ (l : List ℕ). nat_lt 0 (length l)) (sym same) ∙ sym tells ∙ not)
 
 -- where nothing has, the streams are the solution
-pub turn_solution : {E : Type 0} (job : Job) (before streams : List (StreamPrefix Plain)) (changed : List ℕ) (turn : RoundNodes) (result : Result Streams E) → IsTurn job before streams changed turn → before ≡ streams
+pub going_solution : {E : Type 0} (job : Job) (before streams : List (StreamPrefix Plain)) (changed : List ℕ) (going : RoundNodes) (result : Result Streams E) → IsGoing job before streams changed going → before ≡ streams
     → IfOk result (λ s. s.prefixes ≡ streams) → IfOk result (λ s. IsSolution job s.prefixes)
-turn_solution job before streams changed turn result t same told = told_solution job streams result told (subst (IsSolution job) same (reached_solution job before streams t.is t.reached t.next same))
+going_solution job before streams changed going result t same told = told_solution job streams result told (subst (IsSolution job) same (reached_solution job before streams t.is t.reached t.next same))
 
-pub turn_counts : {E : Type 0} (job : Job) (before streams : List (StreamPrefix Plain)) (changed : List ℕ) (turn : RoundNodes) (read : List Progress) (result : Result Streams E) → IsTurn job before streams changed turn → before ≡ streams → read ≡ turn.nodes.items
+pub going_counts : {E : Type 0} (job : Job) (before streams : List (StreamPrefix Plain)) (changed : List ℕ) (going : RoundNodes) (read : List Progress) (result : Result Streams E) → IsGoing job before streams changed going → before ≡ streams → read ≡ going.nodes.items
     → IfOk result (λ s. s.prefixes ≡ streams) → IfOk result (λ s. s.sets ≡ map (λ outcome. outcome.taken) (outcomes read)) → IfOk result (λ s. s.sets ≡ counts job s.prefixes)
-turn_counts job before streams changed turn read (Ok s) t same here prefixes told =
-    told ∙ ap (λ (ps : List Progress). map (λ outcome. outcome.taken) (outcomes ps)) here ∙ counts_are job before turn.nodes.items t.come ∙ ap (counts job) (same ∙ sym prefixes)
-turn_counts job before streams changed turn read (Err e) t same here prefixes told = tt
+going_counts job before streams changed going read (Ok s) t same here prefixes told =
+    told ∙ ap (λ (ps : List Progress). map (λ outcome. outcome.taken) (outcomes ps)) here ∙ counts_are job before going.nodes.items t.come ∙ ap (counts job) (same ∙ sym prefixes)
+going_counts job before streams changed going read (Err e) t same here prefixes told = tt
 
-pub turn_faults : {E : Type 0} (job : Job) (before streams : List (StreamPrefix Plain)) (changed : List ℕ) (turn : RoundNodes) (read : List Progress) (result : Result Streams E) → IsTurn job before streams changed turn → before ≡ streams → read ≡ turn.nodes.items
+pub going_faults : {E : Type 0} (job : Job) (before streams : List (StreamPrefix Plain)) (changed : List ℕ) (going : RoundNodes) (read : List Progress) (result : Result Streams E) → IsGoing job before streams changed going → before ≡ streams → read ≡ going.nodes.items
     → IfOk result (λ s. s.prefixes ≡ streams) → IfOk result (λ s. s.faults ≡ filter_map numbered_fault (enumerate_from 0 (map (λ outcome. outcome.fault) (outcomes read)))) → IfOk result (λ s. s.faults ≡ faults job s.prefixes)
-turn_faults job before streams changed turn read (Ok s) t same here prefixes told =
-    told ∙ ap (λ (ps : List Progress). filter_map numbered_fault (enumerate_from 0 (map (λ outcome. outcome.fault) (outcomes ps)))) here ∙ faults_are job before turn.nodes.items t.come ∙ ap (faults job) (same ∙ sym prefixes)
-turn_faults job before streams changed turn read (Err e) t same here prefixes told = tt
+going_faults job before streams changed going read (Ok s) t same here prefixes told =
+    told ∙ ap (λ (ps : List Progress). filter_map numbered_fault (enumerate_from 0 (map (λ outcome. outcome.fault) (outcomes ps)))) here ∙ faults_are job before going.nodes.items t.come ∙ ap (faults job) (same ∙ sym prefixes)
+going_faults job before streams changed going read (Err e) t same here prefixes told = tt
 
 -- and where something has, the nodes go on
-pub turn_prefixes : (job : Job) (before streams now : List (StreamPrefix Plain)) (changed : List ℕ) (turn : RoundNodes) → IsTurn job before streams changed turn → now ≡ streams → All IsPrefix now
-turn_prefixes job before streams now changed turn t same = subst (λ (ss : List (StreamPrefix Plain)). All IsPrefix ss) (sym same) (next_prefixes job before streams t.is t.reached t.next)
+pub going_prefixes : (job : Job) (before streams now : List (StreamPrefix Plain)) (changed : List ℕ) (going : RoundNodes) → IsGoing job before streams changed going → now ≡ streams → All IsPrefix now
+going_prefixes job before streams now changed going t same = subst (λ (ss : List (StreamPrefix Plain)). All IsPrefix ss) (sym same) (next_prefixes job before streams t.is t.reached t.next)
 
-pub turn_many : (job : Job) (before streams now : List (StreamPrefix Plain)) (changed : List ℕ) (turn : RoundNodes) → IsTurn job before streams changed turn → now ≡ streams → length now ≡ length job.plan.streams
-turn_many job before streams now changed turn t same = ap length same ∙ next_many job before streams t.is t.reached t.next
+pub going_many : (job : Job) (before streams now : List (StreamPrefix Plain)) (changed : List ℕ) (going : RoundNodes) → IsGoing job before streams changed going → now ≡ streams → length now ≡ length job.plan.streams
+going_many job before streams now changed going t same = ap length same ∙ next_many job before streams t.is t.reached t.next
 
-pub turn_known : (job : Job) (before streams : List (StreamPrefix Plain)) (changed read : List ℕ) (turn : RoundNodes) → IsTurn job before streams changed turn → read ≡ changed → All (λ s. s < length job.plan.streams) read
-turn_known job before streams changed read turn t same =
+pub going_known : (job : Job) (before streams : List (StreamPrefix Plain)) (changed read : List ℕ) (going : RoundNodes) → IsGoing job before streams changed going → read ≡ changed → All (λ s. s < length job.plan.streams) read
+going_known job before streams changed read going t same =
     let long = reached_long job before t.is t.reached in
     subst (λ (l : List ℕ). All (λ s. s < length job.plan.streams) l) (sym same) (λ k d below. (let only = t.changed_are.only k d below in let first = only.0 in omega (arith, first, long)))
 
-pub turn_can : (job : Job) (before streams now : List (StreamPrefix Plain)) (changed : List ℕ) (turn : RoundNodes) → IsTurn job before streams changed turn → now ≡ streams → (k : ℕ) (node : PlanNode) (progress : Progress) → slice_get job.plan.nodes k ≡ Some node → slice_get turn.nodes.items k ≡ Some progress
+pub going_can : (job : Job) (before streams now : List (StreamPrefix Plain)) (changed : List ℕ) (going : RoundNodes) → IsGoing job before streams changed going → now ≡ streams → (k : ℕ) (node : PlanNode) (progress : Progress) → slice_get job.plan.nodes k ≡ Some node → slice_get going.nodes.items k ≡ Some progress
     → CanGoOn node (inputs_at now node.inputs) progress
-turn_can job before streams now changed turn t same k node progress at there =
-    subst (λ (ss : List (StreamPrefix Plain)). CanGoOn node (inputs_at ss node.inputs) progress) (sym same) (all_can job before streams turn.nodes.items (grown_to job before streams changed turn t) t.come k node progress at there)
+going_can job before streams now changed going t same k node progress at there =
+    subst (λ (ss : List (StreamPrefix Plain)). CanGoOn node (inputs_at ss node.inputs) progress) (sym same) (all_can job before streams going.nodes.items (grown_to job before streams changed going t) t.come k node progress at there)
 
 -- the streams that aren't due are those of the next round
 part_same : (job : Job) (before streams : List (StreamPrefix Plain)) (s k port : ℕ) (node : PlanNode) → slice_get job.plan.nodes k ≡ Some node → outcome_of job before node ≡ outcome_of job streams node
@@ -211,17 +211,17 @@ part_same job before streams s k port node at same was is =
     sym (unwrap_or-slice_get (next_round job before) s empty_prefix) ∙ ap (λ o. unwrap_or o empty_prefix) (was_at ∙ ap (λ (o : Outcome). slice_get o.outputs port) same ∙ sym is_at) ∙ unwrap_or-slice_get (next_round job streams) s empty_prefix
 
 due_or_same : (job : Job) (before streams : List (StreamPrefix Plain)) (changed due : List ℕ) (nodes now : List Progress) (s : ℕ) (p : Producer) → IsJob job → AreReached job before → AreReached job streams → AreChanged changed before streams
-    → HaveTurned job.plan streams changed nodes now due → slice_get (producers job.plan) s ≡ Some p → Contains due s ⊎ (stream_of (next_round job before) s ≡ stream_of (next_round job streams) s)
-due_or_same job before streams changed due nodes now s (Input input) is was reached change turned at =
+    → HaveGoneOn job.plan streams changed nodes now due → slice_get (producers job.plan) s ≡ Some p → Contains due s ⊎ (stream_of (next_round job before) s ≡ stream_of (next_round job streams) s)
+due_or_same job before streams changed due nodes now s (Input input) is was reached change gone_on at =
     let stands = stands_at (λ (n : PlanNode). (outcome_of job before n).outputs) job.plan job.inputs.streams job.plan.nodes s (Input input) is.inputs.streams (outcomes_give job before is (reached_keep job before is was)) at in
     inr (get_or_append_left job.inputs.streams (flat_map (λ (n : PlanNode). (outcome_of job before n).outputs) job.plan.nodes) empty_prefix s stands.1
     ∙ sym (get_or_append_left job.inputs.streams (flat_map (λ (n : PlanNode). (outcome_of job streams n).outputs) job.plan.nodes) empty_prefix s stands.1))
-due_or_same job before streams changed due nodes now s (Node k port) is was reached change turned at =
+due_or_same job before streams changed due nodes now s (Node k port) is was reached change gone_on at =
     let writer : IsWriter job.plan s k port = writer_at job.plan s k port is.plan at in
-    elim (cases_Bool (turned.gone k)) [
-      | inl holds ↦ inl (turned.written k writer.node s writer.there holds writer.writes)
+    elim (cases_Bool (gone_on.gone k)) [
+      | inl holds ↦ inl (gone_on.written k writer.node s writer.there holds writer.writes)
       | inr not ↦
-          (let same = stays_at job before streams changed due nodes now k writer.node is (reached_long job before is was) change turned writer.there not in
+          (let same = stays_at job before streams changed due nodes now k writer.node is (reached_long job before is was) change gone_on writer.there not in
           inr (part_same job before streams s k port writer.node writer.there (outcome_of_inputs_by writer.node.law job writer.node before streams same)
           (stands_at (λ (n : PlanNode). (outcome_of job before n).outputs) job.plan job.inputs.streams job.plan.nodes s (Node k port) is.inputs.streams (outcomes_give job before is (reached_keep job before is was)) at)
           (stands_at (λ (n : PlanNode). (outcome_of job streams n).outputs) job.plan job.inputs.streams job.plan.nodes s (Node k port) is.inputs.streams (outcomes_give job streams is (reached_keep job streams is reached)) at)))
@@ -232,27 +232,27 @@ some_there [] i below = absurd (omega (arith, below))
 some_there (x ∷ xs) zero below = (x, refl)
 some_there (x ∷ xs) (suc i) below = some_there xs i (omega (arith, below))
 
-pub turn_further : (job : Job) (before streams : List (StreamPrefix Plain)) (changed : List ℕ) (turn : RoundNodes) → IsTurn job before streams changed turn → SomeChanges before streams → AreReached job streams
-turn_further job before streams changed turn t some = reached_further job before streams t.is t.reached t.next some
+pub going_further : (job : Job) (before streams : List (StreamPrefix Plain)) (changed : List ℕ) (going : RoundNodes) → IsGoing job before streams changed going → SomeChanges before streams → AreReached job streams
+going_further job before streams changed going t some = reached_further job before streams t.is t.reached t.next some
 
-pub turn_less : (job : Job) (before streams : List (StreamPrefix Plain)) (changed : List ℕ) (turn : RoundNodes) → IsTurn job before streams changed turn → SomeChanges before streams → room streams < room before
-turn_less job before streams changed turn t some = less_room job before streams t.is t.reached t.next some
+pub going_less : (job : Job) (before streams : List (StreamPrefix Plain)) (changed : List ℕ) (going : RoundNodes) → IsGoing job before streams changed going → SomeChanges before streams → room streams < room before
+going_less job before streams changed going t some = less_room job before streams t.is t.reached t.next some
 
-pub turned_way : (job : Job) (before streams now : List (StreamPrefix Plain)) (changed read due : List ℕ) (turn then : RoundNodes) → IsTurn job before streams changed turn → SomeChanges before streams → now ≡ streams → read ≡ changed → IsBegun then
-    → HaveTurned job.plan now read turn.nodes.items then.nodes.items due → IsUnderWay job streams then due
-turned_way job before streams now changed read due turn then t some now_is read_is begun all =
-    let turned : HaveTurned job.plan streams changed turn.nodes.items then.nodes.items due =
-    subst (λ (l : List ℕ). HaveTurned job.plan streams l turn.nodes.items then.nodes.items due) read_is (subst (λ (ss : List (StreamPrefix Plain)). HaveTurned job.plan ss read turn.nodes.items then.nodes.items due) now_is all) in
-    let reached : AreReached job streams = turn_further job before streams changed turn t some in
+pub going_way : (job : Job) (before streams now : List (StreamPrefix Plain)) (changed read due : List ℕ) (going then : RoundNodes) → IsGoing job before streams changed going → SomeChanges before streams → now ≡ streams → read ≡ changed → IsBegun then
+    → HaveGoneOn job.plan now read going.nodes.items then.nodes.items due → IsUnderWay job streams then due
+going_way job before streams now changed read due going then t some now_is read_is begun all =
+    let gone_on : HaveGoneOn job.plan streams changed going.nodes.items then.nodes.items due =
+    subst (λ (l : List ℕ). HaveGoneOn job.plan streams l going.nodes.items then.nodes.items due) read_is (subst (λ (ss : List (StreamPrefix Plain)). HaveGoneOn job.plan ss read going.nodes.items then.nodes.items due) now_is all) in
+    let reached : AreReached job streams = going_further job before streams changed going t some in
     let long = reached_long job streams t.is reached in
     record {
       reached = reached;
-      come = all_come job before streams changed due turn.nodes.items then.nodes.items (grown_to job before streams changed turn t) t.come t.changed_are turned;
+      come = all_come job before streams changed due going.nodes.items then.nodes.items (grown_to job before streams changed going t) t.come t.changed_are gone_on;
       begun = begun;
-      within = turned.within;
+      within = gone_on.within;
       others = λ s below.
           (let stream = some_there job.plan.streams s (omega (arith, below, long)) in
-          elim (due_or_same job before streams changed due turn.nodes.items then.nodes.items s stream.0.producer t.is t.reached reached t.changed_are turned (producer_at job s stream.0 t.is stream.1)) [
+          elim (due_or_same job before streams changed due going.nodes.items then.nodes.items s stream.0.producer t.is t.reached reached t.changed_are gone_on (producer_at job s stream.0 t.is stream.1)) [
             | inl c ↦ inl c
             | inr same ↦ inr (ap (λ (ss : List (StreamPrefix Plain)). stream_of ss s) t.next ∙ same)
           ]);

@@ -1,8 +1,1 @@
-pub mod Begun
-pub mod Changes
-pub mod Growing
-pub mod Progress
-pub mod Readers
-pub mod Rounds
-pub mod Seen
-pub mod RoundNodes
+pub mod Code

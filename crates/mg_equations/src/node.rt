@@ -2,8 +2,8 @@
 ghost use Rattle.std.specs.Prelude.{◌≡◌, length, IfOk};
 ghost use Rattle.mg_calc.specs.Outcome.{source_outcome as the_source_outcome};
 ghost use Rattle.mg_calc.specs.Shape.{IsServed, calls_of};
-ghost use Rattle.mg_equations.specs.Seen.{seen};
-ghost use Rattle.mg_equations.specs.Begun.{begun_by};
+ghost use Rattle.mg_equations.specs.Code.Seen.{seen};
+ghost use Rattle.mg_equations.specs.Code.Begun.{begun_by};
 
 use crate::outcome::Outcome;
 use mg_calc::{GivenList, Inputs, Law, Plan, PlanNode, node_sides};

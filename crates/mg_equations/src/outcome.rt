@@ -5,7 +5,7 @@ ghost use Rattle.mg_value.specs.Prefix.{empty_prefix};
 ghost use Rattle.mg_calc.specs.Shape.{IsServed, IsOuter, IsSource, calls_of};
 ghost use Rattle.mg_calc.specs.Laying.{laid_behind, all_raised};
 ghost use Rattle.mg_calc.specs.Outcome.{unopened, opened as the_opened, after_laying, shown, called, finished, ended, with_last_call};
-ghost use Rattle.mg_equations.specs.Seen.{seen, with_outputs, with_answers, Fails, TakesEmission};
+ghost use Rattle.mg_equations.specs.Code.Seen.{seen, with_outputs, with_answers, Fails, TakesEmission};
 
 use crate::laying::{close_all, emission_fault, lay_all, raise_all};
 use crate::output::Output;

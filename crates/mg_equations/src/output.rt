@@ -2,7 +2,7 @@ ghost use Rattle.std.specs.Prelude.{◌≡◌, ◌≤◌, ◌++◌, nat_lt, leng
 ghost use Rattle.mg_value.specs.Prefix.{empty_prefix, appended, all_appended, raised, closed};
 ghost use Rattle.mg_value.specs.Extension.{IsExtendedBy};
 ghost use Rattle.mg_value.specs.Loopback.{behind_first, last_of};
-ghost use Rattle.mg_equations.specs.Changes.{is_changed};
+ghost use Rattle.mg_equations.specs.Code.Changes.{is_changed};
 
 use mg_calc::LaidPackets;
 use mg_time::Timestamp;

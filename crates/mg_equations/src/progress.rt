@@ -8,8 +8,8 @@ ghost use Rattle.mg_value.specs.Left.{without_first, gone_of};
 ghost use Rattle.mg_calc.specs.Shape.{IsServed, IsOuter, IsShapeOf};
 ghost use Rattle.mg_calc.specs.Plan.{HasNumbers};
 ghost use Rattle.mg_calc.specs.Outcome.{shown};
-ghost use Rattle.mg_equations.specs.Seen.{seen};
-ghost use Rattle.mg_equations.specs.Progress.{AreWithin, CanGoOn, ShowsMore, AnswersMore, NodeGoesOn};
+ghost use Rattle.mg_equations.specs.Code.Seen.{seen};
+ghost use Rattle.mg_equations.specs.Code.Progress.{AreWithin, CanGoOn, ShowsMore, AnswersMore, NodeGoesOn};
 
 use crate::outcome::Outcome;
 use crate::output::Output;

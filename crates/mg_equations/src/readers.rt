@@ -2,7 +2,7 @@
 ghost use Rattle.std.specs.Prelude.{◌≡◌, ◌<◌, ◌++◌, ◌∷◌, [], All, length, replicate, slice_index_or, IfOk, OnOk};
 ghost use Rattle.std.specs.List.{flat_map};
 ghost use Rattle.mg_calc.specs.Plan.{IsValid};
-ghost use Rattle.mg_equations.specs.Readers.{HasReaders, IsAdded};
+ghost use Rattle.mg_equations.specs.Code.Readers.{HasReaders, IsAdded};
 
 use mg_calc::Plan;
 use mg_value::NumberList;

@@ -7,9 +7,9 @@ ghost use Rattle.mg_calc.specs.declared.plan_stream.PlanStream.{PlanStream};
 ghost use Rattle.mg_calc.specs.Equations.{IsJob, stream_of};
 ghost use Rattle.mg_calc.specs.Plan.{HasNumbers};
 ghost use Rattle.mg_calc.specs.Shape.{IsServed, IsShapeOf};
-ghost use Rattle.mg_equations.specs.Changes.{is_changed};
-ghost use Rattle.mg_equations.specs.Growing.{given_streams, IsGivenBy, MayGrow, AreChanged};
-ghost use Rattle.mg_equations.specs.Progress.{HasCome, HaveCome};
+ghost use Rattle.mg_equations.specs.Code.Changes.{is_changed};
+ghost use Rattle.mg_equations.specs.Code.Growing.{given_streams, IsGivenBy, MayGrow, AreChanged};
+ghost use Rattle.mg_equations.specs.Code.Progress.{HasCome, HaveCome};
 
 use crate::node::begun;
 use crate::output::Output;

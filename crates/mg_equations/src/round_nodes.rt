@@ -6,9 +6,9 @@ ghost use Rattle.mg_value.specs.Settled.{inputs_of as inputs_at};
 ghost use Rattle.mg_calc.specs.declared.plan_node.PlanNode.{PlanNode as Node};
 ghost use Rattle.mg_calc.specs.Plan.{IsValid};
 ghost use Rattle.mg_equations.specs.declared.progress.Progress.{Progress as Kept};
-ghost use Rattle.mg_equations.specs.Progress.{CanGoOn};
-ghost use Rattle.mg_equations.specs.Readers.{HasReaders};
-ghost use Rattle.mg_equations.specs.RoundNodes.{has_gone, outputs_at, IsBegun, Goes, HaveGone, HaveTurned};
+ghost use Rattle.mg_equations.specs.Code.Progress.{CanGoOn};
+ghost use Rattle.mg_equations.specs.Code.Readers.{HasReaders};
+ghost use Rattle.mg_equations.specs.Code.RoundNodes.{has_gone, outputs_at, IsBegun, Goes, HaveGone, HaveGoneOn};
 
 use crate::output::Output;
 use crate::progress::Progress;
@@ -61,7 +61,7 @@ fn outputs_among(alloc: Global, plan: &Plan, nodes: &[u32]) -> Result<Vec<u32>, 
 impl RoundNodes {
     /// Returns nodes of which none has gone on.
     pub fn begun(alloc: Global, nodes: Vec<Progress>) -> Result<RoundNodes, AllocError>
-        ensures nodes { IfOk result (λ turn. turn.nodes.items ≡ nodes.items) }
+        ensures nodes { IfOk result (λ going. going.nodes.items ≡ nodes.items) }
         ensures begun { IfOk result IsBegun }
     {
         let gone = no_marks(alloc, nodes.len())?;
@@ -142,7 +142,7 @@ impl RoundNodes {
         requires can { (k : ℕ) (node : Node) (progress : Kept) → slice_get plan.now.nodes k ≡ Some node → slice_get self.old.nodes.items k ≡ Some progress
             → CanGoOn node (inputs_at streams.now node.inputs) progress }
         ensures begun { OnOk result (IsBegun self.new) }
-        ensures turned { IfOk result (λ due. HaveTurned plan.now streams.now changed.now self.old.nodes.items self.new.nodes.items due.items) }
+        ensures gone_on { IfOk result (λ due. HaveGoneOn plan.now streams.now changed.now self.old.nodes.items self.new.nodes.items due.items) }
     {
         let numbers = readers_among(alloc, readers, changed)?;
         self.go_on_all(alloc, plan, streams, &numbers)?;

@@ -5,8 +5,8 @@ ghost use Rattle.mg_value.specs.Prefix.{empty_prefix};
 ghost use Rattle.mg_calc.specs.Equations.{IsSolution};
 ghost use Rattle.mg_calc.specs.Meaning.{counts, faults};
 ghost use Rattle.mg_calc.specs.Plan.{IsValid, InputsFit};
-ghost use Rattle.mg_equations.specs.Progress.{outcomes};
-ghost use Rattle.mg_equations.specs.Rounds.{numbered_fault};
+ghost use Rattle.mg_equations.specs.Code.Progress.{outcomes};
+ghost use Rattle.mg_equations.specs.Code.Rounds.{numbered_fault};
 
 use crate::output::Output;
 use crate::progress::Progress;
@@ -43,21 +43,21 @@ pub fn solve(alloc: Global, plan: &Plan, inputs: &Inputs) -> Result<Streams, All
 {
     let readers = readers_of(alloc, plan)?;
     let mut streams = nothing_known(alloc, plan.streams.len())?;
-    let mut turn = RoundNodes::begun(alloc, first_nodes(alloc, plan, inputs, &streams)?)?;
+    let mut going = RoundNodes::begun(alloc, first_nodes(alloc, plan, inputs, &streams)?)?;
     let mut due = all_streams(alloc, plan.streams.len())?;
     'rounds: loop {
         let changed = grow_due(
             alloc,
             plan,
             &inputs.streams,
-            &turn.nodes,
+            &going.nodes,
             &due,
             &mut streams,
         )?;
         if !has_change(&changed) {
-            return told(alloc, streams, &turn.nodes);
+            return told(alloc, streams, &going.nodes);
         }
-        due = turn.take(alloc, plan, &streams, &readers, &changed)?;
+        due = going.take(alloc, plan, &streams, &readers, &changed)?;
     }
 }
 

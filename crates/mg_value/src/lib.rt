@@ -1,6 +1,7 @@
 //! Values: texts, lists, payloads, packets and the prefixes of streams.
 //! Answers to the definitions of `specs/Plain.antt`, `specs/Payload.antt`, `specs/Json.antt`, `specs/Kind.antt`,
-//! `specs/Ends.antt`, `specs/Prefix.antt`, `specs/Extension.antt`, `specs/Settled.antt`, `specs/FirstSet.antt`, `specs/Left.antt` and `specs/Loopback.antt`.
+//! `specs/Prefix.antt`, `specs/Extension.antt`, `specs/Settled.antt`, `specs/FirstSet.antt`, `specs/Left.antt` and
+//! `specs/Loopback.antt`.
 #![tactic(auto)]
 
 mod block_list;

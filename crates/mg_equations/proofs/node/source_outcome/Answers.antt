@@ -1,7 +1,7 @@
 use Rattle.std.proofs.Common.{None, length, arith}
 use Rattle.mg_calc.specs.Outcome.{opened}
 use Rattle.mg_calc.specs.Shape.{calls_of}
-use Rattle.mg_equations.specs.Seen.{seen}
+use Rattle.mg_equations.specs.Code.Seen.{seen}
 use Rattle.mg_equations.proofs.OutcomeSteps.{called_further}
 use Rattle.mg_equations.proofs.node.source_outcome.Goals as goal
 

@@ -2,7 +2,7 @@
 use Rattle.std.proofs.Common.{length, None}
 use Rattle.mg_calc.specs.Outcome.{opened}
 use Rattle.mg_calc.specs.Shape.{calls_of}
-use Rattle.mg_equations.specs.Seen.{seen}
+use Rattle.mg_equations.specs.Code.Seen.{seen}
 use Rattle.mg_equations.proofs.OutcomeSteps.{IsCalled}
 use Rattle.mg_equations.proofs.node.source_outcome.Given as goal
 

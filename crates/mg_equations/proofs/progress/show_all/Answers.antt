@@ -1,4 +1,4 @@
-use Rattle.mg_equations.specs.Seen.{seen}
+use Rattle.mg_equations.specs.Code.Seen.{seen}
 use Rattle.mg_equations.proofs.OutcomeSteps.{shown_further}
 use Rattle.mg_equations.proofs.progress.show_all.Goals as goal
 

@@ -1,5 +1,5 @@
 -- The first nodes are among the readers of their streams.
-use Rattle.mg_equations.specs.Readers.{HasReaders}
+use Rattle.mg_equations.specs.Code.Readers.{HasReaders}
 use Rattle.mg_equations.proofs.readers.readers_of.Given as goal
 
 abbrev pub invariant-loop-number : goal.invariant-loop-number

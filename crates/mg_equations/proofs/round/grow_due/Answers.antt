@@ -1,6 +1,6 @@
 use Rattle.std.proofs.Common.{◌<◌, length, get_or, arith}
 use Rattle.std.proofs.lemmas.List.{get_or_default}
-use Rattle.mg_equations.specs.Growing.{given_streams}
+use Rattle.mg_equations.specs.Code.Growing.{given_streams}
 use Rattle.mg_equations.proofs.DueSteps.{one_extends, one_grown, all_grown, all_changed}
 use Rattle.mg_equations.proofs.round.grow_due.Goals as goal
 

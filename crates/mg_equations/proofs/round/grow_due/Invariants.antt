@@ -1,5 +1,5 @@
 -- The first streams that are due have grown.
-use Rattle.mg_equations.specs.Growing.{given_streams}
+use Rattle.mg_equations.specs.Code.Growing.{given_streams}
 use Rattle.mg_equations.proofs.DueSteps.{HaveGrown}
 use Rattle.mg_equations.proofs.round.grow_due.Given as goal
 

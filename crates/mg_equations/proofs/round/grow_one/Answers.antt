@@ -5,8 +5,8 @@ use Rattle.mg_value.specs.Payload.{Plain}
 use Rattle.mg_value.specs.Prefix.{StreamPrefix, empty_prefix}
 use Rattle.mg_value.specs.Extension.{IsExtendedBy}
 use Rattle.mg_calc.specs.Equations.{stream_of}
-use Rattle.mg_equations.specs.Changes.{is_changed}
-use Rattle.mg_equations.specs.Growing.{given_streams}
+use Rattle.mg_equations.specs.Code.Changes.{is_changed}
+use Rattle.mg_equations.specs.Code.Growing.{given_streams}
 use Rattle.mg_equations.proofs.DueSteps.{given_there}
 use Rattle.mg_equations.proofs.round.grow_one.Goals as goal
 

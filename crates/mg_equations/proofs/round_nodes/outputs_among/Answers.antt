@@ -4,7 +4,7 @@ use Rattle.std.proofs.lemmas.List.{get_or_default}
 use Rattle.std.proofs.lemmas.Option.{slice_get_read}
 use Rattle.mg_calc.specs.declared.plan_node.PlanNode.{PlanNode}
 use Rattle.mg_route.proofs.LayingLemmas.{from_here}
-use Rattle.mg_equations.specs.RoundNodes.{outputs_at}
+use Rattle.mg_equations.specs.Code.RoundNodes.{outputs_at}
 use Rattle.mg_equations.proofs.RoundNodeSteps.{outputs_are}
 use Rattle.mg_equations.proofs.round_nodes.outputs_among.Goals as goal
 

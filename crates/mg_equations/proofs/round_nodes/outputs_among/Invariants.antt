@@ -1,7 +1,7 @@
 -- With the nodes that are left it comes to the same.
 use Rattle.std.proofs.Common.{◌≡◌, ◌++◌, drop}
 use Rattle.std.specs.List.{flat_map}
-use Rattle.mg_equations.specs.RoundNodes.{outputs_at}
+use Rattle.mg_equations.specs.Code.RoundNodes.{outputs_at}
 use Rattle.mg_equations.proofs.round_nodes.outputs_among.Given as goal
 
 abbrev pub invariant-loop-number : goal.invariant-loop-number

@@ -1,6 +1,6 @@
 -- With the nodes that are left it comes to the same.
 use Rattle.std.proofs.Common.{◌≡◌, ◌++◌, map, drop}
-use Rattle.mg_equations.specs.Progress.{outcomes}
+use Rattle.mg_equations.specs.Code.Progress.{outcomes}
 use Rattle.mg_equations.proofs.solving.count_list.Given as goal
 
 abbrev pub invariant-loop-progress : goal.invariant-loop-progress

@@ -1,8 +1,8 @@
 -- With the nodes that are left it comes to the same.
 use Rattle.std.proofs.Common.{◌≡◌, ◌++◌, map, drop}
 use Rattle.std.specs.List.{filter_map, enumerate_from}
-use Rattle.mg_equations.specs.Progress.{outcomes}
-use Rattle.mg_equations.specs.Rounds.{numbered_fault}
+use Rattle.mg_equations.specs.Code.Progress.{outcomes}
+use Rattle.mg_equations.specs.Code.Rounds.{numbered_fault}
 use Rattle.mg_equations.proofs.solving.fault_list.Given as goal
 
 abbrev pub invariant-loop-progress : goal.invariant-loop-progress

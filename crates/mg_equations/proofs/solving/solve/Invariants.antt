@@ -4,7 +4,7 @@ use Rattle.mg_equations.proofs.SolveSteps.{IsUnderWay}
 use Rattle.mg_equations.proofs.solving.solve.Given as goal
 
 abbrev pub invariant-rounds : goal.invariant-rounds
-invariant-rounds l = IsUnderWay (record { plan = l.plan; inputs = l.inputs }) l.streams.items l.turn l.due.items
+invariant-rounds l = IsUnderWay (record { plan = l.plan; inputs = l.inputs }) l.streams.items l.going l.due.items
 
 abbrev pub decreases-rounds : goal.decreases-rounds
 decreases-rounds l = room l.streams.items

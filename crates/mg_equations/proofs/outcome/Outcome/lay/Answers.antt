@@ -4,7 +4,7 @@ use Rattle.mg_value.specs.Payload.{Plain}
 use Rattle.mg_value.specs.Prefix.{StreamPrefix}
 use Rattle.mg_calc.specs.Laying.{laid_behind}
 use Rattle.mg_route.specs.Reasons.{reason_of, laid_on, all_laid_on}
-use Rattle.mg_equations.specs.Seen.{seen}
+use Rattle.mg_equations.specs.Code.Seen.{seen}
 use Rattle.mg_route.proofs.LayingLemmas.{emission_laid, laid_long}
 use Rattle.mg_equations.proofs.OutcomeSteps.{laid_well}
 use Rattle.mg_equations.proofs.outcome.Outcome.lay.Goals as goal

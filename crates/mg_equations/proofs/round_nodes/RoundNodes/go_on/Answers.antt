@@ -3,7 +3,7 @@ use Rattle.std.proofs.lemmas.List.{get_or_default}
 use Rattle.std.proofs.lemmas.Option.{slice_get_read}
 use Rattle.std.proofs.lemmas.Result.{on_ok_weaker}
 use Rattle.mg_calc.specs.declared.plan_node.PlanNode.{PlanNode}
-use Rattle.mg_equations.specs.RoundNodes.{has_gone}
+use Rattle.mg_equations.specs.Code.RoundNodes.{has_gone}
 use Rattle.mg_equations.proofs.RoundNodeSteps.{went_on}
 use Rattle.mg_equations.proofs.round_nodes.RoundNodes.go_on.Goals as goal
 

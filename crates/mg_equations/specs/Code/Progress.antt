@@ -15,7 +15,7 @@ use Rattle.mg_calc.specs.Shape.{IsOuter}
 use Rattle.mg_calc.specs.Outcome.{Outcome, shown, ended}
 use Rattle.mg_calc.specs.Equations.{Job, outcome_of}
 use Rattle.mg_equations.specs.declared.progress.Progress.{Progress}
-use Rattle.mg_equations.specs.Seen.{seen, with_answers}
+use Rattle.mg_equations.specs.Code.Seen.{seen, with_answers}
 
 -- What is kept of a node whose streams have been read.
 

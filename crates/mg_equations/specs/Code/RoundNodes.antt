@@ -7,21 +7,21 @@ use Rattle.mg_calc.specs.declared.plan.Plan.{Plan}
 use Rattle.mg_calc.specs.declared.plan_node.PlanNode.{PlanNode}
 use Rattle.mg_equations.specs.declared.progress.Progress.{Progress}
 use Rattle.mg_equations.specs.declared.round_nodes.RoundNodes.{RoundNodes}
-use Rattle.mg_equations.specs.Progress.{NodeGoesOn}
+use Rattle.mg_equations.specs.Code.Progress.{NodeGoesOn}
 
 -- whether a node has gone on in a round
 abbrev pub has_gone : RoundNodes → ℕ → Bool
-has_gone turn k = slice_index_or turn.gone.items k false
+has_gone going k = slice_index_or going.gone.items k false
 
 -- the streams that a node writes
 abbrev pub outputs_at : List PlanNode → ℕ → List ℕ
 outputs_at nodes k = unwrap_or (option_map (λ node. node.outputs) (slice_get nodes k)) []
 
 -- none has gone on yet
-pub record IsBegun (turn : RoundNodes) : Type 0 where
-  pub marks : length turn.gone.items ≡ length turn.nodes.items
-  pub none : (k : ℕ) → has_gone turn k ≡ false
-  pub listed : turn.listed.items ≡ []
+pub record IsBegun (going : RoundNodes) : Type 0 where
+  pub marks : length going.gone.items ≡ length going.nodes.items
+  pub none : (k : ℕ) → has_gone going k ≡ false
+  pub listed : going.listed.items ≡ []
 
 -- a node has gone on, and is marked and listed
 pub record IsGone (nodes : List PlanNode) (streams : List (StreamPrefix Plain)) (k : ℕ) (before now : RoundNodes) : Type 0 where
@@ -42,17 +42,17 @@ GoesOnIf true node streams before now = NodeGoesOn node.law node (inputs_of stre
 GoesOnIf false node streams before now = now ≡ before
 
 -- the nodes of the first so many numbers have gone on, and all that have are marked and listed
-pub record HaveGone (nodes : List PlanNode) (streams : List (StreamPrefix Plain)) (first : List Progress) (numbers : List ℕ) (i : ℕ) (turn : RoundNodes) : Type 0 where
-  pub many : length turn.nodes.items ≡ length first
-  pub marks : length turn.gone.items ≡ length first
-  pub each : (k : ℕ) (node : PlanNode) (before now : Progress) → slice_get nodes k ≡ Some node → slice_get first k ≡ Some before → slice_get turn.nodes.items k ≡ Some now
-      → GoesOnIf (has_gone turn k) node streams before now
-  pub listed : (k : ℕ) → has_gone turn k ≡ true → Contains turn.listed.items k
-  pub within : All (λ k. k < length first) turn.listed.items
-  pub done : (j : ℕ) → j < i → j < length numbers → has_gone turn (slice_index_or numbers j 0) ≡ true
+pub record HaveGone (nodes : List PlanNode) (streams : List (StreamPrefix Plain)) (first : List Progress) (numbers : List ℕ) (i : ℕ) (going : RoundNodes) : Type 0 where
+  pub many : length going.nodes.items ≡ length first
+  pub marks : length going.gone.items ≡ length first
+  pub each : (k : ℕ) (node : PlanNode) (before now : Progress) → slice_get nodes k ≡ Some node → slice_get first k ≡ Some before → slice_get going.nodes.items k ≡ Some now
+      → GoesOnIf (has_gone going k) node streams before now
+  pub listed : (k : ℕ) → has_gone going k ≡ true → Contains going.listed.items k
+  pub within : All (λ k. k < length first) going.listed.items
+  pub done : (j : ℕ) → j < i → j < length numbers → has_gone going (slice_index_or numbers j 0) ≡ true
 
 -- the nodes that read a changed stream have gone on, the others stay, and a list has all streams that those write
-pub record HaveTurned (plan : Plan) (streams : List (StreamPrefix Plain)) (changed : List ℕ) (first now : List Progress) (due : List ℕ) : Type 0 where
+pub record HaveGoneOn (plan : Plan) (streams : List (StreamPrefix Plain)) (changed : List ℕ) (first now : List Progress) (due : List ℕ) : Type 0 where
   pub gone : ℕ → Bool
   pub many : length now ≡ length first
   pub each : (k : ℕ) (node : PlanNode) (before then : Progress) → slice_get plan.nodes k ≡ Some node → slice_get first k ≡ Some before → slice_get now k ≡ Some then

@@ -10,7 +10,7 @@ use Rattle.mg_calc.specs.declared.plan_stream.Producer.{Producer}
 use Rattle.mg_calc.specs.declared.plan_stream.Producer.TheVariants.{Input, Node}
 use Rattle.mg_calc.specs.Equations.{stream_of}
 use Rattle.mg_equations.specs.declared.progress.Progress.{Progress}
-use Rattle.mg_equations.specs.Changes.{is_changed}
+use Rattle.mg_equations.specs.Code.Changes.{is_changed}
 
 -- the streams that the graph inputs and the nodes give
 abbrev pub given_streams : List (StreamPrefix Plain) → List Progress → List (StreamPrefix Plain)
