@@ -8,9 +8,10 @@ use Rattle.std.proofs.lemmas.List.Elements.{All-from_recursion}
 use Rattle.mg_time.specs.Time.{pre_stream, greatest, next}
 use Rattle.mg_value.specs.declared.kind.Kind.{Kind}
 use Rattle.mg_value.specs.Payload.{Plain, int}
-use Rattle.mg_value.specs.Prefix.{Stamped, StreamPrefix, IsPrefix, MayFollow, empty_prefix, appended}
-use Rattle.mg_value.specs.Extension.{IsExtendedBy, AreExtendedBy}
-use Rattle.mg_value.proofs.Lemmas.{appended_is_prefix, closed_is_prefix, extended_by_itself, extended_further, all_by_themselves, all_further, appended_extends, closed_extends}
+use Rattle.mg_value.specs.Packet.{Stamped}
+use Rattle.mg_settled.specs.Prefix.{StreamPrefix, IsPrefix, MayFollow, empty_prefix, appended}
+use Rattle.mg_settled.specs.Extension.{IsExtendedBy, AreExtendedBy}
+use Rattle.mg_settled.proofs.Lemmas.{appended_is_prefix, closed_is_prefix, extended_by_itself, extended_further, all_by_themselves, all_further, appended_extends, closed_extends}
 use Rattle.mg_calc.specs.declared.plan.Plan.{Plan}
 use Rattle.mg_calc.specs.declared.edge.Edge.{Edge}
 use Rattle.mg_calc.specs.declared.law.Law.{Law}

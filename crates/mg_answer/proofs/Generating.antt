@@ -2,10 +2,10 @@
 use Rattle.std.proofs.Common.{◌≡◌, ◌≢◌, ◌<◌, ◌^◌, length, ◌⊎◌, inl, inr, ℕ, Bool, List, [], ◌∷◌, refl}
 use Rattle.mg_edge.specs.Edge.{Rose}
 use Rattle.mg_value.specs.Payload.{Plain}
-use Rattle.mg_value.specs.Prefix.{StreamPrefix}
 use Rattle.mg_value.specs.declared.policy.Policy.TheVariants.{Default}
-use Rattle.mg_value.specs.Settled.{settled_sets, inputs_of as ports_of}
-use Rattle.mg_value.proofs.Lemmas.{all_inputs}
+use Rattle.mg_settled.specs.Prefix.{StreamPrefix}
+use Rattle.mg_settled.specs.Settled.{settled_sets, inputs_of as ports_of}
+use Rattle.mg_settled.proofs.Lemmas.{all_inputs}
 use Rattle.mg_calc.specs.declared.plan.Plan.{Plan}
 use Rattle.mg_calc.specs.declared.node_fault.NodeFault.{NodeFault as Fault}
 use Rattle.mg_calc.specs.Equations.{Job, IsJob, IsSolution}

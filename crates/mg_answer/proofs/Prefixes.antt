@@ -6,8 +6,9 @@ use Rattle.std.specs.List.{AllByRecursion as Each}
 use Rattle.std.specs.Str.{bytes_eq}
 use Rattle.mg_time.specs.Time.{done}
 use Rattle.mg_value.specs.Payload.{Plain}
-use Rattle.mg_value.specs.Prefix.{Stamped, StreamPrefix, IsPrefix, MayFollow, empty_prefix, appended, raised, closed}
-use Rattle.mg_value.proofs.Lemmas.{empty_is_prefix, appended_is_prefix, raised_is_prefix, closed_is_prefix}
+use Rattle.mg_value.specs.Packet.{Stamped}
+use Rattle.mg_settled.specs.Prefix.{StreamPrefix, IsPrefix, MayFollow, empty_prefix, appended, raised, closed}
+use Rattle.mg_settled.proofs.Lemmas.{empty_is_prefix, appended_is_prefix, raised_is_prefix, closed_is_prefix}
 use Rattle.mg_feed.specs.Graph.{GraphInputs, place_of, numbered}
 use Rattle.mg_feed.specs.declared.places.Placed.{Placed}
 use Rattle.mg_feed.specs.Form.{Named, Form, packets, bound, close, side, form_of, json_value}

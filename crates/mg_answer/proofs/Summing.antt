@@ -6,8 +6,8 @@ use Rattle.std.proofs.lemmas.List.{reverse-append}
 use Rattle.mg_edge.specs.Edge.{SinkTold}
 use Rattle.mg_edge.proofs.Runs.{TookAll-start}
 use Rattle.mg_value.specs.Payload.{Plain}
-use Rattle.mg_value.specs.Prefix.{Stamped}
-use Rattle.mg_value.specs.Settled.{TimedSet}
+use Rattle.mg_value.specs.Packet.{Stamped}
+use Rattle.mg_settled.specs.Settled.{TimedSet}
 use Rattle.mg_answer.specs.Put.{TextView, HasPut}
 use Rattle.mg_answer.specs.Summary.{addend, sum_of, first_time_of, last_time_of, total_of, packets_at, total_line, summary_text, SummaryView, totals_of, HasSummed}
 use Rattle.mg_answer.specs.Code.Adding.{with_place, with_set, total_lines}

@@ -5,7 +5,7 @@ use Rattle.std.proofs.lemmas.List.{length-map}
 use Rattle.std.proofs.lemmas.List.Elements.{All-from_recursion}
 use Rattle.mg_time.specs.Time.{done}
 use Rattle.mg_value.specs.Payload.{Plain}
-use Rattle.mg_value.specs.Prefix.{StreamPrefix, IsPrefix}
+use Rattle.mg_settled.specs.Prefix.{StreamPrefix, IsPrefix}
 use Rattle.mg_calc.specs.declared.plan.Plan.{Plan}
 use Rattle.mg_calc.specs.declared.plan_node.PlanNode.{PlanNode}
 use Rattle.mg_calc.specs.declared.inputs.Inputs.{Inputs}
@@ -17,9 +17,9 @@ use Rattle.mg_calc.specs.Plan.{IsValid, InputsFit}
 use Rattle.mg_calc.proofs.Solutions.{solution_keeps, solution_has_each}
 use Rattle.mg_calc.proofs.Jobs.{any_state, job_known}
 use Rattle.mg_answer.specs.Notes.{bounds_of}
-use Rattle.mg_value.specs.Ends.{end_of}
+use Rattle.mg_settled.specs.Ends.{end_of}
 use Rattle.mg_answer.specs.Report.{open_numbers, end_bounds}
-use Rattle.mg_value.specs.declared.stream_end.StreamEnd.{StreamEnd}
+use Rattle.mg_settled.specs.declared.stream_end.StreamEnd.{StreamEnd}
 
 -- streams
 open-by : (b : Bool) (n k : ℕ) (end : StreamEnd) (more : List (ℕ × StreamEnd)) → k < n → Each (λ i. i < n) (map (λ e. e.0) (filter (λ (e : ℕ × StreamEnd). not (e.1.bound == done)) more))

@@ -3,8 +3,8 @@
 use Rattle.std.proofs.Common.{◌≡◌, ◌+◌, ◌^◌, ℕ, pos, negsuc, List, [], ◌∷◌, Option, None, Some, codes, refl}
 use Rattle.std.specs.Fmt.{digits}
 use Rattle.mg_value.specs.Payload.{Plain, int, text}
-use Rattle.mg_value.specs.Prefix.{Stamped}
-use Rattle.mg_value.specs.Settled.{TimedSet}
+use Rattle.mg_value.specs.Packet.{Stamped}
+use Rattle.mg_settled.specs.Settled.{TimedSet}
 use Rattle.mg_answer.specs.Summary.{summary_text}
 
 -- a packet at a number's time, and a set

@@ -4,8 +4,8 @@ use Rattle.mg_edge.specs.Edge.{SinkTold, Rose}
 use Rattle.mg_edge.specs.Runs.{TookAll}
 use Rattle.mg_edge.proofs.Runs.{TookAll-start}
 use Rattle.mg_value.specs.Payload.{Plain}
-use Rattle.mg_value.specs.Prefix.{Stamped}
-use Rattle.mg_value.specs.Settled.{TimedSet}
+use Rattle.mg_value.specs.Packet.{Stamped}
+use Rattle.mg_settled.specs.Settled.{TimedSet}
 use Rattle.mg_feed.specs.Sent.{SentAll, SentPart, Sent}
 use Rattle.mg_answer.specs.Text.{packet_text, set_text, sets_text}
 use Rattle.mg_answer.specs.Devices.{Device, device, IsFront, TookFront}

@@ -3,7 +3,7 @@
 use Rattle.std.specs.Prelude.{◌≡◌, ℕ, List, [], ◌++◌}
 use Rattle.mg_edge.specs.Edge.{SinkTold}
 use Rattle.mg_value.specs.Payload.{Plain}
-use Rattle.mg_value.specs.Prefix.{StreamPrefix}
+use Rattle.mg_settled.specs.Prefix.{StreamPrefix}
 use Rattle.mg_calc.specs.declared.node_fault.NodeFault.{NodeFault}
 use Rattle.mg_calc.specs.Equations.{Job, IsSolution}
 use Rattle.mg_calc.specs.Meaning.{faults}

@@ -4,9 +4,9 @@ use Rattle.std.specs.List.{flat_map}
 use Rattle.mg_time.specs.Time.{pre_stream}
 use Rattle.mg_time.specs.Text.{time_text}
 use Rattle.mg_value.specs.Payload.{Plain}
-use Rattle.mg_value.specs.Prefix.{StreamPrefix}
-use Rattle.mg_value.specs.declared.value_fault.ValueFault.{ValueFault}
-use Rattle.mg_value.specs.declared.value_fault.ValueFault.TheVariants as values
+use Rattle.mg_json.specs.declared.value_fault.ValueFault.{ValueFault}
+use Rattle.mg_json.specs.declared.value_fault.ValueFault.TheVariants as values
+use Rattle.mg_settled.specs.Prefix.{StreamPrefix}
 use Rattle.mg_calc.specs.declared.cause.Cause.{Cause}
 use Rattle.mg_calc.specs.declared.cause.Cause.TheVariants as causes
 use Rattle.mg_calc.specs.declared.node_fault.NodeFault.{NodeFault}

@@ -11,7 +11,7 @@ use Rattle.mg_feed.specs.Once.{ReadsOnce}
 use Rattle.mg_feed.specs.declared.feed_end.FeedEnd.{FeedEnd}
 use Rattle.mg_feed.specs.declared.feed_end.FeedEnd.TheVariants.{Ended, Failed, Refused, OutOfMemory as no_lines}
 use Rattle.mg_value.specs.Payload.{Plain}
-use Rattle.mg_value.specs.Prefix.{StreamPrefix}
+use Rattle.mg_settled.specs.Prefix.{StreamPrefix}
 use Rattle.mg_calc.specs.Equations.{IsSolution}
 use Rattle.mg_answer.specs.Text.{output_text_of}
 use Rattle.mg_answer.specs.Summary.{summary_of}

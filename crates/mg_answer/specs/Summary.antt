@@ -6,8 +6,9 @@ use Rattle.std.specs.Fmt.{signed_decimal}
 use Rattle.mg_time.specs.Text.{time_text}
 use Rattle.mg_value.specs.Payload.{Plain, flag, int, text, items, entries}
 use Rattle.mg_value.specs.declared.policy.Policy.TheVariants.{Default}
-use Rattle.mg_value.specs.Prefix.{Stamped, StreamPrefix}
-use Rattle.mg_value.specs.Settled.{TimedSet, settled_sets, inputs_of}
+use Rattle.mg_value.specs.Packet.{Stamped}
+use Rattle.mg_settled.specs.Prefix.{StreamPrefix}
+use Rattle.mg_settled.specs.Settled.{TimedSet, settled_sets, inputs_of}
 use Rattle.mg_calc.specs.declared.plan.Plan.{Plan}
 use Rattle.mg_calc.specs.Meaning.{numbered}
 use Rattle.mg_answer.specs.Shown.{escaped}

@@ -3,8 +3,9 @@ use Rattle.std.specs.Prelude.{ℕ, List, [], ◌∷◌, ◌++◌, map, Option, N
 use Rattle.std.specs.List.{flat_map}
 use Rattle.mg_value.specs.Payload.{Plain}
 use Rattle.mg_value.specs.declared.policy.Policy.TheVariants.{Default}
-use Rattle.mg_value.specs.Prefix.{Stamped, StreamPrefix}
-use Rattle.mg_value.specs.Settled.{TimedSet, settled_sets, inputs_of}
+use Rattle.mg_value.specs.Packet.{Stamped}
+use Rattle.mg_settled.specs.Prefix.{StreamPrefix}
+use Rattle.mg_settled.specs.Settled.{TimedSet, settled_sets, inputs_of}
 use Rattle.mg_calc.specs.declared.plan.Plan.{Plan}
 use Rattle.mg_feed.specs.Output.{line_text}
 

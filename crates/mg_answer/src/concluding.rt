@@ -2,7 +2,7 @@
 ghost use Rattle.std.specs.Prelude.{◌≡◌, ◌<◌, ◌^◌, if◌then◌else◌, All, length, List, ℕ, IfOk, OnErr};
 ghost use Rattle.mg_edge.specs.Edge.{SinkTold};
 ghost use Rattle.mg_value.specs.Payload.{Plain};
-ghost use Rattle.mg_value.specs.Prefix.{StreamPrefix};
+ghost use Rattle.mg_settled.specs.Prefix.{StreamPrefix};
 ghost use Rattle.mg_calc.specs.Equations.{Job, IsSolution};
 ghost use Rattle.mg_answer.specs.Told.{status_of as the_status};
 ghost use Rattle.mg_answer.specs.Answer.{OutputForm, output_in};

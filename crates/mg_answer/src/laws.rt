@@ -3,9 +3,9 @@ ghost use Rattle.std.specs.Prelude.{◌≡◌, ◌≢◌, ◌⊎◌, ◌<◌, �
 ghost use Rattle.mg_edge.specs.Edge.{SourceTold, SinkTold};
 ghost use Rattle.mg_edge.specs.Runs.{Gave};
 ghost use Rattle.mg_value.specs.Payload.{Plain};
-ghost use Rattle.mg_value.specs.Prefix.{StreamPrefix};
 ghost use Rattle.mg_value.specs.declared.policy.Policy.TheVariants.{Default};
-ghost use Rattle.mg_value.specs.Settled.{settled_sets, inputs_of as ports_of};
+ghost use Rattle.mg_settled.specs.Prefix.{StreamPrefix};
+ghost use Rattle.mg_settled.specs.Settled.{settled_sets, inputs_of as ports_of};
 ghost use Rattle.mg_calc.specs.declared.plan.Plan.{Plan};
 ghost use Rattle.mg_calc.specs.Plan.{IsValid, IsValidWithFree, InputsFit};
 ghost use Rattle.mg_calc.specs.Equations.{Job, IsJob, IsSolution};

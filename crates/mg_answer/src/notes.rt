@@ -13,8 +13,8 @@ use crate::shown::put_shown;
 use crate::words::{cause_name, line_refusal};
 use mg_calc::{NodeFault, Phase, Plan};
 use mg_feed::{FeedEnd, LineFault};
+use mg_settled::StreamEnd;
 use mg_time::Timestamp;
-use mg_value::StreamEnd;
 use std::alloc::AllocError;
 
 /// Puts the note of how an input ended at a text's end, where a read failed or a line was refused. Otherwise it puts nothing.

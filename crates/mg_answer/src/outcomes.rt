@@ -1,5 +1,6 @@
 use mg_calc::NodeFaultList;
-use mg_value::{CountList, StreamEnd};
+use mg_settled::StreamEnd;
+use mg_value::CountList;
 
 /// What a run tells of its nodes and streams in the notes and in the report, by the numbers of its plan.
 #[derive(Drop)]

@@ -2,7 +2,7 @@
 ghost use Rattle.std.specs.Prelude.{◌≡◌, ◌<◌, ◌^◌, ◌-◌, ◌+◌, ◌++◌, ◌∷◌, [], All, length, List, replicate, IfOk};
 ghost use Rattle.mg_edge.specs.Edge.{SinkTold};
 ghost use Rattle.mg_value.specs.Payload.{Plain};
-ghost use Rattle.mg_value.specs.Settled.{TimedSet};
+ghost use Rattle.mg_settled.specs.Settled.{TimedSet};
 ghost use Rattle.mg_answer.specs.Text.{output_names};
 ghost use Rattle.mg_answer.specs.Summary.{HasSummed, summary_text, total_of};
 ghost use Rattle.mg_answer.specs.Put.{HasPut};
@@ -13,7 +13,8 @@ use crate::set_lines::stream_name;
 use crate::total::Total;
 use crate::total_lines::put_totals;
 use mg_calc::Plan;
-use mg_value::{InputSet, MgText};
+use mg_settled::InputSet;
+use mg_value::MgText;
 use std::alloc::{AllocError, Global};
 use std::marker::Model;
 

@@ -9,7 +9,7 @@ use crate::set_lines::{SetLines, writers_of};
 use mg_calc::Plan;
 use mg_edge::Sink;
 use mg_feed::LineWriter;
-use mg_value::InputSet;
+use mg_settled::InputSet;
 use std::alloc::{AllocError, Global};
 use std::marker::Model;
 

@@ -8,7 +8,7 @@ use crate::pieces::{label_at, put, put_number, put_time};
 use crate::set_lines::stream_name;
 use crate::shown::put_shown;
 use mg_calc::Plan;
-use mg_value::StreamEnd;
+use mg_settled::StreamEnd;
 use std::alloc::AllocError;
 
 /// Puts the report at a text's end, where it is asked for.

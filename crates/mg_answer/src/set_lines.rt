@@ -6,7 +6,8 @@ ghost use Rattle.mg_answer.specs.Text.{name_of, output_names, packet_text, set_t
 use crate::Puts;
 use mg_calc::Plan;
 use mg_feed::{LineWriter, whole_or_none};
-use mg_value::{InputSet, MgText, Packet};
+use mg_settled::InputSet;
+use mg_value::{MgText, Packet};
 use std::alloc::{AllocError, Global};
 
 /// Returns for each output of a graph, in order, what writes its lines.

@@ -1,7 +1,7 @@
 //! A run that computes its answer plainly: the whole input is read, and then its solution is written.
 ghost use Rattle.std.specs.Prelude.{◌≡◌, ◌≢◌, ◌<◌, ◌⊎◌, ◌∷◌, [], All, length, map, MatchResult, IfOk, OnErr};
-ghost use Rattle.mg_value.specs.Prefix.{IsPrefix};
-ghost use Rattle.mg_value.specs.Ends.{end_of};
+ghost use Rattle.mg_settled.specs.Prefix.{IsPrefix};
+ghost use Rattle.mg_settled.specs.Ends.{end_of};
 ghost use Rattle.mg_calc.specs.Plan.{IsValid, InputsFit};
 ghost use Rattle.mg_feed.specs.Ran.{EndCame};
 ghost use Rattle.mg_answer.specs.Text.{sets_text, output_text_of};
@@ -23,7 +23,8 @@ use mg_calc::{Inputs, Plan};
 use mg_edge::{Sink, Source};
 use mg_equations::solve;
 use mg_feed::FeedEnd;
-use mg_value::{Policy, Prefix, PrefixList, StreamEnd, TimedSet, settled_sets};
+use mg_settled::{Prefix, PrefixList, StreamEnd, TimedSet, settled_sets};
+use mg_value::Policy;
 use std::alloc::{AllocError, Global};
 
 /// Reads packet lines to the input's end, its first fault or its first line that isn't good, solves the graph's equations for what they

@@ -7,8 +7,8 @@ ghost use Rattle.mg_answer.specs.Report.{open_numbers};
 use crate::Status;
 use mg_calc::NodeFault;
 use mg_feed::FeedEnd;
+use mg_settled::StreamEnd;
 use mg_time::Timestamp;
-use mg_value::StreamEnd;
 use std::alloc::{AllocError, Global};
 
 /// Returns the numbers of the streams that haven't ended, where `ends` tells how far each stream has come.

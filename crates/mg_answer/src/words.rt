@@ -4,7 +4,7 @@ ghost use Rattle.mg_answer.specs.Notes as notes;
 
 use mg_calc::Cause;
 use mg_feed::LineFault;
-use mg_value::ValueFault;
+use mg_json::ValueFault;
 
 /// Returns the words for why a line was refused: none where memory ran out.
 pub fn line_refusal(fault: LineFault) -> &'static str

@@ -4,8 +4,9 @@ use Rattle.std.specs.List.{filter_map, cons_option}
 use Rattle.std.proofs.lemmas.Option.{slice_get-map}
 use Rattle.mg_time.specs.Time.{raw_of}
 use Rattle.mg_value.specs.Plain.{Plain, int}
-use Rattle.mg_value.specs.Prefix.{Stamped, StreamPrefix}
-use Rattle.mg_value.specs.Settled.{TimedSet, packet_at, set_at}
+use Rattle.mg_value.specs.Packet.{Stamped}
+use Rattle.mg_settled.specs.Prefix.{StreamPrefix}
+use Rattle.mg_settled.specs.Settled.{TimedSet, packet_at, set_at}
 use Rattle.mg_calc.specs.declared.law.Law.TheVariants.{BeginLoop}
 use Rattle.mg_calc.specs.declared.emission.Laid.{Laid}
 use Rattle.mg_calc.specs.declared.cause.Cause.TheVariants.{WrongKind, Overflow}

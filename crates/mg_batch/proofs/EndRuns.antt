@@ -4,9 +4,9 @@ use Rattle.std.proofs.lemmas.List.{append_assoc, append-nil}
 use Rattle.std.proofs.lemmas.Bool.Decides.{nat_tests}
 use Rattle.mg_time.specs.Time.{place_of}
 use Rattle.mg_value.specs.Plain.{Plain, items, items_of, depth}
-use Rattle.mg_value.specs.Prefix.{Stamped}
-use Rattle.mg_value.specs.Settled.{TimedSet, times_of, packet_at}
-use Rattle.mg_value.proofs.Times.{In, Rises, map_agree}
+use Rattle.mg_value.specs.Packet.{Stamped}
+use Rattle.mg_settled.specs.Settled.{TimedSet, times_of, packet_at}
+use Rattle.mg_settled.proofs.Times.{In, Rises, map_agree}
 use Rattle.mg_calc.specs.declared.law.Law.TheVariants.{EndLoop}
 use Rattle.mg_calc.specs.declared.emission.Laid.{Laid}
 use Rattle.mg_calc.specs.declared.cause.Cause.TheVariants.{WrongKind, TooDeep}

@@ -6,7 +6,7 @@ use Rattle.std.proofs.lemmas.Bool.Decides.{nat_tests}
 use Rattle.std.proofs.lemmas.List.Elements.{filter_map-append}
 use Rattle.mg_time.specs.Time.{raw_of, place_of}
 use Rattle.mg_value.specs.Plain.{Plain, int, items, items_of}
-use Rattle.mg_value.specs.Prefix.{Stamped}
+use Rattle.mg_value.specs.Packet.{Stamped}
 use Rattle.mg_calc.specs.declared.plan_node.PlanNode.{PlanNode}
 use Rattle.mg_calc.specs.Values.{items_in}
 use Rattle.mg_calc.specs.Batch.{inner_time, at_inner_times, last_inner}

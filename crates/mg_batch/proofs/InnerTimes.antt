@@ -4,7 +4,7 @@ use Rattle.std.proofs.lemmas.List.{take_more, map-append, length-map, length-tak
 use Rattle.std.proofs.lemmas.Grind.{replicate_next}
 use Rattle.mg_value.specs.Plain.{Plain, items_of}
 use Rattle.mg_calc.specs.Values.{listed}
-use Rattle.mg_value.specs.Prefix.{Stamped}
+use Rattle.mg_value.specs.Packet.{Stamped}
 use Rattle.mg_calc.specs.Batch.{inner_time, at_inner_times, copies}
 
 pub at_inner_times-append : (c : ℕ) (xs ys : List Plain) → at_inner_times c (xs ++ ys) ≡ at_inner_times c xs ++ at_inner_times (c + length xs) ys

@@ -5,13 +5,14 @@ use Rattle.std.proofs.lemmas.List.Elements.{recursion_from_All}
 use Rattle.std.proofs.lemmas.Option.{slice_get_within}
 use Rattle.mg_time.specs.Time.{done}
 use Rattle.mg_value.specs.Payload.{Plain}
-use Rattle.mg_value.specs.Prefix.{Stamped, StreamPrefix, IsPrefix}
-use Rattle.mg_value.specs.Settled.{packet_at, settled_times, settled_sets}
+use Rattle.mg_value.specs.Packet.{Stamped}
 use Rattle.mg_value.specs.declared.policy.Policy.{Policy}
 use Rattle.mg_value.specs.declared.policy.Policy.TheVariants.{Default}
-use Rattle.mg_value.proofs.Climbs.{prefix-rises}
-use Rattle.mg_value.proofs.PrefixSteps.{empty_is_prefix}
-use Rattle.mg_value.proofs.SettledTimes.{settled_rises}
+use Rattle.mg_settled.specs.Prefix.{StreamPrefix, IsPrefix}
+use Rattle.mg_settled.specs.Settled.{packet_at, settled_times, settled_sets}
+use Rattle.mg_settled.proofs.Climbs.{prefix-rises}
+use Rattle.mg_settled.proofs.PrefixSteps.{empty_is_prefix}
+use Rattle.mg_settled.proofs.SettledTimes.{settled_rises}
 use Rattle.mg_calc.specs.declared.law.Law.{Law}
 use Rattle.mg_calc.specs.declared.law.Law.TheVariants.{Pass, Map, Filter, BeginLoop, EndLoop}
 use Rattle.mg_calc.specs.declared.plan_node.PlanNode.{PlanNode}

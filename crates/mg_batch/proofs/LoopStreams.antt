@@ -6,10 +6,11 @@ use Rattle.std.proofs.lemmas.List.Concat.{flat_map-cons}
 use Rattle.std.proofs.lemmas.List.Elements.{recursion_from_All}
 use Rattle.mg_time.specs.Time.{done, IsAllowed}
 use Rattle.mg_value.specs.Payload.{Plain}
-use Rattle.mg_value.specs.Prefix.{Stamped, StreamPrefix, IsPrefix, empty_prefix}
-use Rattle.mg_value.specs.Settled.{low, times_of, all_times, settled_times}
-use Rattle.mg_value.proofs.Times.{In, In-append_left, In-append_right}
-use Rattle.mg_value.proofs.SettledTimes.{settled_to}
+use Rattle.mg_value.specs.Packet.{Stamped}
+use Rattle.mg_settled.specs.Prefix.{StreamPrefix, IsPrefix, empty_prefix}
+use Rattle.mg_settled.specs.Settled.{low, times_of, all_times, settled_times}
+use Rattle.mg_settled.proofs.Times.{In, In-append_left, In-append_right}
+use Rattle.mg_settled.proofs.SettledTimes.{settled_to}
 use Rattle.mg_calc.specs.declared.plan_node.PlanNode.{PlanNode}
 use Rattle.mg_calc.specs.declared.law.Law.TheVariants.{Loopback}
 use Rattle.mg_calc.specs.Equations.{Job, IsJob, IsSolution, stream_of, outcome_of}

@@ -4,9 +4,10 @@ use Rattle.std.specs.List.{fold}
 use Rattle.std.proofs.lemmas.List.{append-nil, append_assoc, length-map, length-replicate}
 use Rattle.mg_time.specs.Time.{done, shift}
 use Rattle.mg_value.specs.Payload.{Plain}
-use Rattle.mg_value.specs.Prefix.{Stamped, StreamPrefix, empty_prefix, appended, raised, closed}
-use Rattle.mg_value.specs.Settled.{TimedSet, settled_sets, reach}
+use Rattle.mg_value.specs.Packet.{Stamped}
 use Rattle.mg_value.specs.declared.policy.Policy.{Policy}
+use Rattle.mg_settled.specs.Prefix.{StreamPrefix, empty_prefix, appended, raised, closed}
+use Rattle.mg_settled.specs.Settled.{TimedSet, settled_sets, reach}
 use Rattle.mg_calc.specs.declared.cause.Cause.{Cause}
 use Rattle.mg_calc.specs.declared.law.Law.{Law}
 use Rattle.mg_calc.specs.declared.emission.Laid.{Laid}

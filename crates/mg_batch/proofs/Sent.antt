@@ -6,7 +6,7 @@ use Rattle.mg_time.proofs.timestamp.Timestamp.TheSendSync.{the_send as timestamp
 use Rattle.mg_value.proofs.payload_list.PayloadList.TheLaws.TheKnot.{crosses as knot}
 use Rattle.mg_value.specs.contracts.packet.Packet as Packet
 use Rattle.mg_value.specs.contracts.block_list.BlockList as BlockList
-use Rattle.mg_value.specs.contracts.input_set.InputSet as InputSet
+use Rattle.mg_settled.specs.contracts.input_set.InputSet as InputSet
 use Rattle.mg_calc.specs.contracts.short_list.ShortList as ShortList
 use Rattle.mg_calc.specs.contracts.emission.Laid as Laid
 use Rattle.mg_calc.specs.contracts.law.Law as Law

@@ -2,10 +2,10 @@
 use Rattle.std.proofs.Common.{◌≡◌, ℕ, ◌+◌, ◌≤◌, ◌==◌, List, [], ◌∷◌, Option, Some, None, ◌⊎◌, inl, inr, refl, sym, ap, ap₂, subst, ◌∙◌, arith, eqb-true, eq-eqb}
 use Rattle.std.specs.List.{filter_map, cons_option}
 use Rattle.std.proofs.lemmas.Bool.{ne_eqb, cases_Bool}
-use Rattle.mg_value.specs.Prefix.{Stamped}
-use Rattle.mg_value.specs.Settled.{times_of, packet_at}
-use Rattle.mg_value.proofs.Times.{In, Rises, Rises-least}
-use Rattle.mg_value.proofs.SettledTimes.{packet_at-none}
+use Rattle.mg_value.specs.Packet.{Stamped}
+use Rattle.mg_settled.specs.Settled.{times_of, packet_at}
+use Rattle.mg_settled.proofs.Times.{In, Rises, Rises-least}
+use Rattle.mg_settled.proofs.SettledTimes.{packet_at-none}
 
 -- each time of some packets is among some times
 abbrev pub Among : {X : Type 0} → List (Stamped X) → List ℕ → Type 0

@@ -9,8 +9,8 @@ use mg_calc::{
     CalcFault, Calculator, Call, CallList, Emission, GivenList, Law, OuterShape, Shape, State,
     no_emission, own_begin,
 };
+use mg_settled::InputSet;
 use mg_time::Timestamp;
-use mg_value::InputSet;
 use std::alloc::{AllocError, Global};
 use std::marker::Model;
 

@@ -9,8 +9,9 @@ ghost use Rattle.mg_batch.specs.Code.Emitted.{clone_laid, loop_emission};
 
 use crate::copying::copied;
 use mg_calc::{CalcFault, Cause, Emission, Laid, ShortList, State, no_emission};
+use mg_settled::InputSet;
 use mg_time::Timestamp;
-use mg_value::{InputSet, Packet, Payload};
+use mg_value::{Packet, Payload};
 use std::alloc::{AllocError, Global};
 use std::sync::Arc;
 

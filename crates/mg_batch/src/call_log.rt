@@ -4,8 +4,9 @@ ghost use Rattle.mg_calc.specs.Told.{with_call as with_a_call, shown_calls, Logs
 ghost use Rattle.mg_batch.specs.Logged.{told_log};
 
 use mg_calc::{CalcFault, Call, CallList, Emission};
+use mg_settled::InputSet;
 use mg_time::Timestamp;
-use mg_value::{BlockList, InputSet, Packet};
+use mg_value::{BlockList, Packet};
 use std::alloc::{AllocError, AllocFailed, Global};
 use std::marker::Model;
 use std::mem;

@@ -12,8 +12,9 @@ ghost use Rattle.mg_batch.specs.Code.Gathered.{with_more};
 use crate::copying::{all_copied, copied};
 use crate::nesting::nests;
 use mg_calc::{CalcFault, Cause, Emission, State, no_emission, number_of_packet, one_packet};
+use mg_settled::InputSet;
 use mg_time::Timestamp;
-use mg_value::{InputSet, Packet, Payload, PayloadList};
+use mg_value::{Packet, Payload, PayloadList};
 use std::alloc::{AllocError, Global};
 use std::sync::Arc;
 

@@ -1,7 +1,7 @@
 //! Laws of loops over lists: each function does nothing, and its contract is the law.
 ghost use Rattle.std.specs.Prelude.{◌≡◌, ℕ, Bool, List, [], ◌∷◌, map};
 ghost use Rattle.mg_value.specs.Payload.{Plain};
-ghost use Rattle.mg_value.specs.Prefix.{StreamPrefix};
+ghost use Rattle.mg_settled.specs.Prefix.{StreamPrefix};
 ghost use Rattle.mg_calc.specs.declared.plan_node.PlanNode.{PlanNode};
 ghost use Rattle.mg_calc.specs.Equations.{Job, IsJob, IsSolution, stream_of};
 ghost use Rattle.mg_batch.specs.Loop.{IsLoop, RunThrough, list_of_images};

@@ -7,8 +7,8 @@ ghost use Rattle.mg_calc.specs.Shape.{IsBatch};
 use crate::begin_loop::begin_loop;
 use crate::end_loop::end_loop;
 use mg_calc::{CalcFault, Cause, Emission, Law, State, has_wrong_kind};
+use mg_settled::InputSet;
 use mg_time::Timestamp;
-use mg_value::InputSet;
 use std::alloc::Global;
 
 /// Returns what a BeginLoop or EndLoop calculator gives at a set: its new state and its emission, or its cause.

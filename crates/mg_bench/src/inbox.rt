@@ -4,8 +4,9 @@ ghost use Rattle.std.specs.Prelude.{◌≡◌, ◌<◌, length};
 
 use crate::words::number;
 use mg_policy::Inbox;
+use mg_settled::InputSet;
 use mg_time::Timestamp;
-use mg_value::{InputSet, Packet, Payload, Policy};
+use mg_value::{Packet, Payload, Policy};
 use std::alloc::{AllocError, Global};
 use std::sync::Arc;
 use std::test::Fail;

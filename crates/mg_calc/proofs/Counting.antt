@@ -8,13 +8,13 @@ use Rattle.std.specs.List.Sorted.{IsStrictlyIncreasing}
 use Rattle.std.proofs.lemmas.List.Elements.{All-from_recursion, recursion_from_All}
 use Rattle.mg_time.specs.Time.{done}
 use Rattle.mg_value.specs.Payload.{Plain}
-use Rattle.mg_value.specs.Prefix.{StreamPrefix, IsPrefix}
-use Rattle.mg_value.specs.Left.{set_times}
-use Rattle.mg_value.proofs.Lemmas.{Rises}
-use Rattle.mg_value.proofs.Lemmas.{Rises-increasing}
-use Rattle.mg_value.proofs.Lemmas.{times-rise, below-bounds}
-use Rattle.mg_value.specs.Settled.{TimedSet, settled_sets, reach, IsBelowBounds}
 use Rattle.mg_value.specs.declared.policy.Policy.{Policy}
+use Rattle.mg_settled.specs.Prefix.{StreamPrefix, IsPrefix}
+use Rattle.mg_settled.specs.Left.{set_times}
+use Rattle.mg_settled.proofs.Lemmas.{Rises}
+use Rattle.mg_settled.proofs.Lemmas.{Rises-increasing}
+use Rattle.mg_settled.proofs.Lemmas.{times-rise, below-bounds}
+use Rattle.mg_settled.specs.Settled.{TimedSet, settled_sets, reach, IsBelowBounds}
 use Rattle.mg_calc.specs.declared.cause.Cause.{Cause}
 use Rattle.mg_calc.specs.declared.call.Call.TheVariants.{Begun, Shown}
 use Rattle.mg_calc.specs.declared.law.Law.{Law}

@@ -6,12 +6,13 @@ use Rattle.std.proofs.lemmas.List.Elements.{recursion_from_All}
 use Rattle.std.proofs.lemmas.Option.{none-some}
 use Rattle.mg_time.specs.Time.{done, post_stream}
 use Rattle.mg_value.specs.Payload.{Plain}
-use Rattle.mg_value.specs.Prefix.{Stamped, StreamPrefix, IsPrefix, first_time, closed}
-use Rattle.mg_value.specs.Settled.{low, port_of, select_of, selected, is_settled, settled_selects, reach}
-use Rattle.mg_value.specs.Loopback.{turns, with_previous, is_answered, reply, replies, loopback}
+use Rattle.mg_value.specs.Packet.{Stamped}
 use Rattle.mg_value.specs.declared.policy.Policy.{Policy}
 use Rattle.mg_value.specs.declared.policy.Policy.TheVariants.{Default, Mux}
-use Rattle.mg_value.proofs.Fronts.{one_more}
+use Rattle.mg_settled.specs.Prefix.{StreamPrefix, IsPrefix, first_time, closed}
+use Rattle.mg_settled.specs.Settled.{low, port_of, select_of, selected, is_settled, settled_selects, reach}
+use Rattle.mg_settled.specs.Loopback.{turns, with_previous, is_answered, reply, replies, loopback}
+use Rattle.mg_settled.proofs.Fronts.{one_more}
 use Rattle.mg_calc.specs.declared.cause.Cause.{Cause}
 use Rattle.mg_calc.specs.declared.law.Law.{Law}
 use Rattle.mg_calc.specs.declared.law.Law.TheVariants.{Count, SideOnce, Constants, Loopback}
@@ -23,7 +24,7 @@ use Rattle.mg_calc.specs.Law.{finish}
 use Rattle.mg_calc.specs.Outcome.{Failure, Outcome, unless_failed, with_last_call, called, opened, after_close, finished, with_reach, ended, shown_all}
 use Rattle.mg_calc.specs.Equations.{Job, stream_of, inputs_of, sides_of, outcome_by, outcome_of}
 use Rattle.std.specs.List.{fold, range_with_len}
-use Rattle.mg_value.specs.Settled.{settled_sets}
+use Rattle.mg_settled.specs.Settled.{settled_sets}
 
 -- streams that have all ended are as they would be if they were closed
 abbrev pub AreEnded : List (StreamPrefix Plain) → Type 0

@@ -2,7 +2,7 @@
 use Rattle.std.proofs.Common.{◌≡◌, ℕ, ◌-◌, ◌^◌, ℤ, true, false, [], ◌∷◌, Some, None, Ok, Err, refl, pos, negsuc}
 use Rattle.mg_time.specs.Time.{place_of, pre_stream, greatest, least, post_stream, one_over_post_stream, raw_of}
 use Rattle.mg_value.specs.Plain.{Plain, flag, int, text, items, item, no_items}
-use Rattle.mg_value.specs.Prefix.{Stamped}
+use Rattle.mg_value.specs.Packet.{Stamped}
 use Rattle.mg_calc.specs.declared.law.Law.{Law}
 use Rattle.mg_calc.specs.declared.law.Law.TheVariants.{Gate, Mux, Cloner, Merge, Thin, Sum, Map, Filter, Running, Shift, Count, SideOnce, Tally, Scripted}
 use Rattle.mg_calc.specs.declared.int_map.MapOp.TheVariants.{Subtract, Multiply}

@@ -6,9 +6,9 @@ use Rattle.std.proofs.lemmas.List.Concat.{flat_map-cons, length-flat_map}
 use Rattle.std.proofs.lemmas.List.FromFn.{length-range_with_len}
 use Rattle.std.proofs.lemmas.List.Elements.{recursion_from_All}
 use Rattle.mg_value.specs.Payload.{Plain}
-use Rattle.mg_value.specs.Prefix.{StreamPrefix, IsPrefix}
-use Rattle.mg_value.specs.Extension.{AreExtendedBy}
-use Rattle.mg_value.proofs.Lemmas.{all_by_themselves}
+use Rattle.mg_settled.specs.Prefix.{StreamPrefix, IsPrefix}
+use Rattle.mg_settled.specs.Extension.{AreExtendedBy}
+use Rattle.mg_settled.proofs.Lemmas.{all_by_themselves}
 use Rattle.mg_calc.specs.declared.inputs.Inputs.{Inputs}
 use Rattle.mg_calc.specs.declared.law.Law.{Law}
 use Rattle.mg_calc.specs.declared.law.Law.TheVariants.{Count, SideOnce, Constants, Loopback}

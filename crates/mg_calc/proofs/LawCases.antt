@@ -1,8 +1,8 @@
 -- Of each law: the bounds that it emits are times, and the state that it keeps is of its form.
 use Rattle.std.proofs.Common.{◌≡◌, ℕ, ◌+◌, ◌+ℤ◌, ◌*ℤ◌, pos, List, [], ◌∷◌, map, take, Option, Some, None, is_some, Ok, Err, unwrap_or, slice_get, refl, subst, IfOk}
 use Rattle.mg_value.specs.Plain.{Plain, int}
-use Rattle.mg_value.specs.Prefix.{Stamped}
-use Rattle.mg_value.specs.Settled.{selected}
+use Rattle.mg_value.specs.Packet.{Stamped}
+use Rattle.mg_settled.specs.Settled.{selected}
 use Rattle.mg_calc.specs.declared.emission.Laid.{Laid}
 use Rattle.mg_calc.specs.declared.law.Law.{Law}
 use Rattle.mg_calc.specs.declared.law.Law.TheVariants.{Pass, Gate, Mux, Cloner, Merge, Thin, Sum, Map, Filter, Running, Shift, Count, SideOnce, Constants, Loopback, Tally, Scripted, BeginLoop, EndLoop, FirstCome, Limiter}

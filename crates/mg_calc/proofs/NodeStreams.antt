@@ -6,11 +6,11 @@ use Rattle.std.proofs.lemmas.List.Elements.{All-weaker, recursion_from_All}
 use Rattle.std.proofs.lemmas.List.Sums.{fold-append}
 use Rattle.mg_time.specs.Time.{done}
 use Rattle.mg_value.specs.Payload.{Plain}
-use Rattle.mg_value.specs.Prefix.{StreamPrefix, IsPrefix, empty_prefix}
-use Rattle.mg_value.specs.Settled.{TimedSet, settled_sets, reach}
-use Rattle.mg_value.specs.Extension.{AreExtendedBy}
 use Rattle.mg_value.specs.declared.policy.Policy.{Policy}
-use Rattle.mg_value.proofs.Lemmas.{sets-stay, sets-further, sets-end, reach-rises, reach-most, below-reach}
+use Rattle.mg_settled.specs.Prefix.{StreamPrefix, IsPrefix, empty_prefix}
+use Rattle.mg_settled.specs.Settled.{TimedSet, settled_sets, reach}
+use Rattle.mg_settled.specs.Extension.{AreExtendedBy}
+use Rattle.mg_settled.proofs.Lemmas.{sets-stay, sets-further, sets-end, reach-rises, reach-most, below-reach}
 use Rattle.mg_calc.specs.declared.law.Law.{Law}
 use Rattle.mg_calc.specs.Outcome.{Outcome, opened, shown, shown_all, ended, node_outcome}
 use Rattle.mg_calc.proofs.Outcomes.{KeepsTimes, IsKept, Further, opened_keeps, sets_keep, end_keeps, end_grows, node_outputs}

@@ -4,7 +4,7 @@ use Rattle.std.proofs.lemmas.Option.{unwrap_or-slice_get}
 use Rattle.std.proofs.lemmas.List.{take_more, map-append}
 use Rattle.std.specs.List.{fold}
 use Rattle.mg_value.specs.Plain.{Plain}
-use Rattle.mg_value.specs.Prefix.{Stamped}
+use Rattle.mg_value.specs.Packet.{Stamped}
 use Rattle.mg_calc.specs.Values.{place_at, number_at, total}
 
 fold-last : (a : ℤ) (ns : List ℤ) (n : ℤ) → fold ◌+ℤ◌ a (ns ++ n ∷ []) ≡ fold ◌+ℤ◌ a ns +ℤ n

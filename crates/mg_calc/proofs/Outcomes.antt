@@ -4,11 +4,11 @@ use Rattle.std.specs.List.{AllByRecursion, fold, range_with_len}
 use Rattle.std.proofs.lemmas.Bool.Decides.{eqb_tells}
 use Rattle.mg_time.specs.Time.{done}
 use Rattle.mg_value.specs.Payload.{Plain}
-use Rattle.mg_value.specs.Prefix.{StreamPrefix, IsPrefix, empty_prefix, closed}
-use Rattle.mg_value.specs.Settled.{TimedSet}
-use Rattle.mg_value.specs.Extension.{AreExtendedBy}
-use Rattle.mg_value.proofs.Lemmas.{all_by_themselves, all_further}
-use Rattle.mg_value.proofs.Lemmas.{empty_is_prefix}
+use Rattle.mg_settled.specs.Prefix.{StreamPrefix, IsPrefix, empty_prefix, closed}
+use Rattle.mg_settled.specs.Settled.{TimedSet}
+use Rattle.mg_settled.specs.Extension.{AreExtendedBy}
+use Rattle.mg_settled.proofs.Lemmas.{all_by_themselves, all_further}
+use Rattle.mg_settled.proofs.Lemmas.{empty_is_prefix}
 use Rattle.mg_calc.specs.declared.cause.Cause.{Cause}
 use Rattle.mg_calc.specs.declared.emission.Laid.{Laid}
 use Rattle.mg_calc.specs.declared.law.Law.{Law}

@@ -3,7 +3,7 @@ use Rattle.std.proofs.Common.{◌≡◌, ℕ, zero, suc, ◌+◌, length, List, 
 use Rattle.std.specs.List.{flat_map, range_with_len, enumerate_from}
 use Rattle.std.proofs.lemmas.List.Concat.{flat_map-cons}
 use Rattle.mg_value.specs.Payload.{Plain}
-use Rattle.mg_value.specs.Prefix.{StreamPrefix}
+use Rattle.mg_settled.specs.Prefix.{StreamPrefix}
 use Rattle.mg_calc.specs.declared.plan_node.PlanNode.{PlanNode}
 use Rattle.mg_calc.specs.declared.plan_stream.Producer.{Producer}
 use Rattle.mg_calc.specs.declared.plan_stream.Producer.TheVariants.{Node}

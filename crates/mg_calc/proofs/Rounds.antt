@@ -6,11 +6,11 @@ use Rattle.std.proofs.lemmas.List.Concat.{flat_map-cons}
 use Rattle.std.proofs.lemmas.List.Sums.{sum_by-cons}
 use Rattle.std.proofs.lemmas.List.{length-replicate}
 use Rattle.mg_value.specs.Payload.{Plain}
-use Rattle.mg_value.specs.Prefix.{StreamPrefix, IsPrefix, empty_prefix}
-use Rattle.mg_value.specs.Extension.{IsExtendedBy, AreExtendedBy}
-use Rattle.mg_value.proofs.Lemmas.{extended_by_itself, all_by_themselves}
-use Rattle.mg_value.proofs.Lemmas.{empty_is_prefix}
-use Rattle.mg_value.proofs.Lemmas.{loopback_is_prefix, loopback_extends}
+use Rattle.mg_settled.specs.Prefix.{StreamPrefix, IsPrefix, empty_prefix}
+use Rattle.mg_settled.specs.Extension.{IsExtendedBy, AreExtendedBy}
+use Rattle.mg_settled.proofs.Lemmas.{extended_by_itself, all_by_themselves}
+use Rattle.mg_settled.proofs.Lemmas.{empty_is_prefix}
+use Rattle.mg_settled.proofs.Lemmas.{loopback_is_prefix, loopback_extends}
 use Rattle.mg_calc.specs.declared.law.Law.{Law}
 use Rattle.mg_calc.specs.declared.law.Law.TheVariants.{Count, SideOnce, Constants, Loopback}
 use Rattle.mg_calc.specs.declared.plan_node.PlanNode.{PlanNode}

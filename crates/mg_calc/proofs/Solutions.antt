@@ -5,10 +5,11 @@ use Rattle.std.proofs.lemmas.Bool.{cases_lt}
 use Rattle.std.proofs.lemmas.List.Elements.{All-weaker, length_all_zip}
 use Rattle.mg_time.specs.Time.{pre_stream, IsAllowed}
 use Rattle.mg_value.specs.Payload.{Plain}
-use Rattle.mg_value.specs.Prefix.{Stamped, StreamPrefix, IsPrefix, empty_prefix}
-use Rattle.mg_value.specs.Extension.{IsExtendedBy, AreExtendedBy}
-use Rattle.mg_value.proofs.Lemmas.{all_by_themselves, all_further}
-use Rattle.mg_value.proofs.Lemmas.{empty_is_prefix}
+use Rattle.mg_value.specs.Packet.{Stamped}
+use Rattle.mg_settled.specs.Prefix.{StreamPrefix, IsPrefix, empty_prefix}
+use Rattle.mg_settled.specs.Extension.{IsExtendedBy, AreExtendedBy}
+use Rattle.mg_settled.proofs.Lemmas.{all_by_themselves, all_further}
+use Rattle.mg_settled.proofs.Lemmas.{empty_is_prefix}
 use Rattle.mg_calc.specs.declared.law.Law.{Law}
 use Rattle.mg_calc.specs.Equations.{Job, next_round, round, MeetsEquations, IsSolution}
 use Rattle.mg_calc.proofs.Rounds.{IsKnown, equations_follow, equations_keep, equations_are_as_many}

@@ -11,7 +11,7 @@ use Rattle.std.proofs.lemmas.Slice.Zip.{length-zip}
 use Rattle.std.proofs.lemmas.Option.{slice_get_cases}
 use Rattle.mg_time.specs.Time.{raw_of, place_of, pre_stream, one_over_post_stream}
 use Rattle.mg_value.specs.Plain.{Plain, int, depth}
-use Rattle.mg_value.specs.Prefix.{Stamped}
+use Rattle.mg_value.specs.Packet.{Stamped}
 use Rattle.mg_calc.specs.declared.law.Law.TheVariants.{Cloner, Thin, Scripted, BeginLoop}
 use Rattle.mg_calc.specs.declared.shape.Shape.{Shape}
 use Rattle.mg_calc.specs.declared.port_kind.PortKind.{PortKind}

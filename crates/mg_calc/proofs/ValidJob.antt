@@ -3,10 +3,10 @@ use Rattle.std.proofs.Common.{◌≡◌, ◌≢◌, ℕ, zero, suc, pos, ◌<◌
 use Rattle.std.specs.List.{AllByRecursion}
 use Rattle.std.proofs.lemmas.List.Kept.{AllPairs-cons}
 use Rattle.std.proofs.lemmas.List.Elements.{All-from_recursion}
-use Rattle.mg_value.specs.Prefix.{IsPrefix, empty_prefix, closed}
-use Rattle.mg_value.proofs.Lemmas.{empty_is_prefix, closed_is_prefix}
 use Rattle.mg_value.specs.declared.kind.Kind.TheVariants.{Any, Int}
 use Rattle.mg_value.specs.declared.policy.Policy.TheVariants.{Default}
+use Rattle.mg_settled.specs.Prefix.{IsPrefix, empty_prefix, closed}
+use Rattle.mg_settled.proofs.Lemmas.{empty_is_prefix, closed_is_prefix}
 use Rattle.mg_calc.specs.declared.edge.Edge.{Edge}
 use Rattle.mg_calc.specs.declared.inputs.Inputs.{Inputs}
 use Rattle.mg_calc.specs.declared.law.Law.TheVariants.{Sum, Loopback}

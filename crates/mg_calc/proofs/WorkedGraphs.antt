@@ -4,11 +4,12 @@ use Rattle.std.proofs.Common.{◌≡◌, ℕ, pos, negsuc, Bool, true, false, �
 use Rattle.std.specs.List.{flat_map}
 use Rattle.mg_time.specs.Time.{pre_stream, done, place_of}
 use Rattle.mg_value.specs.Plain.{Plain, int, flag, text}
-use Rattle.mg_value.specs.Prefix.{Stamped, StreamPrefix}
-use Rattle.mg_value.specs.Settled.{settled_sets}
+use Rattle.mg_value.specs.Packet.{Stamped}
 use Rattle.mg_value.specs.declared.policy.Policy.{Policy}
 use Rattle.mg_value.specs.declared.policy.Policy.TheVariants.{Default, Mux as MuxPolicy}
 use Rattle.mg_value.specs.declared.kind.Kind.TheVariants.{Any}
+use Rattle.mg_settled.specs.Prefix.{StreamPrefix}
+use Rattle.mg_settled.specs.Settled.{settled_sets}
 use Rattle.mg_calc.specs.declared.cause.Cause.TheVariants.{Overflow, BadSelect, NoSide, NotAscending}
 use Rattle.mg_calc.specs.declared.call.Call.TheVariants.{Begun, Shown, Finished}
 use Rattle.mg_calc.specs.declared.law.Law.{Law}

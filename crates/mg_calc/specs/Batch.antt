@@ -4,7 +4,7 @@
 use Rattle.std.specs.Prelude.{ℕ, pos, ◌+◌, ◌-◌, ◌^◌, Bool, nat_le, List, [], ◌∷◌, ◌++◌, length, replicate, Option, Some, None, option_map, unwrap_or, Result, Ok, Err, if◌then◌else◌}
 use Rattle.mg_time.specs.Time.{raw_of, place_of}
 use Rattle.mg_value.specs.Plain.{Plain, int, items, items_of, depth}
-use Rattle.mg_value.specs.Prefix.{Stamped}
+use Rattle.mg_value.specs.Packet.{Stamped}
 use Rattle.mg_calc.specs.declared.cause.Cause.{Cause}
 use Rattle.mg_calc.specs.declared.cause.Cause.TheVariants.{Overflow, TooDeep}
 use Rattle.mg_calc.specs.declared.emission.Laid.{Laid}

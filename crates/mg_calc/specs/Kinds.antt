@@ -4,7 +4,7 @@ use Rattle.std.specs.List.{list_any, enumerate_from}
 use Rattle.mg_value.specs.declared.kind.Kind.{Kind}
 use Rattle.mg_value.specs.declared.kind.Kind.TheVariants.{Any, Flag, Int, Text, Items, Record}
 use Rattle.mg_value.specs.Plain.{Plain, flag, int, text, items, entries}
-use Rattle.mg_value.specs.Prefix.{Stamped}
+use Rattle.mg_value.specs.Packet.{Stamped}
 use Rattle.mg_calc.specs.declared.law.Law.{Law}
 use Rattle.mg_calc.specs.Shape.{input_kind}
 

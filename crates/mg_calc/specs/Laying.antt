@@ -3,7 +3,8 @@
 use Rattle.std.specs.Prelude.{ℕ, ℤ, Bool, true, false, not, ◌&&◌, ◌==◌, nat_lt, nat_le, List, [], ◌∷◌, length, map, Option, Some, None, Result, Ok, Err, if◌then◌else◌}
 use Rattle.mg_time.specs.Time.{pre_stream, post_stream, shift}
 use Rattle.mg_value.specs.Payload.{Plain}
-use Rattle.mg_value.specs.Prefix.{Stamped, StreamPrefix, appended, raised}
+use Rattle.mg_value.specs.Packet.{Stamped}
+use Rattle.mg_settled.specs.Prefix.{StreamPrefix, appended, raised}
 use Rattle.mg_calc.specs.declared.cause.Cause.{Cause}
 use Rattle.mg_calc.specs.declared.cause.Cause.TheVariants.{NotAllowed, NotAscending, NotAlone, BelowOffset, EmitsInClose}
 use Rattle.mg_calc.specs.declared.emission.Laid.{Laid}

@@ -4,8 +4,8 @@ use Rattle.std.specs.Prelude.{ℕ, ◌+◌, ◌==◌, not, List, [], ◌∷◌, 
 use Rattle.std.specs.List.{filter_map, enumerate_from}
 use Rattle.mg_time.specs.Time.{done}
 use Rattle.mg_value.specs.Payload.{Plain}
-use Rattle.mg_value.specs.Prefix.{StreamPrefix}
-use Rattle.mg_value.specs.Settled.{TimedSet, settled_sets}
+use Rattle.mg_settled.specs.Prefix.{StreamPrefix}
+use Rattle.mg_settled.specs.Settled.{TimedSet, settled_sets}
 use Rattle.mg_calc.specs.declared.call.Call.{Call}
 use Rattle.mg_calc.specs.declared.call.Call.TheVariants.{Begun, Shown, Finished}
 use Rattle.mg_calc.specs.declared.node_fault.NodeFault.{NodeFault}

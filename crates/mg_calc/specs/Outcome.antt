@@ -5,10 +5,10 @@ use Rattle.std.specs.Prelude.{ℕ, ℤ, ◌+◌, ◌==◌, List, [], ◌∷◌, 
 use Rattle.std.specs.List.{fold, range_with_len}
 use Rattle.mg_time.specs.Time.{done}
 use Rattle.mg_value.specs.Payload.{Plain}
-use Rattle.mg_value.specs.Prefix.{StreamPrefix, empty_prefix, closed}
-use Rattle.mg_value.specs.Settled.{TimedSet, settled_sets, reach}
-use Rattle.mg_value.specs.Loopback.{loopback, replies}
 use Rattle.mg_value.specs.declared.policy.Policy.{Policy}
+use Rattle.mg_settled.specs.Prefix.{StreamPrefix, empty_prefix, closed}
+use Rattle.mg_settled.specs.Settled.{TimedSet, settled_sets, reach}
+use Rattle.mg_settled.specs.Loopback.{loopback, replies}
 use Rattle.mg_calc.specs.declared.cause.Cause.{Cause}
 use Rattle.mg_calc.specs.declared.law.Law.{Law}
 use Rattle.mg_calc.specs.declared.node_fault.Phase.{Phase}

@@ -5,9 +5,9 @@ use Rattle.std.specs.Prelude.{◌≡◌, ◌≢◌, ℕ, pos, ◌<◌, ◌≤◌
 use Rattle.std.specs.List.{range_with_len, enumerate_from, flat_map, filter_map}
 use Rattle.std.specs.Option.{option_and_then}
 use Rattle.mg_value.specs.Plain.{Plain}
-use Rattle.mg_value.specs.Prefix.{IsPrefix}
 use Rattle.mg_value.specs.declared.policy.Policy.{Policy}
 use Rattle.mg_value.specs.declared.policy.Policy.TheVariants.{Default}
+use Rattle.mg_settled.specs.Prefix.{IsPrefix}
 use Rattle.mg_calc.specs.declared.law.Law.{Law}
 use Rattle.mg_calc.specs.declared.law.Law.TheVariants.{Loopback, Mux as MuxLaw}
 use Rattle.mg_calc.specs.declared.shape.Shape.{Shape}

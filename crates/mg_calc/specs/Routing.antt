@@ -3,8 +3,8 @@ use Rattle.std.specs.Prelude.{ℕ, ℤ, ◌+◌, ◌+ℤ◌, Bool, false, not, L
 use Rattle.std.specs.List.{zip}
 use Rattle.mg_time.specs.Time.{raw_of, one_over_post_stream}
 use Rattle.mg_value.specs.Plain.{Plain, flag}
-use Rattle.mg_value.specs.Prefix.{Stamped}
-use Rattle.mg_value.specs.Settled.{selected}
+use Rattle.mg_value.specs.Packet.{Stamped}
+use Rattle.mg_settled.specs.Settled.{selected}
 use Rattle.mg_calc.specs.declared.cause.Cause.TheVariants.{BadSelect}
 use Rattle.mg_calc.specs.Answer.{Answer, emission_of}
 use Rattle.mg_calc.specs.Values.{place_at, is_in_range, time_of, stored}

@@ -3,7 +3,7 @@ use Rattle.std.specs.Prelude.{map, [], ◌∷◌, ℕ, ℤ, pos, negsuc, ◌+ℤ
 use Rattle.std.specs.List.{fold}
 use Rattle.mg_time.specs.Time.{raw_of, place_of, least, greatest}
 use Rattle.mg_value.specs.Plain.{Plain, Items, int, items, no_items, item}
-use Rattle.mg_value.specs.Prefix.{Stamped}
+use Rattle.mg_value.specs.Packet.{Stamped}
 
 -- what a set has at a port: a packet, or none, also where there is no such port
 abbrev pub place_at : List (Option (Stamped Plain)) → ℕ → Option (Stamped Plain)

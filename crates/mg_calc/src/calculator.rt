@@ -5,8 +5,8 @@ ghost use Rattle.mg_calc.specs.Shape.{ParametersFit, IsOuter, IsServed, IsShapeO
 ghost use Rattle.mg_calc.specs.Told.{CalculatorTold, Logs, shown_calls};
 
 use crate::{CalcFault, Call, CallList, Emission, GivenList, Law, Shape};
+use mg_settled::InputSet;
 use mg_time::Timestamp;
-use mg_value::InputSet;
 use std::alloc::Global;
 
 /// A calculator that is handed in (MediaPipe, Calculators: Open, Process and Close are `begin`, `process` and `finish`).

@@ -1,5 +1,6 @@
+use mg_settled::InputSet;
 use mg_time::Timestamp;
-use mg_value::{BlockList, InputSet};
+use mg_value::BlockList;
 
 /// A call that a calculator has had.
 #[derive(Debug, Drop)]

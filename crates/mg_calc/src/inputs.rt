@@ -1,5 +1,5 @@
 use crate::GivenList;
-use mg_value::PrefixList;
+use mg_settled::PrefixList;
 
 /// What is handed to a graph: its input streams, as far as they are known, and its side packets.
 #[derive(Debug, Drop)]

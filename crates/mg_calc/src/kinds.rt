@@ -4,7 +4,8 @@ ghost use Rattle.mg_calc.specs.Shape.{input_kind as its_kind};
 ghost use Rattle.mg_calc.specs.Values.{place_at};
 
 use crate::{Law, input_kind};
-use mg_value::{InputSet, has_kind};
+use mg_settled::InputSet;
+use mg_value::has_kind;
 
 // Whether the packet of a set at a port, if there is one, isn't of the port's kind.
 fn is_wrong_at(law: &Law, set: &InputSet, port: u32) -> bool

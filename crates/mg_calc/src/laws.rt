@@ -3,11 +3,11 @@ ghost use Rattle.std.specs.Prelude.{◌≡◌, ◌↔◌, ℕ, ◌<◌, ◌+◌,
 ghost use Rattle.std.specs.List.Sorted.{IsStrictlyIncreasing};
 ghost use Rattle.mg_time.specs.Time.{done};
 ghost use Rattle.mg_value.specs.Payload.{Plain};
-ghost use Rattle.mg_value.specs.Prefix.{StreamPrefix, IsPrefix};
-ghost use Rattle.mg_value.specs.Extension.{AreExtendedBy};
+ghost use Rattle.mg_settled.specs.Prefix.{StreamPrefix, IsPrefix};
+ghost use Rattle.mg_settled.specs.Extension.{AreExtendedBy};
 ghost use Rattle.mg_calc.specs.declared.inputs.Inputs.{Inputs};
 ghost use Rattle.mg_calc.specs.declared.plan.Plan.{Plan};
-ghost use Rattle.mg_value.specs.Settled.{IsBelowBounds};
+ghost use Rattle.mg_settled.specs.Settled.{IsBelowBounds};
 ghost use Rattle.mg_calc.specs.declared.plan_node.PlanNode.{PlanNode};
 ghost use Rattle.mg_calc.specs.Shape.{IsOuter};
 ghost use Rattle.mg_calc.specs.Plan.{IsValid, IsValidWithFree, HasNoFree};

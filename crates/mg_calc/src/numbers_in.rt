@@ -4,7 +4,8 @@ ghost use Rattle.mg_calc.specs.declared.cause.CalcFault.TheVariants.{Fault};
 ghost use Rattle.mg_calc.specs.declared.cause.Cause.TheVariants.{Overflow};
 
 use crate::{CalcFault, Cause};
-use mg_value::{InputSet, Packet, Payload};
+use mg_settled::InputSet;
+use mg_value::{Packet, Payload};
 
 /// Returns the number of a packet, or 0 where its payload isn't a number.
 pub fn number_of_packet(packet: &Packet) -> i64

@@ -10,8 +10,9 @@ use crate::{
     has_wrong_kind, narrowed, no_emission, number_of_packet, one_number, one_output, one_packet,
     total,
 };
+use mg_settled::InputSet;
 use mg_time::Timestamp;
-use mg_value::{InputSet, Packet};
+use mg_value::Packet;
 use std::alloc::{AllocError, Global};
 use std::sync::Arc;
 

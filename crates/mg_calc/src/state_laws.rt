@@ -1,7 +1,7 @@
 //! Laws of what calculators keep: each function does nothing, and its contract is the law.
 ghost use Rattle.std.specs.Prelude.{ℕ, List, Option, IfOk};
 ghost use Rattle.mg_value.specs.Payload.{Plain};
-ghost use Rattle.mg_value.specs.Prefix.{Stamped};
+ghost use Rattle.mg_value.specs.Packet.{Stamped};
 ghost use Rattle.mg_calc.specs.declared.law.Law.{Law};
 ghost use Rattle.mg_calc.specs.declared.shape.Shape.{Shape};
 ghost use Rattle.mg_calc.specs.Law.{opening, step};

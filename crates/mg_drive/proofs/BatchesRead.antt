@@ -4,7 +4,8 @@ use Rattle.std.proofs.lemmas.Bool.{cases_Bool, false≢true}
 use Rattle.mg_edge.specs.Edge.{SourceTold}
 use Rattle.mg_edge.specs.Runs.{Gave}
 use Rattle.mg_value.specs.Payload.{Plain}
-use Rattle.mg_value.specs.Prefix.{Stamped, StreamPrefix, empty_prefix}
+use Rattle.mg_value.specs.Packet.{Stamped}
+use Rattle.mg_settled.specs.Prefix.{StreamPrefix, empty_prefix}
 use Rattle.mg_calc.specs.declared.inputs.Inputs.{Inputs}
 use Rattle.mg_calc.specs.declared.plan.Plan.{Plan}
 use Rattle.mg_feed.specs.Graph.{GraphInputs, inputs_of}

@@ -3,7 +3,7 @@ use Rattle.std.proofs.Common.{◌≡◌, ℕ, suc, Bool, true, false, List, [], 
 use Rattle.std.proofs.lemmas.List.{length-map}
 use Rattle.std.proofs.lemmas.List.FromFn.{length-range_with_len}
 use Rattle.mg_value.specs.Payload.{Plain}
-use Rattle.mg_value.specs.Prefix.{StreamPrefix}
+use Rattle.mg_settled.specs.Prefix.{StreamPrefix}
 use Rattle.mg_calc.specs.declared.plan.Plan.{Plan}
 use Rattle.mg_calc.specs.declared.plan_node.PlanNode.{PlanNode}
 use Rattle.mg_calc.specs.Equations.{Job, stream_of}
@@ -11,7 +11,7 @@ use Rattle.mg_calc.specs.Plan.{numbers}
 use Rattle.mg_free.specs.declared.node.FreeNode.{FreeNode}
 use Rattle.mg_free.specs.Core.{is_free, stream_number}
 use Rattle.mg_free.specs.Rounds.{Taken}
-use Rattle.mg_value.specs.Ends.{end_of}
+use Rattle.mg_settled.specs.Ends.{end_of}
 use Rattle.mg_answer.specs.declared.outcomes.Outcomes.{Outcomes}
 use Rattle.mg_drive.specs.Live.{LiveTells, first_of, sets_by}
 

@@ -4,7 +4,8 @@ use Rattle.std.proofs.lemmas.Bool.{cases_lt, le-ltb}
 use Rattle.std.proofs.lemmas.Option.{none-some, slice_get_past}
 use Rattle.std.proofs.lemmas.List.{get_or_past}
 use Rattle.mg_value.specs.Payload.{Plain}
-use Rattle.mg_value.specs.Prefix.{Stamped, StreamPrefix, empty_prefix}
+use Rattle.mg_value.specs.Packet.{Stamped}
+use Rattle.mg_settled.specs.Prefix.{StreamPrefix, empty_prefix}
 use Rattle.mg_stream.specs.Pool.{Backlog}
 use Rattle.mg_calc.specs.declared.plan.Plan.{Plan}
 use Rattle.mg_calc.specs.declared.plan_stream.PlanStream.{PlanStream}

@@ -2,8 +2,8 @@
 use Rattle.std.proofs.Common.{◌≡◌, ◌⊎◌, ◌==◌, inr, ℕ, List, Bool, true, false, [], refl, sym, ap, ◌∙◌, subst, eqb-true, eq-eqb}
 use Rattle.mg_edge.specs.Edge.{SinkTold}
 use Rattle.mg_value.specs.Payload.{Plain}
-use Rattle.mg_value.specs.Prefix.{StreamPrefix}
-use Rattle.mg_value.specs.Extension.{AreExtendedBy}
+use Rattle.mg_settled.specs.Prefix.{StreamPrefix}
+use Rattle.mg_settled.specs.Extension.{AreExtendedBy}
 use Rattle.mg_calc.specs.declared.inputs.Inputs.{Inputs}
 use Rattle.mg_calc.specs.declared.plan.Plan.{Plan}
 use Rattle.mg_calc.specs.Plan.{IsValid}

@@ -3,8 +3,8 @@ use Rattle.std.proofs.Common.{◌≡◌, ◌⊎◌, inl, inr, ℕ, List, [], len
 use Rattle.std.proofs.Math.Seq.{take-length}
 use Rattle.mg_edge.specs.Edge.{SourceTold, SinkTold}
 use Rattle.mg_value.specs.Payload.{Plain}
-use Rattle.mg_value.specs.Prefix.{StreamPrefix}
-use Rattle.mg_value.specs.Settled.{TimedSet}
+use Rattle.mg_settled.specs.Prefix.{StreamPrefix}
+use Rattle.mg_settled.specs.Settled.{TimedSet}
 use Rattle.mg_calc.specs.declared.inputs.Inputs.{Inputs}
 use Rattle.mg_calc.specs.declared.plan.Plan.{Plan}
 use Rattle.mg_calc.specs.Told.{CalculatorTold}

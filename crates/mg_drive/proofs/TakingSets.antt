@@ -5,10 +5,11 @@ use Rattle.std.proofs.lemmas.List.{length-map, length-take}
 use Rattle.mg_edge.specs.Edge.{SinkTold}
 use Rattle.mg_time.specs.Time.{done}
 use Rattle.mg_value.specs.Payload.{Plain}
-use Rattle.mg_value.specs.Prefix.{Stamped, StreamPrefix, IsPrefix}
-use Rattle.mg_value.specs.Settled.{TimedSet, settled_sets, inputs_of, port_of}
+use Rattle.mg_value.specs.Packet.{Stamped}
 use Rattle.mg_value.specs.declared.policy.Policy.TheVariants.{Default}
-use Rattle.mg_value.proofs.Lemmas.{all_inputs, sets-places}
+use Rattle.mg_settled.specs.Prefix.{StreamPrefix, IsPrefix}
+use Rattle.mg_settled.specs.Settled.{TimedSet, settled_sets, inputs_of, port_of}
+use Rattle.mg_settled.proofs.Lemmas.{all_inputs, sets-places}
 use Rattle.std.proofs.lemmas.List.Elements.{All-from_recursion}
 use Rattle.mg_calc.specs.declared.plan.Plan.{Plan}
 use Rattle.mg_calc.proofs.Solutions.{solution_keeps}

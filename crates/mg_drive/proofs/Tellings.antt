@@ -3,8 +3,8 @@ use Rattle.std.proofs.Common.{◌≡◌, ◌<◌, ◌-◌, ◌^◌, ℕ, List, [
 use Rattle.std.proofs.lemmas.Grind.{flat_map-append}
 use Rattle.mg_edge.specs.Edge.{SinkTold}
 use Rattle.mg_value.specs.Payload.{Plain}
-use Rattle.mg_value.specs.Prefix.{Stamped}
-use Rattle.mg_value.specs.Settled.{TimedSet}
+use Rattle.mg_value.specs.Packet.{Stamped}
+use Rattle.mg_settled.specs.Settled.{TimedSet}
 use Rattle.mg_calc.specs.declared.plan.Plan.{Plan}
 use Rattle.mg_answer.specs.Text.{output_names, set_text, sets_text}
 use Rattle.mg_answer.specs.Summary.{SummaryView, summary_text, HasSummed}

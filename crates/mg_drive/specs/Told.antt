@@ -2,7 +2,7 @@
 use Rattle.std.specs.Prelude.{◌≡◌, ℕ, ◌-◌, ◌<◌, ◌^◌, List, length}
 use Rattle.mg_edge.specs.Edge.{SinkTold}
 use Rattle.mg_value.specs.Payload.{Plain}
-use Rattle.mg_value.specs.Settled.{TimedSet}
+use Rattle.mg_settled.specs.Settled.{TimedSet}
 use Rattle.mg_calc.specs.declared.plan.Plan.{Plan}
 use Rattle.mg_answer.specs.Text.{output_names, sets_text}
 use Rattle.mg_answer.specs.Summary.{SummaryView, summary_text, HasSummed}

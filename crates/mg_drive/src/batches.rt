@@ -18,7 +18,7 @@ use mg_answer::{Outcomes, OutputText, Run, Status};
 use mg_calc::Inputs;
 use mg_edge::{Sink, Source};
 use mg_feed::{BatchEnd, FeedEnd};
-use mg_value::PrefixList;
+use mg_settled::PrefixList;
 use std::alloc::AllocError;
 
 /// A batch: how it ended, and what it hands to the graph.

@@ -1,6 +1,6 @@
 use mg_calc::Plan;
 use mg_edge::Gate;
-use mg_value::PrefixList;
+use mg_settled::PrefixList;
 
 // How many packets have to come to a net whose calculators are all the program's own before workers are called. These do a set in less
 // than a microsecond, so the work that fewer packets bring takes no longer than starting the threads.

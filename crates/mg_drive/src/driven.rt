@@ -1,7 +1,7 @@
 ghost use Rattle.std.specs.Prelude.{◌≡◌, ◌<◌, ◌≤◌, ℕ, List, None, length, option_copied, IfOk, OnOk, OnErr};
 ghost use Rattle.std.specs.Bool.{OnTrue};
 ghost use Rattle.mg_value.specs.Payload.{Plain};
-ghost use Rattle.mg_value.specs.Prefix.{StreamPrefix};
+ghost use Rattle.mg_settled.specs.Prefix.{StreamPrefix};
 ghost use Rattle.mg_stream.specs.Pool.{Backlog};
 ghost use Rattle.mg_node.specs.Job.{LoggedJob, Solves};
 ghost use Rattle.mg_node.specs.Looking.{kept_packet};
@@ -17,8 +17,9 @@ ghost use Rattle.mg_drive.specs.Nets.{Keeps, GaveNothingUp, HasAtMost};
 
 use mg_calc::Inputs;
 use mg_sched::Report;
+use mg_settled::{InputSet, PrefixList};
 use mg_time::Timestamp;
-use mg_value::{InputSet, Packet, PrefixList};
+use mg_value::Packet;
 use std::alloc::{AllocError, Global};
 
 /// A net that can be driven, however its nodes are made to run.

@@ -1,7 +1,7 @@
 //! The outcomes of a plan with free nodes, which are made of those of its core.
 ghost use Rattle.std.specs.Prelude.{◌≡◌, ◌<◌, ◌++◌, List, All, Some, map, length, filter, slice_get, IfOk, OnOk};
 ghost use Rattle.mg_value.specs.Payload.{Plain};
-ghost use Rattle.mg_value.specs.Prefix.{StreamPrefix};
+ghost use Rattle.mg_settled.specs.Prefix.{StreamPrefix};
 ghost use Rattle.mg_calc.specs.Plan.{IsValidWithFree};
 ghost use Rattle.mg_calc.specs.Equations.{Job, stream_of};
 ghost use Rattle.mg_free.specs.declared.node.FreeNode.{FreeNode as FreeNodeView};
@@ -9,7 +9,7 @@ ghost use Rattle.mg_free.specs.Core.{is_free as the_free, is_core, split_of};
 ghost use Rattle.mg_free.specs.Rounds.{Taken};
 ghost use Rattle.mg_live.specs.Takes.{HaveTaken};
 ghost use Rattle.mg_answer.specs.Outcomes.{TellsOf};
-ghost use Rattle.mg_value.specs.Ends.{end_of};
+ghost use Rattle.mg_settled.specs.Ends.{end_of};
 ghost use Rattle.mg_drive.specs.Batches.{OutcomesFit};
 ghost use Rattle.mg_drive.specs.Live.{LiveTells, renumbered_fault, sets_by, lines_at, arrivals_text};
 ghost use Rattle.mg_drive.specs.Code.Live.{AreNumbersOf};
@@ -18,7 +18,8 @@ use mg_answer::{Outcomes, put_arrival};
 use mg_calc::{NodeFault, NodeFaultList, Plan, PlanNode};
 use mg_free::is_free;
 use mg_live::LiveNodes;
-use mg_value::{BlockList, NumberList, StreamEnd};
+use mg_settled::StreamEnd;
+use mg_value::{BlockList, NumberList};
 use std::alloc::{AllocError, Global};
 
 /// A plan with free nodes, and how its numbers and those of its core go together: `nodes` has the plan's number of each node of the core,

@@ -1,6 +1,6 @@
 //! Batches of the core of a graph with free nodes: between two batches of the input the free nodes have their rounds.
 ghost use Rattle.std.specs.Prelude.{◌≡◌, ◌+◌, ◌++◌, true, None, replicate, IfOk};
-ghost use Rattle.mg_value.specs.Prefix.{empty_prefix};
+ghost use Rattle.mg_settled.specs.Prefix.{empty_prefix};
 ghost use Rattle.mg_drive.specs.Code.LiveRunning.{ReadsWhere, IsWidened};
 ghost use Rattle.mg_drive.specs.Code.Live.{IsFreshLive, LiveGives, LiveCame, LiveWrote, wanted_by, rounds_left, ended_of, batches_left};
 
@@ -12,8 +12,9 @@ use mg_calc::Inputs;
 use mg_edge::{Sink, Source};
 use mg_feed::{BatchEnd, FeedEnd};
 use mg_live::LiveNodes;
+use mg_settled::{Prefix, PrefixList};
 use mg_time::Timestamp;
-use mg_value::{PacketList, Prefix, PrefixList};
+use mg_value::PacketList;
 use std::alloc::{AllocError, Global};
 
 /// Where the batches of a core come from: those of a graph with free nodes, and between two of them what the free nodes lay in a round.

@@ -1,4 +1,4 @@
-use mg_value::InputSet;
+use mg_settled::InputSet;
 
 /// The two ends of a net that is driven: where its batches come from, what tells the sets of its outputs, and room for one of these sets.
 #[derive(Drop)]

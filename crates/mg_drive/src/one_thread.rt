@@ -9,8 +9,9 @@ use crate::Driven;
 use mg_calc::{Calculator, Inputs};
 use mg_edge::Gate;
 use mg_sched::{Deaf, Net, Report};
+use mg_settled::{InputSet, PrefixList};
 use mg_time::Timestamp;
-use mg_value::{InputSet, Packet, PrefixList};
+use mg_value::Packet;
 use std::alloc::{AllocError, Global};
 
 /// A net whose nodes run on the one thread that drives it, each Process call through a gate.

@@ -18,7 +18,7 @@ use mg_calc::Calculator;
 use mg_edge::{Gate, Sink, Source};
 use mg_feed::BatchEnd;
 use mg_sched::Net;
-use mg_value::InputSet;
+use mg_settled::InputSet;
 use std::alloc::AllocError;
 use std::mem;
 use std::sync::Wait;

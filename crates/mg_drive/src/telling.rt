@@ -1,7 +1,7 @@
 ghost use Rattle.std.specs.Prelude.{◌≡◌, ◌++◌, ◌∷◌, [], List, IfOk, OnOk, OnErr};
 ghost use Rattle.mg_edge.specs.Edge.{SinkTold};
 ghost use Rattle.mg_value.specs.Payload.{Plain};
-ghost use Rattle.mg_value.specs.Settled.{TimedSet};
+ghost use Rattle.mg_settled.specs.Settled.{TimedSet};
 ghost use Rattle.mg_calc.specs.declared.plan.Plan.{Plan};
 ghost use Rattle.mg_answer.specs.Answer.{OutputForm};
 ghost use Rattle.mg_answer.specs.Put.{HasPut};
@@ -9,7 +9,7 @@ ghost use Rattle.mg_drive.specs.Told.{told_in, IsFewTold};
 
 use mg_answer::OutputText;
 use mg_edge::Sink;
-use mg_value::InputSet;
+use mg_settled::InputSet;
 use std::alloc::{AllocError, Global};
 
 /// What tells the sets of a graph's outputs: by their lines, or by a summary at the end.

@@ -5,7 +5,7 @@ ghost use Rattle.mg_drive.specs.Told.{HasSums};
 use crate::Telling;
 use mg_answer::{OutputSummary, OutputText};
 use mg_edge::Sink;
-use mg_value::InputSet;
+use mg_settled::InputSet;
 use std::alloc::{AllocError, Global};
 
 impl Telling for OutputSummary {

@@ -6,12 +6,13 @@ use Rattle.std.specs.List.{AllByRecursion}
 use Rattle.std.proofs.lemmas.List.Elements.{All-weaker, Contains-get_or, recursion_from_All}
 use Rattle.mg_time.specs.Time.{pre_stream, done, IsAllowed}
 use Rattle.mg_value.specs.Payload.{Plain}
-use Rattle.mg_value.specs.Prefix.{Stamped, StreamPrefix, IsPrefix, empty_prefix, closed}
-use Rattle.mg_value.specs.Extension.{IsExtendedBy, AreExtendedBy}
-use Rattle.mg_value.specs.Settled.{settled_sets, port_of, inputs_of as inputs_at}
-use Rattle.mg_value.specs.Left.{AreGone}
-use Rattle.mg_value.specs.Loopback.{IsPast}
-use Rattle.mg_value.proofs.Lemmas.{all_inputs, inputs-extended, port-prefix, port-extended, sets-gone, gone-extended, none-gone}
+use Rattle.mg_value.specs.Packet.{Stamped}
+use Rattle.mg_settled.specs.Prefix.{StreamPrefix, IsPrefix, empty_prefix, closed}
+use Rattle.mg_settled.specs.Extension.{IsExtendedBy, AreExtendedBy}
+use Rattle.mg_settled.specs.Settled.{settled_sets, port_of, inputs_of as inputs_at}
+use Rattle.mg_settled.specs.Left.{AreGone}
+use Rattle.mg_settled.specs.Loopback.{IsPast}
+use Rattle.mg_settled.proofs.Lemmas.{all_inputs, inputs-extended, port-prefix, port-extended, sets-gone, gone-extended, none-gone}
 use Rattle.mg_calc.specs.declared.law.Law.{Law}
 use Rattle.mg_calc.specs.declared.law.Law.TheVariants.{Count, SideOnce, Constants, Loopback}
 use Rattle.mg_calc.specs.declared.plan_node.PlanNode.{PlanNode}

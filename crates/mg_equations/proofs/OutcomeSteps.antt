@@ -4,8 +4,9 @@ use Rattle.std.specs.List.{AllByRecursion, fold, range_with_len}
 use Rattle.std.proofs.lemmas.List.{get_or_default}
 use Rattle.std.proofs.lemmas.List.Elements.{recursion_from_All}
 use Rattle.mg_value.specs.Payload.{Plain}
-use Rattle.mg_value.specs.Prefix.{Stamped, StreamPrefix, closed, empty_prefix}
-use Rattle.mg_value.specs.Loopback.{last_of}
+use Rattle.mg_value.specs.Packet.{Stamped}
+use Rattle.mg_settled.specs.Prefix.{StreamPrefix, closed, empty_prefix}
+use Rattle.mg_settled.specs.Loopback.{last_of}
 use Rattle.mg_calc.specs.declared.cause.Cause.{Cause}
 use Rattle.mg_calc.specs.declared.node_fault.Phase.{Phase}
 use Rattle.mg_calc.specs.declared.node_fault.Phase.TheVariants.{Call, Process}
@@ -15,7 +16,7 @@ use Rattle.mg_calc.specs.Answer.{Answer}
 use Rattle.mg_calc.specs.Law.{step, call}
 use Rattle.mg_calc.specs.Laying.{laid_behind, all_raised}
 use Rattle.mg_calc.specs.Shape.{IsOuter}
-use Rattle.mg_value.specs.Settled.{TimedSet, inputs_of as inputs_at}
+use Rattle.mg_settled.specs.Settled.{TimedSet, inputs_of as inputs_at}
 use Rattle.mg_calc.specs.Outcome.{Outcome, Failure, after_laying, after_call, unless_failed, shown, called, node_outcome}
 use Rattle.mg_calc.specs.declared.plan_node.PlanNode.{PlanNode}
 use Rattle.mg_calc.specs.Equations.{Job, sides_of, stream_of, inputs_of, outcome_by}

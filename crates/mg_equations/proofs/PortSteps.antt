@@ -2,11 +2,11 @@
 use Rattle.std.proofs.Common.{◌≡◌, ℕ, zero, suc, ◌+◌, ◌-◌, ◌<◌, ◌≤◌, List, [], ◌∷◌, ◌++◌, take, length, get_or, All, refl, sym, ap, ap₂, subst, ◌∙◌, arith}
 use Rattle.std.proofs.lemmas.List.{length-map, get_or-map, get_or_default, take_more, take_all}
 use Rattle.mg_value.specs.Payload.{Plain}
-use Rattle.mg_value.specs.Prefix.{StreamPrefix, closed, empty_prefix}
-use Rattle.mg_value.specs.Settled.{port_of, inputs_of}
 use Rattle.mg_value.specs.declared.policy.Policy.{Policy}
-use Rattle.mg_value.specs.Left.{without_first, gone_of, AreLeft}
-use Rattle.mg_value.specs.Loopback.{behind_first}
+use Rattle.mg_settled.specs.Prefix.{StreamPrefix, closed, empty_prefix}
+use Rattle.mg_settled.specs.Settled.{port_of, inputs_of}
+use Rattle.mg_settled.specs.Left.{without_first, gone_of, AreLeft}
+use Rattle.mg_settled.specs.Loopback.{behind_first}
 
 pub inputs_long : (streams : List (StreamPrefix Plain)) (ports : List ℕ) → length (inputs_of streams ports) ≡ length ports
 inputs_long streams ports = length-map ports (port_of streams)

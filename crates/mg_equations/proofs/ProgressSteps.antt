@@ -5,13 +5,13 @@ use Rattle.std.proofs.lemmas.Bool.{cases_Bool}
 use Rattle.std.proofs.lemmas.List.Elements.{length_all_zip}
 use Rattle.mg_time.specs.Time.{done, pre_stream}
 use Rattle.mg_value.specs.Payload.{Plain}
-use Rattle.mg_value.specs.Prefix.{StreamPrefix, IsPrefix, first_time}
-use Rattle.mg_value.specs.Extension.{IsExtendedBy, AreExtendedBy}
-use Rattle.mg_value.specs.Settled.{settled_sets, reach, port_of}
-use Rattle.mg_value.specs.Left.{without_first, AreGone}
-use Rattle.mg_value.specs.Loopback.{replies, StandsBehind, IsPast, last_of, behind_first, AreAnswers}
 use Rattle.mg_value.specs.declared.policy.Policy.{Policy}
-use Rattle.mg_value.proofs.Lemmas.{port-extended, sets-gone, reach-gone, none-gone, gone-extended, gone-further, sets-end, loopback-behind, loopback-further}
+use Rattle.mg_settled.specs.Prefix.{StreamPrefix, IsPrefix, first_time}
+use Rattle.mg_settled.specs.Extension.{IsExtendedBy, AreExtendedBy}
+use Rattle.mg_settled.specs.Settled.{settled_sets, reach, port_of}
+use Rattle.mg_settled.specs.Left.{without_first, AreGone}
+use Rattle.mg_settled.specs.Loopback.{replies, StandsBehind, IsPast, last_of, behind_first, AreAnswers}
+use Rattle.mg_settled.proofs.Lemmas.{port-extended, sets-gone, reach-gone, none-gone, gone-extended, gone-further, sets-end, loopback-behind, loopback-further}
 use Rattle.mg_calc.specs.declared.plan_node.PlanNode.{PlanNode}
 use Rattle.mg_calc.specs.Outcome.{Outcome, shown, ended, opened, node_outcome, loopback_outcome}
 use Rattle.mg_equations.specs.declared.progress.Progress.{Progress}

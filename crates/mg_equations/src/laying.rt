@@ -1,6 +1,6 @@
 //! How what a call emits is put behind a node's outputs (MediaPipe, Calculators and Synchronization).
 ghost use Rattle.std.specs.Prelude.{◌≡◌, map, OnOk};
-ghost use Rattle.mg_value.specs.Prefix.{closed};
+ghost use Rattle.mg_settled.specs.Prefix.{closed};
 ghost use Rattle.mg_calc.specs.Laying.{with_packets, laid_behind, all_raised};
 ghost use Rattle.mg_route.specs.Reasons.{reason_of, laid_on, all_laid_on};
 

@@ -1,7 +1,7 @@
 //! What becomes of a node: it is opened, shown its settled sets one after the other, and closed, and stops at its first
 //! fault (MediaPipe, Calculators).
 ghost use Rattle.std.specs.Prelude.{◌≡◌, ◌<◌, ◌^◌, ◌+◌, replicate, length, None, OnOk, IfOk};
-ghost use Rattle.mg_value.specs.Prefix.{empty_prefix};
+ghost use Rattle.mg_settled.specs.Prefix.{empty_prefix};
 ghost use Rattle.mg_calc.specs.Shape.{IsServed, IsOuter, IsSource, calls_of};
 ghost use Rattle.mg_calc.specs.Laying.{laid_behind, all_raised};
 ghost use Rattle.mg_calc.specs.Outcome.{unopened, opened as the_opened, after_laying, shown, called, finished, ended, with_last_call};
@@ -11,8 +11,9 @@ use crate::laying::{close_all, emission_fault, lay_all, raise_all};
 use crate::output::Output;
 use mg_calc::{CalcFault, Cause, Emission, GivenList, Law, Phase, State, source_step};
 use mg_route::{begin_in, outer_step_in};
+use mg_settled::TimedSet;
 use mg_time::Timestamp;
-use mg_value::{PacketList, TimedSet};
+use mg_value::PacketList;
 use std::alloc::{AllocError, Global};
 
 /// A fault: what a node was doing, and why it failed.

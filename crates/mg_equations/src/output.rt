@@ -1,12 +1,13 @@
 ghost use Rattle.std.specs.Prelude.{◌≡◌, ◌≤◌, ◌++◌, nat_lt, length, option_map, None, IfOk, OnOk};
-ghost use Rattle.mg_value.specs.Prefix.{empty_prefix, appended, all_appended, raised, closed};
-ghost use Rattle.mg_value.specs.Extension.{IsExtendedBy};
-ghost use Rattle.mg_value.specs.Loopback.{behind_first, last_of};
+ghost use Rattle.mg_settled.specs.Prefix.{empty_prefix, appended, all_appended, raised, closed};
+ghost use Rattle.mg_settled.specs.Extension.{IsExtendedBy};
+ghost use Rattle.mg_settled.specs.Loopback.{behind_first, last_of};
 ghost use Rattle.mg_equations.specs.Code.Changes.{is_changed};
 
 use mg_calc::LaidPackets;
+use mg_settled::{Prefix, Rest};
 use mg_time::Timestamp;
-use mg_value::{BlockList, Packet, Prefix, Rest};
+use mg_value::{BlockList, Packet};
 use std::alloc::{AllocError, Global};
 use std::marker::Model;
 
@@ -18,9 +19,9 @@ pub struct Output {
 }
 
 impl Model for Output {
-    ghost use Rattle.mg_value.specs.Prefix.{StreamPrefix};
     ghost use Rattle.mg_value.specs.Payload.{Plain};
-    ghost use Rattle.mg_value.specs.Codes.{plain_prefix_code};
+    ghost use Rattle.mg_settled.specs.Prefix.{StreamPrefix};
+    ghost use Rattle.mg_settled.specs.Codes.{plain_prefix_code};
 
     ghost Value = { StreamPrefix Plain };
 

@@ -2,9 +2,9 @@
 ghost use Rattle.std.specs.Prelude.{◌≡◌, ◌<◌, ◌≤◌, ◌+◌, ◌^◌, ◌==◌, ◌∷◌, [], All, length, replicate, slice_index_or, IfOk, OnOk};
 ghost use Rattle.std.specs.List.{fold};
 ghost use Rattle.mg_time.specs.Time.{pre_stream, done};
-ghost use Rattle.mg_value.specs.Prefix.{IsPrefix};
-ghost use Rattle.mg_value.specs.Settled.{settled_sets, port_of, inputs_of as inputs_at};
-ghost use Rattle.mg_value.specs.Left.{without_first, gone_of};
+ghost use Rattle.mg_settled.specs.Prefix.{IsPrefix};
+ghost use Rattle.mg_settled.specs.Settled.{settled_sets, port_of, inputs_of as inputs_at};
+ghost use Rattle.mg_settled.specs.Left.{without_first, gone_of};
 ghost use Rattle.mg_calc.specs.Shape.{IsServed, IsOuter, IsShapeOf};
 ghost use Rattle.mg_calc.specs.Plan.{HasNumbers};
 ghost use Rattle.mg_calc.specs.Outcome.{shown};
@@ -14,8 +14,9 @@ ghost use Rattle.mg_equations.specs.Code.Progress.{AreWithin, CanGoOn, ShowsMore
 use crate::outcome::Outcome;
 use crate::output::Output;
 use mg_calc::{Law, PlanNode};
+use mg_settled::{Rest, TimedSet, reach, take_answers, take_sets};
 use mg_time::Timestamp;
-use mg_value::{NumberList, Rest, TimedSet, reach, take_answers, take_sets};
+use mg_value::NumberList;
 use std::alloc::{AllocError, Global};
 
 /// What is kept of a node from round to round.

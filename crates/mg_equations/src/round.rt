@@ -1,8 +1,8 @@
 //! Rounds: the outputs of the nodes give the streams of the next round, and with these the nodes go on.
 ghost use Rattle.std.specs.Prelude.{◌≡◌, ◌<◌, ◌++◌, ◌∷◌, [], All, Some, if◌then◌else◌, length, slice_get, slice_set, IfOk, OnOk};
 ghost use Rattle.mg_value.specs.Payload.{Plain};
-ghost use Rattle.mg_value.specs.Prefix.{StreamPrefix, IsPrefix};
-ghost use Rattle.mg_value.specs.Extension.{IsExtendedBy};
+ghost use Rattle.mg_settled.specs.Prefix.{StreamPrefix, IsPrefix};
+ghost use Rattle.mg_settled.specs.Extension.{IsExtendedBy};
 ghost use Rattle.mg_calc.specs.declared.plan_stream.PlanStream.{PlanStream};
 ghost use Rattle.mg_calc.specs.Equations.{IsJob, stream_of};
 ghost use Rattle.mg_calc.specs.Plan.{HasNumbers};
@@ -15,7 +15,7 @@ use crate::node::begun;
 use crate::output::Output;
 use crate::progress::Progress;
 use mg_calc::{Inputs, Plan, PlanNode, Producer};
-use mg_value::{PrefixList, Rest};
+use mg_settled::{PrefixList, Rest};
 use std::alloc::{AllocError, Global};
 
 /// Returns the progress of all nodes once each has gone on from nothing to the given streams.

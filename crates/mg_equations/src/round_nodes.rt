@@ -1,8 +1,8 @@
 //! What a round does: the nodes that read a changed stream go on, each once.
 ghost use Rattle.std.specs.Prelude.{◌≡◌, ℕ, ◌<◌, [], false, true, All, Contains, Some, length, replicate, slice_get, slice_index_or, IfOk, OnOk};
 ghost use Rattle.std.specs.List.{flat_map};
-ghost use Rattle.mg_value.specs.Prefix.{IsPrefix};
-ghost use Rattle.mg_value.specs.Settled.{inputs_of as inputs_at};
+ghost use Rattle.mg_settled.specs.Prefix.{IsPrefix};
+ghost use Rattle.mg_settled.specs.Settled.{inputs_of as inputs_at};
 ghost use Rattle.mg_calc.specs.declared.plan_node.PlanNode.{PlanNode as Node};
 ghost use Rattle.mg_calc.specs.Plan.{IsValid};
 ghost use Rattle.mg_equations.specs.declared.progress.Progress.{Progress as Kept};

@@ -1,7 +1,7 @@
 //! The solution of a job: rounds from nothing on, up to the first that changes nothing.
 ghost use Rattle.std.specs.Prelude.{◌≡◌, ◌<◌, ◌^◌, nat_lt, length, map, replicate, IfOk};
 ghost use Rattle.std.specs.List.{range_with_len, filter_map, enumerate_from};
-ghost use Rattle.mg_value.specs.Prefix.{empty_prefix};
+ghost use Rattle.mg_settled.specs.Prefix.{empty_prefix};
 ghost use Rattle.mg_calc.specs.Equations.{IsSolution};
 ghost use Rattle.mg_calc.specs.Meaning.{counts, faults};
 ghost use Rattle.mg_calc.specs.Plan.{IsValid, InputsFit};
@@ -14,7 +14,8 @@ use crate::readers::readers_of;
 use crate::round::{first_nodes, grow_due};
 use crate::round_nodes::RoundNodes;
 use mg_calc::{Inputs, NodeFault, NodeFaultList, Plan};
-use mg_value::{BlockList, CountList, PrefixList};
+use mg_settled::PrefixList;
+use mg_value::{BlockList, CountList};
 use std::alloc::{AllocError, Global};
 
 /// The solution of a job, with the counts and the faults of its nodes.

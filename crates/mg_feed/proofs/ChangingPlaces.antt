@@ -7,7 +7,7 @@ use Rattle.std.proofs.lemmas.List.Elements.{recursion_from_All}
 use Rattle.std.proofs.lemmas.Option.{none-some, same_Some}
 use Rattle.std.proofs.lemmas.Slice.Eq.{bytes_eq-Decides}
 use Rattle.mg_value.specs.Payload.{Plain}
-use Rattle.mg_value.specs.Prefix.{StreamPrefix, appended, raised, closed}
+use Rattle.mg_settled.specs.Prefix.{StreamPrefix, appended, raised, closed}
 use Rattle.mg_calc.specs.declared.plan.Plan.{Plan}
 use Rattle.mg_feed.specs.Graph.{GraphInputs, numbered, place_of, input_streams, inputs_of}
 use Rattle.mg_feed.specs.declared.places.Placed.{Placed}

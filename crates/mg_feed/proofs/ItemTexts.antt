@@ -4,7 +4,7 @@ use Rattle.serde_json.specs.Written.{compact_text, items_text, comma_if}
 use Rattle.mg_value.specs.declared.payload.Payload.{Payload}
 use Rattle.mg_value.specs.Plain.{items_of}
 use Rattle.mg_value.specs.Payload.{plain}
-use Rattle.mg_value.specs.Json.{json_of, json_items}
+use Rattle.mg_json.specs.Json.{json_of, json_items}
 
 -- what of a list's text comes behind the first items, where some or none stand before
 abbrev pub left_text : Bool → List Payload → List ℕ

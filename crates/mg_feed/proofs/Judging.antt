@@ -7,9 +7,10 @@ use Rattle.serde_json.specs.Data as json
 use Rattle.serde_json.specs.Find.{as_i64}
 use Rattle.mg_time.specs.Time.{IsAllowed, least, greatest, pre_stream, post_stream, done, place_of as time_place}
 use Rattle.mg_value.specs.Payload.{Plain}
-use Rattle.mg_value.specs.Json.{first_fault}
 use Rattle.mg_value.specs.declared.kind.Kind.{Kind}
-use Rattle.mg_value.specs.Prefix.{Stamped, StreamPrefix}
+use Rattle.mg_value.specs.Packet.{Stamped}
+use Rattle.mg_json.specs.Json.{first_fault}
+use Rattle.mg_settled.specs.Prefix.{StreamPrefix}
 use Rattle.mg_feed.specs.Graph.{GraphInputs, place_of}
 use Rattle.mg_feed.specs.declared.places.Placed.{Placed}
 use Rattle.mg_feed.specs.Form.{Named, Form, packets, bound, side, is_blank, form_of, json_value, time_of, time_numbered, is_of_range}

@@ -2,7 +2,8 @@
 use Rattle.std.proofs.Common.{◌≡◌, ◌<◌, ◌≤◌, ◌+◌, ℕ, zero, suc, List, [], ◌∷◌, ◌++◌, true, Option, Some, None, length, get_or, unwrap_or, vec_len, refl, ap, ◌∙◌, subst, arith}
 use Rattle.std.proofs.Math.ListN.{set}
 use Rattle.mg_value.specs.Payload.{Plain}
-use Rattle.mg_value.specs.Prefix.{StreamPrefix, Stamped, appended}
+use Rattle.mg_value.specs.Packet.{Stamped}
+use Rattle.mg_settled.specs.Prefix.{StreamPrefix, appended}
 use Rattle.mg_feed.specs.Graph.{GraphInputs, place_of}
 use Rattle.std.specs.List.{list_all}
 use Rattle.serde_json.specs.Data.{Data}

@@ -9,7 +9,7 @@ use Rattle.mg_value.specs.declared.kind.Kind.{Kind}
 use Rattle.mg_value.specs.declared.kind.Kind.TheVariants.{Any}
 use Rattle.mg_feed.specs.declared.standing.Standing.{Standing}
 use Rattle.mg_value.specs.Payload.{Plain}
-use Rattle.mg_value.specs.Prefix.{Stamped}
+use Rattle.mg_value.specs.Packet.{Stamped}
 use Rattle.mg_feed.specs.Graph.{GraphInputs, place_of}
 use Rattle.mg_feed.specs.Value.{plain_of}
 use Rattle.mg_feed.specs.Code.Due.{AreDue}

@@ -5,8 +5,8 @@ use Rattle.serde_json.specs.Written.{compact_text}
 use Rattle.serde_json.proofs.OnLiterals.{serde_json_on_literals}
 use Rattle.mg_time.specs.Time.{pre_stream, post_stream}
 use Rattle.mg_value.specs.Payload.{Plain}
-use Rattle.mg_value.specs.Prefix.{Stamped}
-use Rattle.mg_value.specs.Json.{json_of}
+use Rattle.mg_value.specs.Packet.{Stamped}
+use Rattle.mg_json.specs.Json.{json_of}
 use Rattle.mg_feed.specs.Output.{line_text, time_data}
 use Rattle.mg_feed.specs.Code.LineHead.{line_head, line_tail}
 

@@ -1,7 +1,7 @@
 -- The payload that a JSON value says, from the value that says a payload.
 use Rattle.std.proofs.Common.{◌≡◌, ℤ, pos, negsuc, refl, ap}
 use Rattle.mg_value.specs.Plain.{Plain, flag, int, text, items, entries, Items, no_items, item, Entries, no_entries, entry}
-use Rattle.mg_value.specs.Json.{json_of, json_items, json_members}
+use Rattle.mg_json.specs.Json.{json_of, json_items, json_members}
 use Rattle.serde_json.specs.Find.{of_integer}
 use Rattle.mg_feed.specs.Value.{whole, plain_of, plain_items, plain_entries}
 

@@ -6,8 +6,8 @@ use Rattle.mg_time.specs.Time.{done, post_stream}
 use Rattle.mg_value.specs.Payload.{Plain}
 use Rattle.mg_value.specs.declared.kind.Kind.{Kind}
 use Rattle.mg_value.specs.declared.kind.Kind.TheVariants.{Any}
-use Rattle.mg_value.specs.Json.{first_fault}
-use Rattle.mg_value.specs.Prefix.{StreamPrefix, empty_prefix, appended, raised, closed}
+use Rattle.mg_json.specs.Json.{first_fault}
+use Rattle.mg_settled.specs.Prefix.{StreamPrefix, empty_prefix, appended, raised, closed}
 use Rattle.mg_feed.specs.Graph.{GraphInputs, place_of}
 use Rattle.mg_feed.specs.Form.{Named, Form, packets, bound, close, side, is_blank, form_of, json_value, time_of}
 use Rattle.mg_feed.specs.Value.{plain_of, takes}

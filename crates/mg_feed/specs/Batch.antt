@@ -1,7 +1,7 @@
 -- What a call that reads lines from a source leaves, by how it ended.
 use Rattle.std.specs.Prelude.{◌≡◌, ◌≢◌, ◌<◌, ◌⊎◌, ◌+◌, ⊤, ℕ, List, [], ◌++◌, length, count_by, Bool, true, None, Some}
 use Rattle.mg_value.specs.Payload.{Plain}
-use Rattle.mg_value.specs.Prefix.{Stamped}
+use Rattle.mg_value.specs.Packet.{Stamped}
 use Rattle.mg_edge.specs.Edge.{SourceTold}
 use Rattle.mg_edge.specs.Runs.{Gave}
 use Rattle.mg_feed.specs.Graph.{GraphInputs}

@@ -2,7 +2,7 @@
 -- them.
 use Rattle.std.specs.Prelude.{◌≡◌, ℕ, List, ◌++◌, Bool, Option, if◌then◌else◌}
 use Rattle.mg_value.specs.Payload.{Plain}
-use Rattle.mg_value.specs.Prefix.{Stamped}
+use Rattle.mg_value.specs.Packet.{Stamped}
 use Rattle.mg_feed.specs.Graph.{GraphInputs}
 use Rattle.mg_feed.specs.Lines.{IsCut, completed}
 use Rattle.mg_feed.specs.Accepted.{Refused, accepted_after, first_refused_after}

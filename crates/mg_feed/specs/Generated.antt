@@ -3,7 +3,8 @@ use Rattle.std.specs.Prelude.{ℕ, zero, suc, ◌+◌, ◌*◌, ◌/◌, ◌%◌
 use Rattle.mg_value.specs.declared.kind.Kind.{Kind}
 use Rattle.mg_value.specs.declared.kind.Kind.TheVariants.{Any, Flag, Int, Text, Items as KindItems, Record}
 use Rattle.mg_value.specs.Plain.{Plain, flag, int, text, items, entries, item, no_items, entry, no_entries}
-use Rattle.mg_value.specs.Prefix.{Stamped, StreamPrefix, empty_prefix, appended, closed}
+use Rattle.mg_value.specs.Packet.{Stamped}
+use Rattle.mg_settled.specs.Prefix.{StreamPrefix, empty_prefix, appended, closed}
 use Rattle.mg_feed.specs.Accepted.{stepped}
 
 -- the value of a packet, by the stream's kind: `i` is the packet's number, and `round` how many came before it to its input

@@ -1,7 +1,7 @@
 -- The inputs of a graph that lines give.
 use Rattle.std.specs.Prelude.{Bool, List, map, if◌then◌else◌}
 use Rattle.mg_value.specs.Payload.{Plain}
-use Rattle.mg_value.specs.Prefix.{StreamPrefix, closed}
+use Rattle.mg_settled.specs.Prefix.{StreamPrefix, closed}
 
 -- a stream's prefix at the end of the lines: closed where the input ended well, and otherwise as the lines left it
 abbrev pub ended_stream : Bool → StreamPrefix Plain → StreamPrefix Plain

@@ -3,7 +3,7 @@ use Rattle.std.specs.Prelude.{◌≡◌, ℕ, ◌==◌, not, Bool, true, List, [
 use Rattle.std.specs.List.{list_all}
 use Rattle.serde_json.specs.Data.{Data}
 use Rattle.serde_json.specs.Find.{get}
-use Rattle.mg_value.specs.Prefix.{appended, raised, closed}
+use Rattle.mg_settled.specs.Prefix.{appended, raised, closed}
 use Rattle.mg_feed.specs.Graph.{GraphInputs, place_of}
 use Rattle.mg_feed.specs.Form.{is_blank, member_count, text_at, flag_at, json_value, time_of}
 use Rattle.mg_feed.specs.Value.{plain_of}

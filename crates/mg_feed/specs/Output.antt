@@ -5,8 +5,8 @@ use Rattle.serde_json.specs.Find.{of_integer}
 use Rattle.serde_json.specs.Written.{compact_text}
 use Rattle.mg_time.specs.Time.{raw_of, pre_stream, post_stream}
 use Rattle.mg_value.specs.Payload.{Plain}
-use Rattle.mg_value.specs.Json.{json_of}
-use Rattle.mg_value.specs.Prefix.{Stamped}
+use Rattle.mg_value.specs.Packet.{Stamped}
+use Rattle.mg_json.specs.Json.{json_of}
 
 -- a time as JSON: the number of a time of the range, and the names of the two others that a packet may carry
 abbrev pub time_data : ℕ → Data

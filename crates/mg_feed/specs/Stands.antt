@@ -1,7 +1,8 @@
 -- What a feed stands for: lines that were accepted, and packets that were taken of what they gave.
 use Rattle.std.specs.Prelude.{◌≡◌, ℕ, List, [], ◌∷◌, ◌++◌, map, replicate, length, None}
 use Rattle.mg_value.specs.Payload.{Plain}
-use Rattle.mg_value.specs.Prefix.{Stamped, StreamPrefix}
+use Rattle.mg_value.specs.Packet.{Stamped}
+use Rattle.mg_settled.specs.Prefix.{StreamPrefix}
 use Rattle.mg_feed.specs.Graph.{GraphInputs}
 use Rattle.mg_feed.specs.Accepted.{given_by, refusal, has_some}
 use Rattle.mg_feed.specs.View.{View}

@@ -11,7 +11,7 @@ whole (json.unsigned n) = pos n
 whole (json.negative z) = z
 whole (json.float x) = pos 0
 
--- The payload of a JSON value. Where the value has a fault (`first_fault` of mg_value) it says none, and what stands here
+-- The payload of a JSON value. Where the value has a fault (`first_fault` of mg_json) it says none, and what stands here
 -- for `null` and for a fraction counts for nothing.
 abbrev mutual
   pub plain_of : json.Data → Plain

@@ -1,7 +1,7 @@
 -- What a feed has of the lines that it accepted.
 use Rattle.std.specs.Prelude.{◌||◌, ◌+◌, ℕ, List, [], ◌∷◌, map, Bool, true, Some}
 use Rattle.mg_value.specs.Payload.{Plain}
-use Rattle.mg_value.specs.Prefix.{StreamPrefix}
+use Rattle.mg_settled.specs.Prefix.{StreamPrefix}
 use Rattle.mg_feed.specs.Graph.{GraphInputs}
 use Rattle.mg_feed.specs.Accepted.{State, Before, has_some, stepped}
 use Rattle.mg_feed.specs.declared.standing.Standing.{Standing}

@@ -1,5 +1,5 @@
 ghost use Rattle.std.specs.Prelude.{◌≡◌, ◌≤◌, ◌+◌, ℕ, Option, OnOk, map, vec_len, length};
-ghost use Rattle.mg_value.specs.Prefix.{appended};
+ghost use Rattle.mg_settled.specs.Prefix.{appended};
 ghost use Rattle.mg_feed.specs.Accepted.{stepped_at};
 ghost use Rattle.mg_feed.specs.Code.Streams.{waiting, was_taken};
 ghost use Rattle.mg_feed.specs.Code.Due.{packets_room, HasRoom, AllRoom, with_due};

@@ -20,7 +20,7 @@ pub struct Feed {
 impl Feed {
     ghost use Rattle.std.specs.Prelude.{◌≡◌, ◌≢◌, ◌≤◌, [], ◌∷◌, ◌++◌, false, ℕ, List, None, Some, OnOk, OnErr, IfOk, IfErr, length};
     ghost use Rattle.mg_value.specs.Payload.{Plain};
-    ghost use Rattle.mg_value.specs.Prefix.{Stamped};
+    ghost use Rattle.mg_value.specs.Packet.{Stamped};
     ghost use Rattle.mg_feed.specs.Graph.{inputs_of};
     ghost use Rattle.mg_feed.specs.Accepted.{refusal};
     ghost use Rattle.mg_feed.specs.Given.{ended_streams};

@@ -14,7 +14,8 @@ use std::sync::Arc;
 impl InputBuffer {
     ghost use Rattle.std.specs.Prelude.{◌≡◌, ◌<◌, ◌≤◌, ◌%◌, List, OnOk, length};
     ghost use Rattle.mg_value.specs.Payload.{Plain};
-    ghost use Rattle.mg_value.specs.Prefix.{Stamped, appended};
+    ghost use Rattle.mg_value.specs.Packet.{Stamped};
+    ghost use Rattle.mg_settled.specs.Prefix.{appended};
     ghost use Rattle.mg_feed.specs.Accepted.{stepped};
     ghost use Rattle.mg_feed.specs.Generated.{generated_packet, generated_sides};
     ghost use Rattle.mg_feed.specs.Code.MadeSoFar.{AreMade};

@@ -2,13 +2,14 @@ ghost use Rattle.std.specs.Prelude.{◌≡◌, ◌≢◌, IfOk, IfErr, Some, Non
 ghost use Rattle.std.specs.Arc.{arc_value};
 ghost use Rattle.serde_json.specs.View.{view};
 ghost use Rattle.mg_value.specs.Payload.{plain};
-ghost use Rattle.mg_value.specs.Json.{first_fault};
+ghost use Rattle.mg_json.specs.Json.{first_fault};
 ghost use Rattle.mg_feed.specs.Value.{plain_of, takes};
 ghost use Rattle.mg_feed.specs.Accepted.{first_refusal, packet_refusals};
 
 use crate::{LineFault, Standing};
+use mg_json::{ValueFault, from_json};
 use mg_time::Timestamp;
-use mg_value::{Kind, Packet, Payload, ValueFault, from_json, has_kind};
+use mg_value::{Kind, Packet, Payload, has_kind};
 use serde_json::Value;
 use std::alloc::Global;
 use std::sync::Arc;

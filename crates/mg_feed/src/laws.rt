@@ -1,8 +1,9 @@
 //! Laws of what packet lines mean: each function does nothing, and its contract is the law.
 ghost use Rattle.std.specs.Prelude.{◌≡◌, ◌<◌, ◌++◌, max, ℕ, Bool, true, Option, List, [], ◌∷◌, length, slice_index_or};
 ghost use Rattle.mg_value.specs.Payload.{Plain};
-ghost use Rattle.mg_value.specs.Prefix.{Stamped, empty_prefix};
-ghost use Rattle.mg_value.specs.Extension.{AreExtendedBy};
+ghost use Rattle.mg_value.specs.Packet.{Stamped};
+ghost use Rattle.mg_settled.specs.Prefix.{empty_prefix};
+ghost use Rattle.mg_settled.specs.Extension.{AreExtendedBy};
 ghost use Rattle.mg_calc.specs.declared.plan.Plan.{Plan};
 ghost use Rattle.mg_edge.specs.Edge.{SourceTold};
 ghost use Rattle.mg_edge.specs.Runs.{Gave};

@@ -1,7 +1,7 @@
 ghost use Rattle.std.specs.Prelude.{◌≡◌};
 ghost use Rattle.mg_feed.specs.declared.line_fault.LineFault.TheVariants.{OutOfMemory};
 
-use mg_value::ValueFault;
+use mg_json::ValueFault;
 use std::alloc::{AllocError, AllocFailed};
 use thiserror::Error;
 

@@ -5,11 +5,12 @@ ghost use Rattle.serde_json.specs.Data.{array};
 ghost use Rattle.serde_json.specs.Written.{compact_text, comma_if};
 ghost use Rattle.mg_value.specs.Plain.{items_of};
 ghost use Rattle.mg_value.specs.Payload.{plain};
-ghost use Rattle.mg_value.specs.Json.{json_of, json_items};
+ghost use Rattle.mg_json.specs.Json.{json_of, json_items};
 
 use crate::push_bytes;
 use itoa::Buffer;
-use mg_value::{Payload, to_json};
+use mg_json::to_json;
+use mg_value::Payload;
 use std::alloc::AllocError;
 
 /// Puts a payload as JSON at the end of a text. Numbers and lists are written directly, any other payload by its JSON value.

@@ -1,5 +1,5 @@
 ghost use Rattle.std.specs.Prelude.{◌≡◌, ◌≤◌, ◌<◌, ◌^◌, ◌||◌, ◌++◌, ◌+◌, ◌∷◌, [], OnOk, OnErr, map, max, unwrap_or, slice_get, vec_len, vec_capacity, length};
-ghost use Rattle.mg_value.specs.Prefix.{appended, raised, closed};
+ghost use Rattle.mg_settled.specs.Prefix.{appended, raised, closed};
 ghost use Rattle.mg_feed.specs.Accepted.{stepped, no_stream, has_some};
 ghost use Rattle.mg_feed.specs.Given.{ended_streams, ended_stream};
 ghost use Rattle.mg_feed.specs.View.{standings, all_taken, without_packets};
@@ -8,8 +8,9 @@ ghost use Rattle.mg_feed.specs.Code.Streams.{standing_now};
 
 use crate::Standing;
 use crate::feed_stream::FeedStream;
+use mg_settled::Prefix;
 use mg_time::Timestamp;
-use mg_value::{BlockList, Packet, Prefix};
+use mg_value::{BlockList, Packet};
 use std::alloc::{AllocError, Global};
 use std::mem;
 

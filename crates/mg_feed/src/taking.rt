@@ -1,5 +1,5 @@
 ghost use Rattle.std.specs.Prelude.{◌≡◌, ◌<◌, ◌^◌, IfOk, None, false, map, replicate, length, vec_len};
-ghost use Rattle.mg_value.specs.Prefix.{empty_prefix};
+ghost use Rattle.mg_settled.specs.Prefix.{empty_prefix};
 ghost use Rattle.mg_calc.specs.Given.{given};
 ghost use Rattle.mg_feed.specs.Code.Streams.{waiting, was_taken};
 
@@ -8,8 +8,9 @@ use crate::graph::{Graph, graph_of};
 use crate::input_buffer::InputBuffer;
 use crate::streams::take_prefixes;
 use mg_calc::{GivenList, Inputs, Plan};
+use mg_settled::Prefix;
 use mg_time::Timestamp;
-use mg_value::{BlockList, Payload, Prefix};
+use mg_value::{BlockList, Payload};
 use std::alloc::{AllocError, Global};
 use std::sync::Arc;
 

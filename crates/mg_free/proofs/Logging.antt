@@ -6,10 +6,11 @@ use Rattle.std.proofs.lemmas.Bool.Decides.{nat_tests}
 use Rattle.std.proofs.lemmas.List.Elements.{recursion_from_All}
 use Rattle.std.proofs.lemmas.List.Sums.{fold-append}
 use Rattle.mg_time.specs.Time.{next, pre_stream, post_stream, IsAllowed}
-use Rattle.mg_value.specs.Prefix.{Stamped, StreamPrefix, IsPrefix, Ascends, first_time}
-use Rattle.mg_value.specs.Settled.{port_of}
-use Rattle.mg_value.specs.Extension.{IsExtendedBy}
-use Rattle.mg_value.proofs.Lemmas.{empty_is_prefix, closed_is_prefix, extended_by_itself, extended_further}
+use Rattle.mg_value.specs.Packet.{Stamped}
+use Rattle.mg_settled.specs.Prefix.{StreamPrefix, IsPrefix, Ascends, first_time}
+use Rattle.mg_settled.specs.Settled.{port_of}
+use Rattle.mg_settled.specs.Extension.{IsExtendedBy}
+use Rattle.mg_settled.proofs.Lemmas.{empty_is_prefix, closed_is_prefix, extended_by_itself, extended_further}
 use Rattle.mg_free.specs.declared.law.FreeLaw.{FreeLaw}
 use Rattle.mg_free.specs.declared.law.FreeLaw.TheVariants.{FirstCome, Limiter}
 use Rattle.mg_free.specs.Free.{Arrival, Flow, begun, ports_of, arrived}

@@ -7,8 +7,9 @@ use Rattle.std.proofs.lemmas.List.{map-append, append-nil, append_assoc}
 use Rattle.std.proofs.lemmas.List.Sums.{sum_by-cons}
 use Rattle.std.proofs.lemmas.List.Elements.{All-from_recursion, recursion_from_All}
 use Rattle.mg_value.specs.Payload.{Plain}
-use Rattle.mg_value.specs.Prefix.{Stamped, StreamPrefix}
-use Rattle.mg_value.specs.Settled.{port_of}
+use Rattle.mg_value.specs.Packet.{Stamped}
+use Rattle.mg_settled.specs.Prefix.{StreamPrefix}
+use Rattle.mg_settled.specs.Settled.{port_of}
 use Rattle.mg_calc.proofs.Earlier.{some_same}
 use Rattle.mg_free.specs.declared.node.FreeNode.{FreeNode}
 use Rattle.mg_free.specs.Free.{Arrival}

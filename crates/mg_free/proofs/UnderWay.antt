@@ -4,9 +4,9 @@ use Rattle.std.specs.List.{AllByRecursion, AllZip}
 use Rattle.std.proofs.lemmas.List.{length-map}
 use Rattle.std.proofs.lemmas.List.Elements.{All-from_recursion}
 use Rattle.mg_value.specs.Payload.{Plain}
-use Rattle.mg_value.specs.Prefix.{StreamPrefix, IsPrefix, closed}
-use Rattle.mg_value.specs.Extension.{AreExtendedBy}
-use Rattle.mg_value.proofs.Lemmas.{empty_is_prefix, all_by_themselves}
+use Rattle.mg_settled.specs.Prefix.{StreamPrefix, IsPrefix, closed}
+use Rattle.mg_settled.specs.Extension.{AreExtendedBy}
+use Rattle.mg_settled.proofs.Lemmas.{empty_is_prefix, all_by_themselves}
 use Rattle.mg_calc.specs.declared.inputs.Inputs.{Inputs}
 use Rattle.mg_calc.specs.Plan.{IsValid, given_places}
 use Rattle.mg_calc.specs.Equations.{Job, IsJob, IsSolution, stream_of}

@@ -3,7 +3,8 @@
 use Rattle.std.specs.Prelude.{◌≡◌, ℕ, ◌+◌, ◌-◌, ◌≤◌, ◌<◌, Bool, not, ◌&&◌, ◌==◌, nat_lt, nat_le, length, if◌then◌else◌}
 use Rattle.mg_time.specs.Time.{post_stream, IsAllowed, next}
 use Rattle.mg_value.specs.Payload.{Plain}
-use Rattle.mg_value.specs.Prefix.{Stamped, StreamPrefix, empty_prefix, appended, raised}
+use Rattle.mg_value.specs.Packet.{Stamped}
+use Rattle.mg_settled.specs.Prefix.{StreamPrefix, empty_prefix, appended, raised}
 use Rattle.mg_free.specs.declared.law.FreeLaw.{FreeLaw}
 use Rattle.mg_free.specs.declared.law.FreeLaw.TheVariants.{FirstCome, Limiter}
 

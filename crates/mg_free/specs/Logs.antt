@@ -2,8 +2,9 @@
 use Rattle.std.specs.Prelude.{◌≡◌, ℕ, ◌<◌, ◌==◌, Bool, List, [], ◌∷◌, map, filter, take, length, All, if◌then◌else◌}
 use Rattle.std.specs.List.{fold, list_all}
 use Rattle.mg_time.specs.Time.{done}
-use Rattle.mg_value.specs.Prefix.{Stamped, StreamPrefix, closed}
-use Rattle.mg_value.specs.Settled.{port_of}
+use Rattle.mg_value.specs.Packet.{Stamped}
+use Rattle.mg_settled.specs.Prefix.{StreamPrefix, closed}
+use Rattle.mg_settled.specs.Settled.{port_of}
 use Rattle.mg_free.specs.declared.law.FreeLaw.{FreeLaw}
 use Rattle.mg_free.specs.declared.law.FreeLaw.TheVariants.{FirstCome, Limiter}
 use Rattle.mg_free.specs.Free.{Arrival, Flow, begun, arrived, MayArrive}

@@ -3,7 +3,7 @@
 use Rattle.std.specs.Prelude.{◌≡◌, Bool, true, false, List, [], ◌∷◌, ◌++◌, map, length, Option, Some, None, option_map, slice_get}
 use Rattle.std.specs.List.{enumerate_from, filter_map, zip}
 use Rattle.mg_value.specs.Payload.{Plain}
-use Rattle.mg_value.specs.Prefix.{StreamPrefix, closed}
+use Rattle.mg_settled.specs.Prefix.{StreamPrefix, closed}
 use Rattle.mg_calc.specs.declared.inputs.Inputs.{Inputs}
 use Rattle.mg_calc.specs.Equations.{Job, IsSolution, stream_of}
 use Rattle.mg_free.specs.declared.node.FreeNode.{FreeNode}

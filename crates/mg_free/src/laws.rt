@@ -1,8 +1,8 @@
 //! Laws of logs: each function does nothing, and its contract is the law.
 ghost use Rattle.std.specs.Prelude.{◌≡◌, ℕ, ◌<◌, ◌≤◌, ◌⊎◌, List, ◌∷◌, ◌++◌, length, sum_by, All};
 ghost use Rattle.mg_value.specs.Payload.{Plain};
-ghost use Rattle.mg_value.specs.Prefix.{StreamPrefix, IsPrefix};
-ghost use Rattle.mg_value.specs.Extension.{IsExtendedBy, AreExtendedBy};
+ghost use Rattle.mg_settled.specs.Prefix.{StreamPrefix, IsPrefix};
+ghost use Rattle.mg_settled.specs.Extension.{IsExtendedBy, AreExtendedBy};
 ghost use Rattle.mg_calc.specs.declared.inputs.Inputs.{Inputs};
 ghost use Rattle.mg_calc.specs.declared.plan.Plan.{Plan};
 ghost use Rattle.mg_calc.specs.Plan.{IsValidWithFree, InputsFit};

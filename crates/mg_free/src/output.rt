@@ -1,10 +1,11 @@
 //! How the output of a free node grows.
 ghost use Rattle.std.specs.Prelude.{◌≡◌, ◌∷◌, ◌++◌, [], length, ◌<◌, ◌^◌, IfOk, IfErr, OnErr};
-ghost use Rattle.mg_value.specs.Prefix.{appended, closed, raised};
+ghost use Rattle.mg_settled.specs.Prefix.{appended, closed, raised};
 ghost use Rattle.mg_free.specs.Free.{can_follow as can_still_follow};
 
+use mg_settled::Prefix;
 use mg_time::Timestamp;
-use mg_value::{BlockList, Packet, PacketList, Prefix};
+use mg_value::{BlockList, Packet, PacketList};
 use std::alloc::{AllocError, AllocFailed, Global};
 use std::mem;
 

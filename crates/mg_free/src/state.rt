@@ -1,14 +1,15 @@
 ghost use Rattle.std.specs.Prelude.{◌≡◌, ◌↔◌, IsTrue, IfOk, OnErr};
 ghost use Rattle.mg_time.specs.Time.{IsAllowed};
 ghost use Rattle.mg_value.specs.Payload.{Plain};
-ghost use Rattle.mg_value.specs.Prefix.{IsPrefix, MayFollow, closed};
+ghost use Rattle.mg_settled.specs.Prefix.{IsPrefix, MayFollow, closed};
 ghost use Rattle.mg_free.specs.Code.Room.{HasRoom, may_arrive, comes_in_time};
 ghost use Rattle.mg_free.specs.Free.{begun, ports_of, is_laid, risen, arrived, with_laid, without_laid, MayArrive};
 
 use crate::output::{self, no_packets};
 use crate::{FreeLaw, FreeNode};
+use mg_settled::Prefix;
 use mg_time::Timestamp;
-use mg_value::{Packet, Prefix};
+use mg_value::Packet;
 use std::alloc::{AllocError, Global};
 use std::marker::Model;
 
@@ -23,7 +24,7 @@ pub struct FreeState {
 }
 
 impl Model for FreeState {
-    ghost use Rattle.mg_value.specs.Prefix.{IsPrefix};
+    ghost use Rattle.mg_settled.specs.Prefix.{IsPrefix};
     ghost use Rattle.mg_free.specs.Free.{FreeStanding};
     ghost use Rattle.mg_free.specs.Codes.{standing_code};
 

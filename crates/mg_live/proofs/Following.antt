@@ -5,9 +5,9 @@ use Rattle.std.proofs.lemmas.List.{append_assoc, length-map, reverse-append}
 use Rattle.std.proofs.lemmas.List.Elements.{All-from_recursion}
 use Rattle.std.proofs.lemmas.Option.{same_Some, none-some}
 use Rattle.mg_value.specs.Payload.{Plain}
-use Rattle.mg_value.specs.Prefix.{StreamPrefix, IsPrefix}
-use Rattle.mg_value.specs.Extension.{AreExtendedBy}
-use Rattle.mg_value.proofs.Lemmas.{all_by_themselves}
+use Rattle.mg_settled.specs.Prefix.{StreamPrefix, IsPrefix}
+use Rattle.mg_settled.specs.Extension.{AreExtendedBy}
+use Rattle.mg_settled.proofs.Lemmas.{all_by_themselves}
 use Rattle.mg_calc.specs.declared.inputs.Inputs.{Inputs}
 use Rattle.mg_calc.specs.declared.plan.Plan.{Plan}
 use Rattle.mg_calc.specs.Plan.{IsValidWithFree, InputsFit}

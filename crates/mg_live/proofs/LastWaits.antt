@@ -3,8 +3,9 @@ use Rattle.std.proofs.Common.{◌≡◌, ℕ, zero, suc, ◌+◌, ◌-◌, ◌<�
 use Rattle.std.specs.List.{cons_option}
 use Rattle.std.proofs.lemmas.List.{length-map, take_all, append-nil}
 use Rattle.mg_value.specs.Payload.{Plain}
-use Rattle.mg_value.specs.Prefix.{Stamped, StreamPrefix}
-use Rattle.mg_value.specs.Settled.{port_of}
+use Rattle.mg_value.specs.Packet.{Stamped}
+use Rattle.mg_settled.specs.Prefix.{StreamPrefix}
+use Rattle.mg_settled.specs.Settled.{port_of}
 use Rattle.mg_calc.specs.Equations.{stream_of}
 use Rattle.mg_calc.proofs.Earlier.{some_same}
 use Rattle.mg_free.specs.declared.node.FreeNode.{FreeNode}

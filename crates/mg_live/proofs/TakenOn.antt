@@ -4,8 +4,9 @@ use Rattle.std.proofs.lemmas.Bool.{cases_Bool}
 use Rattle.std.proofs.lemmas.List.{length-map}
 use Rattle.std.proofs.lemmas.List.Elements.{recursion_from_All}
 use Rattle.mg_value.specs.Payload.{Plain}
-use Rattle.mg_value.specs.Prefix.{Stamped, StreamPrefix, IsPrefix}
-use Rattle.mg_value.specs.Settled.{port_of}
+use Rattle.mg_value.specs.Packet.{Stamped}
+use Rattle.mg_settled.specs.Prefix.{StreamPrefix, IsPrefix}
+use Rattle.mg_settled.specs.Settled.{port_of}
 use Rattle.mg_free.specs.declared.law.FreeLaw.{FreeLaw}
 use Rattle.mg_free.specs.declared.node.FreeNode.{FreeNode}
 use Rattle.mg_free.specs.Free.{Arrival, Flow, begun, arrived, MayArrive, ports_of}

@@ -1,7 +1,7 @@
 -- Rounds under way: what free nodes have taken so far. Each entry of a list of inputs is all that had come to the graph by the end of
 -- a batch, and the newest entry stands first.
 use Rattle.std.specs.Prelude.{◌≡◌, List, [], ◌∷◌, ⊤}
-use Rattle.mg_value.specs.Extension.{AreExtendedBy}
+use Rattle.mg_settled.specs.Extension.{AreExtendedBy}
 use Rattle.mg_calc.specs.declared.inputs.Inputs.{Inputs}
 use Rattle.mg_calc.specs.declared.plan.Plan.{Plan}
 use Rattle.mg_calc.specs.Plan.{InputsFit}

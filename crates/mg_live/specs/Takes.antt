@@ -2,7 +2,7 @@
 use Rattle.std.specs.Prelude.{◌≡◌, ◌<◌, ◌∷◌, ℕ, Bool, true, false, List, [], map, drop, length, All, Some, slice_get, slice_index_or}
 use Rattle.std.specs.List.{zip}
 use Rattle.mg_value.specs.Payload.{Plain}
-use Rattle.mg_value.specs.Prefix.{StreamPrefix, IsPrefix}
+use Rattle.mg_settled.specs.Prefix.{StreamPrefix, IsPrefix}
 use Rattle.mg_free.specs.declared.node.FreeNode.{FreeNode}
 use Rattle.mg_free.specs.Free.{Arrival, ports_of}
 use Rattle.mg_free.specs.Logs.{flow_of, arrived_at, IsLawfulSoFar}

@@ -1,6 +1,6 @@
 ghost use Rattle.std.specs.Prelude.{◌≡◌, ◌<◌, List, Some, IfOk, OnOk, length, map, replicate, slice_get};
 ghost use Rattle.mg_value.specs.Payload.{Plain};
-ghost use Rattle.mg_value.specs.Prefix.{StreamPrefix};
+ghost use Rattle.mg_settled.specs.Prefix.{StreamPrefix};
 ghost use Rattle.mg_free.specs.declared.node.FreeNode.{FreeNode as FreeNodeView};
 ghost use Rattle.mg_free.specs.Rounds.{Taken};
 ghost use Rattle.mg_live.specs.declared.taker.Taker.{Taker as TakerView};
@@ -8,7 +8,7 @@ ghost use Rattle.mg_live.specs.Takes.{HaveTaken, MayRound, Did, turns_of, nothin
 
 use crate::{Arrived, Streams, Taker};
 use mg_free::{FreeNode, FreeNodeList};
-use mg_value::{Prefix, PrefixList};
+use mg_settled::{Prefix, PrefixList};
 use std::alloc::{AllocError, Global};
 
 /// The free nodes of a graph that runs, each with its taker.

@@ -1,6 +1,6 @@
 ghost use Rattle.std.specs.Prelude.{◌≡◌, ◌<◌, ℕ, List, length, slice_get, option_copied};
 ghost use Rattle.mg_value.specs.Payload.{Plain};
-ghost use Rattle.mg_value.specs.Prefix.{StreamPrefix};
+ghost use Rattle.mg_settled.specs.Prefix.{StreamPrefix};
 ghost use Rattle.mg_calc.specs.Equations.{stream_of};
 
 use mg_time::Timestamp;

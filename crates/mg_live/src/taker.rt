@@ -1,8 +1,8 @@
 ghost use Rattle.std.specs.Prelude.{◌≡◌, ◌<◌, ◌==◌, ◌++◌, ◌∷◌, ℕ, List, [], Some, None, IfOk, OnOk, false, length, slice_get, option_map, option_copied, replicate, drop, map, OnErr, if◌then◌else◌};
 ghost use Rattle.mg_time.specs.Time.{done};
 ghost use Rattle.mg_value.specs.Payload.{Plain};
-ghost use Rattle.mg_value.specs.Prefix.{StreamPrefix};
-ghost use Rattle.mg_value.specs.Settled.{port_of};
+ghost use Rattle.mg_settled.specs.Prefix.{StreamPrefix};
+ghost use Rattle.mg_settled.specs.Settled.{port_of};
 ghost use Rattle.mg_calc.specs.Equations.{stream_of};
 ghost use Rattle.mg_free.specs.declared.node.FreeNode.{FreeNode as FreeNodeView};
 ghost use Rattle.mg_free.specs.Free.{MayArrive};
@@ -12,8 +12,9 @@ ghost use Rattle.mg_live.specs.Takes.{told, HasTaken, HasHanded, MayTurnIn, Did,
 
 use crate::{Arrived, Streams};
 use mg_free::{FreeLaw, FreeNode, FreeState};
+use mg_settled::Prefix;
 use mg_time::Timestamp;
-use mg_value::{Packet, PacketList, Prefix};
+use mg_value::{Packet, PacketList};
 use std::alloc::{AllocError, Global};
 
 /// What is kept of a free node while a graph runs: its state, how many packets have arrived at each port, its log, whether its output

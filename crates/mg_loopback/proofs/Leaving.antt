@@ -4,9 +4,10 @@ use Rattle.std.proofs.Math.Seq.{take-add}
 use Rattle.std.specs.List.{AllByRecursion}
 use Rattle.std.proofs.lemmas.Bool.{cases_Bool, lt-ltb, le-ltb, le-leb, lt-leb, leb-true, leb-false}
 use Rattle.std.proofs.lemmas.List.Elements.{All-from_recursion, All-append, All-weaker}
-use Rattle.mg_value.specs.Prefix.{Stamped, StreamPrefix, IsPrefix}
-use Rattle.mg_value.specs.Settled.{packet_at}
-use Rattle.mg_value.proofs.Climbs.{Climbs, prefix-climbs, Climbs-drop}
+use Rattle.mg_value.specs.Packet.{Stamped}
+use Rattle.mg_settled.specs.Prefix.{StreamPrefix, IsPrefix}
+use Rattle.mg_settled.specs.Settled.{packet_at}
+use Rattle.mg_settled.proofs.Climbs.{Climbs, prefix-climbs, Climbs-drop}
 use Rattle.mg_stream.specs.Queue.{Waiting, StandsFor, rest_of, front_at, popped_at}
 use Rattle.mg_loopback.specs.Loopback.{without}
 

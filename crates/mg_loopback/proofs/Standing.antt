@@ -5,13 +5,14 @@ use Rattle.std.specs.List.{prefix_len, filter_map}
 use Rattle.std.proofs.lemmas.Bool.{cases_Bool, le-ltb, lt-ltb}
 use Rattle.std.proofs.lemmas.List.{take_all, take-append-le}
 use Rattle.std.proofs.lemmas.List.Elements.{All-nil, All-weaker, recursion_from_All}
-use Rattle.mg_value.specs.Prefix.{Stamped, StreamPrefix, first_time, empty_prefix}
-use Rattle.mg_value.specs.Extension.{IsExtendedBy}
-use Rattle.mg_value.specs.Loopback.{is_answered, with_previous, found, Reply, replies, packet_of, loopback}
-use Rattle.mg_value.proofs.PrefixSteps.{empty_is_prefix}
-use Rattle.mg_value.proofs.Climbs.{Climbs, prefix-climbs}
-use Rattle.mg_value.proofs.Leaving.{packet_at-drop}
-use Rattle.mg_value.proofs.LoopbackStream.{length-replies, replies-stay, replies-most}
+use Rattle.mg_value.specs.Packet.{Stamped}
+use Rattle.mg_settled.specs.Prefix.{StreamPrefix, first_time, empty_prefix}
+use Rattle.mg_settled.specs.Extension.{IsExtendedBy}
+use Rattle.mg_settled.specs.Loopback.{is_answered, with_previous, found, Reply, replies, packet_of, loopback}
+use Rattle.mg_settled.proofs.PrefixSteps.{empty_is_prefix}
+use Rattle.mg_settled.proofs.Climbs.{Climbs, prefix-climbs}
+use Rattle.mg_settled.proofs.Leaving.{packet_at-drop}
+use Rattle.mg_settled.proofs.LoopbackStream.{length-replies, replies-stay, replies-most}
 use Rattle.mg_stream.specs.Queue.{Waiting, StandsFor, empty_queue}
 use Rattle.mg_stream.proofs.QueueSteps.{stands_like, stands_without_first}
 use Rattle.mg_loopback.specs.Loopback.{Held, value_at, next_reply, without, replied, reached, IsFresh, IsAsFar}

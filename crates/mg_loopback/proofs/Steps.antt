@@ -2,10 +2,11 @@
 use Rattle.std.proofs.Common.{◌≡◌, ◌⊎◌, ℕ, ◌+◌, ◌≤◌, true, false, inl, inr, List, [], ◌∷◌, Option, Some, None, Ok, Err, Result, option_map, unwrap_or, slice_get, is_some, IsSomeAnd, ◌↔◌, eq-eqb, MatchResult, OnOk, OnErr, ap, sym, refl, ◌∙◌}
 use Rattle.std.proofs.lemmas.Bool.{cases_Bool}
 use Rattle.mg_value.specs.Payload.{Plain}
-use Rattle.mg_value.specs.Prefix.{Stamped, StreamPrefix, first_time, appended}
-use Rattle.mg_value.specs.Extension.{IsExtendedBy}
-use Rattle.mg_value.specs.Loopback.{Reply}
-use Rattle.mg_value.proofs.Extending.{extended_by_itself, appended_extends}
+use Rattle.mg_value.specs.Packet.{Stamped}
+use Rattle.mg_settled.specs.Prefix.{StreamPrefix, first_time, appended}
+use Rattle.mg_settled.specs.Extension.{IsExtendedBy}
+use Rattle.mg_settled.specs.Loopback.{Reply}
+use Rattle.mg_settled.proofs.Extending.{extended_by_itself, appended_extends}
 use Rattle.mg_stream.specs.Queue.{Waiting, StandsFor, IsLike, MayCome, with_packet, popped, popped_at, front_at}
 use Rattle.mg_stream.proofs.QueueSteps.{may_follow}
 use Rattle.mg_loopback.specs.Loopback.{Held, is_settled, next_reply, value_at, without, told_at, told, reached}

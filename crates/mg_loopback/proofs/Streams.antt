@@ -5,12 +5,13 @@ use Rattle.std.proofs.lemmas.Bool.{cases_Bool}
 use Rattle.std.proofs.lemmas.List.{take-append-drop, take-append-le}
 use Rattle.std.proofs.lemmas.List.Elements.{All-from_recursion}
 use Rattle.mg_time.specs.Time.{done}
-use Rattle.mg_value.specs.Prefix.{Stamped, StreamPrefix, IsPrefix, first_time}
-use Rattle.mg_value.specs.Extension.{IsExtendedBy}
-use Rattle.mg_value.specs.Loopback.{is_answered, Reply, replies, packet_of, loopback}
-use Rattle.mg_value.proofs.Extending.{extended_by_itself, same_prefix}
-use Rattle.mg_value.proofs.Climbs.{Climbs, prefix-climbs, Climbs-drop, Climbs-most, Climbs-from}
-use Rattle.mg_value.proofs.LoopbackStream.{length-replies, replies-stay, replies-most, loopback_extends}
+use Rattle.mg_value.specs.Packet.{Stamped}
+use Rattle.mg_settled.specs.Prefix.{StreamPrefix, IsPrefix, first_time}
+use Rattle.mg_settled.specs.Extension.{IsExtendedBy}
+use Rattle.mg_settled.specs.Loopback.{is_answered, Reply, replies, packet_of, loopback}
+use Rattle.mg_settled.proofs.Extending.{extended_by_itself, same_prefix}
+use Rattle.mg_settled.proofs.Climbs.{Climbs, prefix-climbs, Climbs-drop, Climbs-most, Climbs-from}
+use Rattle.mg_settled.proofs.LoopbackStream.{length-replies, replies-stay, replies-most, loopback_extends}
 use Rattle.mg_loopback.specs.Loopback.{Held}
 use Rattle.mg_loopback.specs.Standing.{StandsAfter, after_replies}
 use Rattle.mg_loopback.proofs.Turns.{turns}

@@ -3,9 +3,10 @@ use Rattle.std.proofs.Common.{◌≡◌, ℕ, zero, suc, ◌+◌, ◌<◌, ◌�
 use Rattle.std.specs.List.{prefix_len, take_while}
 use Rattle.std.proofs.lemmas.Bool.{cases_Bool}
 use Rattle.std.specs.Prelude.{if◌then◌else◌}
-use Rattle.mg_value.specs.Prefix.{Stamped, StreamPrefix}
-use Rattle.mg_value.specs.Loopback.{is_answered, Reply, reply}
-use Rattle.mg_value.proofs.Fronts.{one_more}
+use Rattle.mg_value.specs.Packet.{Stamped}
+use Rattle.mg_settled.specs.Prefix.{StreamPrefix}
+use Rattle.mg_settled.specs.Loopback.{is_answered, Reply, reply}
+use Rattle.mg_settled.proofs.Fronts.{one_more}
 use Rattle.mg_loopback.specs.Standing.{time_before}
 
 -- the packets of a list, each behind the one before it, and the first behind another

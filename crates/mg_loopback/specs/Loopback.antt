@@ -2,9 +2,10 @@
 -- packet of MAIN is answered. Definitions see the two queues, and the time of the packet of MAIN that was answered last.
 use Rattle.std.specs.Prelude.{◌≡◌, ℕ, Bool, true, List, length, filter, Option, Some, None, option_map, unwrap_or, is_some, slice_get, ◌+◌, ◌-◌, ◌==◌, nat_lt, nat_le, if◌then◌else◌}
 use Rattle.mg_value.specs.Payload.{Plain}
-use Rattle.mg_value.specs.Prefix.{Stamped, first_time}
-use Rattle.mg_value.specs.Settled.{packet_at}
-use Rattle.mg_value.specs.Loopback.{Reply}
+use Rattle.mg_value.specs.Packet.{Stamped}
+use Rattle.mg_settled.specs.Prefix.{first_time}
+use Rattle.mg_settled.specs.Settled.{packet_at}
+use Rattle.mg_settled.specs.Loopback.{Reply}
 use Rattle.mg_stream.specs.Queue.{Waiting, IsLike, empty_queue, popped}
 use Rattle.mg_loopback.specs.declared.answered.Answered.{Answered}
 use Rattle.mg_loopback.specs.declared.answered.Answered.TheVariants.{Packet, Silent, NotYet}

@@ -1,8 +1,9 @@
 -- What a loopback stands for, in whole streams: the prefixes of MAIN and LOOP, with their first answers given.
 use Rattle.std.specs.Prelude.{◌≡◌, ℕ, zero, suc, ◌≤◌, ◌<◌, List, take, drop, length, All, Option, None, IsSomeAnd, option_map, slice_get, ◌==◌, if◌then◌else◌}
 use Rattle.std.specs.List.{filter_map}
-use Rattle.mg_value.specs.Prefix.{Stamped, StreamPrefix, first_time}
-use Rattle.mg_value.specs.Loopback.{replies, packet_of}
+use Rattle.mg_value.specs.Packet.{Stamped}
+use Rattle.mg_settled.specs.Prefix.{StreamPrefix, first_time}
+use Rattle.mg_settled.specs.Loopback.{replies, packet_of}
 use Rattle.mg_stream.specs.Queue.{StandsFor}
 use Rattle.mg_loopback.specs.Loopback.{Held}
 

@@ -2,9 +2,9 @@
 ghost use Rattle.std.specs.Prelude.{◌≡◌, ℕ, None, [], length, take, slice_get};
 ghost use Rattle.mg_time.specs.Time.{done};
 ghost use Rattle.mg_value.specs.Payload.{Plain};
-ghost use Rattle.mg_value.specs.Prefix.{StreamPrefix};
-ghost use Rattle.mg_value.specs.Extension.{IsExtendedBy};
-ghost use Rattle.mg_value.specs.Loopback.{replies, loopback};
+ghost use Rattle.mg_settled.specs.Prefix.{StreamPrefix};
+ghost use Rattle.mg_settled.specs.Extension.{IsExtendedBy};
+ghost use Rattle.mg_settled.specs.Loopback.{replies, loopback};
 ghost use Rattle.mg_stream.specs.Queue.{StandsFor};
 ghost use Rattle.mg_loopback.specs.Loopback.{Held, IsAsFar, next_reply};
 ghost use Rattle.mg_loopback.specs.Standing.{StandsAfter, after_replies};

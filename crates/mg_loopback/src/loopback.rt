@@ -1,8 +1,8 @@
 ghost use Rattle.std.specs.Prelude.{◌≡◌, ◌≢◌, ◌⊎◌, ℕ, Some, None, ◌<◌, ◌≤◌, ◌+◌, ◌↔◌, [], length, slice_get, option_map, OnOk, OnErr, IfErr, IsErrAnd, IsOk, IsSomeAnd, MatchResult};
 ghost use Rattle.mg_time.specs.Time.{post_stream, done, IsAllowed};
 ghost use Rattle.mg_value.specs.Payload.{Plain};
-ghost use Rattle.mg_value.specs.Prefix.{StreamPrefix, IsPrefix, empty_prefix, appended, raised, closed};
-ghost use Rattle.mg_value.specs.Loopback.{replies};
+ghost use Rattle.mg_settled.specs.Prefix.{StreamPrefix, IsPrefix, empty_prefix, appended, raised, closed};
+ghost use Rattle.mg_settled.specs.Loopback.{replies};
 ghost use Rattle.mg_loopback.specs.declared.answered.Answered.{Answered};
 ghost use Rattle.mg_stream.specs.declared.fault.StreamFault.{StreamFault};
 ghost use Rattle.mg_stream.specs.Queue.{StandsFor, IsLike, MayCome, count_of, rest_of, with_packet, raised_to};

@@ -1,6 +1,6 @@
 //! The parts of an answer: what leaves LOOP, and how the answer is told.
 ghost use Rattle.std.specs.Prelude.{◌≡◌, option_map};
-ghost use Rattle.mg_value.specs.Settled.{packet_at};
+ghost use Rattle.mg_settled.specs.Settled.{packet_at};
 ghost use Rattle.mg_loopback.specs.Loopback.{value_at, without, told_at};
 
 use crate::Answered;

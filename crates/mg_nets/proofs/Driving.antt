@@ -1,7 +1,7 @@
 -- Each call on a net that is at work leaves it so.
 use Rattle.std.proofs.Common.{◌≡◌, Bool, true, false, List, Option, refl, sym, subst, ◌∙◌, arith}
 use Rattle.mg_value.specs.Payload.{Plain}
-use Rattle.mg_value.specs.Prefix.{Stamped}
+use Rattle.mg_value.specs.Packet.{Stamped}
 use Rattle.mg_calc.specs.declared.inputs.Inputs.{Inputs}
 use Rattle.mg_calc.specs.declared.plan.Plan.{Plan}
 use Rattle.mg_calc.specs.Told.{CalculatorTold}

@@ -14,7 +14,7 @@ use mg_edge::{Gate, StillGate};
 use mg_plans::{do_fit, inputs_of};
 use mg_route::LawBox;
 use mg_sched::{Hears, Net, Report};
-use mg_value::InputSet;
+use mg_settled::InputSet;
 use std::alloc::Global;
 use std::test::Fail;
 

@@ -2,8 +2,9 @@
 use mg_calc::{Calculator, Call, CallList, NodeFault, Phase};
 use mg_route::LawBox;
 use mg_sched::Report;
+use mg_settled::StreamEnd;
 use mg_tables::{show_packet_at, text_of};
-use mg_value::{Packet, StreamEnd};
+use mg_value::Packet;
 use std::alloc::Global;
 use std::test::Fail;
 

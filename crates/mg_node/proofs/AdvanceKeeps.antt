@@ -4,10 +4,11 @@ use Rattle.std.specs.List.{AllZip}
 use Rattle.std.proofs.lemmas.List.Sums.{sum_by-cons}
 use Rattle.mg_time.specs.Time.{shift}
 use Rattle.mg_value.specs.Payload.{Plain}
-use Rattle.mg_value.specs.Prefix.{Stamped, StreamPrefix, IsPrefix, raised}
-use Rattle.mg_value.specs.Extension.{AreExtendedBy}
-use Rattle.mg_value.specs.Loopback.{loopback}
-use Rattle.mg_value.proofs.Lemmas.{reach-most, loopback_is_prefix}
+use Rattle.mg_value.specs.Packet.{Stamped}
+use Rattle.mg_settled.specs.Prefix.{StreamPrefix, IsPrefix, raised}
+use Rattle.mg_settled.specs.Extension.{AreExtendedBy}
+use Rattle.mg_settled.specs.Loopback.{loopback}
+use Rattle.mg_settled.proofs.Lemmas.{reach-most, loopback_is_prefix}
 use Rattle.mg_stream.specs.Pool.{Backlog}
 use Rattle.mg_loopback.specs.Loopback.{reached}
 use Rattle.mg_loopback.specs.Standing.{after_replies}

@@ -5,10 +5,11 @@ use Rattle.std.proofs.lemmas.List.{take_more}
 use Rattle.std.proofs.lemmas.List.Elements.{filter_map-append, All-weaker}
 use Rattle.std.proofs.lemmas.Option.{slice_get_within, get_or_from_slice_get}
 use Rattle.mg_value.specs.Payload.{Plain}
-use Rattle.mg_value.specs.Prefix.{Stamped, StreamPrefix, empty_prefix, appended, all_appended}
-use Rattle.mg_value.specs.Extension.{AreExtendedBy}
-use Rattle.mg_value.proofs.Extending.{all_appended_behind}
-use Rattle.mg_value.specs.Loopback.{Reply, replies, packet_of, loopback}
+use Rattle.mg_value.specs.Packet.{Stamped}
+use Rattle.mg_settled.specs.Prefix.{StreamPrefix, empty_prefix, appended, all_appended}
+use Rattle.mg_settled.specs.Extension.{AreExtendedBy}
+use Rattle.mg_settled.proofs.Extending.{all_appended_behind}
+use Rattle.mg_settled.specs.Loopback.{Reply, replies, packet_of, loopback}
 use Rattle.mg_stream.specs.Pool.{Backlog, queue_of}
 use Rattle.mg_stream.proofs.QueueSteps.{stands_appended}
 use Rattle.mg_loopback.specs.Loopback.{Held, next_reply, replied}

@@ -2,11 +2,12 @@
 use Rattle.std.proofs.Common.{◌≡◌, ℕ, zero, suc, ◌+◌, ◌<◌, ◌≤◌, Bool, true, false, List, [], ◌∷◌, ◌++◌, length, map, take, get_or, All, Option, Some, None, option_map, unwrap_or, slice_get, count_by as number_of, ◌||◌, ap, sym, refl, subst, ◌∙◌, arith}
 use Rattle.std.specs.List.{AllZip, filter_map, cons_option}
 use Rattle.mg_value.specs.Payload.{Plain}
-use Rattle.mg_value.specs.Prefix.{Stamped, StreamPrefix, IsPrefix, MayFollow, empty_prefix}
-use Rattle.mg_value.specs.Extension.{IsExtendedBy, AreExtendedBy}
-use Rattle.mg_value.specs.Loopback.{Reply, replies, packet_of, loopback}
-use Rattle.mg_value.proofs.Extending.{all_appended_behind}
-use Rattle.mg_value.proofs.Lemmas.{replies-stay}
+use Rattle.mg_value.specs.Packet.{Stamped}
+use Rattle.mg_settled.specs.Prefix.{StreamPrefix, IsPrefix, MayFollow, empty_prefix}
+use Rattle.mg_settled.specs.Extension.{IsExtendedBy, AreExtendedBy}
+use Rattle.mg_settled.specs.Loopback.{Reply, replies, packet_of, loopback}
+use Rattle.mg_settled.proofs.Extending.{all_appended_behind}
+use Rattle.mg_settled.proofs.Lemmas.{replies-stay}
 use Rattle.mg_stream.specs.Queue.{Waiting, StandsFor, MayCome}
 use Rattle.mg_stream.specs.Pool.{Backlog, queue_of}
 use Rattle.mg_loopback.specs.Loopback.{Held, next_reply}

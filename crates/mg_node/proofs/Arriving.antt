@@ -5,9 +5,10 @@ use Rattle.std.proofs.lemmas.Bool.Decides.{eqb_tells}
 use Rattle.std.proofs.lemmas.List.{length-map, get_or-map, take_all}
 use Rattle.std.proofs.lemmas.List.Elements.{All-from_recursion, recursion_from_All}
 use Rattle.mg_value.specs.Payload.{Plain}
-use Rattle.mg_value.specs.Prefix.{Stamped, StreamPrefix, IsPrefix, appended, raised, empty_prefix}
-use Rattle.mg_value.specs.Extension.{IsExtendedBy, AreExtendedBy}
-use Rattle.mg_value.proofs.Lemmas.{extended_by_itself, extended_further, appended_extends, raised_extends, all_by_themselves}
+use Rattle.mg_value.specs.Packet.{Stamped}
+use Rattle.mg_settled.specs.Prefix.{StreamPrefix, IsPrefix, appended, raised, empty_prefix}
+use Rattle.mg_settled.specs.Extension.{IsExtendedBy, AreExtendedBy}
+use Rattle.mg_settled.proofs.Lemmas.{extended_by_itself, extended_further, appended_extends, raised_extends, all_by_themselves}
 use Rattle.mg_stream.specs.Queue.{Waiting, StandsFor, count_of, with_packet, raised_to}
 use Rattle.mg_stream.specs.Pool.{Backlog, empty_backlog, queue_of, queues_of, queue_at, backlog_of, with_queue}
 use Rattle.mg_stream.proofs.QueueSteps.{stands_raised}

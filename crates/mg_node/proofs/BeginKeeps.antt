@@ -6,7 +6,8 @@ use Rattle.std.proofs.lemmas.List.Concat.{flat_map-cons}
 use Rattle.std.proofs.lemmas.List.Elements.{All-from_recursion, All-push}
 use Rattle.std.proofs.lemmas.List.FromFn.{length-range_with_len}
 use Rattle.mg_value.specs.Payload.{Plain}
-use Rattle.mg_value.specs.Prefix.{Stamped, StreamPrefix, IsPrefix}
+use Rattle.mg_value.specs.Packet.{Stamped}
+use Rattle.mg_settled.specs.Prefix.{StreamPrefix, IsPrefix}
 use Rattle.mg_calc.specs.declared.call.Call.{Call}
 use Rattle.mg_calc.specs.declared.call.Call.TheVariants.{Begun}
 use Rattle.mg_calc.specs.declared.law.Law.{Law}
@@ -22,7 +23,7 @@ use Rattle.mg_route.specs.HolderView.{HolderView}
 use Rattle.mg_calc.proofs.Jobs.{any_state, job_known}
 use Rattle.mg_calc.proofs.Outcomes.{opened_keeps}
 use Rattle.mg_node.specs.Views.{ContextView, EngineView}
-use Rattle.mg_value.specs.Extension.{AreExtendedBy}
+use Rattle.mg_settled.specs.Extension.{AreExtendedBy}
 use Rattle.mg_calc.specs.declared.node_fault.NodeFault.{NodeFault}
 use Rattle.mg_node.specs.Job.{LoggedJob, Solves, streams_at, stage_by, stage, first_log, calls_before_by, calls_before}
 use Rattle.mg_node.specs.Lawful.{of_node, StandForAll, IsRaised, IsIdle, IsEngineOf, LawfulEngine}

@@ -4,7 +4,7 @@ use Rattle.std.proofs.Math.Seq.{drop-length}
 use Rattle.std.proofs.lemmas.Bool.Decides.{eqb_tells}
 use Rattle.std.proofs.lemmas.List.{take_more, take_all}
 use Rattle.mg_value.specs.Payload.{Plain}
-use Rattle.mg_value.specs.Prefix.{Stamped}
+use Rattle.mg_value.specs.Packet.{Stamped}
 use Rattle.mg_stream.specs.Queue.{Waiting, with_packet, raised_to, count_of}
 use Rattle.mg_node.specs.declared.pending.Pending.{Pending}
 use Rattle.mg_node.specs.declared.delivered.Delivered.TheVariants.{Moved}

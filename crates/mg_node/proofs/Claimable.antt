@@ -3,8 +3,8 @@ use Rattle.std.proofs.Common.{◌≡◌, ℕ, ◌+◌, ◌<◌, ◌≤◌, List,
 use Rattle.std.specs.List.{AllByRecursion}
 use Rattle.std.proofs.lemmas.List.Elements.{recursion_from_All}
 use Rattle.mg_time.specs.Time.{done}
-use Rattle.mg_value.specs.Settled.{TimedSet, settled_sets}
 use Rattle.mg_value.specs.Payload.{Plain}
+use Rattle.mg_settled.specs.Settled.{TimedSet, settled_sets}
 use Rattle.mg_stream.specs.Pool.{queues_of}
 use Rattle.mg_policy.specs.Inbox.{next_set}
 use Rattle.mg_policy.specs.declared.readiness.Readiness.TheVariants.{Ready}

@@ -2,9 +2,10 @@
 use Rattle.std.proofs.Common.{◌≡◌, ℕ, zero, suc, ◌≤◌, List, [], ◌∷◌, length-append, get_or, map, Option, Some, None, inl, inr, refl, ap, sym, subst, arith}
 use Rattle.mg_time.specs.Time.{next as next_time}
 use Rattle.mg_value.specs.Payload.{Plain}
-use Rattle.mg_value.specs.Prefix.{Stamped, StreamPrefix}
-use Rattle.mg_value.specs.Loopback.{packet_of}
-use Rattle.mg_value.proofs.Lemmas.{appended_extends}
+use Rattle.mg_value.specs.Packet.{Stamped}
+use Rattle.mg_settled.specs.Prefix.{StreamPrefix}
+use Rattle.mg_settled.specs.Loopback.{packet_of}
+use Rattle.mg_settled.proofs.Lemmas.{appended_extends}
 use Rattle.mg_stream.specs.Queue.{MayCome}
 use Rattle.mg_stream.specs.Pool.{Backlog, queue_of, backlog_of, empty_backlog}
 use Rattle.mg_calc.specs.declared.node_fault.Phase.{Phase}

@@ -3,14 +3,15 @@
 use Rattle.std.proofs.Common.{◌≡◌, ℕ, zero, suc, ◌+◌, ◌==◌, Bool, true, false, List, [], ◌∷◌, length, map, drop, get_or, Option, Some, None, slice_get, if◌then◌else◌, refl, ap, sym, subst, arith}
 use Rattle.std.specs.Bool.{OnTrue, OnFalse}
 use Rattle.mg_value.specs.Payload.{Plain}
-use Rattle.mg_value.specs.Prefix.{Stamped, StreamPrefix}
-use Rattle.mg_value.specs.Loopback.{Reply}
-use Rattle.mg_value.specs.Left.{without as without_at}
+use Rattle.mg_value.specs.Packet.{Stamped}
 use Rattle.mg_value.specs.declared.policy.Policy.{Policy}
+use Rattle.mg_settled.specs.Prefix.{StreamPrefix}
+use Rattle.mg_settled.specs.Loopback.{Reply}
+use Rattle.mg_settled.specs.Left.{without as without_at}
 use Rattle.mg_stream.specs.Queue.{Waiting, rest_of, count_of, popped}
 use Rattle.mg_stream.specs.Pool.{Backlog, empty_backlog, queue_of, queues_of, queue_at}
 use Rattle.mg_policy.specs.Inbox.{Gathered, rests}
-use Rattle.mg_value.specs.Left.{after_sets}
+use Rattle.mg_settled.specs.Left.{after_sets}
 use Rattle.mg_loopback.specs.Loopback.{Held, next_reply, without, replied}
 use Rattle.mg_node.specs.declared.pending.Pending.{Pending}
 use Rattle.mg_node.specs.declared.pending.Pending.TheVariants.{Loop}

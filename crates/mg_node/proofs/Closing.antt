@@ -5,13 +5,13 @@ use Rattle.std.proofs.lemmas.List.FromFn.{length-range_with_len}
 use Rattle.std.proofs.lemmas.List.Elements.{All-from_recursion}
 use Rattle.mg_time.specs.Time.{done}
 use Rattle.mg_value.specs.Payload.{Plain}
-use Rattle.mg_value.specs.Prefix.{StreamPrefix, IsPrefix, closed}
-use Rattle.mg_value.specs.Extension.{IsExtendedBy, AreExtendedBy}
-use Rattle.mg_value.specs.Loopback.{replies}
-use Rattle.mg_value.specs.Settled.{settled_sets, reach}
 use Rattle.mg_value.specs.declared.policy.Policy.{Policy}
 use Rattle.mg_value.specs.declared.policy.Policy.TheVariants.{Default}
-use Rattle.mg_value.proofs.Lemmas.{no-sets, sets-end, reach-rises, reach-most, replies-most, ended_stays}
+use Rattle.mg_settled.specs.Prefix.{StreamPrefix, IsPrefix, closed}
+use Rattle.mg_settled.specs.Extension.{IsExtendedBy, AreExtendedBy}
+use Rattle.mg_settled.specs.Loopback.{replies}
+use Rattle.mg_settled.specs.Settled.{settled_sets, reach}
+use Rattle.mg_settled.proofs.Lemmas.{no-sets, sets-end, reach-rises, reach-most, replies-most, ended_stays}
 use Rattle.mg_stream.specs.Pool.{queues_of}
 use Rattle.mg_policy.specs.Inbox.{Gathered, IsOver as IsOverInbox}
 use Rattle.mg_policy.specs.declared.readiness.Readiness.TheVariants.{Close as AtEnd}

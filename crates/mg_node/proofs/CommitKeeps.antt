@@ -1,7 +1,7 @@
 -- A commit keeps the engine of a node lawful: what is committed at the front of its window is laid, entry by entry.
 use Rattle.std.proofs.Common.{◌≡◌, ℕ, ◌+◌, ◌-◌, Bool, true, false, List, [], ◌∷◌, Option, Some, None, IfSome, option_map, option_and_then, is_some, Result, Ok, Err, IfOk, OnErr, slice_get, ap, ap₂, sym, refl, subst, ◌∙◌, arith, if◌then◌else◌}
 use Rattle.mg_value.specs.Payload.{Plain}
-use Rattle.mg_value.specs.Prefix.{StreamPrefix}
+use Rattle.mg_settled.specs.Prefix.{StreamPrefix}
 use Rattle.mg_stream.specs.Pool.{Backlog}
 use Rattle.mg_calc.specs.declared.node_fault.NodeFault.{NodeFault}
 use Rattle.mg_calc.specs.declared.plan_node.PlanNode.{PlanNode}

@@ -4,9 +4,10 @@ use Rattle.std.specs.List.{AllByRecursion}
 use Rattle.std.proofs.lemmas.List.Elements.{All-head, All-from_recursion, recursion_from_All}
 use Rattle.mg_time.specs.Time.{IsAllowed, next, post_stream}
 use Rattle.mg_value.specs.Payload.{Plain}
-use Rattle.mg_value.specs.Prefix.{Stamped, StreamPrefix, IsPrefix, MayFollow, Ascends, appended}
-use Rattle.mg_value.specs.Extension.{IsExtendedBy}
-use Rattle.mg_value.proofs.Climbs.{Ascends-climbs, Climbs-from, Climbs-first, Climbs-most}
+use Rattle.mg_value.specs.Packet.{Stamped}
+use Rattle.mg_settled.specs.Prefix.{StreamPrefix, IsPrefix, MayFollow, Ascends, appended}
+use Rattle.mg_settled.specs.Extension.{IsExtendedBy}
+use Rattle.mg_settled.proofs.Climbs.{Ascends-climbs, Climbs-from, Climbs-first, Climbs-most}
 use Rattle.mg_stream.specs.Queue.{Waiting, StandsFor, MayCome, count_of, with_packet}
 use Rattle.mg_stream.proofs.QueueSteps.{stands_appended}
 use Rattle.mg_node.specs.Ports.{with_room}

@@ -4,7 +4,7 @@ use Rattle.std.proofs.lemmas.List.Sums.{sum_by-cons}
 use Rattle.std.proofs.lemmas.Option.{slice_get_within}
 use Rattle.std.specs.Prelude.{count_by as number_of}
 use Rattle.mg_value.specs.Payload.{Plain}
-use Rattle.mg_value.specs.Prefix.{StreamPrefix}
+use Rattle.mg_settled.specs.Prefix.{StreamPrefix}
 use Rattle.mg_stream.specs.Queue.{Waiting, StandsFor}
 use Rattle.mg_stream.specs.Pool.{Backlog, backlog_of, queue_of}
 use Rattle.mg_calc.specs.declared.node_fault.NodeFault.{NodeFault}

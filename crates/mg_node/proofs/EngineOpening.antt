@@ -2,8 +2,8 @@
 use Rattle.std.proofs.Common.{◌≡◌, ℕ, zero, suc, ℤ, ◌+◌, ◌-◌, ◌<◌, ◌^◌, List, [], ◌∷◌, ◌++◌, length, length-append, map, drop, replicate, Option, None, option_map, Result, Ok, Err, inl, inr, refl, ap, sym, subst, ◌∙◌, arith, true}
 use Rattle.std.proofs.lemmas.List.{same_from_push}
 use Rattle.mg_value.specs.Payload.{Plain}
-use Rattle.mg_value.specs.Prefix.{StreamPrefix, empty_prefix}
-use Rattle.mg_value.proofs.Lemmas.{empty_is_prefix}
+use Rattle.mg_settled.specs.Prefix.{StreamPrefix, empty_prefix}
+use Rattle.mg_settled.proofs.Lemmas.{empty_is_prefix}
 use Rattle.mg_stream.specs.Queue.{StandsFor}
 use Rattle.mg_stream.specs.Pool.{Backlog, queue_of, empty_backlog}
 use Rattle.mg_calc.specs.declared.cause.Cause.{Cause}

@@ -3,8 +3,9 @@ use Rattle.std.proofs.Common.{◌≡◌, ℕ, Result, Ok, Err, ◌≤◌, ◌<�
 use Rattle.std.proofs.lemmas.List.{drop-append-le}
 use Rattle.std.specs.Result.{OnErr}
 use Rattle.mg_value.specs.Payload.{Plain}
-use Rattle.mg_value.specs.Prefix.{Stamped, StreamPrefix, IsPrefix, Ascends, first_time, empty_prefix}
-use Rattle.mg_value.proofs.Behind.{drop_is_prefix}
+use Rattle.mg_value.specs.Packet.{Stamped}
+use Rattle.mg_settled.specs.Prefix.{StreamPrefix, IsPrefix, Ascends, first_time, empty_prefix}
+use Rattle.mg_settled.proofs.Behind.{drop_is_prefix}
 use Rattle.mg_stream.specs.Queue.{Waiting, StandsFor, IsLike, IsQueue, cut_back}
 use Rattle.mg_stream.specs.Pool.{Backlog, backlog_of, queue_of, empty_backlog}
 use Rattle.mg_calc.proofs.Jobs.{any_state, job_known}

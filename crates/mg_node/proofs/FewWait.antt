@@ -4,8 +4,9 @@ use Rattle.std.specs.List.{AllZip, AllByRecursion}
 use Rattle.std.proofs.lemmas.List.Elements.{recursion_from_All}
 use Rattle.mg_time.specs.Time.{pre_stream, done, IsAllowed}
 use Rattle.mg_value.specs.Payload.{Plain}
-use Rattle.mg_value.specs.Prefix.{Stamped, StreamPrefix, IsPrefix, first_time}
-use Rattle.mg_value.proofs.Climbs.{Climbs, Ascends-climbs}
+use Rattle.mg_value.specs.Packet.{Stamped}
+use Rattle.mg_settled.specs.Prefix.{StreamPrefix, IsPrefix, first_time}
+use Rattle.mg_settled.proofs.Climbs.{Climbs, Ascends-climbs}
 use Rattle.mg_stream.specs.Queue.{Waiting, StandsFor}
 use Rattle.mg_stream.specs.Pool.{Backlog, queue_of, empty_backlog}
 use Rattle.mg_node.specs.declared.pending.Pending.{Pending}

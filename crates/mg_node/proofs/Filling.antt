@@ -3,8 +3,9 @@ use Rattle.std.proofs.Common.{◌≡◌, ℕ, zero, suc, ◌+◌, ◌-◌, ◌<�
 use Rattle.std.proofs.lemmas.List.{take_more, take_all, drop_all}
 use Rattle.mg_time.specs.Time.{next}
 use Rattle.mg_value.specs.Payload.{Plain}
-use Rattle.mg_value.specs.Prefix.{Stamped, StreamPrefix, IsPrefix, Ascends, first_time, empty_prefix}
-use Rattle.mg_value.proofs.Lemmas.{appended_extends}
+use Rattle.mg_value.specs.Packet.{Stamped}
+use Rattle.mg_settled.specs.Prefix.{StreamPrefix, IsPrefix, Ascends, first_time, empty_prefix}
+use Rattle.mg_settled.proofs.Lemmas.{appended_extends}
 use Rattle.mg_stream.specs.Queue.{Waiting, StandsFor, MayCome, IsLike, with_packet, popped, popped_at}
 use Rattle.mg_stream.specs.Pool.{Backlog, backlog_of, queue_of}
 use Rattle.mg_calc.specs.declared.plan.Plan.{Plan}

@@ -1,7 +1,7 @@
 -- How far what waits reaches.
 use Rattle.std.proofs.Common.{◌≡◌, ℕ, Option, Some, None, option_map, unwrap_or, refl, ◌∙◌}
 use Rattle.mg_value.specs.Payload.{Plain}
-use Rattle.mg_value.specs.Settled.{TimedSet, reach}
+use Rattle.mg_settled.specs.Settled.{TimedSet, reach}
 use Rattle.mg_stream.specs.Pool.{queues_of}
 use Rattle.mg_policy.specs.Inbox.{Gathered, rests, next_set}
 use Rattle.mg_node.specs.declared.pending.Pending.TheVariants.{Sets}

@@ -3,8 +3,8 @@ use Rattle.std.proofs.Common.{◌≡◌, ℕ, ◌-◌, List, [], ◌∷◌, leng
 use Rattle.std.specs.Result.{OnOk, OnErr}
 use Rattle.std.proofs.lemmas.Option.{none-some}
 use Rattle.mg_value.specs.Payload.{Plain}
-use Rattle.mg_value.specs.Prefix.{Stamped}
-use Rattle.mg_value.specs.Loopback.{packet_of}
+use Rattle.mg_value.specs.Packet.{Stamped}
+use Rattle.mg_settled.specs.Loopback.{packet_of}
 use Rattle.mg_stream.specs.Pool.{Backlog}
 use Rattle.mg_calc.specs.declared.node_fault.Phase.{Phase}
 use Rattle.mg_calc.specs.declared.node_fault.Phase.TheVariants.{Call, Process, Close}

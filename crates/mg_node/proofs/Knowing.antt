@@ -3,8 +3,8 @@ use Rattle.std.proofs.Common.{◌≡◌, ℕ, false, ◌<◌, ◌∷◌, [], Lis
 use Rattle.std.proofs.lemmas.List.{length-map}
 use Rattle.std.proofs.lemmas.Option.{slice_get_within}
 use Rattle.mg_value.specs.Payload.{Plain}
-use Rattle.mg_value.specs.Prefix.{empty_prefix}
-use Rattle.mg_value.specs.Extension.{IsExtendedBy}
+use Rattle.mg_settled.specs.Prefix.{empty_prefix}
+use Rattle.mg_settled.specs.Extension.{IsExtendedBy}
 use Rattle.mg_stream.specs.Queue.{StandsFor}
 use Rattle.mg_stream.specs.Pool.{queue_of}
 use Rattle.mg_calc.specs.declared.plan_node.PlanNode.{PlanNode}

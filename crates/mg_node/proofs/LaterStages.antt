@@ -6,11 +6,12 @@ use Rattle.std.proofs.lemmas.List.{length-take, take-take, take_all}
 use Rattle.std.proofs.lemmas.List.Elements.{All-from_recursion}
 use Rattle.mg_time.specs.Time.{done}
 use Rattle.mg_value.specs.Payload.{Plain}
-use Rattle.mg_value.specs.Prefix.{Stamped, StreamPrefix, IsPrefix, empty_prefix, all_appended, first_time}
-use Rattle.mg_value.specs.Extension.{IsExtendedBy, AreExtendedBy}
-use Rattle.mg_value.specs.Loopback.{Reply, packet_of, replies}
-use Rattle.mg_value.specs.Settled.{TimedSet, settled_sets, reach}
-use Rattle.mg_value.proofs.Lemmas.{sets-stay, sets-end, reach-rises, reach-most, replies-stay, replies-most, ended_stays}
+use Rattle.mg_value.specs.Packet.{Stamped}
+use Rattle.mg_settled.specs.Prefix.{StreamPrefix, IsPrefix, empty_prefix, all_appended, first_time}
+use Rattle.mg_settled.specs.Extension.{IsExtendedBy, AreExtendedBy}
+use Rattle.mg_settled.specs.Loopback.{Reply, packet_of, replies}
+use Rattle.mg_settled.specs.Settled.{TimedSet, settled_sets, reach}
+use Rattle.mg_settled.proofs.Lemmas.{sets-stay, sets-end, reach-rises, reach-most, replies-stay, replies-most, ended_stays}
 use Rattle.mg_calc.specs.declared.call.Call.TheVariants.{Begun, Shown}
 use Rattle.mg_calc.specs.declared.law.Law.{Law}
 use Rattle.mg_calc.specs.declared.law.Law.TheVariants.{Count, SideOnce, Constants, Loopback}

@@ -3,8 +3,9 @@ use Rattle.std.proofs.Common.{◌≡◌, ℕ, zero, suc, ℤ, ◌+◌, ◌-◌, 
 use Rattle.std.proofs.lemmas.List.{get_or_default}
 use Rattle.mg_time.specs.Time.{done, shift}
 use Rattle.mg_value.specs.Payload.{Plain}
-use Rattle.mg_value.specs.Prefix.{Stamped, StreamPrefix, MayFollow, raised, closed, empty_prefix}
-use Rattle.mg_value.specs.Prefix as prefix
+use Rattle.mg_value.specs.Packet.{Stamped}
+use Rattle.mg_settled.specs.Prefix.{StreamPrefix, MayFollow, raised, closed, empty_prefix}
+use Rattle.mg_settled.specs.Prefix as prefix
 use Rattle.mg_stream.specs.Queue.{Waiting, StandsFor, MayCome, empty_queue}
 use Rattle.mg_stream.specs.Queue as queue
 use Rattle.mg_stream.proofs.QueueSteps.{stands_appended_fields, stands_raised, stands_closed}

@@ -4,9 +4,9 @@ use Rattle.std.specs.List.{range_with_len}
 use Rattle.std.proofs.lemmas.List.{length-map, get_or-map}
 use Rattle.std.proofs.lemmas.Option.{slice_get_within, get_or_from_slice_get}
 use Rattle.mg_value.specs.Payload.{Plain}
-use Rattle.mg_value.specs.Prefix.{StreamPrefix, IsPrefix, empty_prefix}
-use Rattle.mg_value.specs.Extension.{IsExtendedBy}
-use Rattle.mg_value.proofs.Lemmas.{extended_by_itself}
+use Rattle.mg_settled.specs.Prefix.{StreamPrefix, IsPrefix, empty_prefix}
+use Rattle.mg_settled.specs.Extension.{IsExtendedBy}
+use Rattle.mg_settled.proofs.Lemmas.{extended_by_itself}
 use Rattle.mg_stream.specs.Queue.{Waiting, StandsFor, count_of}
 use Rattle.mg_stream.specs.Pool.{Backlog, empty_backlog, queue_of, backlog_of}
 use Rattle.mg_calc.specs.declared.edge.Edge.{Edge}

@@ -6,12 +6,13 @@ use Rattle.std.proofs.lemmas.Bool.{cases_lt, cases_Bool, lt-ltb, le-ltb}
 use Rattle.std.proofs.lemmas.List.Elements.{recursion_from_All}
 use Rattle.mg_time.specs.Time.{done}
 use Rattle.mg_value.specs.Payload.{Plain}
-use Rattle.mg_value.specs.Prefix.{Stamped, StreamPrefix, IsPrefix, first_time}
-use Rattle.mg_value.specs.FirstSet.{earliest, first_set_time}
-use Rattle.mg_value.specs.Settled.{TimedSet, low, select_of, is_settled, settled_sets, reach}
+use Rattle.mg_value.specs.Packet.{Stamped}
 use Rattle.mg_value.specs.declared.policy.Policy.{Policy}
 use Rattle.mg_value.specs.declared.policy.Policy.TheVariants.{Default, Mux}
-use Rattle.mg_value.proofs.Lemmas.{first-time, below-reach, port-prefix}
+use Rattle.mg_settled.specs.Prefix.{StreamPrefix, IsPrefix, first_time}
+use Rattle.mg_settled.specs.FirstSet.{earliest, first_set_time}
+use Rattle.mg_settled.specs.Settled.{TimedSet, low, select_of, is_settled, settled_sets, reach}
+use Rattle.mg_settled.proofs.Lemmas.{first-time, below-reach, port-prefix}
 use Rattle.mg_node.specs.Ports.{next_time, first_waiting}
 
 -- a time, where it is told, is the first; and where none is told the first isn't below the reach

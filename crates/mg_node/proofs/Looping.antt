@@ -5,11 +5,12 @@ use Rattle.std.proofs.lemmas.List.{length-map}
 use Rattle.std.proofs.lemmas.List.Elements.{recursion_from_All}
 use Rattle.mg_time.specs.Time.{done, post_stream, IsAllowed}
 use Rattle.mg_value.specs.Payload.{Plain}
-use Rattle.mg_value.specs.Prefix.{Stamped, StreamPrefix, IsPrefix}
-use Rattle.mg_value.specs.Loopback.{packet_of}
-use Rattle.mg_value.specs.Settled.{times_of}
-use Rattle.mg_value.proofs.Climbs.{prefix-rises}
-use Rattle.mg_value.proofs.Lemmas.{replies-most}
+use Rattle.mg_value.specs.Packet.{Stamped}
+use Rattle.mg_settled.specs.Prefix.{StreamPrefix, IsPrefix}
+use Rattle.mg_settled.specs.Loopback.{packet_of}
+use Rattle.mg_settled.specs.Settled.{times_of}
+use Rattle.mg_settled.proofs.Climbs.{prefix-rises}
+use Rattle.mg_settled.proofs.Lemmas.{replies-most}
 use Rattle.mg_stream.specs.Queue.{Waiting, StandsFor, MayCome}
 use Rattle.mg_stream.specs.Pool.{Backlog, queue_of, backlog_of}
 use Rattle.mg_policy.specs.declared.readiness.Readiness.TheVariants.{Close as AtEnd, NotReady as NotYet}

@@ -1,7 +1,7 @@
 -- How the engine of a node is made.
 use Rattle.std.proofs.Common.{◌≡◌, ℕ, ◌-◌, ◌<◌, List, [], ◌∷◌, ◌++◌, length, replicate, Option, Some, None, false, slice_get, get_or, inl, ap, sym, ◌∙◌}
 use Rattle.mg_value.specs.Payload.{Plain}
-use Rattle.mg_value.specs.Prefix.{Stamped}
+use Rattle.mg_value.specs.Packet.{Stamped}
 use Rattle.mg_stream.specs.Pool.{Backlog, empty_backlog}
 use Rattle.mg_calc.specs.declared.plan_node.PlanNode.{PlanNode}
 use Rattle.mg_route.specs.HolderView.{HolderView}

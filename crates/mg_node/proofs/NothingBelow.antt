@@ -4,14 +4,15 @@ use Rattle.std.specs.List.{AllByRecursion, filter_map}
 use Rattle.std.proofs.lemmas.List.Elements.{recursion_from_All}
 use Rattle.std.proofs.lemmas.Option.{slice_get_past}
 use Rattle.mg_value.specs.Payload.{Plain}
-use Rattle.mg_value.specs.Prefix.{Stamped, StreamPrefix, IsPrefix, empty_prefix}
-use Rattle.mg_value.specs.Extension.{IsExtendedBy, AreExtendedBy}
-use Rattle.mg_value.specs.Loopback.{Reply, replies, packet_of, loopback}
-use Rattle.mg_value.specs.Settled.{TimedSet, settled_sets, reach}
+use Rattle.mg_value.specs.Packet.{Stamped}
 use Rattle.mg_value.specs.declared.policy.Policy.{Policy}
 use Rattle.mg_value.specs.declared.policy.Policy.TheVariants.{Default}
-use Rattle.mg_value.proofs.Lemmas.{extended_further, sets-stay, sets-further, reach-rises, below-reach, loopback_extends}
-use Rattle.mg_value.proofs.Extending.{all_appended_behind}
+use Rattle.mg_settled.specs.Prefix.{StreamPrefix, IsPrefix, empty_prefix}
+use Rattle.mg_settled.specs.Extension.{IsExtendedBy, AreExtendedBy}
+use Rattle.mg_settled.specs.Loopback.{Reply, replies, packet_of, loopback}
+use Rattle.mg_settled.specs.Settled.{TimedSet, settled_sets, reach}
+use Rattle.mg_settled.proofs.Lemmas.{extended_further, sets-stay, sets-further, reach-rises, below-reach, loopback_extends}
+use Rattle.mg_settled.proofs.Extending.{all_appended_behind}
 use Rattle.mg_stream.specs.Queue.{Waiting}
 use Rattle.mg_stream.specs.Pool.{queues_of}
 use Rattle.mg_policy.specs.Inbox.{rests, next_set, StandAfter}

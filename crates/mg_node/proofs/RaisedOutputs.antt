@@ -4,8 +4,9 @@ use Rattle.std.specs.List.{AllZip, AllByRecursion}
 use Rattle.std.proofs.lemmas.List.Elements.{All-from_recursion, recursion_from_All}
 use Rattle.mg_time.specs.Time.{done}
 use Rattle.mg_value.specs.Payload.{Plain}
-use Rattle.mg_value.specs.Prefix.{Stamped, StreamPrefix, raised}
-use Rattle.mg_value.specs.Extension.{IsExtendedBy, AreExtendedBy}
+use Rattle.mg_value.specs.Packet.{Stamped}
+use Rattle.mg_settled.specs.Prefix.{StreamPrefix, raised}
+use Rattle.mg_settled.specs.Extension.{IsExtendedBy, AreExtendedBy}
 use Rattle.mg_stream.specs.Pool.{Backlog, queue_of}
 use Rattle.mg_stream.proofs.QueueSteps.{stands_raised}
 use Rattle.mg_node.specs.Views.{EngineView}

@@ -1,8 +1,8 @@
 -- The steps of an answer.
 use Rattle.std.proofs.Common.{◌≡◌, ℕ, ◌+◌, length, Option, Some, None, is_some, ap, sym, refl, ◌∙◌, arith, if◌then◌else◌}
 use Rattle.mg_value.specs.Payload.{Plain}
-use Rattle.mg_value.specs.Prefix.{Stamped}
-use Rattle.mg_value.specs.Loopback.{Reply, packet_of}
+use Rattle.mg_value.specs.Packet.{Stamped}
+use Rattle.mg_settled.specs.Loopback.{Reply, packet_of}
 use Rattle.mg_stream.specs.Queue.{Waiting, MayCome, IsLike}
 use Rattle.mg_stream.specs.Pool.{backlog_of}
 use Rattle.mg_loopback.specs.Loopback.{Held, next_reply, replied, told, told_at}

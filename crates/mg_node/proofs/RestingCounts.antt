@@ -2,10 +2,10 @@
 use Rattle.std.proofs.Common.{◌≡◌, ℕ, ◌<◌, Bool, false, inl, inr, List, length, Option, Some, None, option_map, is_some, slice_get, slice_index_or, ap, sym, refl, subst, ◌∙◌, arith}
 use Rattle.std.proofs.lemmas.Bool.{cases_Bool, false≢true}
 use Rattle.mg_value.specs.Payload.{Plain}
-use Rattle.mg_value.specs.Prefix.{StreamPrefix, empty_prefix}
-use Rattle.mg_value.specs.Settled.{reach}
-use Rattle.mg_value.specs.Loopback.{replies}
-use Rattle.mg_value.proofs.Lemmas.{all_by_themselves}
+use Rattle.mg_settled.specs.Prefix.{StreamPrefix, empty_prefix}
+use Rattle.mg_settled.specs.Settled.{reach}
+use Rattle.mg_settled.specs.Loopback.{replies}
+use Rattle.mg_settled.proofs.Lemmas.{all_by_themselves}
 use Rattle.mg_stream.specs.Queue.{StandsFor}
 use Rattle.mg_loopback.proofs.Standing.{all_told}
 use Rattle.mg_calc.specs.declared.law.Law.{Law}

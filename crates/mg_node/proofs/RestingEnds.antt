@@ -5,9 +5,9 @@ use Rattle.std.specs.List.{AllZip, fold, range_with_len}
 use Rattle.std.proofs.lemmas.List.{length-take}
 use Rattle.std.proofs.lemmas.List.FromFn.{length-range_with_len}
 use Rattle.mg_value.specs.Payload.{Plain}
-use Rattle.mg_value.specs.Prefix.{StreamPrefix, closed}
-use Rattle.mg_value.specs.Extension.{AreExtendedBy}
-use Rattle.mg_value.specs.Settled.{TimedSet, reach}
+use Rattle.mg_settled.specs.Prefix.{StreamPrefix, closed}
+use Rattle.mg_settled.specs.Extension.{AreExtendedBy}
+use Rattle.mg_settled.specs.Settled.{TimedSet, reach}
 use Rattle.mg_calc.specs.declared.law.Law.{Law}
 use Rattle.mg_calc.specs.declared.law.Law.TheVariants.{Loopback}
 use Rattle.mg_calc.specs.declared.node_fault.NodeFault.{NodeFault}

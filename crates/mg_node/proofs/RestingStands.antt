@@ -5,9 +5,9 @@ use Rattle.std.proofs.Math.Seq.{take-append_seam}
 use Rattle.std.proofs.lemmas.Bool.{ltb-false}
 use Rattle.mg_time.specs.Time.{shift}
 use Rattle.mg_value.specs.Payload.{Plain}
-use Rattle.mg_value.specs.Prefix.{StreamPrefix, IsPrefix, empty_prefix, raised}
-use Rattle.mg_value.specs.Extension.{IsExtendedBy, AreExtendedBy}
-use Rattle.mg_value.proofs.Extending.{same_prefix}
+use Rattle.mg_settled.specs.Prefix.{StreamPrefix, IsPrefix, empty_prefix, raised}
+use Rattle.mg_settled.specs.Extension.{IsExtendedBy, AreExtendedBy}
+use Rattle.mg_settled.proofs.Extending.{same_prefix}
 use Rattle.mg_stream.specs.Queue.{Waiting, StandsFor}
 use Rattle.mg_stream.specs.Pool.{Backlog, empty_backlog, queue_of}
 use Rattle.mg_calc.specs.Laying.{all_raised}

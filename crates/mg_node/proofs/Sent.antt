@@ -8,7 +8,7 @@ use Rattle.std.specs.contracts.option.Option as Maybe
 use Rattle.mg_time.proofs.timestamp.Timestamp.TheSendSync.{the_send as timestamp}
 use Rattle.mg_value.proofs.payload_list.PayloadList.TheLaws.TheKnot.{crosses as knot}
 use Rattle.mg_value.specs.contracts.packet.Packet as Packet
-use Rattle.mg_value.specs.contracts.input_set.InputSet as InputSet
+use Rattle.mg_settled.specs.contracts.input_set.InputSet as InputSet
 use Rattle.mg_stream.specs.contracts.queue.Queue as Queue
 use Rattle.mg_calc.specs.declared.calculator.Calculator.{Ghosts}
 use Rattle.mg_calc.proofs.node_fault.Phase.TheSendSync.{the_field_send as phase}

@@ -6,8 +6,8 @@ use Rattle.std.proofs.lemmas.List.Elements.{All-from_recursion}
 use Rattle.std.proofs.lemmas.List.Sums.{sum_by-cons}
 use Rattle.mg_time.specs.Time.{done}
 use Rattle.mg_value.specs.Payload.{Plain}
-use Rattle.mg_value.specs.Prefix.{StreamPrefix, IsPrefix, empty_prefix}
-use Rattle.mg_value.proofs.Lemmas.{replies-most}
+use Rattle.mg_settled.specs.Prefix.{StreamPrefix, IsPrefix, empty_prefix}
+use Rattle.mg_settled.proofs.Lemmas.{replies-most}
 use Rattle.mg_stream.specs.Queue.{Waiting, StandsFor, count_of}
 use Rattle.mg_stream.specs.Pool.{Backlog, queue_of, empty_backlog}
 use Rattle.mg_calc.specs.declared.law.Law.{Law}

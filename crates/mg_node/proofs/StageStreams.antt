@@ -5,11 +5,12 @@ use Rattle.std.specs.List.{AllByRecursion, fold, filter_map, range_with_len}
 use Rattle.std.proofs.lemmas.List.Elements.{All-weaker, All-drop, All-from_recursion, recursion_from_All, filter_map-append}
 use Rattle.mg_time.specs.Time.{done}
 use Rattle.mg_value.specs.Payload.{Plain}
-use Rattle.mg_value.specs.Prefix.{Stamped, StreamPrefix, IsPrefix, empty_prefix, appended, all_appended}
-use Rattle.mg_value.specs.Extension.{IsExtendedBy, AreExtendedBy}
-use Rattle.mg_value.specs.Loopback.{packet_of, replies, loopback}
-use Rattle.mg_value.specs.Settled.{TimedSet, reach}
-use Rattle.mg_value.proofs.Lemmas.{all_further, Rises, times-rise, below-reach, reach-most, loopback_is_prefix}
+use Rattle.mg_value.specs.Packet.{Stamped}
+use Rattle.mg_settled.specs.Prefix.{StreamPrefix, IsPrefix, empty_prefix, appended, all_appended}
+use Rattle.mg_settled.specs.Extension.{IsExtendedBy, AreExtendedBy}
+use Rattle.mg_settled.specs.Loopback.{packet_of, replies, loopback}
+use Rattle.mg_settled.specs.Settled.{TimedSet, reach}
+use Rattle.mg_settled.proofs.Lemmas.{all_further, Rises, times-rise, below-reach, reach-most, loopback_is_prefix}
 use Rattle.mg_calc.specs.declared.law.Law.{Law}
 use Rattle.mg_calc.specs.declared.law.Law.TheVariants.{Loopback}
 use Rattle.mg_calc.specs.declared.plan_node.PlanNode.{PlanNode}

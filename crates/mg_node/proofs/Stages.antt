@@ -8,10 +8,11 @@ use Rattle.std.proofs.lemmas.List.Sums.{fold-append}
 use Rattle.std.proofs.lemmas.Option.{slice_get_within, get_or_from_slice_get}
 use Rattle.mg_time.specs.Time.{done}
 use Rattle.mg_value.specs.Payload.{Plain}
-use Rattle.mg_value.specs.Prefix.{Stamped, StreamPrefix, closed, empty_prefix, first_time}
-use Rattle.mg_value.specs.Settled.{TimedSet, reach}
-use Rattle.mg_value.specs.Loopback.{packet_of, replies, loopback}
-use Rattle.mg_value.proofs.Extending.{all_appended_behind, same_prefix}
+use Rattle.mg_value.specs.Packet.{Stamped}
+use Rattle.mg_settled.specs.Prefix.{StreamPrefix, closed, empty_prefix, first_time}
+use Rattle.mg_settled.specs.Settled.{TimedSet, reach}
+use Rattle.mg_settled.specs.Loopback.{packet_of, replies, loopback}
+use Rattle.mg_settled.proofs.Extending.{all_appended_behind, same_prefix}
 use Rattle.mg_calc.specs.declared.cause.Cause.{Cause}
 use Rattle.mg_calc.specs.declared.emission.Laid.{Laid}
 use Rattle.mg_calc.specs.declared.law.Law.{Law}

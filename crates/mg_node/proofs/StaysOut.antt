@@ -3,7 +3,8 @@ use Rattle.std.proofs.Common.{◌≡◌, ◌≢◌, ℕ, ℤ, zero, suc, ◌+◌
 use Rattle.std.proofs.lemmas.Bool.{true≢false, cases_eq, cases_lt}
 use Rattle.std.proofs.lemmas.Option.{none-some, slice_get_within}
 use Rattle.mg_value.specs.Payload.{Plain}
-use Rattle.mg_value.specs.Prefix.{Stamped, StreamPrefix}
+use Rattle.mg_value.specs.Packet.{Stamped}
+use Rattle.mg_settled.specs.Prefix.{StreamPrefix}
 use Rattle.mg_calc.specs.declared.node_fault.Phase.{Phase}
 use Rattle.mg_calc.specs.declared.node_fault.Phase.TheVariants.{Open, Call, Process, Close}
 use Rattle.mg_calc.specs.declared.plan_node.PlanNode.{PlanNode}

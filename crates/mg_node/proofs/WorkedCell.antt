@@ -4,12 +4,13 @@ use Rattle.std.specs.List.{AllByRecursion}
 use Rattle.std.proofs.lemmas.List.Elements.{All-from_recursion, All-nil}
 use Rattle.mg_time.specs.Time.{done, place_of, post_stream, IsAllowed, pre_stream, next}
 use Rattle.mg_value.specs.Plain.{Plain, int}
-use Rattle.mg_value.specs.Prefix.{Stamped, StreamPrefix, IsPrefix, empty_prefix}
-use Rattle.mg_value.specs.Left.{AreGone, MayBeGone, goes, leads}
-use Rattle.mg_value.specs.Settled.{port_of}
+use Rattle.mg_value.specs.Packet.{Stamped}
 use Rattle.mg_value.specs.declared.kind.Kind.TheVariants.{Any}
 use Rattle.mg_value.specs.declared.policy.Policy.TheVariants.{Default}
-use Rattle.mg_value.proofs.Lemmas.{extended_by_itself, all_by_themselves, none-gone, empty_is_prefix}
+use Rattle.mg_settled.specs.Prefix.{StreamPrefix, IsPrefix, empty_prefix}
+use Rattle.mg_settled.specs.Left.{AreGone, MayBeGone, goes, leads}
+use Rattle.mg_settled.specs.Settled.{port_of}
+use Rattle.mg_settled.proofs.Lemmas.{extended_by_itself, all_by_themselves, none-gone, empty_is_prefix}
 use Rattle.mg_calc.specs.declared.emission.Laid.{Laid}
 use Rattle.mg_calc.specs.declared.law.Law.TheVariants.{Pass}
 use Rattle.mg_calc.specs.declared.node_fault.Phase.TheVariants.{Process, Close}

@@ -1,6 +1,6 @@
 -- A run whose input comes in batches: at first its job has the lines so far, and later more lines.
 use Rattle.std.specs.Prelude.{◌≡◌}
-use Rattle.mg_value.specs.Extension.{AreExtendedBy}
+use Rattle.mg_settled.specs.Extension.{AreExtendedBy}
 use Rattle.mg_calc.specs.Equations.{IsJob}
 use Rattle.mg_node.specs.Job.{LoggedJob}
 

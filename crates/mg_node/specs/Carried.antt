@@ -1,8 +1,8 @@
 -- What was laid at the outputs of an engine, and what came at the ports of an intake, as the first part of some streams.
 use Rattle.std.specs.Prelude.{List}
 use Rattle.mg_value.specs.Payload.{Plain}
-use Rattle.mg_value.specs.Prefix.{StreamPrefix}
-use Rattle.mg_value.specs.Extension.{AreExtendedBy}
+use Rattle.mg_settled.specs.Prefix.{StreamPrefix}
+use Rattle.mg_settled.specs.Extension.{AreExtendedBy}
 use Rattle.mg_node.specs.Views.{IntakeView, EngineView}
 use Rattle.mg_node.specs.Lawful.{StandForAll}
 use Rattle.mg_node.specs.Resting.{HasCome}

@@ -3,8 +3,9 @@
 use Rattle.std.specs.Prelude.{◌≡◌, ℕ, ◌+◌, ◌<◌, ◌≤◌, Bool, true, false, List, [], ◌∷◌, ◌++◌, length, slice_get, slice_set, Option, Some, None, IsSomeAnd, is_some, ◌⊎◌, if◌then◌else◌, ⊤}
 use Rattle.mg_time.specs.Time.{next as next_time}
 use Rattle.mg_value.specs.Payload.{Plain}
-use Rattle.mg_value.specs.Prefix.{Stamped, StreamPrefix}
-use Rattle.mg_value.specs.Loopback.{Reply, packet_of}
+use Rattle.mg_value.specs.Packet.{Stamped}
+use Rattle.mg_settled.specs.Prefix.{StreamPrefix}
+use Rattle.mg_settled.specs.Loopback.{Reply, packet_of}
 use Rattle.mg_stream.specs.Pool.{Backlog}
 use Rattle.mg_stream.specs.Queue.{count_of}
 use Rattle.mg_loopback.specs.Loopback.{Held, next_reply, replied}

@@ -2,8 +2,8 @@
 use Rattle.std.specs.Prelude.{ℕ, ℤ, Bool, List, Option, Result, refl}
 use Rattle.std.specs.Coded.{Coded, code_by, coded×, coded_ℕ, coded_ℤ, coded_bool, coded_list, coded_option, coded_result}
 use Rattle.mg_value.specs.Payload.{Plain}
-use Rattle.mg_value.specs.Prefix.{Stamped}
-use Rattle.mg_value.specs.Codes.{set_code}
+use Rattle.mg_value.specs.Packet.{Stamped}
+use Rattle.mg_settled.specs.Codes.{set_code}
 use Rattle.mg_stream.specs.Pool.{Backlog}
 use Rattle.mg_stream.specs.PoolCodes.{backlog_code}
 use Rattle.mg_calc.specs.declared.cause.Cause.{Cause}

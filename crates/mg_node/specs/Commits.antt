@@ -3,7 +3,7 @@
 use Rattle.std.specs.Prelude.{◌≡◌, ℕ, ℤ, ◌+◌, ◌-◌, ◌||◌, Bool, List, [], ◌∷◌, ◌++◌, map, Option, Some, None, option_map, is_some, Result, Ok, Err, slice_set, if◌then◌else◌}
 use Rattle.mg_time.specs.Time.{done}
 use Rattle.mg_value.specs.Payload.{Plain}
-use Rattle.mg_value.specs.Prefix.{StreamPrefix, closed}
+use Rattle.mg_settled.specs.Prefix.{StreamPrefix, closed}
 use Rattle.mg_calc.specs.declared.cause.Cause.{Cause}
 use Rattle.mg_calc.specs.declared.emission.Laid.{Laid}
 use Rattle.mg_calc.specs.declared.node_fault.NodeFault.{NodeFault}

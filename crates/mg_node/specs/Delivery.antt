@@ -1,8 +1,9 @@
 -- Deliveries: how packets that were laid at an output come to the queue of a port.
 use Rattle.std.specs.Prelude.{◌≡◌, ℕ, ◌-◌, ◌<◌, ◌≤◌, ◌==◌, nat_lt, min, List, [], ◌∷◌, take, drop, length, if◌then◌else◌}
 use Rattle.mg_value.specs.Payload.{Plain}
-use Rattle.mg_value.specs.Prefix.{Stamped, StreamPrefix, IsPrefix}
-use Rattle.mg_value.specs.Extension.{IsExtendedBy}
+use Rattle.mg_value.specs.Packet.{Stamped}
+use Rattle.mg_settled.specs.Prefix.{StreamPrefix, IsPrefix}
+use Rattle.mg_settled.specs.Extension.{IsExtendedBy}
 use Rattle.mg_stream.specs.Queue.{Waiting, StandsFor, count_of, with_packet, raised_to}
 use Rattle.mg_node.specs.declared.pending.Pending.{Pending}
 use Rattle.mg_node.specs.declared.delivered.Delivered.{Delivered}

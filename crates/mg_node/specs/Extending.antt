@@ -1,7 +1,7 @@
 -- How the engine of a graph input goes on with further packets of its stream, which came later.
 use Rattle.std.specs.Prelude.{◌≡◌, ℕ, ◌++◌, map, max}
 use Rattle.mg_value.specs.Payload.{Plain}
-use Rattle.mg_value.specs.Prefix.{StreamPrefix, IsPrefix}
+use Rattle.mg_settled.specs.Prefix.{StreamPrefix, IsPrefix}
 use Rattle.mg_stream.specs.Queue.{Waiting, StandsFor}
 use Rattle.mg_stream.specs.Pool.{Backlog}
 use Rattle.mg_node.specs.Views.{EngineView}

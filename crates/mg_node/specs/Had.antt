@@ -1,7 +1,7 @@
 -- The calls that a calculator which was handed in has had, beside those that its node has in the solution.
 use Rattle.std.specs.Prelude.{◌≡◌, ◌⊎◌, ℕ, suc, ◌≤◌, Bool, true, false, List, Some, [], ◌∷◌, ◌++◌, map, take, if◌then◌else◌}
 use Rattle.mg_value.specs.Payload.{Plain}
-use Rattle.mg_value.specs.Prefix.{StreamPrefix}
+use Rattle.mg_settled.specs.Prefix.{StreamPrefix}
 use Rattle.mg_calc.specs.declared.call.Call.{Call}
 use Rattle.mg_calc.specs.declared.call.Call.TheVariants.{Begun, Shown, Finished}
 use Rattle.mg_calc.specs.declared.plan_node.PlanNode.{PlanNode}

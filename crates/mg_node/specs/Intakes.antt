@@ -2,9 +2,10 @@
 use Rattle.std.specs.Prelude.{◌≡◌, ℕ, ◌+◌, ◌≤◌, List, replicate, length, Option, Some, None, slice_get, is_some, ⊤, if◌then◌else◌}
 use Rattle.mg_time.specs.Time.{done}
 use Rattle.mg_value.specs.Payload.{Plain}
-use Rattle.mg_value.specs.Prefix.{Stamped, StreamPrefix}
-use Rattle.mg_value.specs.Settled.{TimedSet, settled_sets}
-use Rattle.mg_value.specs.Left.{after_sets}
+use Rattle.mg_value.specs.Packet.{Stamped}
+use Rattle.mg_settled.specs.Prefix.{StreamPrefix}
+use Rattle.mg_settled.specs.Settled.{TimedSet, settled_sets}
+use Rattle.mg_settled.specs.Left.{after_sets}
 use Rattle.mg_stream.specs.Pool.{empty_backlog, queues_of}
 use Rattle.mg_policy.specs.Inbox.{next_set, rests}
 use Rattle.mg_loopback.specs.Loopback.{IsFresh as IsFreshLoop, next_reply, replied, told}

@@ -5,11 +5,12 @@ use Rattle.std.specs.List.{fold, filter_map, range_with_len}
 use Rattle.std.specs.Option.{option_and_then}
 use Rattle.mg_time.specs.Time.{done}
 use Rattle.mg_value.specs.Payload.{Plain}
-use Rattle.mg_value.specs.Prefix.{Stamped, StreamPrefix, empty_prefix, all_appended}
-use Rattle.mg_value.specs.Settled.{TimedSet, settled_sets, reach}
-use Rattle.mg_value.specs.Loopback.{replies, packet_of}
+use Rattle.mg_value.specs.Packet.{Stamped}
 use Rattle.mg_value.specs.declared.policy.Policy.{Policy}
 use Rattle.mg_value.specs.declared.policy.Policy.TheVariants.{Default}
+use Rattle.mg_settled.specs.Prefix.{StreamPrefix, empty_prefix, all_appended}
+use Rattle.mg_settled.specs.Settled.{TimedSet, settled_sets, reach}
+use Rattle.mg_settled.specs.Loopback.{replies, packet_of}
 use Rattle.mg_calc.specs.declared.call.Call.{Call}
 use Rattle.mg_calc.specs.declared.call.Call.TheVariants.{Begun, Shown, Finished}
 use Rattle.mg_calc.specs.declared.law.Law.{Law}

@@ -3,8 +3,9 @@
 use Rattle.std.specs.Prelude.{◌≡◌, ℕ, ◌+◌, ◌<◌, ◌≤◌, Bool, true, false, List, [], ◌∷◌, ◌++◌, length, All, Option, Some, None, IfSome, IsSome, option_map, slice_get, slice_index_or, Result, Ok, Err, count_by as number_of, if◌then◌else◌}
 use Rattle.std.specs.List.{AllZip, range_with_len}
 use Rattle.mg_value.specs.Payload.{Plain}
-use Rattle.mg_value.specs.Prefix.{Stamped, StreamPrefix, empty_prefix}
-use Rattle.mg_value.specs.Extension.{AreExtendedBy}
+use Rattle.mg_value.specs.Packet.{Stamped}
+use Rattle.mg_settled.specs.Prefix.{StreamPrefix, empty_prefix}
+use Rattle.mg_settled.specs.Extension.{AreExtendedBy}
 use Rattle.mg_stream.specs.Queue.{StandsFor}
 use Rattle.mg_stream.specs.Pool.{Backlog, queue_of, queues_of}
 use Rattle.mg_policy.specs.Inbox.{Gathered, StandAfter}

@@ -2,8 +2,8 @@
 -- is among them.
 use Rattle.std.specs.Prelude.{◌≡◌, ℕ, true, List, [], ◌∷◌, ◌++◌, map, All, Option, Some, None, option_map, is_some, slice_get, ◌⊎◌, Result, if◌then◌else◌}
 use Rattle.std.specs.List.{filter_map}
-use Rattle.mg_value.specs.Prefix.{StreamPrefix}
 use Rattle.mg_value.specs.Payload.{Plain}
+use Rattle.mg_settled.specs.Prefix.{StreamPrefix}
 use Rattle.mg_calc.specs.declared.cause.Cause.{Cause}
 use Rattle.mg_calc.specs.declared.emission.Laid.{Laid}
 use Rattle.mg_calc.specs.declared.plan_node.PlanNode.{PlanNode}

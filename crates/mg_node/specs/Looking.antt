@@ -1,7 +1,7 @@
 -- The packets that an output still keeps of what was laid there.
 use Rattle.std.specs.Prelude.{ℕ, ◌-◌, nat_lt, Option, None, slice_get, if◌then◌else◌}
 use Rattle.mg_value.specs.Payload.{Plain}
-use Rattle.mg_value.specs.Prefix.{Stamped}
+use Rattle.mg_value.specs.Packet.{Stamped}
 use Rattle.mg_stream.specs.Pool.{Backlog}
 
 -- the packet of an output by its number, from 0 on: none where it is given up, or wasn't laid yet

@@ -1,7 +1,7 @@
 -- What an engine has laid at its outputs.
 use Rattle.std.specs.Prelude.{ℕ, ◌+◌, ◌-◌, [], ◌∷◌, length, drop, max, None, true, false, slice_index_or, sum_by}
 use Rattle.mg_value.specs.Payload.{Plain}
-use Rattle.mg_value.specs.Prefix.{StreamPrefix}
+use Rattle.mg_settled.specs.Prefix.{StreamPrefix}
 use Rattle.mg_stream.specs.Queue.{Waiting}
 use Rattle.mg_stream.specs.Pool.{Backlog, empty_backlog, queue_of}
 use Rattle.mg_node.specs.declared.role.Role.TheVariants.{Input}

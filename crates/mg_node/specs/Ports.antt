@@ -2,11 +2,11 @@
 use Rattle.std.specs.Prelude.{◌≡◌, ℕ, ◌+◌, ◌==◌, length, List, [], Option, Some, None, IsSomeAnd, if◌then◌else◌}
 use Rattle.mg_time.specs.Time.{done}
 use Rattle.mg_value.specs.Payload.{Plain}
-use Rattle.mg_value.specs.Prefix.{StreamPrefix, first_time}
-use Rattle.mg_value.specs.Settled.{TimedSet, select_of, reach}
-use Rattle.mg_value.specs.FirstSet.{earliest}
 use Rattle.mg_value.specs.declared.policy.Policy.{Policy}
 use Rattle.mg_value.specs.declared.policy.Policy.TheVariants.{Default, Mux}
+use Rattle.mg_settled.specs.Prefix.{StreamPrefix, first_time}
+use Rattle.mg_settled.specs.Settled.{TimedSet, select_of, reach}
+use Rattle.mg_settled.specs.FirstSet.{earliest}
 use Rattle.mg_stream.specs.Queue.{Waiting}
 use Rattle.mg_stream.specs.Pool.{queue_at, queues_of, pool_len, with_queue}
 use Rattle.mg_policy.specs.Inbox.{rests, next_set, Tells}

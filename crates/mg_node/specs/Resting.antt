@@ -1,8 +1,8 @@
 -- A cell that can go no further, and what came to it and what it laid, in whole.
 use Rattle.std.specs.Prelude.{◌≡◌, ℕ, ◌<◌, true, false, List, [], length, slice_index_or, ◌⊎◌}
 use Rattle.mg_value.specs.Payload.{Plain}
-use Rattle.mg_value.specs.Prefix.{StreamPrefix, empty_prefix}
-use Rattle.mg_value.specs.Extension.{AreExtendedBy}
+use Rattle.mg_settled.specs.Prefix.{StreamPrefix, empty_prefix}
+use Rattle.mg_settled.specs.Extension.{AreExtendedBy}
 use Rattle.mg_stream.specs.Queue.{StandsFor}
 use Rattle.mg_calc.specs.declared.plan_node.PlanNode.{PlanNode}
 use Rattle.mg_calc.specs.Equations.{inputs_of}

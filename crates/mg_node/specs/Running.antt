@@ -1,7 +1,7 @@
 -- Running a calculator in a phase.
 use Rattle.std.specs.Prelude.{◌≡◌, ◌<◌, ◌++◌, List, Option, option_map, Result, OnErr, ⊤}
 use Rattle.mg_value.specs.Payload.{Plain}
-use Rattle.mg_value.specs.Prefix.{Stamped}
+use Rattle.mg_value.specs.Packet.{Stamped}
 use Rattle.mg_calc.specs.declared.call.Call.{Call}
 use Rattle.mg_calc.specs.declared.call.Call.TheVariants.{Shown, Finished}
 use Rattle.mg_calc.specs.declared.cause.CalcFault.{CalcFault}

@@ -1,7 +1,7 @@
 -- What contracts see of the parts of a cell: records of plain data.
 use Rattle.std.specs.Prelude.{ℕ, ℤ, Bool, List, Option, Result}
 use Rattle.mg_value.specs.Payload.{Plain}
-use Rattle.mg_value.specs.Prefix.{Stamped}
+use Rattle.mg_value.specs.Packet.{Stamped}
 use Rattle.mg_stream.specs.Pool.{Backlog}
 use Rattle.mg_calc.specs.declared.cause.Cause.{Cause}
 use Rattle.mg_calc.specs.declared.emission.Laid.{Laid}

@@ -17,8 +17,8 @@ ghost use Rattle.mg_node.specs.WindingUp.{IsFinished};
 use crate::Intake;
 use mg_calc::{CalcFault, Calculator, Call, Cause, Emission, GivenList, Phase};
 use mg_route::Holder;
+use mg_settled::InputSet;
 use mg_time::Timestamp;
-use mg_value::InputSet;
 use std::alloc::{AllocError, Global};
 use std::marker::Model;
 

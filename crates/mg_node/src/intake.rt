@@ -1,7 +1,7 @@
 ghost use Rattle.std.specs.Prelude.{◌≡◌, ◌<◌, ◌≤◌, ◌+◌, ◌-◌, ℕ, List, ◌^◌, min, true, false, length, replicate, slice_get, option_map, is_ok, IfOk, IfSome, IsSomeAnd, IsTrue, IsSome, if◌then◌else◌, ◌↔◌};
 ghost use Rattle.std.specs.Bool.{OnTrue, OnFalse};
 ghost use Rattle.mg_value.specs.Payload.{Plain};
-ghost use Rattle.mg_value.specs.Prefix.{StreamPrefix};
+ghost use Rattle.mg_settled.specs.Prefix.{StreamPrefix};
 ghost use Rattle.mg_stream.specs.Queue.{count_of, with_packet, raised_to, MayCome};
 ghost use Rattle.mg_stream.specs.Pool.{empty_backlog};
 ghost use Rattle.mg_policy.specs.Inbox.{HasPorts};
@@ -19,8 +19,9 @@ use crate::counting::held_in;
 use mg_calc::{Law, Plan, PlanNode};
 use mg_loopback::{Answered, Loopback};
 use mg_policy::{Inbox, Readiness};
+use mg_settled::InputSet;
 use mg_time::Timestamp;
-use mg_value::{InputSet, Packet, Policy};
+use mg_value::{Packet, Policy};
 use std::alloc::{AllocError, Global};
 use std::marker::Model;
 

@@ -1,15 +1,16 @@
 //! Queues of what was laid at the outputs of an engine.
 ghost use Rattle.std.specs.Prelude.{◌≡◌, ◌<◌, ◌≤◌, ◌-◌, ◌++◌, ℕ, IfOk, OnOk, OnErr, length};
-ghost use Rattle.mg_value.specs.Prefix.{IsPrefix, Ascends, first_time};
+ghost use Rattle.mg_settled.specs.Prefix.{IsPrefix, Ascends, first_time};
 ghost use Rattle.mg_stream.specs.Pool.{backlog_of};
 ghost use Rattle.mg_stream.specs.Queue.{count_of, MayCome, IsLike, IsQueue, cut_back};
 ghost use Rattle.mg_node.specs.Outputs.{without_first, kept_whole};
 ghost use Rattle.mg_node.specs.Extending.{lengthened, MayLengthen};
 ghost use Rattle.mg_node.specs.Code.QueueLaying.{appended};
 
+use mg_settled::Prefix;
 use mg_stream::Queue;
 use mg_time::Timestamp;
-use mg_value::{Packet, Prefix};
+use mg_value::Packet;
 use std::alloc::{AllocError, Global};
 
 /// Returns a queue with all packets of a prefix, and its bound. Payloads are shared.

@@ -2,10 +2,10 @@
 ghost use Rattle.std.specs.Prelude.{◌≡◌, ◌≤◌, ◌<◌, ◌+◌, ◌^◌, ℕ, Option, Some, None, true, false, is_some, List, [], ◌∷◌, All, min, length, slice_get, slice_index_or};
 ghost use Rattle.mg_time.specs.Time.{done};
 ghost use Rattle.mg_value.specs.Payload.{Plain};
-ghost use Rattle.mg_value.specs.Prefix.{StreamPrefix, IsPrefix, empty_prefix};
-ghost use Rattle.mg_value.specs.Extension.{AreExtendedBy};
-ghost use Rattle.mg_value.specs.Settled.{settled_sets, reach};
 ghost use Rattle.mg_value.specs.declared.policy.Policy.{Policy};
+ghost use Rattle.mg_settled.specs.Prefix.{StreamPrefix, IsPrefix, empty_prefix};
+ghost use Rattle.mg_settled.specs.Extension.{AreExtendedBy};
+ghost use Rattle.mg_settled.specs.Settled.{settled_sets, reach};
 ghost use Rattle.mg_stream.specs.Queue.{count_of as counted};
 ghost use Rattle.mg_calc.specs.declared.plan_node.PlanNode.{PlanNode};
 ghost use Rattle.mg_calc.specs.Shape.{IsOuter};

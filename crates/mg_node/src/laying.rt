@@ -3,7 +3,7 @@
 ghost use Rattle.std.specs.Prelude.{◌≡◌, ◌<◌, ◌≤◌, ◌^◌, List, [], ◌∷◌, length, map, Ok, slice_index_or, slice_set};
 ghost use Rattle.mg_time.specs.Time.{done};
 ghost use Rattle.mg_value.specs.Payload.{Plain};
-ghost use Rattle.mg_value.specs.Prefix.{StreamPrefix};
+ghost use Rattle.mg_settled.specs.Prefix.{StreamPrefix};
 ghost use Rattle.mg_stream.specs.Queue.{StandsFor, empty_queue};
 ghost use Rattle.mg_calc.specs.Laying.{with_packets, laid_behind};
 ghost use Rattle.mg_route.specs.Reasons.{reason_of, laid_each, all_laid_on};

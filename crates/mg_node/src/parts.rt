@@ -8,8 +8,9 @@ ghost use Rattle.mg_node.specs.Fresh.{own_told, context_of};
 use crate::{Context, Role};
 use mg_calc::{Calculator, Law, PlanNode};
 use mg_route::{Builtin, Holder};
+use mg_settled::InputSet;
 use mg_stream::Queue;
-use mg_value::{InputSet, NumberList};
+use mg_value::NumberList;
 use std::alloc::{AllocError, Global};
 
 /// The role of the engine of a node with this law.

@@ -9,8 +9,8 @@ use mg_check::check;
 use mg_config::{GraphConfig, read};
 use mg_feed::Feed;
 use mg_free::first_free;
+use mg_settled::are_prefixes;
 use mg_text::parse;
-use mg_value::are_prefixes;
 use std::alloc::Global;
 use std::test::Fail;
 

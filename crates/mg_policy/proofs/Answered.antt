@@ -6,16 +6,17 @@ use Rattle.std.proofs.lemmas.List.Elements.{All-head, All-tail, All-from_recursi
 use Rattle.mg_time.specs.Time.{done, IsAllowed}
 use Rattle.mg_value.specs.Payload.{Plain}
 use Rattle.mg_value.specs.declared.policy.Policy.{Policy}
-use Rattle.mg_value.specs.Prefix.{Stamped, StreamPrefix, IsPrefix, empty_prefix}
-use Rattle.mg_value.specs.Settled.{TimedSet, settled_sets, reach, port_of, packet_at, is_among, IsBelowBounds}
-use Rattle.mg_value.specs.FirstSet.{first_set_time}
-use Rattle.mg_value.specs.Left.{leads, after_sets, HasLeadingPacket}
-use Rattle.mg_value.proofs.FirstSets.{first-time, after-first}
-use Rattle.mg_value.proofs.SetSteps.{sets-over}
-use Rattle.mg_value.proofs.AfterSets.{sets-after}
-use Rattle.mg_value.proofs.PolicySets.{below-bounds}
-use Rattle.mg_value.proofs.LeadingPackets.{all-leading}
-use Rattle.mg_value.proofs.Ports.{port-prefix}
+use Rattle.mg_value.specs.Packet.{Stamped}
+use Rattle.mg_settled.specs.Prefix.{StreamPrefix, IsPrefix, empty_prefix}
+use Rattle.mg_settled.specs.Settled.{TimedSet, settled_sets, reach, port_of, packet_at, is_among, IsBelowBounds}
+use Rattle.mg_settled.specs.FirstSet.{first_set_time}
+use Rattle.mg_settled.specs.Left.{leads, after_sets, HasLeadingPacket}
+use Rattle.mg_settled.proofs.FirstSets.{first-time, after-first}
+use Rattle.mg_settled.proofs.SetSteps.{sets-over}
+use Rattle.mg_settled.proofs.AfterSets.{sets-after}
+use Rattle.mg_settled.proofs.PolicySets.{below-bounds}
+use Rattle.mg_settled.proofs.LeadingPackets.{all-leading}
+use Rattle.mg_settled.proofs.Ports.{port-prefix}
 use Rattle.mg_stream.specs.Queue.{Waiting, IsLike, empty_queue}
 use Rattle.mg_stream.specs.Pool.{Pooled, empty_backlog, queue_of, queues_of}
 use Rattle.mg_policy.specs.Inbox.{rests, next_set, IsOver, Tells, TellsOf, ShowsNext, StandAfter}

@@ -4,8 +4,9 @@ use Rattle.std.specs.List.{AllZip, prefix_len}
 use Rattle.std.proofs.lemmas.Bool.{cases_Bool}
 use Rattle.std.proofs.lemmas.List.Sums.{sum_by-set}
 use Rattle.mg_value.specs.Payload.{Plain}
-use Rattle.mg_value.specs.Prefix.{Stamped, StreamPrefix}
-use Rattle.mg_value.specs.FirstSet.{behind}
+use Rattle.mg_value.specs.Packet.{Stamped}
+use Rattle.mg_settled.specs.Prefix.{StreamPrefix}
+use Rattle.mg_settled.specs.FirstSet.{behind}
 use Rattle.mg_stream.specs.Queue.{StandsFor, count_of, rest_of}
 use Rattle.mg_stream.specs.Pool.{Backlog, Pooled, empty_backlog, queue_of, queues_of, queue_at, backlog_of, with_queue, pool_len}
 use Rattle.mg_policy.specs.Inbox.{rests}

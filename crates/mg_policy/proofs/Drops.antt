@@ -3,11 +3,12 @@ use Rattle.std.proofs.Common.{◌≡◌, ℕ, suc, ◌+◌, ◌<◌, true, List,
 use Rattle.std.specs.List.{prefix_len}
 use Rattle.std.proofs.lemmas.Bool.{cases_order, ne_eqb, le-ltb, le-leb, lt-leb}
 use Rattle.std.proofs.lemmas.List.{set-set}
-use Rattle.mg_value.specs.Prefix.{Stamped, IsPrefix}
-use Rattle.mg_value.specs.Settled.{packet_at}
-use Rattle.mg_value.proofs.Fronts.{one_more}
-use Rattle.mg_value.proofs.Climbs.{Climbs, prefix-climbs}
-use Rattle.mg_value.proofs.FirstSets.{found-first}
+use Rattle.mg_value.specs.Packet.{Stamped}
+use Rattle.mg_settled.specs.Prefix.{IsPrefix}
+use Rattle.mg_settled.specs.Settled.{packet_at}
+use Rattle.mg_settled.proofs.Fronts.{one_more}
+use Rattle.mg_settled.proofs.Climbs.{Climbs, prefix-climbs}
+use Rattle.mg_settled.proofs.FirstSets.{found-first}
 use Rattle.mg_stream.specs.Queue.{Waiting, rest_of, front_at, popped_at}
 use Rattle.mg_stream.specs.Pool.{Backlog, Pooled, backlog_of, queue_at, with_queue}
 use Rattle.mg_stream.proofs.Laid.{queue_at-with_queue}

@@ -2,7 +2,7 @@
 use Rattle.std.proofs.Common.{◌≡◌, ℕ, min, Option, Some, None, option_map, unwrap_or, IsSomeAnd, nat_lt, inl, inr, sym, arith, if◌then◌else◌}
 use Rattle.std.proofs.lemmas.Bool.{cases_order, le-ltb, lt-ltb}
 use Rattle.mg_value.specs.Payload.{Plain}
-use Rattle.mg_value.specs.Settled.{TimedSet}
+use Rattle.mg_settled.specs.Settled.{TimedSet}
 
 pub horizon-ready : (o : Option (TimedSet Plain)) (at reached : ℕ) → IsSomeAnd o (λ e. e.at ≡ at) → at ≡ unwrap_or (option_map (λ e. e.at) o) reached
 horizon-ready None at reached h = absurd h

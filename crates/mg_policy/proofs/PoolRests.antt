@@ -1,15 +1,16 @@
 -- What waits in a pool, as the prefixes of all ports.
 use Rattle.std.proofs.Common.{◌≡◌, ℕ, suc, ◌+◌, ◌-◌, ◌<◌, true, false, List, [], ◌∷◌, map, drop, length, get_or, All, Option, Some, None, option_map, unwrap_or, slice_get, ap, subst, sym, refl, ◌∙◌, arith, ltb}
 use Rattle.std.specs.List.{take_while, prefix_len}
-use Rattle.mg_value.proofs.Fronts.{one_more}
+use Rattle.mg_settled.proofs.Fronts.{one_more}
 use Rattle.std.proofs.lemmas.List.{length-map, get_or-map}
 use Rattle.std.proofs.lemmas.List.Elements.{All-head, All-from_recursion}
 use Rattle.std.specs.List.{AllByRecursion}
 use Rattle.mg_time.specs.Time.{done, IsAllowed}
 use Rattle.mg_value.specs.Payload.{Plain}
 use Rattle.mg_value.specs.declared.policy.Policy.TheVariants.{Mux}
-use Rattle.mg_value.specs.Prefix.{Stamped, StreamPrefix, IsPrefix, first_time, closed, empty_prefix}
-use Rattle.mg_value.specs.Settled.{port_of, select_of, selected, is_settled, reach}
+use Rattle.mg_value.specs.Packet.{Stamped}
+use Rattle.mg_settled.specs.Prefix.{StreamPrefix, IsPrefix, first_time, closed, empty_prefix}
+use Rattle.mg_settled.specs.Settled.{port_of, select_of, selected, is_settled, reach}
 use Rattle.mg_stream.specs.Queue.{rest_of}
 use Rattle.mg_stream.specs.Pool.{Backlog, Pooled, empty_backlog, queue_of, queues_of, queue_at}
 use Rattle.mg_policy.specs.Inbox.{rests}

@@ -2,8 +2,8 @@
 use Rattle.std.proofs.Common.{◌≡◌, ℕ, List, Option, Some, None, IsSomeAnd, slice_get, ap, sym, refl, ◌∙◌}
 use Rattle.mg_value.specs.Payload.{Plain}
 use Rattle.mg_value.specs.declared.policy.Policy.{Policy}
-use Rattle.mg_value.specs.Settled.{TimedSet}
-use Rattle.mg_value.proofs.LeadingPackets.{no-sets}
+use Rattle.mg_settled.specs.Settled.{TimedSet}
+use Rattle.mg_settled.proofs.LeadingPackets.{no-sets}
 use Rattle.mg_stream.specs.Queue.{Waiting}
 use Rattle.mg_policy.specs.Inbox.{rests, next_set, IsOver, Tells}
 use Rattle.mg_policy.specs.declared.readiness.Readiness.{Readiness}

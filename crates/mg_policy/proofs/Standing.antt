@@ -5,14 +5,14 @@ use Rattle.std.proofs.lemmas.List.{length-replicate}
 use Rattle.std.proofs.lemmas.List.Elements.{recursion_from_All, All-from_recursion}
 use Rattle.mg_value.specs.Payload.{Plain}
 use Rattle.mg_value.specs.declared.policy.Policy.{Policy}
-use Rattle.mg_value.specs.Prefix.{StreamPrefix, IsPrefix, empty_prefix}
-use Rattle.mg_value.specs.Extension.{AreExtendedBy}
-use Rattle.mg_value.specs.Settled.{settled_sets, reach}
-use Rattle.mg_value.specs.Left.{after_sets, without_first, AreGone}
-use Rattle.mg_value.proofs.PrefixSteps.{empty_is_prefix}
-use Rattle.mg_value.proofs.Extending.{same_prefix}
-use Rattle.mg_value.proofs.GonePackets.{sets-gone, reach-gone, none-gone, gone-extended}
-use Rattle.mg_value.proofs.ClaimedPackets.{gone-claimed}
+use Rattle.mg_settled.specs.Prefix.{StreamPrefix, IsPrefix, empty_prefix}
+use Rattle.mg_settled.specs.Extension.{AreExtendedBy}
+use Rattle.mg_settled.specs.Settled.{settled_sets, reach}
+use Rattle.mg_settled.specs.Left.{after_sets, without_first, AreGone}
+use Rattle.mg_settled.proofs.PrefixSteps.{empty_is_prefix}
+use Rattle.mg_settled.proofs.Extending.{same_prefix}
+use Rattle.mg_settled.proofs.GonePackets.{sets-gone, reach-gone, none-gone, gone-extended}
+use Rattle.mg_settled.proofs.ClaimedPackets.{gone-claimed}
 use Rattle.mg_stream.specs.Queue.{Waiting, rest_of, StandsFor, IsLike, empty_queue}
 use Rattle.mg_stream.proofs.QueueSteps.{stands_like}
 use Rattle.mg_policy.specs.Inbox.{rests, StandAfter}

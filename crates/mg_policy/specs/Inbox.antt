@@ -6,9 +6,10 @@ use Rattle.mg_time.specs.Time.{done}
 use Rattle.mg_value.specs.Payload.{Plain}
 use Rattle.mg_value.specs.declared.policy.Policy.{Policy}
 use Rattle.mg_value.specs.declared.policy.Policy.TheVariants.{Default, Mux}
-use Rattle.mg_value.specs.Prefix.{StreamPrefix, Stamped}
-use Rattle.mg_value.specs.Settled.{TimedSet, settled_sets, reach, port_of, IsBelowBounds}
-use Rattle.mg_value.specs.Left.{leads, AreGone}
+use Rattle.mg_value.specs.Packet.{Stamped}
+use Rattle.mg_settled.specs.Prefix.{StreamPrefix}
+use Rattle.mg_settled.specs.Settled.{TimedSet, settled_sets, reach, port_of, IsBelowBounds}
+use Rattle.mg_settled.specs.Left.{leads, AreGone}
 use Rattle.mg_stream.specs.Queue.{Waiting, rest_of, StandsFor}
 use Rattle.mg_stream.specs.Pool.{Pooled}
 use Rattle.mg_policy.specs.declared.readiness.Readiness.{Readiness}

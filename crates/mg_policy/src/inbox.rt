@@ -2,9 +2,9 @@ ghost use Rattle.std.specs.Prelude.{◌≡◌, ◌<◌, ◌≤◌, ◌+◌, ◌�
 ghost use Rattle.std.specs.Bool.{OnTrue, OnFalse};
 ghost use Rattle.mg_time.specs.Time.{post_stream, done, IsAllowed};
 ghost use Rattle.mg_value.specs.Payload.{Plain};
-ghost use Rattle.mg_value.specs.Prefix.{StreamPrefix, empty_prefix, appended, raised, closed};
-ghost use Rattle.mg_value.specs.Settled.{reach, settled_sets};
-ghost use Rattle.mg_value.specs.Left.{after_sets};
+ghost use Rattle.mg_settled.specs.Prefix.{StreamPrefix, empty_prefix, appended, raised, closed};
+ghost use Rattle.mg_settled.specs.Settled.{reach, settled_sets};
+ghost use Rattle.mg_settled.specs.Left.{after_sets};
 ghost use Rattle.mg_stream.specs.Queue.{StandsFor, MayCome, count_of, with_packet, raised_to};
 ghost use Rattle.mg_stream.specs.Pool.{empty_backlog, queue_at, queues_of, with_queue, pool_len};
 ghost use Rattle.mg_stream.specs.declared.fault.StreamFault as StreamFault;
@@ -14,9 +14,10 @@ ghost use Rattle.mg_policy.specs.Inbox.{HasPorts, rests, next_set, Tells, TellsO
 use crate::Readiness;
 use crate::look::{least_time, look_at, reach_of};
 use crate::taking::take_set;
+use mg_settled::InputSet;
 use mg_stream::{Pool, Refused, StreamFault};
 use mg_time::Timestamp;
-use mg_value::{InputSet, Packet, Policy};
+use mg_value::{Packet, Policy};
 use std::alloc::{AllocError, Global};
 use std::marker::Model;
 

@@ -3,10 +3,10 @@ ghost use Rattle.std.specs.Prelude.{◌≡◌, ◌+◌, ◌<◌, ℕ, List, leng
 ghost use Rattle.std.specs.List.{AllZip};
 ghost use Rattle.mg_value.specs.Payload.{Plain};
 ghost use Rattle.mg_value.specs.declared.policy.Policy.{Policy};
-ghost use Rattle.mg_value.specs.Prefix.{StreamPrefix};
-ghost use Rattle.mg_value.specs.Extension.{AreExtendedBy};
-ghost use Rattle.mg_value.specs.Settled.{settled_sets, reach};
-ghost use Rattle.mg_value.specs.Left.{after_sets};
+ghost use Rattle.mg_settled.specs.Prefix.{StreamPrefix};
+ghost use Rattle.mg_settled.specs.Extension.{AreExtendedBy};
+ghost use Rattle.mg_settled.specs.Settled.{settled_sets, reach};
+ghost use Rattle.mg_settled.specs.Left.{after_sets};
 ghost use Rattle.mg_stream.specs.Queue.{Waiting, StandsFor};
 ghost use Rattle.mg_policy.specs.Inbox.{rests, Tells, StandAfter};
 ghost use Rattle.mg_policy.specs.declared.readiness.Readiness.{Readiness};

@@ -1,10 +1,10 @@
 //! What one look at each port of a pool finds.
 ghost use Rattle.std.specs.Prelude.{◌≡◌, ◌<◌, ◌↔◌, All, min, unwrap_or, IfNone, IsTrue};
 ghost use Rattle.mg_time.specs.Time.{done};
-ghost use Rattle.mg_value.specs.Prefix.{IsPrefix};
-ghost use Rattle.mg_value.specs.Settled.{low, is_settled, reach};
-ghost use Rattle.mg_value.specs.FirstSet.{earliest, first_set_time};
 ghost use Rattle.mg_value.specs.declared.policy.Policy.TheVariants.{Default, Mux};
+ghost use Rattle.mg_settled.specs.Prefix.{IsPrefix};
+ghost use Rattle.mg_settled.specs.Settled.{low, is_settled, reach};
+ghost use Rattle.mg_settled.specs.FirstSet.{earliest, first_set_time};
 ghost use Rattle.mg_stream.specs.Pool.{queues_of};
 ghost use Rattle.mg_policy.specs.Inbox.{HasPorts, rests};
 

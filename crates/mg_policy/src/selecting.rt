@@ -1,10 +1,10 @@
 //! The mux policy's SELECT, the last port, and the ports that its packets select.
 ghost use Rattle.std.specs.Prelude.{◌≡◌, ◌<◌, ◌+◌, ◌-◌, All, length};
-ghost use Rattle.mg_value.specs.Prefix.{IsPrefix};
 ghost use Rattle.mg_value.specs.Payload.{plain};
-ghost use Rattle.mg_value.specs.Settled.{is_settled, selected};
-ghost use Rattle.mg_value.specs.FirstSet.{chosen_port, is_shown};
 ghost use Rattle.mg_value.specs.declared.policy.Policy.TheVariants.{Mux};
+ghost use Rattle.mg_settled.specs.Prefix.{IsPrefix};
+ghost use Rattle.mg_settled.specs.Settled.{is_settled, selected};
+ghost use Rattle.mg_settled.specs.FirstSet.{chosen_port, is_shown};
 ghost use Rattle.mg_stream.specs.Pool.{queues_of};
 ghost use Rattle.mg_policy.specs.Inbox.{HasPorts, rests};
 

@@ -1,7 +1,7 @@
 //! Taking a set: what leaves the queues with it.
 ghost use Rattle.std.specs.Prelude.{◌≡◌, ◌<◌, ◌+◌, All, Some, None, length, map, slice_get, if◌then◌else◌};
-ghost use Rattle.mg_value.specs.Prefix.{IsPrefix};
-ghost use Rattle.mg_value.specs.Settled.{settled_sets, packet_at};
+ghost use Rattle.mg_settled.specs.Prefix.{IsPrefix};
+ghost use Rattle.mg_settled.specs.Settled.{settled_sets, packet_at};
 ghost use Rattle.mg_stream.specs.Queue.{rest_of};
 ghost use Rattle.mg_stream.specs.Pool.{queue_at, queues_of, with_queue, backlog_of, queue_of, pool_len};
 ghost use Rattle.mg_policy.specs.declared.readiness.Readiness.TheVariants.{Ready};
@@ -9,9 +9,10 @@ ghost use Rattle.mg_policy.specs.Inbox.{HasPorts, rests, Tells};
 ghost use Rattle.mg_policy.specs.Code.Taking.{dropped_before, dropped_through};
 
 use crate::selecting::{chosen_port, is_shown};
+use mg_settled::InputSet;
 use mg_stream::Pool;
 use mg_time::Timestamp;
-use mg_value::{InputSet, Packet, Policy};
+use mg_value::{Packet, Policy};
 
 /// Takes the next set, which must stand at `at`, into `into`: from each port go the packets that stand there or before it.
 pub(crate) fn take_set(pool: &mut Pool, policy: Policy, at: Timestamp, into: &mut InputSet)

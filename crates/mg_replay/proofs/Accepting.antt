@@ -3,7 +3,7 @@ use Rattle.std.proofs.Common.{◌≡◌, inl, ℕ, List, [], length, take, refl,
 use Rattle.mg_edge.specs.Edge.{SinkTold}
 use Rattle.mg_edge.proofs.Runs.{TookAll-start}
 use Rattle.mg_value.specs.Payload.{Plain}
-use Rattle.mg_value.specs.Prefix.{StreamPrefix}
+use Rattle.mg_settled.specs.Prefix.{StreamPrefix}
 use Rattle.mg_calc.specs.declared.plan.Plan.{Plan}
 use Rattle.mg_calc.specs.Equations.{IsSolution}
 use Rattle.mg_answer.specs.Answer.{packet_lines}

@@ -1,7 +1,7 @@
 -- What a recorded run that isn't accepted leaves of the calculators that were handed in.
 use Rattle.std.proofs.Common.{◌≡◌, inl, inr, ℕ, Bool, List, ◌++◌, length, Some, option_map, slice_get, refl, sym, ap, ◌∙◌, subst}
 use Rattle.mg_value.specs.Payload.{Plain}
-use Rattle.mg_value.specs.Prefix.{StreamPrefix}
+use Rattle.mg_settled.specs.Prefix.{StreamPrefix}
 use Rattle.mg_calc.specs.declared.call.Call.{Call}
 use Rattle.mg_calc.specs.Equations.{IsJob}
 use Rattle.mg_calc.specs.Shape.{IsOuter}

@@ -6,7 +6,7 @@ use Rattle.std.proofs.lemmas.Bool.{cases_Bool}
 use Rattle.std.proofs.lemmas.Bool.Decides.{nat_tests}
 use Rattle.std.proofs.lemmas.Slice.Eq.{bytes_eq-Decides}
 use Rattle.mg_value.specs.Payload.{Plain}
-use Rattle.mg_value.specs.Prefix.{Stamped}
+use Rattle.mg_value.specs.Packet.{Stamped}
 use Rattle.mg_feed.specs.Graph.{GraphInputs}
 use Rattle.mg_feed.specs.View.{View}
 use Rattle.mg_feed.specs.Accepted.{longest_line, most_lines, refusal}

@@ -2,7 +2,7 @@
 ghost use Rattle.std.specs.Prelude.{◌≡◌, List, map, IfOk, OnOk, OnErr};
 ghost use Rattle.mg_edge.specs.Edge.{SourceTold};
 ghost use Rattle.mg_value.specs.Payload.{Plain};
-ghost use Rattle.mg_value.specs.Prefix.{StreamPrefix};
+ghost use Rattle.mg_settled.specs.Prefix.{StreamPrefix};
 ghost use Rattle.mg_calc.specs.declared.inputs.Inputs.{Inputs as Given};
 ghost use Rattle.mg_calc.specs.Plan.{IsValid};
 ghost use Rattle.mg_calc.specs.Equations.{IsJob, IsSolution};
@@ -38,7 +38,7 @@ use mg_drive::{OneThread, finish, finish_frozen, take_all};
 use mg_edge::{Gate, Sink, Source};
 use mg_feed::{Feed, FeedEnd, Lines};
 use mg_sched::Net;
-use mg_value::InputSet;
+use mg_settled::InputSet;
 use std::alloc::{AllocError, Global};
 use std::mem;
 

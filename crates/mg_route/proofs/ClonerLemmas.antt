@@ -6,7 +6,7 @@ use Rattle.std.proofs.lemmas.List.FromFn.{fill_by_all}
 use Rattle.std.proofs.lemmas.Slice.Zip.{length-zip, get_or-zip}
 use Rattle.std.specs.List.{zip}
 use Rattle.mg_value.specs.Plain.{Plain}
-use Rattle.mg_value.specs.Prefix.{Stamped}
+use Rattle.mg_value.specs.Packet.{Stamped}
 use Rattle.mg_calc.specs.Values.{place_at, stored, kept_in}
 use Rattle.mg_calc.specs.State.{kept_at}
 use Rattle.mg_calc.specs.declared.emission.Laid.{Laid}

@@ -1,12 +1,13 @@
 -- Laying by a loop: what is left of a list decides, and what was laid is what may be laid.
 use Rattle.std.proofs.Common.{◌≡◌, ℕ, zero, suc, ◌+◌, ◌<◌, ◌≤◌, ℤ, Bool, true, false, nat_lt, is_some, List, [], ◌∷◌, ◌++◌, length, take, drop, get_or, set, map, Option, Some, None, Result, Ok, Err, refl, sym, ap, ap₂, ◌∙◌, arith, add-one, drop-cons}
 use Rattle.mg_value.specs.Payload.{Plain}
-use Rattle.mg_value.specs.Prefix.{Stamped, StreamPrefix, appended, all_appended}
+use Rattle.mg_value.specs.Packet.{Stamped}
+use Rattle.mg_settled.specs.Prefix.{StreamPrefix, appended, all_appended}
 use Rattle.mg_calc.specs.declared.cause.Cause.{Cause}
 use Rattle.mg_calc.specs.declared.emission.Laid.{Laid}
 use Rattle.mg_calc.specs.declared.node_fault.Phase.{Phase}
 use Rattle.mg_calc.specs.Laying.{laying_fault, unless, after, with_packets, raised_to, with_laid, laid_behind}
-use Rattle.mg_value.proofs.SetSteps.{mapped-more, mapped-later}
+use Rattle.mg_settled.proofs.SetSteps.{mapped-more, mapped-later}
 use Rattle.mg_route.specs.Reasons.{reason_of, laid_each, laid_on, all_laid_on}
 
 -- what is left of a list from a place on

@@ -1,7 +1,7 @@
 -- Why an emission can't be laid, and what the outputs are once it is laid where there is no cause against it.
 use Rattle.std.specs.Prelude.{Option, Some, None, Result, Ok, Err, List, [], ◌∷◌}
 use Rattle.mg_value.specs.Payload.{Plain}
-use Rattle.mg_value.specs.Prefix.{StreamPrefix, all_appended}
+use Rattle.mg_settled.specs.Prefix.{StreamPrefix, all_appended}
 use Rattle.mg_calc.specs.declared.cause.Cause.{Cause}
 use Rattle.mg_calc.specs.declared.emission.Laid.{Laid}
 use Rattle.mg_calc.specs.Laying.{raised_to}

@@ -7,8 +7,8 @@ use crate::in_place::{begin_in, outer_step_in};
 use mg_calc::{
     CalcFault, Emission, GivenList, Law, Shape, State, TryClone, no_emission, source_step,
 };
+use mg_settled::InputSet;
 use mg_time::Timestamp;
-use mg_value::InputSet;
 use std::alloc::{AllocError, Global};
 use std::marker::Model;
 

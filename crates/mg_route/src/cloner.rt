@@ -8,8 +8,9 @@ ghost use Rattle.mg_route.specs.Places.{first_places};
 
 use crate::emissions::{Places, placed};
 use mg_calc::{CalcFault, Emission, State, no_emission};
+use mg_settled::InputSet;
 use mg_time::Timestamp;
-use mg_value::{InputSet, Payload};
+use mg_value::Payload;
 use std::alloc::{AllocError, Global};
 use std::sync::Arc;
 

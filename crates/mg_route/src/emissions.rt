@@ -4,8 +4,9 @@ ghost use Rattle.mg_calc.specs.Answer.{emission_of, laid};
 ghost use Rattle.mg_route.specs.Places.{first_places};
 
 use mg_calc::{Emission, Laid, ShortList, State, no_emission, one_output, one_packet};
+use mg_settled::InputSet;
 use mg_time::Timestamp;
-use mg_value::{InputSet, Packet};
+use mg_value::Packet;
 use std::alloc::{AllocError, Global};
 use std::sync::Arc;
 
@@ -13,7 +14,7 @@ use std::sync::Arc;
 pub trait Places {
     ghost use Rattle.std.specs.Prelude.{ℕ, Option};
     ghost use Rattle.mg_value.specs.Plain.{Plain};
-    ghost use Rattle.mg_value.specs.Prefix.{Stamped};
+    ghost use Rattle.mg_value.specs.Packet.{Stamped};
 
     /// The packet at a number, if there is one, where it is taken at a time.
     ghost place: { Self → ℕ → ℕ → Option (Stamped Plain) };

@@ -7,8 +7,8 @@ ghost use Rattle.mg_route.specs.HolderView.{holder_view, told_by};
 
 use crate::Builtin;
 use mg_calc::{CalcFault, Calculator, Call, Emission, GivenList, Law, Shape};
+use mg_settled::InputSet;
 use mg_time::Timestamp;
-use mg_value::InputSet;
 use std::alloc::Global;
 use std::marker::Model;
 

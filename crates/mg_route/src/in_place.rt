@@ -8,8 +8,8 @@ use crate::emissions::front;
 use crate::route::route_step_in;
 use mg_batch::batch_step_in;
 use mg_calc::{CalcFault, Emission, GivenList, Law, State, own_begin, own_step};
+use mg_settled::InputSet;
 use mg_time::Timestamp;
-use mg_value::InputSet;
 use std::alloc::Global;
 
 /// Returns what a calculator emits when it is opened with its side packets, and puts its first state in the place of `state`.

@@ -6,8 +6,8 @@ ghost use Rattle.mg_batch.specs.Logged.{told_log};
 use crate::Builtin;
 use mg_batch::CallLog;
 use mg_calc::{CalcFault, Calculator, Call, CallList, Emission, GivenList, Law, OuterShape, Shape};
+use mg_settled::InputSet;
 use mg_time::Timestamp;
-use mg_value::InputSet;
 use std::alloc::{AllocError, Global};
 use std::marker::Model;
 

@@ -1,7 +1,8 @@
 //! Why what a call emits can't be put behind an output (MediaPipe, Calculators and Synchronization).
 ghost use Rattle.std.specs.Prelude.{◌≡◌, nat_lt, length};
 ghost use Rattle.mg_value.specs.Payload.{Plain};
-ghost use Rattle.mg_value.specs.Prefix.{StreamPrefix, Stamped};
+ghost use Rattle.mg_value.specs.Packet.{Stamped};
+ghost use Rattle.mg_settled.specs.Prefix.{StreamPrefix};
 ghost use Rattle.mg_calc.specs.Laying.{is_below_offset, is_bound_to_silence, laying_fault as the_laying_fault, with_packets};
 ghost use Rattle.mg_route.specs.Reasons.{reason_of};
 

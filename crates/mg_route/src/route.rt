@@ -1,6 +1,6 @@
 ghost use Rattle.std.specs.Prelude.{◌≡◌, ◌+◌, List, option_copied, OnErr};
 ghost use Rattle.mg_value.specs.Payload.{Plain};
-ghost use Rattle.mg_value.specs.Settled.{selected as the_selected};
+ghost use Rattle.mg_settled.specs.Settled.{selected as the_selected};
 ghost use Rattle.mg_calc.specs.Answer.{Gives, GivesEmission};
 ghost use Rattle.mg_calc.specs.Kinds.{is_wrong as is_it_wrong, has_wrong_kind};
 ghost use Rattle.mg_calc.specs.Law.{step};
@@ -11,8 +11,9 @@ use crate::cloner::cloner;
 use crate::emissions::{front, handed_on};
 use crate::thin::thin;
 use mg_calc::{CalcFault, Cause, Emission, Law, State, no_emission};
+use mg_settled::InputSet;
 use mg_time::Timestamp;
-use mg_value::{InputSet, Kind, Packet, Payload, has_kind};
+use mg_value::{Kind, Packet, Payload, has_kind};
 use std::alloc::Global;
 
 /// Returns what a calculator that hands packets on gives at a set: its new state and its emission, or its cause.

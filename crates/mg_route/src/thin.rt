@@ -4,8 +4,9 @@ ghost use Rattle.mg_calc.specs.Answer.{GivesEmission};
 ghost use Rattle.mg_calc.specs.Routing.{thin as the_thin, thinned as the_thinned, valid_after as is_valid_after};
 
 use mg_calc::{CalcFault, Emission, Laid, State, no_emission, one_output};
+use mg_settled::InputSet;
 use mg_time::Timestamp;
-use mg_value::{InputSet, Packet};
+use mg_value::Packet;
 use std::alloc::Global;
 
 // Returns the timestamp a period after another, or none where one of the two isn't in the range.

@@ -1,7 +1,7 @@
 -- A run of a graph with free nodes has one answer.
 use Rattle.std.proofs.Common.{◌≡◌, ℕ, Bool, List, [], ◌∷◌, ◌++◌, map, length, drop, slice_index_or, refl, sym, ap, ◌∙◌, subst}
 use Rattle.mg_value.specs.Payload.{Plain}
-use Rattle.mg_value.specs.Prefix.{StreamPrefix}
+use Rattle.mg_settled.specs.Prefix.{StreamPrefix}
 use Rattle.mg_calc.specs.declared.inputs.Inputs.{Inputs}
 use Rattle.mg_calc.specs.declared.node_fault.NodeFault.{NodeFault}
 use Rattle.mg_calc.specs.declared.plan.Plan.{Plan}
@@ -17,10 +17,10 @@ use Rattle.mg_feed.specs.Graph.{inputs_of}
 use Rattle.mg_feed.specs.declared.feed_end.FeedEnd.{FeedEnd}
 use Rattle.mg_answer.specs.Answer.{OutputForm, packet_lines, RunAnswer, Read, output_in, ended_input}
 use Rattle.mg_answer.specs.Notes.{notes_by}
-use Rattle.mg_value.specs.Ends.{end_of}
+use Rattle.mg_settled.specs.Ends.{end_of}
 use Rattle.mg_answer.specs.Report.{open_numbers, end_bounds, report_by, asked_report}
 use Rattle.mg_answer.specs.Told.{status_of}
-use Rattle.mg_value.specs.declared.stream_end.StreamEnd.{StreamEnd}
+use Rattle.mg_settled.specs.declared.stream_end.StreamEnd.{StreamEnd}
 use Rattle.mg_drive.specs.InBatches.{come_after}
 use Rattle.mg_drive.specs.Live.{renumbered_fault, sets_by, arrivals_text}
 use Rattle.mg_drive.specs.OneLive.{IsLiveAnswer, AreBatchesOf, AnswersLive}

@@ -2,8 +2,8 @@
 use Rattle.std.proofs.Common.{◌≡◌, ℕ, ℤ, zero, suc, List, ◌∷◌, ◌++◌, map, take, option_map, refl, sym, ap, subst, ◌∙◌}
 use Rattle.std.specs.List.{flat_map, filter_map}
 use Rattle.mg_value.specs.Payload.{Plain}
-use Rattle.mg_value.specs.Prefix.{StreamPrefix}
-use Rattle.mg_value.specs.Settled.{TimedSet, settled_sets}
+use Rattle.mg_settled.specs.Prefix.{StreamPrefix}
+use Rattle.mg_settled.specs.Settled.{TimedSet, settled_sets}
 use Rattle.mg_calc.specs.declared.law.Law.{Law}
 use Rattle.mg_calc.specs.declared.law.Law.TheVariants.{Count, SideOnce, Constants, Loopback}
 use Rattle.mg_calc.specs.declared.node_fault.NodeFault.{NodeFault}
@@ -19,7 +19,7 @@ use Rattle.mg_edge.specs.Edge.{SinkTold}
 use Rattle.mg_feed.specs.declared.feed_end.FeedEnd.{FeedEnd}
 use Rattle.mg_answer.specs.Told.{status_of}
 use Rattle.mg_answer.specs.Notes.{end_note, fault_note, status_notes, bounds_of}
-use Rattle.mg_value.specs.Ends.{end_of}
+use Rattle.mg_settled.specs.Ends.{end_of}
 use Rattle.mg_answer.specs.Report.{report_by, asked_report}
 use Rattle.mg_answer.specs.Answer.{Telling, OutputForm, packet_lines, totals, in_place, output_in, RunAnswer, answer_of, failed_notes, IsAnswerOf}
 use Rattle.mg_answer.specs.Devices.{Device}

@@ -4,8 +4,8 @@ use Rattle.std.specs.List.{list_any}
 use Rattle.std.proofs.lemmas.List.Sums.{sum_by_push}
 use Rattle.mg_time.specs.Time.{done}
 use Rattle.mg_value.specs.Payload.{Plain}
-use Rattle.mg_value.specs.Prefix.{Stamped}
-use Rattle.mg_value.specs.Loopback.{packet_of}
+use Rattle.mg_value.specs.Packet.{Stamped}
+use Rattle.mg_settled.specs.Loopback.{packet_of}
 use Rattle.mg_stream.specs.Queue.{count_of}
 use Rattle.mg_stream.specs.Pool.{Backlog}
 use Rattle.mg_calc.specs.Plan.{numbers}

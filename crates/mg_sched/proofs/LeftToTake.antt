@@ -3,10 +3,10 @@ use Rattle.std.proofs.Common.{◌≡◌, ℕ, zero, suc, ◌+◌, ◌≤◌, Lis
 use Rattle.std.specs.List.{AllZip}
 use Rattle.std.proofs.lemmas.Option.{none-some, slice_get_past}
 use Rattle.mg_value.specs.Payload.{Plain}
-use Rattle.mg_value.specs.Prefix.{StreamPrefix}
-use Rattle.mg_value.specs.Settled.{TimedSet, settled_sets}
 use Rattle.mg_value.specs.declared.policy.Policy.{Policy}
-use Rattle.mg_value.proofs.Lemmas.{all_by_themselves}
+use Rattle.mg_settled.specs.Prefix.{StreamPrefix}
+use Rattle.mg_settled.specs.Settled.{TimedSet, settled_sets}
+use Rattle.mg_settled.proofs.Lemmas.{all_by_themselves}
 use Rattle.mg_stream.specs.Queue.{Waiting, StandsFor as IsQueueOf}
 use Rattle.mg_stream.specs.Pool.{queues_of}
 use Rattle.mg_policy.specs.Inbox.{next_set, StandAfter}

@@ -6,12 +6,13 @@ use Rattle.std.proofs.lemmas.List.{get_or_default}
 use Rattle.std.proofs.lemmas.List.Elements.{recursion_from_All}
 use Rattle.std.proofs.lemmas.Option.{slice_get_past, slice_get_within}
 use Rattle.mg_value.specs.Payload.{Plain}
-use Rattle.mg_value.specs.Prefix.{Stamped, StreamPrefix, empty_prefix, closed}
-use Rattle.mg_value.specs.Extension.{IsExtendedBy, AreExtendedBy}
-use Rattle.mg_value.specs.Settled.{settled_sets, inputs_of}
+use Rattle.mg_value.specs.Packet.{Stamped}
 use Rattle.mg_value.specs.declared.policy.Policy.{Policy}
 use Rattle.mg_value.specs.declared.policy.Policy.TheVariants.{Default}
-use Rattle.mg_value.proofs.Lemmas.{extended_by_itself, sets-stay}
+use Rattle.mg_settled.specs.Prefix.{StreamPrefix, empty_prefix, closed}
+use Rattle.mg_settled.specs.Extension.{IsExtendedBy, AreExtendedBy}
+use Rattle.mg_settled.specs.Settled.{settled_sets, inputs_of}
+use Rattle.mg_settled.proofs.Lemmas.{extended_by_itself, sets-stay}
 use Rattle.mg_stream.specs.Queue.{StandsFor as IsQueueOf}
 use Rattle.mg_calc.specs.declared.law.Law.TheVariants.{Loopback}
 use Rattle.mg_calc.specs.declared.plan.Plan.{Plan}

@@ -5,9 +5,9 @@ use Rattle.std.proofs.lemmas.List.{map-append, map-id, take_all}
 use Rattle.std.proofs.lemmas.List.Concat.{flat_map_single}
 use Rattle.std.proofs.lemmas.Simd.{map-map}
 use Rattle.mg_value.specs.Payload.{Plain}
-use Rattle.mg_value.specs.Prefix.{StreamPrefix}
-use Rattle.mg_value.specs.Ends.{end_of}
-use Rattle.mg_value.specs.declared.stream_end.StreamEnd.{StreamEnd}
+use Rattle.mg_settled.specs.Prefix.{StreamPrefix}
+use Rattle.mg_settled.specs.Ends.{end_of}
+use Rattle.mg_settled.specs.declared.stream_end.StreamEnd.{StreamEnd}
 use Rattle.mg_stream.specs.Queue.{StandsFor as IsQueueOf}
 use Rattle.mg_stream.specs.Pool.{Backlog, queue_of}
 use Rattle.mg_calc.specs.declared.plan.Plan.{Plan}

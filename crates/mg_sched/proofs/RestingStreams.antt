@@ -4,10 +4,10 @@ use Rattle.std.proofs.Math.Seq.{take-append_seam}
 use Rattle.std.proofs.lemmas.List.{length-map}
 use Rattle.std.proofs.lemmas.Option.{same_Some, slice_get_within, slice_get-get_or}
 use Rattle.mg_value.specs.Payload.{Plain}
-use Rattle.mg_value.specs.Prefix.{StreamPrefix, IsPrefix, empty_prefix}
-use Rattle.mg_value.specs.Extension.{IsExtendedBy}
-use Rattle.mg_value.proofs.Extending.{same_prefix}
-use Rattle.mg_value.proofs.Lemmas.{extended_by_itself}
+use Rattle.mg_settled.specs.Prefix.{StreamPrefix, IsPrefix, empty_prefix}
+use Rattle.mg_settled.specs.Extension.{IsExtendedBy}
+use Rattle.mg_settled.proofs.Extending.{same_prefix}
+use Rattle.mg_settled.proofs.Lemmas.{extended_by_itself}
 use Rattle.mg_stream.specs.Queue.{Waiting, StandsFor as IsQueueOf}
 use Rattle.mg_stream.specs.Pool.{Backlog, empty_backlog, queue_of}
 use Rattle.mg_calc.specs.declared.plan.Plan.{Plan}

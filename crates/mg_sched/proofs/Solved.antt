@@ -1,7 +1,7 @@
 -- A job has a solution.
 use Rattle.std.proofs.Common.{List}
 use Rattle.mg_value.specs.Payload.{Plain}
-use Rattle.mg_value.specs.Prefix.{StreamPrefix}
+use Rattle.mg_settled.specs.Prefix.{StreamPrefix}
 use Rattle.mg_calc.specs.Equations.{IsJob}
 use Rattle.mg_calc.proofs.FirstRound.{a_solution}
 use Rattle.mg_calc.proofs.Jobs.{any_state, job_known}

@@ -1,7 +1,7 @@
 -- How a net goes on with further input: what comes of each graph input stands behind what came before, and nothing else changes.
 use Rattle.std.specs.Prelude.{◌≡◌, ℕ, ◌+◌, ◌-◌, ◌<◌, List, [], ◌++◌, false, length, replicate, Some, slice_get, slice_index_or}
 use Rattle.mg_value.specs.Payload.{Plain}
-use Rattle.mg_value.specs.Prefix.{StreamPrefix, empty_prefix}
+use Rattle.mg_settled.specs.Prefix.{StreamPrefix, empty_prefix}
 use Rattle.mg_calc.specs.declared.inputs.Inputs.{Inputs}
 use Rattle.mg_node.specs.Views.{EngineView}
 use Rattle.mg_node.specs.Job.{LoggedJob}

@@ -2,7 +2,7 @@
 use Rattle.std.specs.Prelude.{ℕ, ◌+◌, List, ◌++◌, length, map, take, drop, sum_by}
 use Rattle.std.specs.List.{flat_map, filter_map}
 use Rattle.mg_value.specs.Payload.{Plain}
-use Rattle.mg_value.specs.declared.stream_end.StreamEnd.{StreamEnd}
+use Rattle.mg_settled.specs.declared.stream_end.StreamEnd.{StreamEnd}
 use Rattle.mg_stream.specs.Pool.{Backlog}
 use Rattle.mg_node.specs.Views.{EngineView}
 use Rattle.mg_node.specs.Outputs.{packets_kept}

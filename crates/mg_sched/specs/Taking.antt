@@ -1,8 +1,9 @@
 -- What leaves a net: sets of the graph's outputs, which its collector gives.
 use Rattle.std.specs.Prelude.{◌≡◌, ℕ, true, false, Bool, List, length, Option, Some, None, slice_get, option_map, unwrap_or}
 use Rattle.mg_value.specs.Payload.{Plain}
-use Rattle.mg_value.specs.Prefix.{Stamped, StreamPrefix}
-use Rattle.mg_value.specs.Settled.{TimedSet, settled_sets}
+use Rattle.mg_value.specs.Packet.{Stamped}
+use Rattle.mg_settled.specs.Prefix.{StreamPrefix}
+use Rattle.mg_settled.specs.Settled.{TimedSet, settled_sets}
 use Rattle.mg_calc.specs.declared.plan.Plan.{Plan}
 use Rattle.mg_node.specs.Views.{IntakeView}
 use Rattle.mg_node.specs.Intakes.{next_set_of}

@@ -1,7 +1,7 @@
 //! How the calculators that are handed in come to their nodes. Nothing here takes memory.
 ghost use Rattle.std.specs.Prelude.{◌≡◌, ◌+◌, ◌<◌, ◌≤◌, ◌++◌, ℕ, List, Some, None, true, All, IsSome, IsSomeAnd, length, map, option_map, slice_get, slice_set, vec_len, vec_capacity};
 ghost use Rattle.mg_value.specs.Payload.{Plain};
-ghost use Rattle.mg_value.specs.Prefix.{StreamPrefix};
+ghost use Rattle.mg_settled.specs.Prefix.{StreamPrefix};
 ghost use Rattle.mg_calc.specs.declared.plan_node.PlanNode.{PlanNode};
 ghost use Rattle.mg_calc.specs.Plan.{IsValid};
 ghost use Rattle.mg_calc.specs.Told.{CalculatorTold};

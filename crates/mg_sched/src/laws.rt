@@ -1,11 +1,12 @@
 //! Laws of the definitions: each function does nothing, and its contract is the law.
 ghost use Rattle.std.specs.Prelude.{◌≡◌, ◌⊎◌, ℕ, ◌+◌, ◌-◌, ◌<◌, ◌≤◌, Bool, true, false, List, length, map, All, Option, Some, None, slice_get};
 ghost use Rattle.mg_value.specs.Payload.{Plain};
-ghost use Rattle.mg_value.specs.Prefix.{Stamped, StreamPrefix};
-ghost use Rattle.mg_value.specs.Ends.{end_of};
-ghost use Rattle.mg_value.specs.Extension.{IsExtendedBy};
-ghost use Rattle.mg_value.specs.Settled.{settled_sets, inputs_of};
+ghost use Rattle.mg_value.specs.Packet.{Stamped};
 ghost use Rattle.mg_value.specs.declared.policy.Policy.TheVariants.{Default};
+ghost use Rattle.mg_settled.specs.Prefix.{StreamPrefix};
+ghost use Rattle.mg_settled.specs.Ends.{end_of};
+ghost use Rattle.mg_settled.specs.Extension.{IsExtendedBy};
+ghost use Rattle.mg_settled.specs.Settled.{settled_sets, inputs_of};
 ghost use Rattle.mg_stream.specs.Queue.{StandsFor as IsQueueOf};
 ghost use Rattle.mg_calc.specs.declared.plan_node.PlanNode.{PlanNode};
 ghost use Rattle.mg_calc.specs.declared.plan_stream.PlanStream.{PlanStream};

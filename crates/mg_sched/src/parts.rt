@@ -1,6 +1,6 @@
 //! What a net is made of, before the calculators that are handed in are with their nodes.
 ghost use Rattle.std.specs.Prelude.{◌≡◌, ◌+◌, ◌<◌, ◌≤◌, [], Some, IfOk, All, length, map, replicate, false, slice_get, vec_len, vec_capacity};
-ghost use Rattle.mg_value.specs.Prefix.{IsPrefix};
+ghost use Rattle.mg_settled.specs.Prefix.{IsPrefix};
 ghost use Rattle.mg_calc.specs.declared.plan_node.PlanNode.{PlanNode};
 ghost use Rattle.mg_calc.specs.Plan.{IsValid};
 ghost use Rattle.mg_node.specs.Fresh.{own_told, fresh_engine};
@@ -13,8 +13,8 @@ use crate::work_queue::WorkQueue;
 use mg_calc::{Calculator, GivenList, Plan, TryClone};
 use mg_node::{Engine, Intake};
 use mg_route::{Builtin, Holder};
+use mg_settled::PrefixList;
 use mg_throttle::Limits;
-use mg_value::PrefixList;
 use std::alloc::{AllocError, Global};
 
 /// The plan and the side packets that a net keeps, and places for the calculators that are handed in.

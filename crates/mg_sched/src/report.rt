@@ -1,5 +1,6 @@
 use mg_calc::NodeFaultList;
-use mg_value::{CountList, StreamEndList};
+use mg_settled::StreamEndList;
+use mg_value::CountList;
 
 /// How far a net has come.
 #[derive(Debug, Drop)]

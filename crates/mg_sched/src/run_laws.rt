@@ -1,8 +1,8 @@
 //! Laws of runs: each function does nothing, and its contract is the law.
 ghost use Rattle.std.specs.Prelude.{◌≡◌, ◌≢◌, List, [], ◌∷◌, ◌++◌, map};
 ghost use Rattle.mg_value.specs.Payload.{Plain};
-ghost use Rattle.mg_value.specs.Prefix.{StreamPrefix};
-ghost use Rattle.mg_value.specs.Ends.{end_of};
+ghost use Rattle.mg_settled.specs.Prefix.{StreamPrefix};
+ghost use Rattle.mg_settled.specs.Ends.{end_of};
 ghost use Rattle.mg_calc.specs.declared.event.Event.{Event};
 ghost use Rattle.mg_calc.specs.declared.event.Effect.TheVariants.{Did};
 ghost use Rattle.mg_calc.specs.declared.inputs.Inputs.{Inputs};

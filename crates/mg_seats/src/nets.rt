@@ -10,8 +10,8 @@ ghost use Rattle.mg_seats.specs.Held.{HasOutputs, CameOf};
 use mg_calc::{Inputs, Plan};
 use mg_route::LawBox;
 use mg_sched::Net;
+use mg_settled::InputSet;
 use mg_turns::{NetSeat, SharedNet};
-use mg_value::InputSet;
 use mg_workers::{Kept, share, unshare};
 use std::alloc::{AllocError, Global};
 

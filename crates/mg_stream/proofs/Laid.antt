@@ -5,7 +5,8 @@ use Rattle.std.proofs.lemmas.List.{get_or-map}
 use Rattle.std.proofs.lemmas.List.Elements.{All-from_recursion, All-tail, All-weaker}
 use Rattle.mg_time.specs.Time.{post_stream, IsAllowed, next}
 use Rattle.mg_value.specs.Payload.{Plain}
-use Rattle.mg_value.specs.Prefix.{Stamped, StreamPrefix, IsPrefix, StandsAlone}
+use Rattle.mg_value.specs.Packet.{Stamped}
+use Rattle.mg_settled.specs.Prefix.{StreamPrefix, IsPrefix, StandsAlone}
 use Rattle.mg_stream.specs.Queue.{Waiting, IsQueue, IsLike, StandsFor, MayCome}
 use Rattle.mg_stream.specs.Pool.{Backlog, Pooled, empty_backlog, queue_of, backlog_of, queue_at, with_queue}
 use Rattle.mg_stream.specs.Code.Chain.{entry_at, keys_of, packets_of, last_key, IsKey, entries_of, backlog_in, empty_chain, chain_at, IsWhole, AreLaid}

@@ -1,12 +1,12 @@
 -- Entries that each name the next: what they hold, and what becomes of them when others change.
 use Rattle.std.proofs.Common.{◌≡◌, ◌≢◌, ℕ, zero, suc, ◌+◌, ◌<◌, List, [], ◌∷◌, ◌++◌, length, ◌-◌, Option, Some, None, option_map, unwrap_or, inl, inr, ◌⊎◌, subst, ap, sym, refl, ◌∙◌, arith}
 use Rattle.mg_value.specs.Payload.{Plain}
-use Rattle.mg_value.specs.Prefix.{Stamped}
-use Rattle.mg_value.specs.Settled.{times_of}
-use Rattle.mg_value.proofs.Times.{In, Rises, Rises-least}
+use Rattle.mg_value.specs.Packet.{Stamped}
+use Rattle.mg_settled.specs.Settled.{times_of}
+use Rattle.mg_settled.proofs.Times.{In, Rises, Rises-least}
 use Rattle.slab.specs.Slab.{Slab, get, ContainsKey, Updates, with_value}
 use Rattle.slab.proofs.SlabLemmas.{Updates-with_value}
-use Rattle.mg_value.proofs.Climbs.{prefix-rises}
+use Rattle.mg_settled.proofs.Climbs.{prefix-rises}
 use Rattle.mg_stream.specs.Queue.{rest_of}
 use Rattle.mg_stream.specs.Pool.{queue_of}
 use Rattle.mg_stream.specs.Code.Chain.{entry_at, linked, keys_of, packets_of, last_key, IsKey, entries_of, backlog_in, IsWhole}

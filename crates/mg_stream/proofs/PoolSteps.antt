@@ -6,8 +6,9 @@ use Rattle.std.specs.Vec.{with_item}
 use Rattle.slab.specs.Slab.{slab_len}
 use Rattle.mg_time.specs.Time.{done, next}
 use Rattle.mg_value.specs.Payload.{Plain}
-use Rattle.mg_value.specs.Prefix.{Stamped, IsPrefix}
-use Rattle.mg_value.proofs.PrefixSteps.{empty_is_prefix}
+use Rattle.mg_value.specs.Packet.{Stamped}
+use Rattle.mg_settled.specs.Prefix.{IsPrefix}
+use Rattle.mg_settled.proofs.PrefixSteps.{empty_is_prefix}
 use Rattle.mg_stream.specs.Queue.{Waiting, IsQueue, MayCome, rest_of, raised_to, with_packet, popped}
 use Rattle.mg_stream.specs.Pool.{Backlog, Pooled, empty_backlog, queue_of, queue_at, with_queue}
 use Rattle.mg_stream.specs.PoolView.{pool_view, IsPool}

@@ -1,8 +1,9 @@
 -- Each step on a queue keeps what holds of every queue, and what it stands for.
 use Rattle.std.proofs.Common.{◌≡◌, ℕ, zero, suc, ◌+◌, ◌-◌, ◌<◌, ◌≤◌, max, List, [], ◌∷◌, ◌++◌, length, length-append, length-drop, drop, ap, sym, refl, ◌∙◌, arith, drop-drop}
 use Rattle.mg_time.specs.Time.{next, done}
-use Rattle.mg_value.specs.Prefix.{Stamped, StreamPrefix, MayFollow, appended, raised, closed}
-use Rattle.mg_value.proofs.PrefixSteps.{next_above, appended_is_prefix, raised_is_prefix, closed_is_prefix}
+use Rattle.mg_value.specs.Packet.{Stamped}
+use Rattle.mg_settled.specs.Prefix.{StreamPrefix, MayFollow, appended, raised, closed}
+use Rattle.mg_settled.proofs.PrefixSteps.{next_above, appended_is_prefix, raised_is_prefix, closed_is_prefix}
 use Rattle.mg_stream.specs.Queue.{Waiting, IsQueue, StandsFor, MayCome, IsLike, rest_of, with_packet, raised_to, popped}
 
 pub closed_queue : {X : Type 0} (q : Waiting X) → IsQueue q → IsQueue (record q { bound = done })

@@ -1,7 +1,7 @@
 -- The packets that wait at one node: a queue for each of its ports, with room for all of them in common.
 use Rattle.std.specs.Prelude.{ℕ, List, [], length, map, sum_by, slice_index_or, slice_set}
 use Rattle.mg_time.specs.Time.{pre_stream}
-use Rattle.mg_value.specs.Prefix.{Stamped}
+use Rattle.mg_value.specs.Packet.{Stamped}
 use Rattle.mg_stream.specs.Queue.{Waiting}
 
 -- a queue without its room: how many packets are gone, those that wait, and the bound

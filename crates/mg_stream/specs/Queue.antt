@@ -3,8 +3,9 @@
 -- there is room.
 use Rattle.std.specs.Prelude.{◌≡◌, ℕ, ◌+◌, ◌≤◌, List, [], ◌∷◌, ◌++◌, length, take, drop, max, is_some, if◌then◌else◌}
 use Rattle.mg_time.specs.Time.{pre_stream, post_stream, IsAllowed, next}
-use Rattle.mg_value.specs.Prefix.{Stamped, StreamPrefix, IsPrefix}
-pub use Rattle.mg_value.specs.FirstSet.{front_at}
+use Rattle.mg_value.specs.Packet.{Stamped}
+use Rattle.mg_settled.specs.Prefix.{StreamPrefix, IsPrefix}
+pub use Rattle.mg_settled.specs.FirstSet.{front_at}
 
 -- a queue: how many packets are gone, those that wait, the bound, and for how many more packets there is room
 pub record Waiting (X : Type 0) : Type 0 where

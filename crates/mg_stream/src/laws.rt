@@ -1,7 +1,7 @@
 //! Laws of pools: each function does nothing, and its contract is the law.
 ghost use Rattle.std.specs.Prelude.{◌≡◌, ◌≢◌, ◌<◌, ℕ, length};
 ghost use Rattle.mg_value.specs.Payload.{Plain};
-ghost use Rattle.mg_value.specs.Prefix.{StreamPrefix};
+ghost use Rattle.mg_settled.specs.Prefix.{StreamPrefix};
 ghost use Rattle.mg_stream.specs.Queue.{Waiting, StandsFor, IsLike};
 ghost use Rattle.mg_stream.specs.Pool.{Pooled, queue_at, with_queue};
 

@@ -1,7 +1,7 @@
 ghost use Rattle.std.specs.Prelude.{◌≡◌, ◌≢◌, ℕ, Some, IfNone, ◌<◌, ◌≤◌, ◌+◌, ◌-◌, ◌^◌, ◌↔◌, [], ◌∷◌, length, replicate, min, max, slice_get, option_map, option_copied, OnOk, OnErr, IfOk, IfErr, IsErrAnd, IsOk, MatchResult};
 ghost use Rattle.mg_time.specs.Time.{post_stream, done, IsAllowed};
 ghost use Rattle.mg_value.specs.Payload.{Plain};
-ghost use Rattle.mg_value.specs.Prefix.{StreamPrefix, IsPrefix, appended, raised, closed};
+ghost use Rattle.mg_settled.specs.Prefix.{StreamPrefix, IsPrefix, appended, raised, closed};
 ghost use Rattle.mg_stream.specs.Queue.{StandsFor, MayCome, count_of, rest_of, with_packet, raised_to, front_at, popped, popped_at};
 ghost use Rattle.mg_stream.specs.Pool.{empty_backlog, queue_at, with_queue};
 

@@ -18,7 +18,7 @@ impl<'a> Model for Waits<'a> {
     ghost use Rattle.std.specs.Prelude.{List};
     ghost use Rattle.std.specs.Coded.{coded_list};
     ghost use Rattle.mg_value.specs.Payload.{Plain};
-    ghost use Rattle.mg_value.specs.Prefix.{Stamped};
+    ghost use Rattle.mg_value.specs.Packet.{Stamped};
     ghost use Rattle.mg_value.specs.Codes.{packet_code};
 
     ghost Value = { List (Stamped Plain) };

@@ -1,7 +1,8 @@
 //! Timestamps and packets in the tables of tests: a timestamp as `print_text` writes it, a payload as its number.
 
+use mg_settled::InputSet;
 use mg_time::Timestamp;
-use mg_value::{InputSet, Packet, Payload};
+use mg_value::{Packet, Payload};
 use std::alloc::Global;
 use std::sync::Arc;
 use std::test::Fail;

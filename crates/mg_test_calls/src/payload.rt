@@ -1,6 +1,7 @@
 //! Tests of payloads: from JSON values and back, and their kinds.
 
-use mg_value::{Kind, Payload, from_json, has_kind, to_json};
+use mg_json::{from_json, to_json};
+use mg_value::{Kind, Payload, has_kind};
 use serde_json::Value;
 use std::alloc::{AllocError, Global};
 use std::process::Abort;

@@ -3,7 +3,7 @@ ghost use Rattle.std.specs.Prelude.{OnOk};
 ghost use Rattle.mg_test_cells.specs.Cell.{IsCell};
 
 use crate::cell::Cell;
-use mg_value::InputSet;
+use mg_settled::InputSet;
 use std::alloc::Global;
 use std::test::Fail;
 

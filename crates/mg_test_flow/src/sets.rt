@@ -1,10 +1,8 @@
 //! Whole prefixes: the rule of streams, and what their copies and settled sets share.
 
+use mg_settled::{Prefix, PrefixList, TimedSetList, are_prefixes, settled_sets};
 use mg_tables::{Calls, assert_rows, packet_of, time_of};
-use mg_value::{
-    NumberList, Packet, PacketList, Policy, Prefix, PrefixList, TimedSetList, are_prefixes,
-    settled_sets,
-};
+use mg_value::{NumberList, Packet, PacketList, Policy};
 use std::alloc::Global;
 use std::process::Abort;
 use std::sync::Arc;

@@ -4,7 +4,7 @@ use Rattle.std.specs.List.{range_with_len}
 use Rattle.std.proofs.lemmas.List.Elements.{All-from_recursion, recursion_from_All}
 use Rattle.std.proofs.lemmas.Option.{same_Some, none-some}
 use Rattle.mg_value.specs.Payload.{Plain}
-use Rattle.mg_value.specs.Prefix.{StreamPrefix, IsPrefix}
+use Rattle.mg_settled.specs.Prefix.{StreamPrefix, IsPrefix}
 use Rattle.mg_free.specs.declared.law.FreeLaw.{FreeLaw}
 use Rattle.mg_free.specs.declared.node.FreeNode.{FreeNode}
 use Rattle.mg_free.specs.Free.{ports_of}

@@ -7,9 +7,10 @@ ghost use Rattle.mg_test_free.specs.Ready.{IsReady, IsOneNode};
 
 use mg_free::{FreeLaw, FreeNode, FreeNodeList};
 use mg_live::{LiveNodes, Streams};
+use mg_settled::{Prefix, PrefixList, are_prefixes};
 use mg_tables::{Calls, assert_rows, packet_of, text_of, time_of};
 use mg_time::Timestamp;
-use mg_value::{BlockList, NumberList, Packet, Prefix, PrefixList, are_prefixes};
+use mg_value::{BlockList, NumberList, Packet};
 use std::alloc::{AllocError, Global};
 use std::fmt::Write;
 use std::test::Fail;

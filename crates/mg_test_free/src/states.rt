@@ -1,9 +1,10 @@
 //! Arrivals at free nodes, one by one.
 
 use mg_free::{FreeLaw, FreeNode, FreeState};
+use mg_settled::Prefix;
 use mg_tables::{Calls, assert_rows};
 use mg_time::Timestamp;
-use mg_value::{BlockList, Packet, Payload, Prefix};
+use mg_value::{BlockList, Packet, Payload};
 use std::alloc::{AllocError, Global};
 use std::fmt::Write;
 use std::sync::Arc;

@@ -2,7 +2,7 @@
 use Rattle.std.proofs.Common.{◌≡◌, ℕ, List, Some, slice_get, sym, subst, ◌∙◌}
 use Rattle.std.proofs.lemmas.Option.{same_Some}
 use Rattle.mg_value.specs.Payload.{Plain}
-use Rattle.mg_value.specs.Prefix.{StreamPrefix}
+use Rattle.mg_settled.specs.Prefix.{StreamPrefix}
 use Rattle.mg_test_nets.specs.Behind.{IsBehind, IsBehindAt}
 
 pub behind_there : (before pieces : List (StreamPrefix Plain)) (input : ℕ) (s piece now : StreamPrefix Plain) → slice_get before input ≡ Some s → slice_get pieces input ≡ Some piece → IsBehind s piece now → IsBehindAt before pieces input now

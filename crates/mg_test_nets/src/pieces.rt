@@ -4,8 +4,9 @@ ghost use Rattle.mg_sched.specs.Code.Made.{AtPlaces};
 ghost use Rattle.mg_test_nets.specs.Behind.{IsBehind, HasBehind, IsBehindAt};
 
 use mg_calc::Inputs;
+use mg_settled::{Prefix, PrefixList, are_prefixes};
 use mg_time::Timestamp;
-use mg_value::{BlockList, Packet, Prefix, PrefixList, are_prefixes};
+use mg_value::{BlockList, Packet};
 use std::alloc::{AllocError, Global};
 use std::test::Fail;
 

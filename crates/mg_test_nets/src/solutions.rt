@@ -6,7 +6,8 @@ use mg_equations::{Streams, solve};
 use mg_nets::{plan_of, show_packets, show_report};
 use mg_plans::{do_fit, inputs_of};
 use mg_sched::Report;
-use mg_value::{BlockList, PrefixList, StreamEnd, StreamEndList};
+use mg_settled::{PrefixList, StreamEnd, StreamEndList};
+use mg_value::BlockList;
 use std::alloc::Global;
 use std::test::Fail;
 

@@ -1,8 +1,9 @@
 //! Writes what calculators tell as text.
 
 use mg_calc::{Calculator, Call, CallList, Emission, Laid};
+use mg_settled::InputSet;
 use mg_tables::{packet_at, show_packet_at, text_of, time_of};
-use mg_value::{InputSet, Packet};
+use mg_value::Packet;
 use std::alloc::Global;
 use std::test::Fail;
 

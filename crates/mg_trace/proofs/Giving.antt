@@ -4,8 +4,8 @@ use Rattle.std.proofs.lemmas.List.{length-map}
 use Rattle.std.specs.List.{range_with_len, cons_option}
 use Rattle.serde_json.specs.Data.{Data}
 use Rattle.mg_value.specs.Payload.{Plain}
-use Rattle.mg_value.specs.Json.{json_of}
-use Rattle.mg_value.specs.Prefix.{StreamPrefix, empty_prefix}
+use Rattle.mg_json.specs.Json.{json_of}
+use Rattle.mg_settled.specs.Prefix.{StreamPrefix, empty_prefix}
 use Rattle.mg_calc.specs.Side.{PlainSide, PlainSideValue, given_at, fixed}
 use Rattle.mg_calc.specs.Plan.{place_of as handed_place}
 use Rattle.mg_calc.specs.declared.inputs.Inputs.{Inputs}

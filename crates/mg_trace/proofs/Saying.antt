@@ -10,9 +10,10 @@ use Rattle.serde_json.specs.Find.{of_integer, as_i64}
 use Rattle.serde_json.specs.Written.{compact_text}
 use Rattle.mg_time.specs.Time.{raw_of, place_of as place_at, pre_stream, post_stream, done, least, greatest, IsAllowed}
 use Rattle.mg_value.specs.Payload.{Plain}
-use Rattle.mg_value.specs.Json.{json_of, json_items, json_members}
 use Rattle.mg_value.specs.Plain.{depth, items_depth, entries_depth, flag, int, text, items, entries, Items, no_items, item, Entries, no_entries, entry}
-use Rattle.mg_value.specs.Prefix.{Stamped, StreamPrefix, IsPrefix, Ascends, first_time, empty_prefix, appended, all_appended, raised, closed}
+use Rattle.mg_value.specs.Packet.{Stamped}
+use Rattle.mg_json.specs.Json.{json_of, json_items, json_members}
+use Rattle.mg_settled.specs.Prefix.{StreamPrefix, IsPrefix, Ascends, first_time, empty_prefix, appended, all_appended, raised, closed}
 use Rattle.mg_feed.specs.Graph.{GraphInputs, place_of}
 use Rattle.mg_feed.specs.Form.{form_of, time_of}
 use Rattle.mg_feed.specs.Value.{plain_of}

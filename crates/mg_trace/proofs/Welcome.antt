@@ -8,11 +8,12 @@ use Rattle.serde_json.specs.Data as serde
 use Rattle.serde_json.specs.Written.{compact_text}
 use Rattle.mg_time.specs.Time.{done, greatest, pre_stream, post_stream, next, IsAllowed}
 use Rattle.mg_value.specs.Payload.{Plain}
-use Rattle.mg_value.specs.Json.{json_of, first, first_fault}
-use Rattle.mg_value.specs.Prefix.{Stamped, StreamPrefix, IsPrefix, Ascends, first_time, empty_prefix, appended, all_appended, MayFollow, MayAllFollow}
+use Rattle.mg_value.specs.Packet.{Stamped}
 use Rattle.mg_value.specs.declared.kind.Kind.{Kind}
 use Rattle.mg_value.specs.declared.kind.Kind.TheVariants.{Any}
-use Rattle.mg_value.proofs.RoundTrip.{payload_at}
+use Rattle.mg_json.specs.Json.{json_of, first, first_fault}
+use Rattle.mg_json.proofs.RoundTrip.{payload_at}
+use Rattle.mg_settled.specs.Prefix.{StreamPrefix, IsPrefix, Ascends, first_time, empty_prefix, appended, all_appended, MayFollow, MayAllFollow}
 use Rattle.mg_calc.specs.Side.{PlainSide, PlainSideValue, given_at, fixed}
 use Rattle.mg_calc.specs.Plan.{place_of as handed_place}
 use Rattle.mg_calc.specs.declared.inputs.Inputs.{Inputs}

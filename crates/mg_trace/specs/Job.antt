@@ -6,8 +6,9 @@ use Rattle.serde_json.specs.Data.{Data, boolean, string, object, member, no_memb
 use Rattle.serde_json.specs.Written.{compact_text}
 use Rattle.mg_time.specs.Time.{done}
 use Rattle.mg_value.specs.Payload.{Plain}
-use Rattle.mg_value.specs.Json.{json_of}
-use Rattle.mg_value.specs.Prefix.{Stamped, StreamPrefix, empty_prefix, all_appended}
+use Rattle.mg_value.specs.Packet.{Stamped}
+use Rattle.mg_json.specs.Json.{json_of}
+use Rattle.mg_settled.specs.Prefix.{StreamPrefix, empty_prefix, all_appended}
 use Rattle.mg_calc.specs.Side.{PlainSide, PlainSideValue, given_at, fixed}
 use Rattle.mg_calc.specs.declared.inputs.Inputs.{Inputs}
 use Rattle.mg_calc.specs.declared.plan.Plan.{Plan}

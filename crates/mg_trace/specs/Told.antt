@@ -3,10 +3,10 @@ use Rattle.std.specs.Prelude.{◌≡◌, ◌≤◌, ◌⊎◌, ℕ, Bool, true, 
 use Rattle.mg_time.specs.Time.{done, IsAllowed}
 use Rattle.mg_value.specs.Plain.{depth, NumbersFit}
 use Rattle.mg_value.specs.Payload.{Plain}
-use Rattle.mg_value.specs.Json.{json_of}
-use Rattle.mg_value.specs.Prefix.{StreamPrefix, IsPrefix}
 use Rattle.mg_value.specs.declared.kind.Kind.{Kind}
 use Rattle.mg_value.specs.declared.kind.Kind.TheVariants.{Any}
+use Rattle.mg_json.specs.Json.{json_of}
+use Rattle.mg_settled.specs.Prefix.{StreamPrefix, IsPrefix}
 use Rattle.mg_calc.specs.Side.{PlainSideValue, given_at, fixed}
 use Rattle.mg_calc.specs.Plan.{InputsFit, given_places, numbers}
 use Rattle.mg_calc.specs.declared.inputs.Inputs.{Inputs}

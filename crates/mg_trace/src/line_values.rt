@@ -6,8 +6,9 @@ ghost use Rattle.mg_value.specs.Payload.{plain};
 ghost use Rattle.mg_feed.specs.Output.{time_data};
 ghost use Rattle.mg_trace.specs.Job.{side_data, bound_data, close_data};
 
+use mg_json::to_json;
 use mg_time::Timestamp;
-use mg_value::{MgText, Payload, to_json};
+use mg_value::{MgText, Payload};
 use serde_json::{Value, json};
 use std::alloc::{AllocError, Global};
 

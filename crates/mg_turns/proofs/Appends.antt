@@ -5,7 +5,7 @@ use Rattle.std.proofs.lemmas.Option.{none-some, slice_get_within}
 use lib.ListN.{get_elem?}
 use Rattle.atomic_table.specs.Table.{rest}
 use Rattle.mg_value.specs.Payload.{Plain}
-use Rattle.mg_value.specs.Prefix.{Stamped}
+use Rattle.mg_value.specs.Packet.{Stamped}
 use Rattle.mg_stream.specs.Queue.{count_of}
 use Rattle.mg_stream.specs.Pool.{Backlog, empty_backlog}
 use Rattle.mg_calc.specs.declared.edge.Edge.{Edge}

@@ -6,8 +6,9 @@ use Rattle.std.proofs.lemmas.List.{length-take}
 use Rattle.std.proofs.lemmas.List.Elements.{All-from_recursion, recursion_from_All, All-take, All-drop}
 use Rattle.mg_time.specs.Time.{next}
 use Rattle.mg_value.specs.Payload.{Plain}
-use Rattle.mg_value.specs.Prefix.{Stamped, Ascends}
-use Rattle.mg_value.proofs.Climbs.{Climbs, prefix-climbs, Climbs-most}
+use Rattle.mg_value.specs.Packet.{Stamped}
+use Rattle.mg_settled.specs.Prefix.{Ascends}
+use Rattle.mg_settled.proofs.Climbs.{Climbs, prefix-climbs, Climbs-most}
 use Rattle.mg_stream.specs.Queue.{Waiting, IsLike, count_of, with_packet, raised_to}
 use Rattle.mg_stream.proofs.Laid.{other_like}
 use Rattle.mg_loopback.specs.Loopback.{Held}

@@ -1,9 +1,8 @@
 -- How the logic stores plain payloads, and values that hold one.
-use Rattle.std.proofs.Common.{◌≡◌, ◌≢◌, ℕ, List, Option, refl, ap, arith}
+use Rattle.std.proofs.Common.{◌≡◌, ◌≢◌, ℕ, List, refl, ap, arith}
 use Rattle.std.specs.Coded.{Coded, code_by, coded×, coded_ℕ, coded_ℤ, coded_bool, coded_list}
 use base.Stored.{Gv, gnil, gnum, gcons}
-use Rattle.std.specs.Coded.{coded_option}
-use Rattle.mg_value.specs.Prefix.{Stamped, StreamPrefix}
+use Rattle.mg_value.specs.Packet.{Stamped}
 use Rattle.mg_value.specs.Plain.{Plain, flag, int, text, items, entries, Items, no_items, item, Entries, no_entries, entry, PlainEntry}
 
 abbrev head : Gv → Gv
@@ -67,22 +66,10 @@ abbrev pub plain_entries_code : Coded (List PlainEntry)
 plain_entries_code =
     coded_list (code_by (List ℕ × Plain) (coded× coded_text plain_code) (λ e. (e.key, e.value)) (λ p. record { key = p.0; value = p.1 }) (λ _. refl))
 
--- a packet and a prefix, stored by the code of their values
-module _ {X : Type 0} (code : Coded X) where
-  abbrev pub stamped_code : Coded (Stamped X)
-  stamped_code = code_by (ℕ × X) (coded× coded_ℕ code) (λ p. (p.at, p.value)) (λ p. record { at = p.0; value = p.1 }) (λ _. refl)
+-- a packet, stored by the code of its value
+abbrev pub stamped_code : {X : Type 0} → Coded X → Coded (Stamped X)
+stamped_code {X} code = code_by (ℕ × X) (coded× coded_ℕ code) (λ p. (p.at, p.value)) (λ p. record { at = p.0; value = p.1 }) (λ _. refl)
 
-  abbrev pub prefix_code : Coded (StreamPrefix X)
-  prefix_code =
-      code_by (List (Stamped X) × ℕ) (coded× (coded_list stamped_code) coded_ℕ)
-      (λ s. (s.packets, s.bound)) (λ p. record { packets = p.0; bound = p.1 }) (λ _. refl)
-
--- the codes of a packet of plain payloads, of an input set and of a prefix
+-- the code of a packet of plain payloads
 abbrev pub packet_code : Coded (Stamped Plain)
 packet_code = stamped_code plain_code
-
-abbrev pub set_code : Coded (List (Option (Stamped Plain)))
-set_code = coded_list (coded_option packet_code)
-
-abbrev pub plain_prefix_code : Coded (StreamPrefix Plain)
-plain_prefix_code = prefix_code plain_code

@@ -1,16 +1,8 @@
 pub mod Code
-pub mod Ends
-pub mod Extension
-pub mod FirstSet
-pub mod Json
 pub mod Kind
-pub mod Left
-pub mod Loopback
+pub mod Packet
 pub mod Payload
 pub mod Plain
-pub mod Prefix
-pub mod Settled
 -- What the prover wants of the types beside their meaning. No meaning rests on it.
 pub mod Codes
-pub mod SetCodes
 pub mod PayloadFalls

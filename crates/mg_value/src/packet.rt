@@ -16,7 +16,7 @@ pub struct Packet {
 impl Model for Packet {
     ghost use Rattle.std.specs.Arc.{arc_value};
     ghost use Rattle.mg_value.specs.Payload.{Plain, plain};
-    ghost use Rattle.mg_value.specs.Prefix.{Stamped};
+    ghost use Rattle.mg_value.specs.Packet.{Stamped};
     ghost use Rattle.mg_value.specs.Codes.{packet_code};
 
     ghost Value = { Stamped Plain };

@@ -2,7 +2,7 @@
 use Rattle.std.specs.Prelude.{◌⊎◌, List}
 use Rattle.mg_edge.specs.Edge.{SinkTold}
 use Rattle.mg_value.specs.Payload.{Plain}
-use Rattle.mg_value.specs.Prefix.{StreamPrefix}
+use Rattle.mg_settled.specs.Prefix.{StreamPrefix}
 use Rattle.mg_calc.specs.Equations.{Job, IsSolution}
 use Rattle.mg_answer.specs.Text.{output_text_of}
 use Rattle.mg_answer.specs.Devices.{Device, Untouched, TookFront}

@@ -4,10 +4,11 @@ use Rattle.std.specs.Prelude.{◌≡◌, ℕ, ◌+◌, ◌-◌, ◌^◌, ◌<◌
 use Rattle.std.specs.List.{fold}
 use Rattle.mg_time.specs.Time.{done}
 use Rattle.mg_value.specs.Payload.{Plain}
-use Rattle.mg_value.specs.Prefix.{Stamped, StreamPrefix, first_time}
-use Rattle.mg_value.specs.Settled.{settled_sets, reach, port_of, inputs_of}
-use Rattle.mg_value.specs.Left.{without_first, gone_of, AreGone, AreLeft}
-use Rattle.mg_value.specs.Loopback.{replies, StandsBehind, IsPast, last_of, behind_first, AreAnswers}
+use Rattle.mg_value.specs.Packet.{Stamped}
+use Rattle.mg_settled.specs.Prefix.{StreamPrefix, first_time}
+use Rattle.mg_settled.specs.Settled.{settled_sets, reach, port_of, inputs_of}
+use Rattle.mg_settled.specs.Left.{without_first, gone_of, AreGone, AreLeft}
+use Rattle.mg_settled.specs.Loopback.{replies, StandsBehind, IsPast, last_of, behind_first, AreAnswers}
 use Rattle.mg_calc.specs.declared.law.Law.{Law}
 use Rattle.mg_calc.specs.declared.law.Law.TheVariants.{Count, SideOnce, Constants, Loopback}
 use Rattle.mg_calc.specs.declared.plan_node.PlanNode.{PlanNode}

@@ -4,7 +4,8 @@ use Rattle.mg_calc.specs.Outcome.{Outcome as PlainOutcome, Failure as PlainFailu
 use Rattle.mg_calc.specs.Laying.{laid_behind}
 use Rattle.mg_calc.specs.declared.emission.Laid.{Laid}
 use Rattle.mg_value.specs.Payload.{Plain}
-use Rattle.mg_value.specs.Prefix.{Stamped, StreamPrefix, empty_prefix}
+use Rattle.mg_value.specs.Packet.{Stamped}
+use Rattle.mg_settled.specs.Prefix.{StreamPrefix, empty_prefix}
 use Rattle.mg_calc.specs.declared.cause.CalcFault.{CalcFault}
 use Rattle.mg_calc.specs.declared.cause.CalcFault.TheVariants.{Fault, OutOfMemory}
 use Rattle.mg_calc.specs.declared.node_fault.Phase.{Phase}

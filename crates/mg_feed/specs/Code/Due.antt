@@ -1,7 +1,7 @@
 -- Packets of one line, each with the place of its stream.
 use Rattle.std.specs.Prelude.{◌≡◌, ◌≤◌, ◌+◌, ⊤, ℕ, zero, suc, List, [], ◌∷◌, Option, None, Some, vec_len, vec_capacity, unwrap_or, min}
 use Rattle.mg_value.specs.Payload.{Plain}
-use Rattle.mg_value.specs.Prefix.{StreamPrefix, appended}
+use Rattle.mg_settled.specs.Prefix.{StreamPrefix, appended}
 use Rattle.mg_feed.specs.Graph.{GraphInputs, place_of}
 use Rattle.mg_feed.specs.Form.{Named}
 use Rattle.mg_feed.specs.Value.{plain_of}

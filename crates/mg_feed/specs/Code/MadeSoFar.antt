@@ -1,7 +1,7 @@
 -- Packets that were made, some of which were handed on.
 use Rattle.std.specs.Prelude.{◌≡◌, ℕ, List, length}
 use Rattle.mg_value.specs.Payload.{Plain}
-use Rattle.mg_value.specs.Prefix.{Stamped}
+use Rattle.mg_value.specs.Packet.{Stamped}
 use Rattle.mg_feed.specs.View.{View}
 use Rattle.mg_feed.specs.Stands.{behind_all}
 use Rattle.mg_feed.specs.Generated.{generated_streams}

@@ -1,7 +1,7 @@
 -- What a `FeedStream` of the code stands for.
 use Rattle.std.specs.Prelude.{◌||◌, Bool}
 use Rattle.mg_value.specs.Payload.{Plain}
-use Rattle.mg_value.specs.Prefix.{StreamPrefix}
+use Rattle.mg_settled.specs.Prefix.{StreamPrefix}
 use Rattle.mg_feed.specs.Accepted.{has_some}
 use Rattle.mg_feed.specs.declared.standing.Standing.{Standing}
 use Rattle.mg_feed.specs.declared.feed_stream.FeedStream.{FeedStream}

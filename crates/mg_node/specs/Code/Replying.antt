@@ -1,8 +1,8 @@
 -- An answer of a loopback on its way from the intake to the one output.
 use Rattle.std.specs.Prelude.{◌≡◌, ◌+◌, Some, None}
 use Rattle.mg_value.specs.Payload.{Plain}
-use Rattle.mg_value.specs.Prefix.{Stamped}
-use Rattle.mg_value.specs.Loopback.{Reply, packet_of}
+use Rattle.mg_value.specs.Packet.{Stamped}
+use Rattle.mg_settled.specs.Loopback.{Reply, packet_of}
 use Rattle.mg_stream.specs.Queue.{Waiting, MayCome}
 use Rattle.mg_stream.specs.Pool.{backlog_of}
 use Rattle.mg_loopback.specs.Loopback.{Held, next_reply, replied}

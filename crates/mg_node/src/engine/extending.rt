@@ -1,7 +1,7 @@
 //! Extending the engine of a graph input by packets that came later.
 ghost use Rattle.std.specs.Prelude.{◌≡◌, ◌<◌, ℕ, List, OnOk, OnErr, length, slice_index_or};
 ghost use Rattle.mg_value.specs.Payload.{Plain};
-ghost use Rattle.mg_value.specs.Prefix.{StreamPrefix, empty_prefix};
+ghost use Rattle.mg_settled.specs.Prefix.{StreamPrefix, empty_prefix};
 ghost use Rattle.mg_node.specs.Views.{EngineView};
 ghost use Rattle.mg_node.specs.Job.{LoggedJob, Solves};
 ghost use Rattle.mg_node.specs.Lawful.{of_input, LawfulEngine};
@@ -10,8 +10,8 @@ ghost use Rattle.mg_node.specs.Extending.{joined, extended, MayExtend, WasExtend
 use super::Engine;
 use crate::laid::{lengthen, shorten};
 use mg_calc::Calculator;
+use mg_settled::Prefix;
 use mg_time::Timestamp;
-use mg_value::Prefix;
 use std::alloc::AllocError;
 
 impl<C: Calculator> Engine<C> {

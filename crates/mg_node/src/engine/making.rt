@@ -2,7 +2,7 @@
 ghost use Rattle.std.specs.Prelude.{◌≡◌, ◌<◌, ℕ, true, List, IfErr, length, slice_get, Some, slice_index_or, IfOk};
 ghost use Rattle.mg_route.specs.HolderView.{HolderView, holder_view};
 ghost use Rattle.mg_value.specs.Payload.{Plain};
-ghost use Rattle.mg_value.specs.Prefix.{StreamPrefix, IsPrefix, empty_prefix};
+ghost use Rattle.mg_settled.specs.Prefix.{StreamPrefix, IsPrefix, empty_prefix};
 ghost use Rattle.mg_node.specs.Job.{LoggedJob, Solves};
 ghost use Rattle.mg_node.specs.Lawful.{of_input, LawfulEngine};
 ghost use Rattle.mg_node.specs.Outputs.{input_engine};
@@ -18,7 +18,7 @@ use crate::parts::{empty_outputs, first_of, own_contexts, role_of};
 use crate::{Context, Role};
 use mg_calc::{Calculator, Plan, PlanNode};
 use mg_route::Holder;
-use mg_value::{InputSet, Prefix};
+use mg_settled::{InputSet, Prefix};
 use std::alloc::{AllocError, Global};
 use std::collections::VecDeque;
 

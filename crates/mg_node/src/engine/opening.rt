@@ -1,7 +1,7 @@
 //! Beginning an engine: its calculator is opened once, and what it emits is laid.
 ghost use Rattle.std.specs.Prelude.{◌≡◌, ◌<◌, ℕ, List, length, slice_get, Some, OnOk, OnErr, []};
 ghost use Rattle.mg_value.specs.Payload.{Plain};
-ghost use Rattle.mg_value.specs.Prefix.{StreamPrefix};
+ghost use Rattle.mg_settled.specs.Prefix.{StreamPrefix};
 ghost use Rattle.mg_calc.specs.declared.plan_node.PlanNode.{PlanNode};
 ghost use Rattle.mg_route.specs.HolderView.{HolderView};
 ghost use Rattle.mg_calc.specs.Equations.{sides_of};

@@ -1,7 +1,7 @@
 -- The engines of some graph inputs, the last ones, while they are extended one by one.
 use Rattle.std.specs.Prelude.{◌≡◌, ◌⊎◌, ℕ, ◌+◌, ◌<◌, ◌≤◌, List, Some, length, slice_get}
 use Rattle.mg_value.specs.Payload.{Plain}
-use Rattle.mg_value.specs.Prefix.{StreamPrefix}
+use Rattle.mg_settled.specs.Prefix.{StreamPrefix}
 use Rattle.mg_node.specs.Views.{EngineView}
 use Rattle.mg_node.specs.Outputs.{laid_at}
 use Rattle.mg_node.specs.Extending.{extended, MayExtend}

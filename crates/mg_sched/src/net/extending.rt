@@ -12,8 +12,8 @@ use super::Net;
 use crate::agenda::wake_last;
 use mg_calc::{Calculator, Inputs};
 use mg_node::Engine;
+use mg_settled::{Prefix, PrefixList};
 use mg_time::Timestamp;
-use mg_value::{Prefix, PrefixList};
 use std::alloc::{AllocError, Global};
 
 // Returns the bounds of graph inputs, one for each piece. Their engines stand at the places from `from` on.

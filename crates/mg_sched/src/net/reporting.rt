@@ -10,7 +10,8 @@ use super::Net;
 use crate::report::Report;
 use mg_calc::{Calculator, NodeFaultList};
 use mg_node::{Engine, Intake};
-use mg_value::{BlockList, CountList, StreamEnd, StreamEndList};
+use mg_settled::{StreamEnd, StreamEndList};
+use mg_value::{BlockList, CountList};
 use std::alloc::{AllocError, Global};
 
 // How many packets engines keep.

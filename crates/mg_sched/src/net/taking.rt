@@ -2,7 +2,7 @@
 ghost use Rattle.std.specs.Prelude.{◌≡◌, List, length};
 ghost use Rattle.std.specs.Bool.{OnTrue};
 ghost use Rattle.mg_value.specs.Payload.{Plain};
-ghost use Rattle.mg_value.specs.Prefix.{StreamPrefix};
+ghost use Rattle.mg_settled.specs.Prefix.{StreamPrefix};
 ghost use Rattle.mg_node.specs.Job.{LoggedJob, Solves};
 ghost use Rattle.mg_node.specs.Intakes.{HasSet};
 ghost use Rattle.mg_sched.specs.StandsFor.{StandsFor, StandsForSome};
@@ -11,7 +11,7 @@ ghost use Rattle.mg_sched.specs.Taking.{TakesOut, taken_out};
 use super::Net;
 use crate::agenda::touch;
 use mg_calc::Calculator;
-use mg_value::InputSet;
+use mg_settled::InputSet;
 
 impl<C: Calculator> Net<C> {
     /// Takes the next settled set of the graph's outputs, and returns whether there was one: it is then in `into`, which has a place for

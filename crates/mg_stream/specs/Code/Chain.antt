@@ -2,7 +2,7 @@
 use Rattle.std.specs.Prelude.{◌≡◌, ◌≢◌, ℕ, zero, suc, List, [], ◌∷◌, length, map, Option, None, option_map, unwrap_or, slice_index_or, ◌⊎◌}
 use Rattle.mg_time.specs.Time.{pre_stream}
 use Rattle.mg_value.specs.Payload.{Plain}
-use Rattle.mg_value.specs.Prefix.{Stamped}
+use Rattle.mg_value.specs.Packet.{Stamped}
 use Rattle.mg_stream.specs.Queue.{IsQueue}
 use Rattle.mg_stream.specs.Pool.{Backlog, queue_of}
 use Rattle.mg_stream.specs.declared.chain.Entry.{Entry}

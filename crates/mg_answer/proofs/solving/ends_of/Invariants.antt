@@ -1,5 +1,5 @@
 use Rattle.std.proofs.Common.{◌≡◌, map, take}
-use Rattle.mg_value.specs.Ends.{end_of}
+use Rattle.mg_settled.specs.Ends.{end_of}
 use Rattle.mg_answer.proofs.solving.ends_of.Given as goal
 
 abbrev pub invariant-loop-stream : goal.invariant-loop-stream

@@ -1,5 +1,5 @@
 use Rattle.std.proofs.lemmas.List.Elements.{recursion_from_All}
-use Rattle.mg_value.specs.Prefix.{IsPrefix}
+use Rattle.mg_settled.specs.Prefix.{IsPrefix}
 use Rattle.mg_calc.proofs.Rounds.{equations_follow}
 use Rattle.mg_calc.proofs.Jobs.{any_state, job_known}
 use Rattle.mg_calc.proofs.laws.equations_are_monotone.Goals as goal

@@ -1,5 +1,5 @@
 use Rattle.std.proofs.lemmas.List.Elements.{recursion_from_All}
-use Rattle.mg_value.specs.Prefix.{IsPrefix}
+use Rattle.mg_settled.specs.Prefix.{IsPrefix}
 use Rattle.mg_calc.proofs.Counting.{shown_ascend, shown_below, shown_as_counted, log_long}
 use Rattle.mg_calc.proofs.laws.shown_sets_are_settled.Goals as goal
 

@@ -1,5 +1,5 @@
 use Rattle.std.proofs.lemmas.List.Elements.{All-from_recursion}
-use Rattle.mg_value.specs.Prefix.{IsPrefix}
+use Rattle.mg_settled.specs.Prefix.{IsPrefix}
 use Rattle.mg_calc.specs.Equations.{round}
 use Rattle.mg_calc.proofs.Solutions.{round_keeps, rounds_ascend, solution_keeps, solution_has_each}
 use Rattle.mg_calc.proofs.Jobs.{any_state, job_known}

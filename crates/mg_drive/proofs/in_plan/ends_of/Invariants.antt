@@ -1,9 +1,9 @@
 -- Those so far.
 use Rattle.std.proofs.Common.{◌≡◌, List, map, take}
 use Rattle.mg_value.specs.Payload.{Plain}
-use Rattle.mg_value.specs.Prefix.{StreamPrefix}
+use Rattle.mg_settled.specs.Prefix.{StreamPrefix}
 use Rattle.mg_calc.specs.Equations.{stream_of}
-use Rattle.mg_value.specs.Ends.{end_of}
+use Rattle.mg_settled.specs.Ends.{end_of}
 use Rattle.mg_drive.proofs.in_plan.ends_of.Given as goal
 
 abbrev pub invariant-loop-stream : goal.invariant-loop-stream

@@ -1,5 +1,5 @@
 use Rattle.std.proofs.Common.{arith}
-use Rattle.mg_value.specs.Prefix.{closed}
+use Rattle.mg_settled.specs.Prefix.{closed}
 use Rattle.mg_route.proofs.LayingLemmas.{mapped_further}
 use Rattle.mg_equations.proofs.laying.close_all.Goals as goal
 

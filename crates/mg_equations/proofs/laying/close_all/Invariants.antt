@@ -1,6 +1,6 @@
 -- Those before the index are closed.
 use Rattle.std.proofs.Common.{◌≡◌, ◌++◌, map, take, drop}
-use Rattle.mg_value.specs.Prefix.{closed}
+use Rattle.mg_settled.specs.Prefix.{closed}
 use Rattle.mg_equations.proofs.laying.close_all.Given as goal
 
 abbrev pub invariant-loop-output : goal.invariant-loop-output

@@ -1,6 +1,6 @@
 -- Those before the index are raised.
 use Rattle.std.proofs.Common.{◌≡◌, ◌++◌, map, take, drop}
-use Rattle.mg_value.specs.Prefix.{raised}
+use Rattle.mg_settled.specs.Prefix.{raised}
 use Rattle.mg_equations.proofs.laying.raise_all.Given as goal
 
 abbrev pub invariant-loop-output : goal.invariant-loop-output

@@ -2,8 +2,8 @@ use Rattle.std.proofs.Common.{◌≡◌, ◌∙◌, set, sym, ap, ap₂, subst}
 use Rattle.std.proofs.lemmas.List.{get_or_default}
 use Rattle.std.proofs.lemmas.Result.{IfOk-weaker, on_ok_weaker}
 use Rattle.mg_value.specs.Payload.{Plain}
-use Rattle.mg_value.specs.Prefix.{StreamPrefix, empty_prefix}
-use Rattle.mg_value.specs.Extension.{IsExtendedBy}
+use Rattle.mg_settled.specs.Prefix.{StreamPrefix, empty_prefix}
+use Rattle.mg_settled.specs.Extension.{IsExtendedBy}
 use Rattle.mg_calc.specs.Equations.{stream_of}
 use Rattle.mg_equations.specs.Code.Changes.{is_changed}
 use Rattle.mg_equations.specs.Code.Growing.{given_streams}

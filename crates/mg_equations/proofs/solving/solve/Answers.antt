@@ -1,7 +1,7 @@
 use Rattle.std.proofs.Common.{ℕ, List, replicate, subst, ap, ◌∙◌}
 use Rattle.std.specs.List.{range_with_len}
 use Rattle.mg_value.specs.Payload.{Plain}
-use Rattle.mg_value.specs.Prefix.{StreamPrefix, empty_prefix}
+use Rattle.mg_settled.specs.Prefix.{StreamPrefix, empty_prefix}
 use Rattle.mg_equations.specs.Code.Progress.{HaveCome}
 use Rattle.mg_equations.proofs.SolveSteps.{first_way, may_grow, going_is, going_stays, going_changes, going_solution, going_counts, going_faults, going_prefixes, going_many, going_known, going_can, going_less, going_way}
 use Rattle.mg_equations.proofs.solving.solve.Goals as goal

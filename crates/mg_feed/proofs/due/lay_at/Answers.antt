@@ -1,5 +1,5 @@
 use Rattle.std.proofs.Common.{◌+◌, ℕ, Option, map, sym, subst, arith, ◌∙◌, ap}
-use Rattle.mg_value.specs.Prefix.{appended}
+use Rattle.mg_settled.specs.Prefix.{appended}
 use Rattle.mg_feed.specs.Accepted.{stepped_at}
 use Rattle.mg_feed.specs.Code.Streams.{waiting, was_taken}
 use Rattle.mg_feed.specs.Code.Due.{HasRoom}

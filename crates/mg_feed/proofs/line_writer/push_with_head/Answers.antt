@@ -1,7 +1,7 @@
 use Rattle.std.proofs.Common.{◌∙◌, ap, ◌++◌}
 use Rattle.serde_json.specs.Written.{compact_text}
 use Rattle.mg_value.specs.Payload.{plain}
-use Rattle.mg_value.specs.Json.{json_of}
+use Rattle.mg_json.specs.Json.{json_of}
 use Rattle.mg_feed.specs.Code.LineHead.{line_tail}
 use Rattle.std.proofs.lemmas.Result.{err_from_is_err_and}
 use Rattle.mg_feed.proofs.Text.{pieces_are_line}

@@ -3,7 +3,7 @@ use Rattle.std.proofs.lemmas.List.{drop_more, drop_all}
 use Rattle.std.proofs.lemmas.Result.{err_from_is_err_and}
 use Rattle.mg_value.specs.Plain.{depth}
 use Rattle.mg_value.specs.Payload.{plain}
-use Rattle.mg_value.proofs.JsonWriting.{item_within}
+use Rattle.mg_json.proofs.JsonWriting.{item_within}
 use Rattle.mg_feed.proofs.ItemTexts.{left_text, item_put}
 use Rattle.mg_feed.proofs.WholeOrNone.{with_nothing, with_more, with_same, with_then}
 use Rattle.mg_feed.proofs.payload_text.+payload_text.Goals as goal

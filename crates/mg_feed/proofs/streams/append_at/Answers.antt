@@ -1,6 +1,6 @@
 use Rattle.std.proofs.Common.{arith}
 use Rattle.std.proofs.lemmas.Result.{err_from_is_err_and}
-use Rattle.mg_value.specs.Prefix.{appended}
+use Rattle.mg_settled.specs.Prefix.{appended}
 use Rattle.mg_feed.specs.Code.Streams.{waiting, was_taken}
 use Rattle.mg_feed.proofs.Steps.{map-stepped, map-same, stepped-past}
 use Rattle.mg_feed.proofs.streams.append_at.Goals as goal

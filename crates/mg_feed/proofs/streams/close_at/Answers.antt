@@ -1,5 +1,5 @@
 use Rattle.std.proofs.Common.{refl, arith}
-use Rattle.mg_value.specs.Prefix.{closed}
+use Rattle.mg_settled.specs.Prefix.{closed}
 use Rattle.mg_feed.specs.Code.Streams.{waiting, was_taken}
 use Rattle.mg_feed.proofs.Steps.{map-stepped, map-same, stepped-past}
 use Rattle.mg_feed.proofs.streams.close_at.Goals as goal

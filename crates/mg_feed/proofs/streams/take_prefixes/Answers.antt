@@ -2,7 +2,7 @@ use Rattle.std.proofs.Common.{◌++◌, ◌∷◌, [], List, map, take, sym, ap,
 use Rattle.std.proofs.Math.ListN.{length-set}
 use Rattle.mg_feed.specs.declared.feed_stream.FeedStream.{FeedStream}
 use Rattle.mg_value.specs.Payload.{Plain}
-use Rattle.mg_value.specs.Prefix.{StreamPrefix}
+use Rattle.mg_settled.specs.Prefix.{StreamPrefix}
 use Rattle.mg_feed.specs.Given.{ended_stream}
 use Rattle.mg_feed.proofs.Emptying.{both, emptied, in-place, in-place-at, taken-whole, taken-prefixes, all-waiting, all-flags, pair_of}
 use Rattle.mg_feed.proofs.streams.take_prefixes.Goals as goal

@@ -1,5 +1,5 @@
 use Rattle.std.proofs.Common.{◌≡◌, map, replicate, false, vec_len}
-use Rattle.mg_value.specs.Prefix.{empty_prefix}
+use Rattle.mg_settled.specs.Prefix.{empty_prefix}
 use Rattle.mg_feed.specs.Code.Streams.{waiting, was_taken}
 use Rattle.mg_feed.proofs.taking.open_streams.Given as goal
 

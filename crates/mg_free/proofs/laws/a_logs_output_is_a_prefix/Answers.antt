@@ -1,5 +1,5 @@
 use Rattle.std.proofs.lemmas.List.Elements.{recursion_from_All}
-use Rattle.mg_value.specs.Prefix.{IsPrefix}
+use Rattle.mg_settled.specs.Prefix.{IsPrefix}
 use Rattle.mg_free.proofs.Logging.{lawful_may, log_prefix, log_extends, ended_prefix}
 use Rattle.mg_free.proofs.laws.a_logs_output_is_a_prefix.Goals as goal
 

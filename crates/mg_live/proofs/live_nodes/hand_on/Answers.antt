@@ -1,6 +1,6 @@
 use Rattle.std.proofs.Common.{◌++◌, List, length-set, refl, ap, ◌∙◌, arith}
 use Rattle.mg_value.specs.Payload.{Plain}
-use Rattle.mg_value.specs.Prefix.{StreamPrefix}
+use Rattle.mg_settled.specs.Prefix.{StreamPrefix}
 use Rattle.mg_live.specs.Takes.{handed_of, outputs_so_far, pieces_behind}
 use Rattle.mg_live.proofs.InTurn.{found_or, rest_then}
 use Rattle.mg_live.proofs.HandedOn.{none_handed, one_handed, all_handed}

@@ -1,7 +1,7 @@
 -- The nodes before this one have had their turns.
 use Rattle.std.proofs.Common.{◌≡◌, ℕ, ◌≤◌, List, length, slice_get}
 use Rattle.mg_value.specs.Payload.{Plain}
-use Rattle.mg_value.specs.Prefix.{StreamPrefix}
+use Rattle.mg_settled.specs.Prefix.{StreamPrefix}
 use Rattle.mg_free.specs.Rounds.{Taken}
 use Rattle.mg_live.specs.Takes.{HaveTaken, handed_of}
 use Rattle.mg_live.proofs.InTurn.{HadTurns, DidSome}

@@ -3,7 +3,7 @@ use Rattle.std.proofs.Common.{◌≡◌, List, drop, ◌==◌}
 use Rattle.std.specs.List.{list_all}
 use Rattle.mg_time.specs.Time.{done}
 use Rattle.mg_value.specs.Payload.{Plain}
-use Rattle.mg_value.specs.Prefix.{StreamPrefix}
+use Rattle.mg_settled.specs.Prefix.{StreamPrefix}
 use Rattle.mg_free.specs.Logs.{ending, has_ended}
 use Rattle.mg_free.specs.Rounds.{free_inputs}
 use Rattle.mg_live.proofs.taker.has_ended.Given as goal

@@ -1,5 +1,5 @@
 use Rattle.std.proofs.Common.{◌≡◌, Some, length}
-use Rattle.mg_value.specs.Settled.{packet_at}
+use Rattle.mg_settled.specs.Settled.{packet_at}
 use Rattle.mg_loopback.specs.Loopback.{without}
 use Rattle.mg_loopback.proofs.turn.take_up_to.Given as goal
 

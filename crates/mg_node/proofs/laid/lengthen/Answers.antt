@@ -1,6 +1,6 @@
 use Rattle.std.proofs.Common.{ap, ◌∙◌}
 use Rattle.mg_value.specs.Payload.{Plain}
-use Rattle.mg_value.specs.Prefix.{StreamPrefix}
+use Rattle.mg_settled.specs.Prefix.{StreamPrefix}
 use Rattle.mg_node.proofs.Extending.{lengthened_from, left_queue, left_same}
 use Rattle.mg_node.proofs.laid.lengthen.Goals as goal
 

@@ -1,6 +1,6 @@
 use Rattle.std.proofs.Common.{◌≡◌, List, [], ◌∷◌, Ok, ap, sym, subst, ◌∙◌, length, arith}
 use Rattle.mg_value.specs.Payload.{Plain}
-use Rattle.mg_value.specs.Prefix.{Stamped}
+use Rattle.mg_value.specs.Packet.{Stamped}
 use Rattle.mg_calc.specs.declared.emission.Laid.{Laid}
 use Rattle.mg_node.specs.Code.QueueLaying.{HasRoomFor, IsLaid, part_of}
 use Rattle.mg_node.proofs.laying.lay_one.Goals as goal

@@ -1,7 +1,7 @@
 -- With the parts that are left it comes to the same.
 use Rattle.std.proofs.Common.{◌≡◌, List, vec_len}
 use Rattle.mg_value.specs.Payload.{Plain}
-use Rattle.mg_value.specs.Prefix.{StreamPrefix}
+use Rattle.mg_settled.specs.Prefix.{StreamPrefix}
 use Rattle.mg_route.specs.Reasons.{laid_each, all_laid_on}
 use Rattle.mg_node.specs.Code.QueueLaying.{Stand, with_part, MayBeLaid}
 use Rattle.mg_node.proofs.LayingBehind.{ComesTo}

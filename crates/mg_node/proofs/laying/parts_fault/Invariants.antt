@@ -1,7 +1,7 @@
 -- What is left decides.
 use Rattle.std.proofs.Common.{◌≡◌, List, drop}
 use Rattle.mg_value.specs.Payload.{Plain}
-use Rattle.mg_value.specs.Prefix.{StreamPrefix}
+use Rattle.mg_settled.specs.Prefix.{StreamPrefix}
 use Rattle.mg_calc.specs.Laying.{laid_behind}
 use Rattle.mg_route.specs.Reasons.{reason_of}
 use Rattle.mg_node.specs.Code.QueueLaying.{Stand}

@@ -1,6 +1,6 @@
 use Rattle.std.proofs.Common.{◌∙◌, ap₂, min}
-use Rattle.mg_value.specs.Settled.{low}
-use Rattle.mg_value.specs.FirstSet.{earliest}
+use Rattle.mg_settled.specs.Settled.{low}
+use Rattle.mg_settled.specs.FirstSet.{earliest}
 use Rattle.mg_stream.specs.Pool.{queues_of}
 use Rattle.mg_policy.specs.Inbox.{rests}
 use Rattle.mg_policy.proofs.Horizons.{horizon-least}

@@ -1,8 +1,8 @@
 use Rattle.std.proofs.Common.{◌∙◌, subst, ap, sym, eqb-true, eq-eqb}
 use Rattle.mg_time.specs.Time.{done}
 use Rattle.mg_value.specs.Payload.{Plain}
-use Rattle.mg_value.specs.Prefix.{StreamPrefix, IsPrefix}
-use Rattle.mg_value.specs.Settled.{select_of}
+use Rattle.mg_settled.specs.Prefix.{StreamPrefix, IsPrefix}
+use Rattle.mg_settled.specs.Settled.{select_of}
 use Rattle.mg_stream.specs.Pool.{queues_of, queue_at}
 use Rattle.mg_policy.specs.Inbox.{rests}
 use Rattle.mg_policy.proofs.PoolRests.{select-at, reach-none, reach-unsettled}

@@ -1,6 +1,6 @@
 use Rattle.std.proofs.Common.{◌≡◌}
 use Rattle.mg_value.specs.declared.policy.Policy.TheVariants.{Mux}
-use Rattle.mg_value.specs.Settled.{reach}
+use Rattle.mg_settled.specs.Settled.{reach}
 use Rattle.mg_stream.specs.Pool.{queues_of}
 use Rattle.mg_policy.specs.Inbox.{rests}
 use Rattle.mg_policy.proofs.PoolRests.{reach_from}

@@ -2,10 +2,10 @@ use Rattle.std.proofs.Common.{◌≡◌, ◌<◌, ◌≤◌, ◌∙◌, List, mi
 use Rattle.std.proofs.lemmas.List.{get_or_default, take_all}
 use Rattle.mg_time.specs.Time.{done}
 use Rattle.mg_value.specs.Payload.{Plain}
-use Rattle.mg_value.specs.Prefix.{StreamPrefix, closed, empty_prefix, first_time}
-use Rattle.mg_value.specs.Settled.{low, port_of}
-use Rattle.mg_value.specs.FirstSet.{earliest}
-use Rattle.mg_value.proofs.Looking.{low-more, earliest-more}
+use Rattle.mg_settled.specs.Prefix.{StreamPrefix, closed, empty_prefix, first_time}
+use Rattle.mg_settled.specs.Settled.{low, port_of}
+use Rattle.mg_settled.specs.FirstSet.{earliest}
+use Rattle.mg_settled.proofs.Looking.{low-more, earliest-more}
 use Rattle.mg_stream.specs.Pool.{queues_of, queue_at}
 use Rattle.mg_policy.specs.Inbox.{rests}
 use Rattle.mg_policy.proofs.PoolRests.{rests-long, rest-at, rests-prefixes, first_time-is}

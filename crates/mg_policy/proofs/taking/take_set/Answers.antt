@@ -1,10 +1,11 @@
 use Rattle.std.proofs.Common.{◌≡◌, ℕ, ◌<◌, ◌∙◌, Bool, List, Option, None, cond, length, length-set, get_or, ap, ap₂, sym, arith}
 use Rattle.std.proofs.lemmas.List.{get_or_default}
 use Rattle.mg_value.specs.Payload.{Plain}
-use Rattle.mg_value.specs.Prefix.{Stamped, StreamPrefix}
-use Rattle.mg_value.specs.Settled.{packet_at, port_of, shows}
-use Rattle.mg_value.specs.FirstSet.{is_shown}
-use Rattle.mg_value.proofs.SetSteps.{shown-set, shown-is, place-more, mapped-more, mapped-later}
+use Rattle.mg_value.specs.Packet.{Stamped}
+use Rattle.mg_settled.specs.Prefix.{StreamPrefix}
+use Rattle.mg_settled.specs.Settled.{packet_at, port_of, shows}
+use Rattle.mg_settled.specs.FirstSet.{is_shown}
+use Rattle.mg_settled.proofs.SetSteps.{shown-set, shown-is, place-more, mapped-more, mapped-later}
 use Rattle.mg_stream.specs.Pool.{Backlog, Pooled, empty_backlog, queues_of}
 use Rattle.mg_policy.specs.Inbox.{rests}
 use Rattle.mg_policy.proofs.Answered.{told_time}

@@ -1,5 +1,5 @@
 use Rattle.std.proofs.Common.{◌≡◌, ℕ, ◌+◌, ◌<◌, ◌++◌, map, take, drop, length, get_or, cond, None}
-use Rattle.mg_value.specs.Settled.{packet_at, port_of, shows}
+use Rattle.mg_settled.specs.Settled.{packet_at, port_of, shows}
 use Rattle.mg_stream.specs.Pool.{queues_of, queue_of, backlog_of, pool_len}
 use Rattle.mg_policy.specs.Inbox.{rests}
 use Rattle.mg_policy.specs.Code.Taking.{dropped_through}

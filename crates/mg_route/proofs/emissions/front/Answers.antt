@@ -1,6 +1,6 @@
 use Rattle.std.proofs.Common.{Option, ℕ, [], ◌∷◌, take, ap, ◌∙◌, sym}
 use Rattle.mg_value.specs.Plain.{Plain}
-use Rattle.mg_value.specs.Prefix.{Stamped}
+use Rattle.mg_value.specs.Packet.{Stamped}
 use Rattle.mg_calc.specs.Answer.{emission_of}
 use Rattle.mg_route.proofs.Passing.{first_one}
 use Rattle.mg_route.proofs.emissions.front.Goals as goal

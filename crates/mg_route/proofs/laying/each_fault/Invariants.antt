@@ -1,7 +1,7 @@
 -- What is left decides.
 use Rattle.std.proofs.Common.{◌≡◌, nat_lt, length, drop}
 use Rattle.mg_value.specs.Payload.{Plain}
-use Rattle.mg_value.specs.Prefix.{StreamPrefix}
+use Rattle.mg_settled.specs.Prefix.{StreamPrefix}
 use Rattle.mg_route.proofs.LayingLemmas.{ArePassed}
 use Rattle.mg_route.proofs.laying.each_fault.Given as goal
 

@@ -1,6 +1,6 @@
 use Rattle.std.proofs.Common.{List, ap, ◌∙◌}
 use Rattle.mg_value.specs.Payload.{Plain}
-use Rattle.mg_value.specs.Prefix.{Stamped}
+use Rattle.mg_value.specs.Packet.{Stamped}
 use Rattle.mg_calc.specs.Laying.{with_packets}
 use Rattle.mg_route.specs.Reasons.{reason_of}
 use Rattle.mg_route.proofs.LayingLemmas.{packet_reason}

@@ -1,7 +1,7 @@
 -- The first nodes have what was handed in.
 use Rattle.std.proofs.Common.{◌≡◌, List, length, map, option_map}
 use Rattle.mg_value.specs.Payload.{Plain}
-use Rattle.mg_value.specs.Prefix.{StreamPrefix}
+use Rattle.mg_settled.specs.Prefix.{StreamPrefix}
 use Rattle.mg_node.specs.Fresh.{own_told}
 use Rattle.mg_sched.specs.Code.Made.{AtPlaces, IsEngineAt, IsLeftOver, holder_before}
 use Rattle.mg_sched.proofs.boxes.hand_out.Given as goal

@@ -1,5 +1,5 @@
 use Rattle.std.proofs.Common.{rules, ◌≡◌, length, All}
-use Rattle.mg_value.specs.Prefix.{IsPrefix}
+use Rattle.mg_settled.specs.Prefix.{IsPrefix}
 use Rattle.mg_test_nets.proofs.pieces.longer.Goals as goal
 
 pub returns : goal.returns

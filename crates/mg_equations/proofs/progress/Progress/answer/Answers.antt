@@ -1,6 +1,6 @@
 use Rattle.std.proofs.Common.{subst, sym}
-use Rattle.mg_value.specs.Prefix.{IsPrefix}
-use Rattle.mg_value.proofs.Lemmas.{drop_is_prefix}
+use Rattle.mg_settled.specs.Prefix.{IsPrefix}
+use Rattle.mg_settled.proofs.Lemmas.{drop_is_prefix}
 use Rattle.mg_equations.proofs.progress.Progress.answer.Goals as goal
 
 pub take_answers-requires-clause-main : goal.take_answers-requires-clause-main

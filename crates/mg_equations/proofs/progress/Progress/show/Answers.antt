@@ -1,9 +1,9 @@
 use Rattle.std.proofs.Common.{◌≡◌, ◌∙◌, List, All, length, subst, sym, ap, arith}
 use Rattle.std.proofs.lemmas.List.{with_items_is}
 use Rattle.mg_value.specs.Payload.{Plain}
-use Rattle.mg_value.specs.Prefix.{StreamPrefix, IsPrefix}
-use Rattle.mg_value.specs.Settled.{inputs_of}
-use Rattle.mg_value.proofs.Lemmas.{all_inputs, all_without_first}
+use Rattle.mg_settled.specs.Prefix.{StreamPrefix, IsPrefix}
+use Rattle.mg_settled.specs.Settled.{inputs_of}
+use Rattle.mg_settled.proofs.Lemmas.{all_inputs, all_without_first}
 use Rattle.mg_equations.proofs.PortSteps.{inputs_long, without_long, left_long}
 use Rattle.mg_equations.proofs.progress.Progress.show.Goals as goal
 

@@ -1,6 +1,6 @@
 use Rattle.std.proofs.Common.{◌≡◌, ◌<◌, List, length}
 use Rattle.mg_value.specs.Payload.{Plain}
-use Rattle.mg_value.specs.Prefix.{Stamped}
+use Rattle.mg_value.specs.Packet.{Stamped}
 use Rattle.mg_feed.specs.Seen.{input_buffer}
 use Rattle.mg_feed.specs.Code.MadeSoFar.{AreMade}
 use Rattle.mg_feed.proofs.input_buffer.InputBuffer.make_packets.Given as goal

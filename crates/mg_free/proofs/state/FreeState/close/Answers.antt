@@ -1,4 +1,4 @@
-use Rattle.mg_value.proofs.Lemmas.{closed_is_prefix}
+use Rattle.mg_settled.proofs.Lemmas.{closed_is_prefix}
 use Rattle.mg_free.proofs.state.FreeState.close.Goals as goal
 
 pub invariant_of-self : goal.invariant_of-self

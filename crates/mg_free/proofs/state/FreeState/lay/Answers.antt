@@ -1,6 +1,6 @@
 use Rattle.std.proofs.Common.{subst, sym}
-use Rattle.mg_value.specs.Prefix.{MayFollow}
-use Rattle.mg_value.proofs.Lemmas.{appended_is_prefix}
+use Rattle.mg_settled.specs.Prefix.{MayFollow}
+use Rattle.mg_settled.proofs.Lemmas.{appended_is_prefix}
 use Rattle.mg_free.specs.Free.{FreeStanding}
 use Rattle.mg_free.proofs.state.FreeState.lay.Goals as goal
 

@@ -1,6 +1,6 @@
 use Rattle.std.proofs.Common.{◌≤◌}
 use Rattle.mg_time.specs.Time.{done}
-use Rattle.mg_value.proofs.Lemmas.{raised_is_prefix}
+use Rattle.mg_settled.proofs.Lemmas.{raised_is_prefix}
 use Rattle.mg_free.proofs.Arriving.{next_done}
 use Rattle.mg_free.proofs.state.FreeState.pass.Goals as goal
 

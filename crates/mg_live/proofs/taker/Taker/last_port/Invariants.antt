@@ -1,7 +1,7 @@
 -- No packet waits at the ports from this one on.
 use Rattle.std.proofs.Common.{◌≡◌, ◌≤◌, List, length}
 use Rattle.mg_value.specs.Payload.{Plain}
-use Rattle.mg_value.specs.Prefix.{StreamPrefix}
+use Rattle.mg_settled.specs.Prefix.{StreamPrefix}
 use Rattle.mg_free.specs.Rounds.{Taken, free_inputs, next_arrivals, last_of}
 use Rattle.mg_live.specs.Takes.{HasTaken}
 use Rattle.mg_live.proofs.LastWaits.{waits_below}

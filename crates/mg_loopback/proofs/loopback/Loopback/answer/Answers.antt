@@ -1,6 +1,6 @@
 use Rattle.std.proofs.Common.{◌≡◌, ◌∙◌, ℕ, ◌↔◌, Option, Some, None, ap, subst, sym, true, false}
 use Rattle.mg_value.specs.Payload.{Plain}
-use Rattle.mg_value.specs.Loopback.{Reply}
+use Rattle.mg_settled.specs.Loopback.{Reply}
 use Rattle.mg_loopback.specs.Loopback.{Held, is_settled, next_reply, told}
 use Rattle.mg_loopback.specs.declared.answered.Answered.TheVariants.{Silent}
 use Rattle.mg_loopback.specs.Standing.{StandsAfter}

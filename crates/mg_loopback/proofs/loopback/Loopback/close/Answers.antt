@@ -1,7 +1,7 @@
 use Rattle.std.proofs.Common.{ap, eq-eqb, ne_eqb}
 use Rattle.mg_value.specs.Payload.{Plain}
-use Rattle.mg_value.specs.Prefix.{closed}
-use Rattle.mg_value.proofs.Extending.{closed_extends}
+use Rattle.mg_settled.specs.Prefix.{closed}
+use Rattle.mg_settled.proofs.Extending.{closed_extends}
 use Rattle.mg_stream.specs.Queue.{Waiting}
 use Rattle.mg_loopback.specs.Standing.{StandsAfter}
 use Rattle.mg_loopback.specs.contracts.loopback.Loopback.{the_view}

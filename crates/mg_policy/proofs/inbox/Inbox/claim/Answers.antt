@@ -1,7 +1,7 @@
 use Rattle.std.proofs.Common.{◌≡◌, ◌↔◌, ◌∙◌, ℕ, List, Option, None, drop, length, IsTrue, IsSome, IfSome, false, sym, subst, refl}
 use Rattle.mg_value.specs.Payload.{Plain}
-use Rattle.mg_value.specs.Prefix.{StreamPrefix}
-use Rattle.mg_value.specs.Settled.{TimedSet, settled_sets}
+use Rattle.mg_settled.specs.Prefix.{StreamPrefix}
+use Rattle.mg_settled.specs.Settled.{TimedSet, settled_sets}
 use Rattle.mg_stream.specs.Pool.{queues_of}
 use Rattle.mg_policy.specs.Inbox.{Gathered, rests, next_set, Tells, StandAfter}
 use Rattle.mg_policy.specs.declared.readiness.Readiness.TheVariants.{Ready}

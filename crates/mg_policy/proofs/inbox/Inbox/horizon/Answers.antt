@@ -1,7 +1,7 @@
 use Rattle.std.proofs.Common.{◌≡◌, ◌∙◌, ℕ, Option, option_map, unwrap_or, ap, sym, subst}
-use Rattle.mg_value.specs.Settled.{low, reach}
 use Rattle.mg_value.specs.declared.policy.Policy.TheVariants.{Default}
-use Rattle.mg_value.proofs.FirstSets.{first-time}
+use Rattle.mg_settled.specs.Settled.{low, reach}
+use Rattle.mg_settled.proofs.FirstSets.{first-time}
 use Rattle.mg_stream.specs.Pool.{queues_of}
 use Rattle.mg_policy.specs.Inbox.{Gathered, rests, next_set}
 use Rattle.mg_policy.proofs.inbox.Inbox.horizon.Goals as goal

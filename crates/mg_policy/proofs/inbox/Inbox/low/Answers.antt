@@ -1,5 +1,5 @@
 use Rattle.std.proofs.Common.{◌∙◌, ap}
-use Rattle.mg_value.specs.Settled.{reach}
+use Rattle.mg_settled.specs.Settled.{reach}
 use Rattle.mg_stream.specs.Pool.{queues_of}
 use Rattle.mg_policy.specs.Inbox.{Gathered, rests}
 use Rattle.mg_policy.proofs.Standing.{what_is_the_reach}

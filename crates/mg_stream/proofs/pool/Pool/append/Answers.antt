@@ -1,6 +1,6 @@
 use Rattle.std.proofs.Common.{◌≡◌, ◌<◌, List, [], ◌∷◌, ◌++◌, ap, subst, refl, length, slice_index_or, arith}
 use Rattle.mg_value.specs.Payload.{Plain}
-use Rattle.mg_value.specs.Prefix.{Stamped}
+use Rattle.mg_value.specs.Packet.{Stamped}
 use Rattle.mg_stream.specs.Queue.{MayCome}
 use Rattle.mg_stream.specs.Pool.{Backlog, empty_backlog, queue_at}
 use Rattle.mg_stream.proofs.QueueSteps.{stands_appended_fields}

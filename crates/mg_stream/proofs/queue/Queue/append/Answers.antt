@@ -2,7 +2,7 @@ use Rattle.std.proofs.Common.{◌≡◌, [], ◌∷◌, ◌++◌, refl, ap, ◌�
 use Rattle.std.specs.VecDeque.{deque_items}
 use Rattle.mg_time.specs.Time.{next}
 use Rattle.mg_value.specs.Payload.{Plain}
-use Rattle.mg_value.specs.Prefix.{Stamped}
+use Rattle.mg_value.specs.Packet.{Stamped}
 use Rattle.mg_stream.specs.Queue.{Waiting, MayCome}
 use Rattle.mg_stream.specs.QueueView.{queue_view}
 use Rattle.mg_stream.proofs.QueueSteps.{pushed_items, appended_fields, stands_appended_fields}

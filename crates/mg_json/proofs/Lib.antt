@@ -1,0 +1,4 @@
+pub mod JsonFaults
+pub mod JsonLists
+pub mod JsonWriting
+pub mod RoundTrip

@@ -1,0 +1,18 @@
+-- What a prefix of a stream may become, after the page Synchronization of the MediaPipe framework: further packets
+-- come at its bound or above, and its bound only moves up.
+use Rattle.std.specs.Prelude.{◌≡◌, ◌≤◌, List, ◌++◌, All}
+use Rattle.std.specs.List.{AllZip}
+use Rattle.mg_value.specs.Packet.{Stamped}
+use Rattle.mg_settled.specs.Prefix.{StreamPrefix}
+
+-- a prefix is extended by another: its packets come first there, its bound is at most the other's, and each further
+-- packet stands at its bound or above
+pub record IsExtendedBy {X : Type 0} (s t : StreamPrefix X) : Type 0 where
+  pub further : List (Stamped X)
+  pub packets : t.packets ≡ s.packets ++ further
+  pub bound : s.bound ≤ t.bound
+  pub above : All (λ p. s.bound ≤ p.at) further
+
+-- each prefix of a list is extended by the one at its place in the other list
+abbrev pub AreExtendedBy : {X : Type 0} → List (StreamPrefix X) → List (StreamPrefix X) → Type 0
+AreExtendedBy ss ts = AllZip IsExtendedBy ss ts

@@ -1,5 +1,0 @@
-use Rattle.mg_value.proofs.GonePackets.{selects-gone}
-use Rattle.mg_value.proofs.laws.a_set_takes_a_packet_of_select.Goals as goal
-
-pub returns : goal.returns
-returns c = λ k ss gone h are. selects-gone k ss gone h are

@@ -1,5 +1,0 @@
-use Rattle.mg_value.proofs.LoopbackStream.{loopback_extends}
-use Rattle.mg_value.proofs.laws.loopback_follows_its_inputs.Goals as goal
-
-pub returns : goal.returns
-returns c = λ main wider loop more h e f. loopback_extends main wider loop more h e f

@@ -1,5 +1,0 @@
-use Rattle.mg_value.proofs.LoopbackStream.{loopback_is_prefix}
-use Rattle.mg_value.proofs.laws.loopback_is_a_prefix.Goals as goal
-
-pub returns : goal.returns
-returns c = λ main loop h. loopback_is_prefix main loop h
