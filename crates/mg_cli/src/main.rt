@@ -4,7 +4,7 @@
 
 use mg_batch::{BatchBox, begin_loop_box, end_loop_box};
 use mg_calc::Calculator;
-use mg_edge::{FolderStore, ReaderSource, StillGate, WriterSink};
+use mg_edge::{FolderStore, ReaderSource, Sink, Source, StillGate, Store, WriterSink};
 use mg_run::{Status, note_out_of_memory, run_words, tally_box};
 use mg_value::MgText;
 use std::alloc::{AllocError, Global};
@@ -34,13 +34,25 @@ fn main(rt: HostRuntime) -> ExitCode {
     ExitCode::from(status.number())
 }
 
-// Makes the call, and returns its status. Its threads come from the runtime that `main` alone has whole.
+// Makes the call over the files below the current folder and the standard streams, and returns its status. Its threads come from the runtime
+// that `main` alone has whole.
 fn status_of<R: Threads + Wait + Sync>(
     threads: &R,
     rt: &HostRuntime,
 ) -> Result<Status, AllocError> {
     let words = words(rt)?;
-    call(threads, rt, words.as_slice())
+    let Ok(files) = rt.clone() else {
+        return Err(AllocError);
+    };
+    call(
+        threads,
+        rt.alloc(),
+        words.as_slice(),
+        &mut FolderStore::new(files),
+        &mut ReaderSource::new(rt.stdin()),
+        &mut WriterSink::new(rt.stdout()),
+        &mut WriterSink::new(rt.stderr()),
+    )
 }
 
 // Returns the words after the program's name: none where one of them isn't UTF-8, so that they are no command.
@@ -68,13 +80,17 @@ fn loop_box(alloc: Global, number: usize) -> Result<BatchBox, AllocError> {
     }
 }
 
-// Makes the top call over the files below the current folder, the standard streams and boxes of its own.
-fn call<R: Threads + Wait + Sync>(
+// Makes the top call over any devices and boxes of its own. The devices' types are parameters for the time of the proof: where they are
+// known, each clause of the top call is written out over them.
+fn call<R: Threads + Wait + Sync, T: Store, S: Source, K: Sink, E: Sink>(
     threads: &R,
-    rt: &HostRuntime,
+    alloc: Global,
     words: &[MgText],
+    store: &mut T,
+    input: &mut S,
+    output: &mut K,
+    notes: &mut E,
 ) -> Result<Status, AllocError> {
-    let alloc = rt.alloc();
     let mut boxes = Vec::new(alloc);
     for _ in 0..TALLIES {
         let tally: Box<dyn Calculator + Send> = Box::new(alloc, tally_box(alloc, false)?)?;
@@ -84,18 +100,7 @@ fn call<R: Threads + Wait + Sync>(
         let one: Box<dyn Calculator + Send> = Box::new(alloc, loop_box(alloc, number)?)?;
         boxes.push(one)?;
     }
-    let Ok(files) = rt.clone() else {
-        return Err(AllocError);
-    };
     Ok(run_words(
-        threads,
-        alloc,
-        words,
-        &mut FolderStore::new(files),
-        &mut ReaderSource::new(rt.stdin()),
-        &mut WriterSink::new(rt.stdout()),
-        &mut WriterSink::new(rt.stderr()),
-        &mut boxes,
-        &StillGate,
+        threads, alloc, words, store, input, output, notes, &mut boxes, &StillGate,
     ))
 }

@@ -7,7 +7,7 @@ use crate::turn::{Turn, most_written};
 use anyhow::{Result, bail};
 use mg_batch::{BatchBox, begin_loop_box, end_loop_box};
 use mg_calc::Calculator;
-use mg_edge::{MemorySink, MemorySource, MemoryStore, StillGate};
+use mg_edge::{MemorySink, MemorySource, MemoryStore, Sink, Source, StillGate, Store};
 use mg_run::{run_words, tally_box};
 use mg_value::MgText;
 use serde_json::Value;
@@ -70,6 +70,36 @@ pub fn make_call<R: Threads + Wait + Sync>(
 ) -> Result<Outcome> {
     let words = words_of(alloc, case, choice)?;
     let mut devices = devices_of(alloc, texts, case, choice, turn)?;
+    let called = call(
+        rt,
+        alloc,
+        &words,
+        &mut devices.store,
+        &mut devices.input,
+        &mut devices.output,
+        &mut devices.notes,
+    )?;
+    Ok(devices.outcome(alloc, &called)?)
+}
+
+// What a call came to beside what its devices tell.
+struct Came {
+    status: u8,
+    boxes: u64,
+    box_calls: u64,
+}
+
+// Makes the top call over any devices and boxes of its own, which keep logs. The devices' types are parameters for the time of the proof:
+// where they are known, each clause of the top call is written out over them.
+fn call<R: Threads + Wait + Sync, T: Store, S: Source, K: Sink, E: Sink>(
+    rt: &R,
+    alloc: Global,
+    words: &[MgText],
+    store: &mut T,
+    input: &mut S,
+    output: &mut K,
+    notes: &mut E,
+) -> Result<Came, AllocError> {
     let mut boxes = Vec::new(alloc);
     for _ in 0..TALLIES {
         let tally: Box<dyn Calculator + Send> = Box::new(alloc, tally_box(alloc, true)?)?;
@@ -80,26 +110,17 @@ pub fn make_call<R: Threads + Wait + Sync>(
         boxes.push(end)?;
     }
     let status = run_words(
-        rt,
-        alloc,
-        &words,
-        &mut devices.store,
-        &mut devices.input,
-        &mut devices.output,
-        &mut devices.notes,
-        &mut boxes,
-        &StillGate,
+        rt, alloc, words, store, input, output, notes, &mut boxes, &StillGate,
     );
-    Ok(devices.outcome(alloc, status.number(), &boxes)?)
+    Ok(Came {
+        status: status.number(),
+        boxes: boxes.len() as u64,
+        box_calls: calls_of(&boxes),
+    })
 }
 
 impl Devices {
-    fn outcome(
-        &self,
-        alloc: Global,
-        status: u8,
-        boxes: &[Box<dyn Calculator + Send>],
-    ) -> Result<Outcome, AllocError> {
+    fn outcome(&self, alloc: Global, came: &Came) -> Result<Outcome, AllocError> {
         let counts = [
             self.store.loads(),
             self.store.faults(),
@@ -110,8 +131,8 @@ impl Devices {
             self.output.faults(),
             self.notes.writes(),
             self.notes.faults(),
-            boxes.len() as u64,
-            calls_of(boxes),
+            came.boxes,
+            came.box_calls,
         ];
         let failed_name = match self.store.failed_name() {
             Some(name) => Some(String::from_str(alloc, name)?),
@@ -120,7 +141,7 @@ impl Devices {
         Ok(Outcome {
             output: self.output.taken().to_vec(alloc)?,
             notes: self.notes.taken().to_vec(alloc)?,
-            status,
+            status: came.status,
             counts,
             failed_name,
         })
