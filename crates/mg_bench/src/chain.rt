@@ -1,5 +1,4 @@
-//! A source sends packets through a chain of nodes. The net is swept, or workers run it first, and each Process call is held up for a
-//! number of turns of a loop.
+//! A source sends packets through a chain of nodes. Workers run the net, and each Process call is held up for a number of turns of a loop.
 
 ghost use Rattle.mg_nets.specs.Driven.{IsDriven};
 ghost use Rattle.std.specs.Prelude.{IfOk};
@@ -38,15 +37,6 @@ fn gate_of(turns: u32) -> Delay {
         turns,
         word: AtomicU64::new(0),
     }
-}
-
-/// Sweeps the net of a chain whose queues hold one packet each. The words give how many nodes and packets there are. Returns how many sets
-/// the last node has taken.
-pub fn run(rt: &HostRuntime) -> Result<u64, Fail> {
-    let nodes = number(rt, 2)?;
-    let packets = number(rt, 3)?;
-    let driver = chain(rt.alloc(), nodes, packets, 1)?;
-    swept(rt.alloc(), driver, &gate_of(0))
 }
 
 /// Lets workers run the net of a chain before it is swept. The words give how many nodes, packets, turns and workers there are. Returns how
