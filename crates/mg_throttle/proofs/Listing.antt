@@ -1,14 +1,15 @@
 -- The queues that are listed, and those among them that are relaxed.
-use Rattle.std.proofs.Common.{◌≡◌, ◌≢◌, ℕ, ◌<◌, Bool, true, false, ◌||◌, cond, eqb, List, length, map, get_or, slice_set, All, ◌∙◌, sym, ap, subst, inl, inr, refl, arith, length-set, get_or-set_same, get_or-set_other}
+use Rattle.std.proofs.Common.{◌≡◌, ◌≢◌, ℕ, ◌<◌, Bool, true, false, ◌||◌, cond, eqb, List, length, map, get_or, slice_set, replicate, All, ◌∙◌, sym, ap, subst, inl, inr, refl, arith, length-set, get_or-set_same, get_or-set_other}
 use Rattle.std.specs.List.{list_any}
-use Rattle.std.proofs.lemmas.Bool.{cases_eq, cases_Bool, false≢true}
-use Rattle.std.proofs.lemmas.List.{length-map, get_or-map, get_or_default, same_lists}
+use Rattle.std.proofs.lemmas.Bool.{cases_eq, cases_Bool, false≢true, and_left}
+use Rattle.std.proofs.lemmas.List.{length-map, get_or-map, get_or_default, same_lists, ext_get_or, get_or-replicate, length-replicate}
 use Rattle.std.proofs.lemmas.List.Folds.{list_any_none, list_any_at}
 use Rattle.mg_calc.specs.Plan.{HasEachOnce}
 use Rattle.mg_ready.specs.Ready.{ReadyNodes, IsIn, IsEmpty, IsHighest, ChangesOnly}
 use Rattle.mg_throttle.specs.declared.queue.Queue.{Queue}
-use Rattle.mg_throttle.specs.Throttle.{is_full, relaxed, stopped}
-use Rattle.mg_throttle.specs.Code.Kept.{AreListed, RelaxesTo}
+use Rattle.mg_throttle.specs.Throttle.{is_full, relaxed, stopped, is_reached}
+use Rattle.mg_throttle.specs.Code.Kept.{presses, IsKept, AreListed, RelaxesTo}
+use Rattle.mg_throttle.proofs.Queues.{count_none}
 use Rattle.mg_throttle.proofs.Counts.{with_packets, not_full_relaxed}
 
 highest_in : (r : ReadyNodes) (node : ℕ) → IsHighest r node → IsIn r node
@@ -114,6 +115,21 @@ none_relaxed queues none = same_lists (map relaxed queues) queues (length-map qu
         go : (b : Bool) → is_full q ≡ b → relaxed q ≡ q
         go true is = absurd (not_full is)
         go false is = rw is refl
+
+-- where no queue is full, all counts are 0
+pub none_counted : (queues : List Queue) (rows : List (List Bool)) (counts : List ℕ) → IsKept queues rows counts → list_any is_full queues ≡ false
+    → counts ≡ replicate (length counts) 0
+none_counted queues rows counts kept none =
+    ext_get_or 0 counts (replicate (length counts) 0) (sym (length-replicate (length counts) 0))
+    (λ f inside. kept.counted f inside
+    ∙ (count_none (presses rows f) queues (λ k d within. and_left (is_full (get_or queues k d)) (is_reached rows f (get_or queues k d).node) (not_full k d within))
+    ∙ sym (get_or-replicate (length counts) f 0 0 inside)))
+  where
+    not_full : (k : ℕ) (d : Queue) → k < length queues → is_full (get_or queues k d) ≡ false
+    not_full k d within = elim (cases_Bool (is_full (get_or queues k d))) [
+      | inl full ↦ absurd (false≢true (sym none ∙ list_any_at is_full queues k d within full))
+      | inr other ↦ other
+    ]
 
 -- What is listed after each change.
 

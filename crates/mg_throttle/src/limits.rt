@@ -145,6 +145,16 @@ fn relax_listed(queues: &mut [Queue], listed: &mut Ready) -> bool
     any
 }
 
+// Sets the counts to 0 if a queue was full. If none was, they are 0 as they stand.
+fn clear(counts: &mut [usize], any: bool)
+    requires zeros { any ≡ false → counts.old ≡ replicate (length counts.old) 0 }
+    ensures zeros { counts.new ≡ replicate (length counts.old) 0 }
+{
+    if any {
+        counts.fill(0);
+    }
+}
+
 impl Limits {
     /// Returns the limits of a plan, whose queues are empty and all have this limit. A limit of 0 is 100, and a negative one is none.
     pub fn new(alloc: Global, plan: &Plan, limit: i32) -> Result<Limits, AllocError>
@@ -233,7 +243,8 @@ impl Limits {
     }
 
     /// Relaxes the limits: the limit of each full queue becomes one more than the packets that wait in it. Returns whether there was a full
-    /// queue. It looks once at each queue that became full, or stopped being so, since limits were relaxed last.
+    /// queue. It looks once at each queue that became full, or stopped being so, since limits were relaxed last, and at the feeders only
+    /// if there was a full queue.
     pub fn relax(&mut self) -> bool
         ensures any { result ≡ list_any is_full self.old.queues }
         ensures relaxed { self.new ≡ record self.old { queues = map relaxed self.old.queues } }
@@ -241,7 +252,7 @@ impl Limits {
         ensures of { (plan : PlanRecord) → AreLimitsOf plan self.old → AreLimitsOf plan self.new }
     {
         let any = relax_listed(&mut self.queues, &mut self.listed);
-        self.counts.fill(0);
+        clear(&mut self.counts, any);
         any
     }
 
