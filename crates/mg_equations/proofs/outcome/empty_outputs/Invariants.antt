@@ -1,5 +1,5 @@
 use Rattle.std.proofs.Common.{◌≡◌, replicate}
-use Rattle.mg_value.specs.Prefix.{empty_prefix}
+use Rattle.mg_settled.specs.Prefix.{empty_prefix}
 use Rattle.mg_equations.proofs.outcome.empty_outputs.Given as goal
 
 abbrev pub invariant-loop : goal.invariant-loop

@@ -5,7 +5,7 @@ use Rattle.mg_calc.specs.declared.plan_node.PlanNode.{PlanNode}
 use Rattle.mg_calc.specs.Equations.{stream_of}
 use Rattle.mg_calc.specs.Plan.{numbers}
 use Rattle.mg_free.specs.Core.{split_of, is_free, is_core, stream_number}
-use Rattle.mg_value.specs.Ends.{end_of}
+use Rattle.mg_settled.specs.Ends.{end_of}
 use Rattle.mg_drive.specs.Live.{renumbered_fault, sets_by}
 use Rattle.mg_drive.proofs.LiveTells.{logs_long, frees_long, core_nodes_long, numbers_long, all_in_core}
 use Rattle.mg_drive.proofs.in_plan.InPlan.outcomes.Goals as goal

@@ -1,6 +1,6 @@
 -- With what is left it comes to the same.
 use Rattle.std.proofs.Common.{◌≡◌, drop}
-use Rattle.mg_value.specs.Prefix.{all_appended}
+use Rattle.mg_settled.specs.Prefix.{all_appended}
 use Rattle.mg_equations.proofs.output.Output.append_all.Given as goal
 
 abbrev pub invariant-loop-packet : goal.invariant-loop-packet
