@@ -10,12 +10,16 @@ PAGE = pathlib.Path(__file__).resolve().parents[2] / "docs/guide/calculators.md"
 
 @dataclass(frozen=True)
 class Told:
-    """What the page tells of a calculator: its row of the table, the rows of its options, and its examples, as they stand there."""
+    """What the page tells of a calculator: its row of the table, the section that the row leads to, by its name and its text, and of this
+    the rows of the options, and the examples."""
     name: str
     inputs: str
     outputs: str
     options: tuple[str, ...]
     offset: str
+    stateless: str
+    section: str
+    part: str
     option_rows: tuple[tuple[str, ...], ...]
     examples: tuple[str, ...]
 
@@ -30,9 +34,9 @@ def rows(text: str, *head: str) -> list[tuple[str, ...]]:
 
 
 def sections(text: str) -> dict[str, str]:
-    """The parts of the page that are about one calculator, by its name."""
-    found = re.findall(r"(?ms)^### (\w+)\n(.*?)(?=^##|\Z)", text)
-    return dict(found)
+    """The text under each heading of a page, up to the next one, by the name that a link has for the heading."""
+    found = re.findall(r"(?ms)^##+ ([^\n]*)\n(.*?)(?=^##|\Z)", text)
+    return {head.lower().replace(" ", "-"): part for head, part in found}
 
 
 def words(cell: str) -> tuple[str, ...]:
@@ -44,9 +48,9 @@ def told_by(text: str) -> list[Told]:
     """What a page tells of each calculator, in the order of its table."""
     parts = sections(text)
     told = []
-    for linked, inputs, outputs, options, offset, _ in rows(text, "Calculator", "Inputs", "Outputs", "Options", "Offset"):
-        name = re.sub(r"\[(\w+)\]\(.*", r"\1", linked)
-        part = parts.get(name, "")
-        told.append(Told(name, inputs, outputs, words(options), offset.strip("`"), tuple(rows(part, "Option", "Values", "Default")),
-                         tuple(re.findall(r"(?m)^    (.*→.*)$", part))))
+    for linked, inputs, outputs, options, offset, stateless in rows(text, "Calculator", "Inputs", "Outputs", "Options", "Offset"):
+        name, _, section = linked.strip("[)").partition("](#")
+        part = parts.get(section, "")
+        told.append(Told(name, inputs, outputs, words(options), offset.strip("`"), stateless, section, part,
+                         tuple(rows(part, "Option", "Values", "Default")), tuple(re.findall(r"(?m)^    (.*→.*)$", part))))
     return told
