@@ -12,8 +12,12 @@ NAMES = {"Statuses": "EXIT STATUS"}
 
 
 def escaped(text: str) -> str:
-    text = text.replace("\\", r"\e").replace("-", r"\-").replace("'", r"\(aq")
-    return re.sub(r"(?m)^\.", r"\\&.", text)
+    return text.replace("\\", r"\e").replace("-", r"\-").replace("'", r"\(aq")
+
+
+def lines(text: list[str]) -> str:
+    """Lines of text, none of which `man` takes for one of its own requests."""
+    return "".join(rf"\&{line}" if line.startswith(".") else line for line in (f"{one}\n" for one in text))
 
 
 def inline(text: str) -> str:
@@ -23,13 +27,12 @@ def inline(text: str) -> str:
 
 
 def filled(text: str) -> str:
-    lines = textwrap.wrap(inline(text), 79, break_long_words=False, break_on_hyphens=False)
-    return "".join(f"{line}\n" for line in lines)
+    return lines(textwrap.wrap(inline(text), 79, break_long_words=False, break_on_hyphens=False))
 
 
 def words(usage: str) -> str:
     """Words of a usage: the names in capitals are italic, and all else is bold."""
-    return " ".join(re.sub("[A-Z]+", r"\\fI\g<0>\\fR", escaped(word)) if word.upper() == word else rf"\fB{escaped(word)}\fR"
+    return " ".join(re.sub("[A-Z]+", r"\\fI\g<0>\\fR", word) if re.fullmatch(r"[][A-Z.]+", word) else rf"\fB{escaped(word)}\fR"
                     for word in usage.split())
 
 
@@ -38,7 +41,7 @@ def entry(name: str, text: str) -> str:
 
 
 def code(text: str) -> str:
-    return f".RS 4\n.EX\n{escaped(text)}\n.EE\n.RE\n"
+    return f".RS 4\n.EX\n{lines(escaped(text).splitlines())}.EE\n.RE\n"
 
 
 def said(sentences: Iterable[str]) -> str:
