@@ -3,6 +3,8 @@
     textform         the text form of graph files, each field with its place
     graph, schema    graph files, their expansion, and the fields that they may have
     calculators      the guide's page of the calculators, read; kinds: their ports, options and offsets
+    examples         the examples of that page, as graphs and packet lines
+    help             the help of mg, read; completions and man, what is made of it
     packets          packet lines and timestamps
     notes            the notes of `mg`, read from their lines
     near             names near a misspelled one
