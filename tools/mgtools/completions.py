@@ -8,7 +8,7 @@ from .help import Help, Option
 
 BASH = r"""# Completes the words of mg in bash. `tools/completions bash` made this of the help of mg.
 _mg() {
-    local current=${COMP_WORDS[COMP_CWORD]} kind=word command= given=' ' options= place name
+    local current=${COMP_WORDS[COMP_CWORD]} kind=word command='' given=' ' options='' place name
     COMPREPLY=()
     for ((place = 1; place < COMP_CWORD; place++)); do
         name=${COMP_WORDS[place]}
