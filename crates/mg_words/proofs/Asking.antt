@@ -9,7 +9,7 @@ use Rattle.clap.specs.declared.error.kind.ErrorKind.{ErrorKind}
 use Rattle.clap.specs.declared.error.kind.ErrorKind.TheVariants.{OutOfMemory}
 use Rattle.clap.proofs.FaultLemmas.{leaf_fault}
 use Rattle.mg_words.specs.CommandLine.{command_with, command, placed, verbs}
-use Rattle.mg_words.specs.Words.{request_at, request_by, request_from, request_of, command_in, line_of}
+use Rattle.mg_words.specs.Words.{request_at, request_from, request_of}
 use Rattle.mg_words.proofs.Laid.{laid, rows-laid}
 use Rattle.mg_words.proofs.Singles.{Agree, IsSingle, level-fault, laid_shape}
 
@@ -50,7 +50,7 @@ module _ (names : Bor (List (Bor Text))) (are : HasVerbs names) (words : List Te
   same-matches : matches_of command words ≡ matches_of (command_with names) words
   same-matches = ap (λ (at : Bor (List (Bor Text))). matches_of (command_with at) words) (sym (laid-verbs names are)) ∙ matches-laid names words
 
-  taken-asks : (rows : List Row) → rows ≡ matches_of (command_with names) words → fault_of (command_with names) words ≡ [] → request_by (command_in (line_of rows)) ≡ request_of words
+  taken-asks : (rows : List Row) → rows ≡ matches_of (command_with names) words → fault_of (command_with names) words ≡ [] → request_from [] rows ≡ request_of words
   unfolding request_of
   taken-asks rows found none = sym (ap₂ request_from (same-faults ∙ none) (same-matches ∙ sym found))
 
@@ -74,7 +74,7 @@ module _ (names : Bor (List (Bor Text))) (are : HasVerbs names) (app : App) (is 
   pub is-free : is_simple_and_free app ≡ true
   is-free = ap is_simple_and_free is ∙ free-with names
 
-  pub taken-request : (rows : List Row) → rows ≡ matches_of app words → fault_of app words ≡ [] → request_by (command_in (line_of rows)) ≡ request_of words
+  pub taken-request : (rows : List Row) → rows ≡ matches_of app words → fault_of app words ≡ [] → request_from [] rows ≡ request_of words
   taken-request rows found none = taken-asks names are words rows (found ∙ ap (λ (a : App). matches_of a words) is) (ap (λ (a : App). fault_of a words) (sym is) ∙ none)
 
   pub refused-request : (kind : ErrorKind) → (kind ≡ OutOfMemory) ⊎ IsAmong kind (fault_of app words) → kind ≢ OutOfMemory → request_at kind ≡ request_of words

@@ -10,10 +10,13 @@ use Rattle.clap.specs.declared.parser.matches.Found.{Found}
 use Rattle.clap.specs.declared.builder.value_parser.ValueParser.TheVariants.{Unsigned}
 use Rattle.clap.proofs.WalkLemmas.{first_value-rows, one_text-rows, raw_values-rows}
 use Rattle.clap.proofs.ValueTestLemmas.{accepts-Accepts, Accepts-accepts}
-use Rattle.mg_words.specs.Words.{flag_of, number_in, number_of, words_at}
+use Rattle.mg_words.specs.Words.{flag_of, is_plain, is_plain_at, number_in, number_of, words_at}
 
 pub flag-read : (found : Found) (name : Text) (got : Option Text) → got ≡ first_value found name → option_map_or (λ (text : Text). bytes_eq text (codes "true")) got false ≡ flag_of name (rows_of found)
 flag-read found name got is = ap (λ (o : Option Text). option_map_or (λ (text : Text). bytes_eq text (codes "true")) o false) (is ∙ first_value-rows found name)
+
+pub plain-read : (found : Found) (name : Text) (got : Option Text) → got ≡ first_value found name → option_map_or is_plain got true ≡ is_plain_at name (rows_of found)
+plain-read found name got is = ap (λ (o : Option Text). option_map_or is_plain o true) (is ∙ first_value-rows found name)
 
 pub words-read : (found : Found) (name : Text) (got : Option (List Text)) → got ≡ option_map raw_values (matched_of found name) → unwrap_or got [] ≡ words_at name (rows_of found)
 words-read found name got is = ap (λ (o : Option (List Text)). unwrap_or o []) (is ∙ raw_values-rows found name)

@@ -1,5 +1,5 @@
 -- What the words of a command line ask for.
-use Rattle.std.specs.Prelude.{ℕ, ℤ, pos, negsuc, Bool, false, not, min, ◌&&◌, ◌||◌, List, [], ◌∷◌, ◌++◌, Option, None, Some, is_some, option_map, unwrap_or, codes, length, nat_le, if◌then◌else◌}
+use Rattle.std.specs.Prelude.{ℕ, ℤ, pos, negsuc, Bool, true, false, not, min, ◌&&◌, ◌||◌, ◌==◌, List, [], ◌∷◌, ◌++◌, Option, None, Some, is_some, option_map, unwrap_or, codes, length, nat_le, if◌then◌else◌}
 use Rattle.std.specs.Option.{option_and_then, option_map_or}
 use Rattle.std.specs.Str.{bytes_eq}
 use Rattle.std.specs.Str.Parse.{digits_value, without_leading_plus}
@@ -57,6 +57,19 @@ line_of rows = record {
   options = options_of rows;
 }
 
+-- A number is written plainly: decimal digits without a sign or a leading zero. `clap` takes others too.
+abbrev pub is_plain : Text → Bool
+is_plain [] = false
+is_plain (first ∷ rest) = nat_le 48 first && nat_le first 57 && (not (first == 48) || (length rest == 0))
+
+-- whether the number that an option was given is written plainly, where it was used
+abbrev pub is_plain_at : Text → List Row → Bool
+is_plain_at name rows = option_map_or is_plain (first_of name rows) true
+
+-- whether all numbers are written plainly
+abbrev pub are_plain : List Row → Bool
+are_plain rows = is_plain_at (codes "workers") rows && is_plain_at (codes "max-queue-size") rows && is_plain_at (codes "number") rows
+
 -- Words keep the rules that `clap` doesn't judge: there aren't too many files, and `generate` has a number.
 abbrev pub keeps_rules : Line → Bool
 keeps_rules line = nat_le (length line.files) most_files && (is_some line.options.number || not (bytes_eq line.word (codes "generate")))
@@ -94,7 +107,7 @@ request_at _ = asks_usage
 
 -- what words ask for, by the reason for which `clap` refuses them, if any, and by what it takes of them
 abbrev pub request_from : Kinds → List Row → Request
-request_from [] rows = request_by (command_in (line_of rows))
+request_from [] rows = if are_plain rows then request_by (command_in (line_of rows)) else asks_usage
 request_from (kind ∷ kinds) rows = request_at kind
 
 -- what the words after the program's name ask for

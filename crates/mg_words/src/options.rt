@@ -66,3 +66,30 @@ fn flag_of(matches: &ArgMatches<'_>, name: &str) -> bool
         None => false,
     }
 }
+
+/// Whether all numbers are written plainly: as decimal digits without a sign or a leading zero.
+pub fn are_plain(matches: &ArgMatches<'_>) -> bool
+    ensures { result ≡ asking.are_plain (rows_of (found_of matches.now)) }
+{
+    is_plain_at(matches, "workers")
+        && is_plain_at(matches, "max-queue-size")
+        && is_plain_at(matches, "number")
+}
+
+fn is_plain_at(matches: &ArgMatches<'_>, name: &str) -> bool
+    ensures { result ≡ asking.is_plain_at name.now (rows_of (found_of matches.now)) }
+{
+    match matches.get_str(name) {
+        Some(text) => is_plain(text.as_bytes()),
+        None => true,
+    }
+}
+
+fn is_plain(text: &[u8]) -> bool
+    ensures { result ≡ asking.is_plain text.now }
+{
+    match text {
+        [] => false,
+        [first, rest @ ..] => first.is_ascii_digit() && (*first != b'0' || rest.is_empty()),
+    }
+}

@@ -1,5 +1,5 @@
 //! What the words of a command line ask for.
-ghost use Rattle.std.specs.Prelude.{◌≡◌, ◌≢◌, ◌++◌, ℕ, List, IfOk, OnOk, option_map, length, map};
+ghost use Rattle.std.specs.Prelude.{◌≡◌, ◌≢◌, ◌++◌, [], ℕ, List, IfOk, OnOk, option_map, length, map};
 ghost use Rattle.clap.specs.Words.{found_of, rows_of};
 ghost use Rattle.mg_words.specs.Command as commands;
 ghost use Rattle.mg_words.specs.Words as asking;
@@ -7,7 +7,7 @@ ghost use Rattle.mg_words.specs.Request.{request_view};
 
 use crate::command_line::command;
 use crate::limits::MOST_FILES;
-use crate::options::Options;
+use crate::options::{Options, are_plain};
 use clap::ArgMatches;
 use clap::error::ErrorKind;
 use mg_value::MgText;
@@ -102,6 +102,17 @@ fn request_at(kind: ErrorKind) -> Result<Request, AllocError>
 
 // Returns what words ask for that `clap` takes.
 fn request_from(alloc: Global, matches: &ArgMatches<'_>) -> Result<Request, AllocError>
+    ensures { IfOk result (λ request. request_view request ≡ asking.request_from [] (rows_of (found_of matches.now))) }
+{
+    if are_plain(matches) {
+        plain_request(alloc, matches)
+    } else {
+        Ok(Request::Usage)
+    }
+}
+
+// Returns what words ask for that `clap` takes and whose numbers are written plainly.
+fn plain_request(alloc: Global, matches: &ArgMatches<'_>) -> Result<Request, AllocError>
     ensures { IfOk result (λ request. request_view request ≡ asking.request_by (asking.command_in (asking.line_of (rows_of (found_of matches.now))))) }
 {
     let files = files_of(alloc, matches)?;

@@ -1,6 +1,6 @@
 use Rattle.std.proofs.Common.{◌≡◌, ◌∙◌, ap, length, rules}
 use Rattle.mg_words.specs.Words.{request_by, command_in}
-use Rattle.mg_words.proofs.words.request_from.Goals as goal
+use Rattle.mg_words.proofs.words.plain_request.Goals as goal
 
 pub returns : goal.returns
 returns c =
