@@ -14,6 +14,7 @@ PACKED = {b"\x1f\x8b": ("gzip", "gunzip -c"), b"\x28\xb5\x2f\xfd": ("zstd", "zst
 MARKS = {b"\xff\xfe\x00\x00": "UTF-32", b"\x00\x00\xfe\xff": "UTF-32", b"\xff\xfe": "UTF-16", b"\xfe\xff": "UTF-16"}
 UTF_8_MARK = b"\xef\xbb\xbf"
 GRAPH = re.compile(rb"(?:#[^\n]*\n|\s)*(?:(?:input|output)_(?:stream|side_packet)|node|type|num_threads|max_queue_size|executor)\s*[:{\[]")
+JSON = re.compile(rb'\s*(?:\{\s*["}]|\[\s*[\[{"\d\]-])')
 TAB, TAB_WORD = "\t", r"\t"
 LIST = "'.[]'"
 NUMBER = re.compile(r'"?[+-]?\d+(?:[.,]\d+)?"?')
@@ -24,7 +25,7 @@ def of_graph(head: bytes, name: str) -> str:
     name = shlex.quote(name)
     if is_packets(head):
         return f"these are packet lines, which come by `<`: mg run GRAPH < {name}"
-    if head.lstrip()[:1] in (b"{", b"["):
+    if JSON.match(head):
         return "this is JSON, and a graph is a text of fields, as `node { calculator: \"..\" }` (docs/guide/graph_file.md)"
     table = of_table(head, name)
     if table:

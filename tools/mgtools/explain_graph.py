@@ -3,7 +3,7 @@ from __future__ import annotations
 
 from .counterparts import counterpart
 from .graph import LISTS, Field, File, Graph, Node, Port, first_text, key_label, ports_of, read_key
-from .homes import Home, lacking
+from .homes import Home, hints
 from .kinds import kinds, needs_back_edge, option_faults, port_faults, port_kind
 from .near import CALCULATOR, POLICY, listed, near_stems, said as near_said
 from .notes import Note
@@ -201,7 +201,7 @@ def no_producer(note: Note, graph: Graph, kind: str = "stream") -> list[str]:
     ends = graph.readers(kind).get(name, [])
     if not ends:
         return [f"nobody writes `{name}`"]
-    hint, *behind = lacking(Home.of(graph, ends[0][0], name), kind, name)
+    hint, *behind = hints(Home.of(graph, ends[0][0], name, kind), kind, name)
     return [f"{port_place(graph, end)}: {whose(end, 'the graph, as its output,')} reads `{name}`, and nobody writes it{hint}" for end in ends[:3]] + behind
 
 

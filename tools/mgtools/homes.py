@@ -3,7 +3,7 @@ from __future__ import annotations
 
 from dataclasses import dataclass
 
-from .graph import Field, File, Graph, Node, Port, ports_of
+from .graph import Field, File, Graph, Node, Port, first_text, ports_of
 from .near import near, said as near_said
 
 
@@ -16,8 +16,9 @@ class Home:
     outer: tuple[File, Field] | None = None
 
     @classmethod
-    def of(cls, graph: Graph, node: Node | None, name: str) -> Home:
-        """The home of a name that a node reads, or the graph itself: the innermost file on the way to the node whose prefix the name has."""
+    def of(cls, graph: Graph, node: Node | None, name: str, kind: str) -> Home:
+        """The home of a name that a node reads, or the graph itself: the innermost file on the way to the node whose prefix the name has, or one
+        inside it that hands the name out."""
         through = node.through if node else []
         home = cls(graph.files[0], name)
         prefix = ""
@@ -27,7 +28,17 @@ class Home:
                 break
             inner = through[depth + 1][0] if depth + 1 < len(through) else node.file
             home = cls(inner, name[len(prefix):], (file, field))
-        return home
+        return home.inside({file.type: file for file in graph.files[1:] if file.type}, f"output_{kind}")
+
+    def inside(self, library: dict[str, File], field: str) -> Home:
+        """The home of a name that a subgraph node hands out, without a writer: the file that the node stands for."""
+        for node in self.file.root.all_of("node"):
+            key = next((port.key for port in ports_of(node, field) if port.name == self.name), None)
+            inner = library.get(first_text(node, "calculator")) if key else None
+            own = next((port.name for port in ports_of(inner.root, field) if port.key == key), None) if inner else None
+            if own:
+                return Home(inner, own, (self.file, node)).inside(library, field)
+        return self
 
     def port(self, kind: str) -> Port | None:
         """The port of the file by which the name comes in, where there is one."""
@@ -42,7 +53,7 @@ def written(file: File, kind: str) -> list[str]:
     return [port.name for port in ports]
 
 
-def lacking(home: Home, kind: str, name: str) -> list[str]:
+def hints(home: Home, kind: str, name: str) -> list[str]:
     """What would give a name a writer: a clause where it is one of the main graph, and else a sentence behind an empty clause."""
     field = f"input_{kind}"
     other = "side_packet" if kind == "stream" else "stream"

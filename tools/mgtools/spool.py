@@ -2,6 +2,7 @@
 from __future__ import annotations
 
 import os
+import select
 import tempfile
 import threading
 
@@ -30,13 +31,22 @@ class Spool:
 
     def run(self, sink: int) -> None:
         try:
-            while piece := os.read(self.source, PIECE):
+            while piece := self.next():
                 self.keep(piece)
                 write_all(sink, piece)
         except BrokenPipeError:
             # The command reads no more.
             pass
-        os.close(sink)
+        finally:
+            os.close(sink)
+
+    def next(self) -> bytes:
+        """What comes next; nothing at the end. A pipe may be one that doesn't block."""
+        while True:
+            try:
+                return os.read(self.source, PIECE)
+            except BlockingIOError:
+                select.select([self.source], [], [])
 
     def keep(self, piece: bytes) -> None:
         if self.why_not:
