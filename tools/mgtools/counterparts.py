@@ -29,5 +29,5 @@ def counterpart(name: str) -> str | None:
     """The sentence about a calculator that has a counterpart here."""
     loop = LOOP.fullmatch(name)
     if loop:
-        return f"in place of {loop[1]} calculators for each type: {loop[1]}Calculator (docs/guide/calculators.md#loops-over-lists)"
+        return f"in place of {name}: {loop[1]}Calculator, for items of any type (docs/guide/calculators.md#loops-over-lists)"
     return counterparts().get(name)
