@@ -8,7 +8,11 @@
     packets          packet lines and timestamps
     notes            the notes of `mg`, read from their lines
     near             names near a misspelled one
+    counterparts     the guide's page on porting, read
     explain          notes explained: explain_files, explain_graph and explain_run by what they are about
+    homes            where a name of the expanded graph is at home; contents: what a file is that was taken for another
+    arrivals         what free nodes made of the packets that arrived at them
+    spool            a pipe that is passed on and kept
     explain_all      what is wrong behind the first refusal; flat, an expanded graph that can be changed
     csvlines         packet lines of tables
     recordings       what recordings hold, parts of them, differences of outputs

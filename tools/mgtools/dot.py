@@ -5,6 +5,7 @@ import html
 import re
 from collections.abc import Iterator
 
+from .arrivals import Arrivals
 from .graph import Graph, Level, Node, Port
 from .notes import Report
 from .picture import INPUT, OUTPUT, SIDE, cells, counted
@@ -36,6 +37,7 @@ class Dot:
     def __init__(self, graph: Graph, report: Report | None = None):
         self.graph = graph
         self.report = report or Report()
+        self.arrivals = Arrivals(graph, self.report.others)
         self.unknown: list[str] = []
 
     def text(self) -> Iterator[str]:
@@ -70,6 +72,9 @@ class Dot:
         lines = ([f"<b>{shown(node.name)}</b>"] if node.name else []) + [shown(node.calculator)]
         if node.number in self.report.sets:
             lines.append(counted(self.report.sets[node.number], "set" if node.inputs else "call"))
+        taken = self.arrivals.taken.get(node.number)
+        if taken and taken.dropped:
+            lines.append(f'<font color="{RED}">{taken.dropped} of {taken.came} dropped</font>')
         if fault:
             lines.append(f'<font color="{RED}">{shown(fault["phase"])}: {shown(fault["cause"])}</font>')
         body = f'<tr><td border="1"{f""" color="{RED}" bgcolor="#fee2e2" """.rstrip() if fault else ""}>{"<br/>".join(lines)}</td></tr>'

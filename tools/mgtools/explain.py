@@ -4,6 +4,7 @@ from __future__ import annotations
 from collections.abc import Callable, Iterator
 
 from . import explain_files, explain_graph, explain_run
+from .arrivals import Arrivals
 from .explain_files import FileTexts
 from .graph import File, Graph, NotExpandable, expand
 from .notes import Note, read_note
@@ -37,6 +38,7 @@ class Explainer:
             self.graph = expand(self.files) if names else None
         except (TextFault, KeyError, NotExpandable):
             pass
+        self.arrivals = Arrivals(self.graph) if self.graph else None
 
     def explain(self, note: Note) -> list[str]:
         """The sentences for one note."""
@@ -77,10 +79,15 @@ class Explainer:
         if note.form == "stalled":
             return explain_run.stalled(note, self.graph, self.bounds)
         if note.form == "free":
-            return explain_run.arrival_said(note, self.graph)
+            return [self.arrivals.said(note) if self.arrivals else self.lacking()]
         if note.form == "sets":
-            return explain_run.sets_said(note, self.graph)
+            return explain_run.sets_said(note, self.graph, self.arrivals)
         return explain_run.ends_said(note, self.graph, self.bounds)
+
+    def losses(self) -> Iterator[tuple[str, list[str]]]:
+        """What free nodes dropped by the notes so far: of each node how many packets, and which and why."""
+        for taken in self.arrivals.losses() if self.arrivals else []:
+            yield taken.loss_said(), [taken.why_said()]
 
     @staticmethod
     def lacking() -> str:

@@ -5,13 +5,15 @@ import os
 import pathlib
 import re
 
-from . import schema
+from . import contents, schema
 from .graph import Field, find, first_text, key_label, parent, ports_of
 from .near import said as near_said
 from .notes import Note, unescaped
 from .textform import Scalar, TextFault, line_and_column, parse
 
 COMMANDS = ("run", "solve", "check", "expand", "generate", "trace", "replay")
+# Those that read packet lines.
+READING = ("run", "solve", "trace", "replay")
 OPTIONS = {"--workers": (0, 64), "--max-queue-size": (1, 1000000), "--number": (0, 1000000), "--no-queue-limit": None, "--report": None}
 SPELLINGS = {"BadTag": "a tag is `[A-Z_][A-Z0-9_]*`, in capital letters", "BadIndex": "an index is 0 to 63, without leading zeros",
              "BadName": "a name is `[a-z_][a-z0-9_]*`, in small letters, and a text has at most two colons"}
@@ -102,18 +104,33 @@ def text(note: Note, texts: FileTexts) -> list[str]:
     if note["refusal"] == "TooLong":
         return [f"{name}: it has {len(data)} bytes, and 4194304 are the most: make subgraphs of its parts"]
     at = note["at"]
+    what = contents.of_graph(data[:contents.HEAD], name) if note["refusal"] == "Syntax" else ""
+    if what:
+        return [f"{texts.place(name, at)}: {what}"]
+    wrong = not_utf_8(data)
+    if wrong and wrong.start <= at <= wrong.end:
+        return [f"{texts.place(name, wrong.start)}: this is no character in UTF-8 (byte {data[wrong.start]:#x}): save the file in UTF-8"]
     fault = fault_of(data)
     if note["refusal"] == "TooDeep":
         outer = fault.opened[0] if fault and fault.opened else ("a message", 0)
         return [f"{texts.place(name, at)}: 64 messages are open here already; the outermost is `{outer[0]}` at "
                 f"{texts.place(name, outer[1])}: look for a brace that is never closed"]
-    found = "the file ends here" if at >= len(data) else f"`{data[at:at + 12].split(bytes([10]))[0].decode(errors='replace') or 'the end of the line'}` stands here"
+    found = "the file ends here" if at >= len(data) else f"`{data[at:at + 12].split(bytes([10]))[0].decode(errors='surrogateescape') or 'the end of the line'}` stands here"
     wanted = f", where this was wanted: {fault.wanted}" if fault and fault.at == at else ", and can't"
     said = [f"{texts.place(name, at)}: {found}{wanted}"]
     if fault and fault.opened:
         last, begin = fault.opened[-1]
         said.append(f"{texts.place(name, begin)}: `{last}` was opened here and isn't closed yet")
     return said
+
+
+def not_utf_8(data: bytes) -> UnicodeDecodeError | None:
+    """The first bytes that are no character."""
+    try:
+        data.decode()
+    except UnicodeDecodeError as fault:
+        return fault
+    return None
 
 
 def fault_of(data: bytes) -> TextFault | None:

@@ -1,21 +1,16 @@
 """Explains the notes of the expansion and of the check: which node or stream it is, where it stands, and what would fit."""
 from __future__ import annotations
 
+from .counterparts import counterpart
 from .graph import LISTS, Field, File, Graph, Node, Port, first_text, key_label, ports_of, read_key
+from .homes import Home, hints
 from .kinds import kinds, needs_back_edge, option_faults, port_faults, port_kind
-from .near import near, said as near_said
+from .near import CALCULATOR, POLICY, listed, near_stems, said as near_said
 from .notes import Note
 
-# Calculators of MediaPipe's that have another name here, or a counterpart.
-COUNTERPARTS = {
-    "IntAdderCalculator": "IntSumCalculator",
-    "ImmediateMuxCalculator": "MergeCalculator",
-    "BypassCalculator": "PassThroughCalculator",
-    "PacketResamplerCalculator": "PacketThinnerCalculator",
-    "FlowLimiterCalculator": "PacketThinnerCalculator",
-    "RealTimeFlowLimiterCalculator": "PacketThinnerCalculator",
-    "SequenceShiftCalculator": "PreviousLoopbackCalculator, with one stream at MAIN and at LOOP",
-}
+# What helps with a calculator that isn't there, whatever else is said.
+STAND_IN = ("no file that was named has this `type`: if it is a subgraph, name its file too; if it is MediaPipe's, a file of this type can stand in "
+            "for it (docs/guide/porting.md)")
 
 
 def owner_file(owner: str, files: list[File]) -> File | None:
@@ -134,15 +129,10 @@ def node_of(note: Note, graph: Graph) -> Node | None:
 def unknown_calculator(note: Note, graph: Graph) -> list[str]:
     node = node_of(note, graph)
     name = node.calculator
-    types = [file.type for file in graph.files[1:] if file.type]
-    said = f"{node.place}: {node.describe()}: mg has no calculator `{name}`"
-    if COUNTERPARTS.get(name):
-        return [f"{said}; the nearest here is {COUNTERPARTS[name]} (docs/guide/porting.md)"]
-    close = near(name, [*kinds(), *types])
-    if close:
-        return [f"{said}; near it: {', '.join(f'`{one}`' for one in close)}"]
-    return [f"{said}, and no file that was named has this `type`: if it is a subgraph, name its file too; if it is MediaPipe's, a file of this "
-            "type can stand in for it (docs/guide/porting.md)"]
+    here = counterpart(name)
+    close = [] if here else near_stems(name, [*kinds(), *(file.type for file in graph.files[1:] if file.type)], CALCULATOR)
+    said = f"{node.place}: {node.describe()}: mg has no calculator `{name}`{listed(close)}"
+    return [said, here, STAND_IN] if here else [said, STAND_IN]
 
 
 def no_more_boxes(note: Note, graph: Graph) -> list[str]:
@@ -165,13 +155,26 @@ def bad_options(note: Note, graph: Graph) -> list[str]:
         f"{node.place}: {node.describe()}: its options don't fit its calculator: docs/guide/calculators.md has them"]
 
 
+# The policies that there are: the calculators that take each, none where all but a limiter do.
+POLICIES = {"DefaultInputStreamHandler": (), "MuxInputStreamHandler": ("MuxCalculator",),
+            "ImmediateInputStreamHandler": ("MergeCalculator", "FlowLimiterCalculator")}
+
+
 def unsupported(note: Note, graph: Graph) -> list[str]:
+    """A policy that a node can't have, and those that it can."""
     node = node_of(note, graph)
     field = next(iter(node.field.all_of("input_stream_handler")), node.field)
     name = first_text(field, "input_stream_handler")
-    fits = "`DefaultInputStreamHandler`" + (" or `MuxInputStreamHandler`" if node.calculator == "MuxCalculator" else "")
-    why = " (it fits a MuxCalculator alone)" if name == "MuxInputStreamHandler" else near_said(name, ["DefaultInputStreamHandler", "MuxInputStreamHandler"])
-    return [f"{node.file.place(field.at)}: {node.describe()}: there is no input policy `{name}` for it{why}: leave the field out, or name {fits}"]
+    is_limiter = node.calculator == "FlowLimiterCalculator"
+    fits = [policy for policy, takers in POLICIES.items() if (node.calculator in takers if takers else not is_limiter)]
+    if name not in POLICIES:
+        why = listed(near_stems(name, fits, POLICY)) or ": mg has none of this name (docs/guide/differences.md#input-policies)"
+    elif POLICIES[name]:
+        why = f": it fits {' and '.join(POLICIES[name])} alone"
+    else:
+        why = ": it takes each packet as it arrives, and waits for no time to be settled"
+    return [f"{node.file.place(field.at)}: {node.describe()} can't have the input policy `{name}`{why}",
+            f"leave the field out, or name {' or '.join(f'`{policy}`' for policy in fits)}"]
 
 
 def port_place(graph: Graph, end: tuple[Node | None, Port]) -> str:
@@ -194,16 +197,12 @@ def two_producers(note: Note, graph: Graph) -> list[str]:
 
 
 def no_producer(note: Note, graph: Graph, kind: str = "stream") -> list[str]:
-    ends = graph.readers(kind).get(note["name"], [])
-    names = set(graph.writers(kind))
+    name = note["name"]
+    ends = graph.readers(kind).get(name, [])
     if not ends:
-        return [f"nobody writes `{note['name']}`"]
-    other = "side_packet" if kind == "stream" else "stream"
-    field = "input_stream" if kind == "stream" else "input_side_packet"
-    hint = near_said(note["name"], names) or f"; if it comes into the graph, it needs a field `{field}: \"{note['name']}\"`"
-    if note["name"] in graph.writers(other):
-        hint = f"; there is a {other.replace('_', ' ')} of this name, which is another thing"
-    return [f"{port_place(graph, end)}: {whose(end, 'the graph, as its output,')} reads `{note['name']}`, and nobody writes it{hint}" for end in ends[:3]]
+        return [f"nobody writes `{name}`"]
+    hint, *behind = hints(Home.of(graph, ends[0][0], name, kind), kind, name)
+    return [f"{port_place(graph, end)}: {whose(end, 'the graph, as its output,')} reads `{name}`, and nobody writes it{hint}" for end in ends[:3]] + behind
 
 
 def kind_clash(note: Note, graph: Graph) -> list[str]:

@@ -7,6 +7,8 @@ from dataclasses import dataclass
 from itertools import islice
 from typing import Any
 
+from . import contents
+from .arrivals import Arrivals
 from .graph import Graph, Node
 from .kinds import kinds, offset_of, port_kind
 from .near import said as near_said
@@ -25,18 +27,21 @@ class Stream:
 
 
 class Recording:
-    """The lines of a recording up to one of them."""
+    """The lines of a recording up to one of them: that line, and what the lines before it made of the streams, where that is wanted."""
 
-    def __init__(self, lines: Iterable[bytes], number: int):
+    def __init__(self, lines: Iterable[bytes], number: int, wants_streams: bool):
         self.streams: dict[str, Stream] = {}
         self.sides: dict[str, int] = {}
         self.first_named = 0
+        self.is_first = True
         self.line: bytes | None = None
         for at, text in enumerate(lines, 1):
             if at == number:
                 self.line = text.rstrip(b"\n")
                 break
-            self.take(read_line(at, text))
+            self.is_first = self.is_first and not text.strip()
+            if wants_streams:
+                self.take(read_line(at, text))
 
     def take(self, line: Line) -> None:
         if line.form == "side":
@@ -58,6 +63,8 @@ class Recording:
         return self.streams.get(name, Stream())
 
 
+# The refusals of a line that come of the lines before it.
+OF_STREAMS = ("Closed", "NotAscending", "NotAlone", "SideLate", "SideTwice")
 # The lines of a recorded run that aren't good, behind its packet lines.
 RECORDED = {"BadEvent": "it is no step that this graph can make, in the spelling of `mg trace`: keep the trace as it was written, with its graph",
             "IdleEvent": "the step changes nothing here: one before it is missing, or it stands twice, or the run had another limit of queues",
@@ -73,19 +80,26 @@ def line(note: Note, graph: Graph | None, lines: Iterable[bytes] | None, name: s
         return [f"{name}:{number}: 4000000 lines are the most, blank ones too: cut the recording (tools/recording pick --until)"]
     if refusal in RECORDED:
         text = next(islice(lines or [], number - 1, None), None)
-        shows = [] if text is None else [f"the line is {text[:100].decode(errors='replace').rstrip()}"]
-        return [f"{name}:{number}: {RECORDED[refusal]}", *shows]
+        return [f"{name}:{number}: {RECORDED[refusal]}", *([] if text is None else [line_shown(text)])]
     if lines is None:
         return [f"{name}:{number}: {CAUSES[refusal]}; name the recording to this tool (--recording FILE), and it shows the line"]
-    recording = Recording(lines, number)
+    lines = iter(lines)
+    recording = Recording(lines, number, refusal in OF_STREAMS)
     if recording.line is None:
         return [f"{name}:{number}: {CAUSES[refusal]}; the recording that this tool was given has no such line"]
-    said = read_line(number, recording.line)
-    text = recording.line[:100].decode(errors="replace")
     if refusal == "TooLong":
         return [f"{name}:{number}: the line has {len(recording.line)} bytes, and 1048576 are the most: look for a missing line feed"]
-    found = judged(note, said, recording, graph)
-    return [f"{name}:{number}: {what}" for what in found] + [f"the line is {text}"]
+    if refusal == "NotJson" and recording.is_first:
+        what = contents.of_recording(b"".join([recording.line, b"\n", *islice(lines, 2)])[:contents.HEAD], "FILE" if name == "standard input" else name)
+        if what:
+            return [f"{name}:{number}: {what}"]
+    found = judged(note, read_line(number, recording.line), recording, graph)
+    return [f"{name}:{number}: {what}" for what in found] + [line_shown(recording.line)]
+
+
+def line_shown(line: bytes) -> str:
+    """The begin of a line. A character has four bytes at most."""
+    return f"the line is {line[:400].decode(errors='surrogateescape')[:100].rstrip()}"
 
 
 CAUSES = {"TooLong": "the line is too long", "NotJson": "it is no JSON value", "BadShape": "it is none of the five forms of a line",
@@ -173,10 +187,12 @@ def wanted_kind(name: str, graph: Graph | None) -> tuple[str, str]:
 
 def json_fault(line: bytes) -> str:
     try:
-        json.loads(line)
+        json.loads(line.decode())
     except json.JSONDecodeError as fault:
         return f"it is no JSON value, from column {fault.colno} on: {fault.msg}"
-    except ValueError:
+    except UnicodeDecodeError as fault:
+        return f"it is no text in UTF-8, from byte {fault.start + 1} of the line on"
+    except (ValueError, RecursionError):
         pass
     return "it is no JSON value"
 
@@ -191,7 +207,8 @@ def shape_fault(line: bytes) -> str:
     except ValueError:
         said = None
     if not isinstance(said, dict):
-        return f"it is no JSON object: a line is {FORMS_SAID}"
+        hint = "; `jq -c '.[]'` writes the items of a list as lines" if isinstance(said, list) else ""
+        return f"it is no JSON object: a line is {FORMS_SAID}{hint}"
     keys = set(said)
     hint = ""
     if said.get("packets") == {}:
@@ -339,22 +356,15 @@ def stalled(note: Note, graph: Graph | None, bounds: dict[str, str]) -> list[str
     return said
 
 
-def arrival_said(note: Note, graph: Graph | None) -> list[str]:
-    """A packet that arrived at a free node. Ports go by tag and then by index."""
-    node = graph.nodes[note["node"]] if graph and note["node"] < len(graph.nodes) else None
-    if node is None or note["input"] >= len(node.inputs):
-        return [f"a packet at {note['time']} arrived at input {note['input']} of node {note['node']}"]
-    name = sorted(node.inputs, key=lambda port: port.key)[note["input"]].name
-    return [f"{node.place}: {node.describe()}: the packet of `{name}` at {note['time']} arrived next"]
-
-
-def sets_said(note: Note, graph: Graph | None) -> list[str]:
+def sets_said(note: Note, graph: Graph | None, arrivals: Arrivals | None) -> list[str]:
     if graph is None or note["node"] >= len(graph.nodes):
         return [f"node {note['node']}, {note['label']}: {note['sets']} sets"]
     node = graph.nodes[note["node"]]
     what = ("packets of MAIN were answered" if node.calculator == "PreviousLoopbackCalculator" else "packets arrived at it" if node.is_free
             else "input sets were shown to it" if node.inputs else "calls were made of it")
-    return [f"{node.place}: {node.describe()}: {note['sets']} {what}"]
+    taken = arrivals.taken.get(node.number) if arrivals else None
+    lost = f"; {taken.count_said()}" if taken and taken.dropped else ""
+    return [f"{node.place}: {node.describe()}: {note['sets']} {what}{lost}"]
 
 
 def ends_said(note: Note, graph: Graph | None, bounds: dict[str, str]) -> list[str]:

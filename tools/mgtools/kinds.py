@@ -239,12 +239,13 @@ def offset_of(node: Node) -> int | None:
     kind = kinds().get(node.calculator)
     if kind is None or kind.offset == "none":
         return None
-    if kind.offset == "0":
-        return 0
-    for message in node.options:
-        for option in message.all_of("offset"):
-            return whole_number(option.value) if isinstance(option.value, Scalar) else None
-    return None
+    return 0 if kind.offset == "0" else option_number(node, "offset")
+
+
+def option_number(node: Node, name: str) -> int | None:
+    """The whole number that an option of a node says; none where it isn't set to one."""
+    option = next((option for message in node.options for option in message.all_of(name)), None)
+    return whole_number(option.value) if option and isinstance(option.value, Scalar) else None
 
 
 def needs_back_edge(node: Node, key: tuple[str, int]) -> bool:

@@ -74,6 +74,13 @@ def unescaped(text: str) -> str:
     return re.sub(r"\\([nrt]|[0-7]{3})", lambda found: escapes.get(found[1]) or chr(int(found[1], 8)), text)
 
 
+def escaped(text: str) -> str:
+    """A text as notes show one: control bytes as escapes, and so bytes that are no UTF-8."""
+    names = {"\n": "\\n", "\r": "\\r", "\t": "\\t"}
+    octal = lambda mark: "".join(f"\\{byte:03o}" for byte in mark.encode("utf-8", "surrogateescape"))
+    return re.sub("[\x00-\x1f\x7f-\x9f\udc80-\udcff]", lambda found: names.get(found[0]) or octal(found[0]), text)
+
+
 @dataclass
 class Report:
     """What the notes of a run tell of its nodes and streams, by number and by name."""

@@ -7,6 +7,7 @@ import pathlib
 import re
 from typing import Any
 
+from .arrivals import Arrivals
 from .explain import Explainer
 from .graph import Graph, Node, in_order
 from .kinds import offset_of
@@ -18,6 +19,8 @@ from .timelines import Row, waiting
 MEANINGS = {0: "all went well", 1: "a file couldn't be loaded", 2: "the words are no command", 3: "the graph was refused", 4: "a line wasn't good",
             5: "a calculator failed", 6: "a stream never closed", 7: "the input couldn't be read", 8: "the output couldn't be written",
             9: "there wasn't memory enough"}
+# So many arrivals at free nodes are shown, and so many nodes are named that dropped packets.
+MOST_ARRIVALS, MOST_LOSSES = 1000, 3
 
 
 def time_data(time: int) -> Any:
@@ -44,14 +47,24 @@ def node_data(node: Node) -> dict[str, Any]:
 
 
 def notes_html(explainer: Explainer, notes: list[str]) -> str:
-    """The notes with what they mean; those of the report are in the picture."""
-    said = []
+    """The notes with what they mean, and what was dropped; those of the report are in the picture, and arrivals are folded."""
+    said: list[str] = []
+    arrivals: list[str] = []
     for line, note, sentences in explainer.all(notes):
         if note and note.form in ("sets", "ends"):
             continue
-        items = "".join(f"<li>{html.escape(sentence)}</li>" for sentence in sentences)
-        said.append(f"<div class=note><code>{html.escape(line)}</code><ul>{items}</ul></div>")
+        where = arrivals if note and note.form == "free" else said
+        where.append(note_html(line, sentences))
+    said += [note_html(line, sentences) for line, sentences in explainer.losses()]
+    if arrivals:
+        more = f"<p class=quiet>and {len(arrivals) - MOST_ARRIVALS} more</p>" if len(arrivals) > MOST_ARRIVALS else ""
+        said.append(f"<details><summary>what arrived at free nodes ({len(arrivals)})</summary>{''.join(arrivals[:MOST_ARRIVALS])}{more}</details>")
     return "".join(said) or "<p class=quiet>no notes: nothing went wrong</p>"
+
+
+def note_html(line: str, sentences: list[str]) -> str:
+    items = "".join(f"<li>{html.escape(sentence)}</li>" for sentence in sentences)
+    return f"<div class=note><code>{html.escape(line)}</code><ul>{items}</ul></div>"
 
 
 def page(title: str, graph: Graph, rows: list[Row], report: Report, explainer: Explainer, notes: list[str], status: int | None, cut_at: int) -> str:
@@ -61,7 +74,7 @@ def page(title: str, graph: Graph, rows: list[Row], report: Report, explainer: E
     is_cut = any(row.count > len(row.packets) > 0 for row in rows)
     parts = {
         "TITLE": html.escape(title),
-        "STATUS": "" if status is None else f'<span class="status {"good" if status == 0 else "bad"}">status {status}: {MEANINGS.get(status, "unknown")}</span>',
+        "STATUS": outcome(status, rows, Arrivals(graph, report.others)),
         "COUNTS": f"{len(graph.nodes)} nodes, {len(graph.streams())} streams, {sum(row.count for row in rows if row.kind == 'in')} packets in",
         "GRAPH": Picture(graph, report).svg(),
         "NOTES": notes_html(explainer, notes),
@@ -70,3 +83,18 @@ def page(title: str, graph: Graph, rows: list[Row], report: Report, explainer: E
         "DATA": json.dumps(data, ensure_ascii=False, separators=(",", ":")).replace("</", "<\\/"),
     }
     return re.sub("@([A-Z]+)@", lambda found: parts[found[1]], template)
+
+
+def outcome(status: int | None, rows: list[Row], arrivals: Arrivals) -> str:
+    """How the run ended, and what was lost on the way: all went well only where nothing was dropped, and something came out."""
+    lost = [taken.loss_said() for taken in arrivals.losses()]
+    if lost[MOST_LOSSES:]:
+        lost[MOST_LOSSES:] = [f"and {len(lost) - MOST_LOSSES} more nodes dropped packets"]
+    outputs = [row.count for row in rows if row.kind == "out"]
+    if outputs and not any(outputs) and any(row.count for row in rows if row.kind == "in"):
+        lost.append("no packet came out")
+    pills = [("lost", text) for text in lost]
+    if status is not None:
+        meaning = "the run ended" if status == 0 and lost else MEANINGS.get(status, "unknown")
+        pills.insert(0, ("bad" if status else "lost" if lost else "good", f"status {status}: {meaning}"))
+    return "".join(f'<span class="status {style}">{html.escape(text)}</span>' for style, text in pills)

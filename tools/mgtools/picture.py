@@ -5,7 +5,9 @@ from __future__ import annotations
 
 import html
 from dataclasses import dataclass
+from functools import cached_property
 
+from .arrivals import Arrivals
 from .graph import Graph, Level, Node, Port, in_order
 from .layout import Arrow, Box, lay_out, path
 from .notes import Report
@@ -84,6 +86,10 @@ class Picture:
 
     # What is in the picture.
 
+    @cached_property
+    def arrivals(self) -> Arrivals:
+        return Arrivals(self.graph, self.report.others)
+
     def node(self, node: Node) -> Item:
         fault = self.report.faults.get(node.number)
         lines = [(node.name.rsplit("__", 1)[-1] if node.through else node.name, "strong")] if node.name else []
@@ -92,6 +98,9 @@ class Picture:
         if node.number in self.report.sets:
             told += ": " + counted(self.report.sets[node.number], "set" if node.inputs else "call")
         lines.append((told, "small"))
+        taken = self.arrivals.taken.get(node.number)
+        if taken and taken.dropped:
+            lines.append((f"{taken.dropped} of {taken.came} dropped", "bad"))
         if fault:
             lines.append((f"{fault['phase']}: {fault['cause']}", "bad"))
         inputs, outputs = cells(node.ports, "input"), cells(node.ports, "output")
