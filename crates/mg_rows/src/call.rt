@@ -70,7 +70,7 @@ pub fn make_call<R: Threads + Wait + Sync>(
 ) -> Result<Outcome> {
     let words = words_of(alloc, case, choice)?;
     let mut devices = devices_of(alloc, texts, case, choice, turn)?;
-    let called = call(
+    let came = call(
         rt,
         alloc,
         &words,
@@ -79,10 +79,11 @@ pub fn make_call<R: Threads + Wait + Sync>(
         &mut devices.output,
         &mut devices.notes,
     )?;
-    Ok(devices.outcome(alloc, &called)?)
+    Ok(devices.outcome(alloc, came)?)
 }
 
 // What a call came to beside what its devices tell.
+#[derive(Clone, Copy)]
 struct Came {
     status: u8,
     boxes: u64,
@@ -120,7 +121,7 @@ fn call<R: Threads + Wait + Sync, T: Store, S: Source, K: Sink, E: Sink>(
 }
 
 impl Devices {
-    fn outcome(&self, alloc: Global, came: &Came) -> Result<Outcome, AllocError> {
+    fn outcome(&self, alloc: Global, came: Came) -> Result<Outcome, AllocError> {
         let counts = [
             self.store.loads(),
             self.store.faults(),
