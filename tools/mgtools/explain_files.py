@@ -80,8 +80,9 @@ def usage(words: list[str]) -> list[str]:
             least, most = OPTIONS[word]
             if not value and at < len(words):
                 value, at = words[at], at + 1
-            if not re.fullmatch(r"\+?\d+", value) or not least <= int(value) <= most:
-                faults.append(f"{word} takes a whole number from {least} to {most}, not `{value}`" if value else f"{word} needs a number behind it")
+            if not re.fullmatch("0|[1-9][0-9]*", value) or not least <= int(value) <= most:
+                faults.append(f"{word} takes a whole number from {least} to {most}, in digits without a sign or a leading zero, not `{value}`" if value
+                              else f"{word} needs a number behind it")
         seen.add(word)
     if not plain:
         faults.append("a command is missing: one of " + ", ".join(COMMANDS))
