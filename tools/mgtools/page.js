@@ -73,7 +73,7 @@ controls(frame, graph.querySelector(".buttons"), picture);
 // The graph in the whole window, and back.
 function widen(isWide) { graph.classList.toggle("whole", isWide); wide.setAttribute("aria-pressed", isWide); frame.focus(); }
 wide.addEventListener("click", () => widen(!graph.classList.contains("whole")));
-window.addEventListener("keydown", event => { if (event.key === "Escape") widen(false); });
+window.addEventListener("keydown", event => { if (event.key === "Escape" && graph.classList.contains("whole")) widen(false); });
 new ResizeObserver(() => picture.resized()).observe(frame);
 window.addEventListener("resize", () => charts.forEach(chart => chart.draw()));
 picture.all();

@@ -14,8 +14,8 @@ from .layout import Arrow, Box, lay_out
 from .notes import Report
 from .routes import path
 
-# The layout of a larger graph isn't tried in several forms.
-MOST_TRIED = 400
+# Of a larger graph few forms are tried.
+MOST_TRIED = 120
 MARGIN = 12.0
 
 INPUT, OUTPUT, SIDE, FRAME, BAD = "input", "output", "side", "frame", "bad"
@@ -99,8 +99,11 @@ class Picture:
         best, scale = self.drawn, self.scale(width, height)
         tall, wide = best.height, best.width
         parts = 1.5, 2, 2.5, 3, 4, 5, 6, 7
+        if len(self.graph.nodes) > MOST_TRIED:
+            # So many columns, or rows, have the form of the frame, but for what lies between them.
+            parts = max((tall * width / (wide * height)) ** 0.5, (wide * height / (tall * width)) ** 0.5),
         tries = [(tall / part, inf) for part in parts] + [(inf, wide / part) for part in parts]
-        for self.tallest, self.widest in tries if len(self.graph.nodes) <= MOST_TRIED else ():
+        for self.tallest, self.widest in tries:
             if scale == 1.0:
                 break
             self.drawn = self.level(self.graph.level)
