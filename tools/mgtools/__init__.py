@@ -17,9 +17,12 @@
     csvlines         packet lines of tables
     recordings       what recordings hold, parts of them, differences of outputs
     dot              text for Graphviz
-    layout, picture  a graph as SVG without Graphviz
+    layout, picture  a graph as SVG without Graphviz; routes, the ways of its arrows
     timelines        streams over time as SVG
-    runs, pages      a run with the streams inside it, and one HTML file of it (page.html)
+    loops            which streams stand at the inner times of which loop over lists
+    runs, pages      a run with the streams inside it, and one HTML file of it: page.html, and its scripts zoom.js, timeline.js and page.js
+    times, traces    the times of packets in a file, and the steps of a trace followed by them
+    steps            steps in words, counted, and as Chrome's events
     porting          what goes out of a graph of MediaPipe's
 
 Only what a graph says is read here; whether it can be run, `mg` decides.

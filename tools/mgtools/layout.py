@@ -2,13 +2,17 @@
 
 A box is as large as what is in it, and arrows leave and enter it at given places of its lower and upper edge. It is the layout
 of Sugiyama, Tagawa and Toda (1981): layers by the longest way, an order in each layer by the mean place of the neighbours, and
-places that draw long arrows straight.
+places that draw long arrows straight. A picture that would be too tall goes on in a further column on its right, and a layer that
+would be too wide is made of several rows.
 """
 from __future__ import annotations
 
 from dataclasses import dataclass, field
+from math import ceil, inf
 
-GAP, LAYER_GAP = 26.0, 46.0
+from .routes import LAYER_GAP, Routes
+
+GAP, BEND_GAP = 20.0, 12.0
 
 
 @dataclass
@@ -18,7 +22,9 @@ class Box:
     height: float
     is_first: bool = False
     is_last: bool = False
+    is_bend: bool = False
     layer: int = 0
+    column: int = 0
     x: float = 0.0
     y: float = 0.0
     # Where its layer begins and ends, from top to bottom: in between arrows go straight down.
@@ -28,13 +34,15 @@ class Box:
 @dataclass
 class Arrow:
     """An arrow between two boxes by their numbers, from a place of the lower edge to one of the upper edge. A back arrow has no
-    say in the layers."""
+    say in the layers. A label of this width stands on it, between the point that is named and the next one."""
     source: int
     target: int
     leaves: float
     enters: float
     is_back: bool = False
+    label: float = 0.0
     points: list[tuple[float, float]] = field(default_factory=list)
+    named_at: int = 1
     bends: list[int] = field(default_factory=list)
 
 
@@ -83,41 +91,98 @@ def depths(boxes: list[Box], into: dict[int, list[Arrow]]) -> None:
             on_the_way.discard(way.pop())
 
 
-def lay_out(boxes: list[Box], arrows: list[Arrow]) -> tuple[float, float]:
-    """Places the boxes and draws the arrows; the width and the height of the whole."""
+# An arrow, or a part of it, from one layer to the next: the boxes at its ends, and where it leaves and enters them.
+Link = tuple[int, int, float, float]
+
+
+def lay_out(boxes: list[Box], arrows: list[Arrow], tallest: float = inf, widest: float = inf) -> tuple[float, float]:
+    """Places the boxes and draws the arrows; the width and the height of the whole. A column is about as tall as is said at most, and
+    a row as wide."""
     if not boxes:
         return 0.0, 0.0
     layers_of(boxes, arrows)
+    split_layers(boxes, widest)
     every = list(boxes)
-    links: list[tuple[int, int, float, float]] = []
+    links = bent(every, boxes, arrows)
+    rows: list[list[int]] = [[] for _ in range(max(box.layer for box in every) + 1)]
+    for number, box in enumerate(every):
+        rows[box.layer].append(number)
+    rows = in_best_order(every, rows, links)
+    columns = cut(every, rows, links, tallest)
+    for here, column in enumerate(columns):
+        for row in column:
+            for number in row:
+                every[number].column = here
+    links = without_detours(boxes, every, arrows, columns, links)
+    for here, column in enumerate(columns):
+        place(every, column, [link for link in links if every[link[0]].column == here == every[link[1]].column])
+    return Routes(boxes, every, arrows, columns).draw()
+
+
+def split_layers(boxes: list[Box], widest: float) -> None:
+    """Makes several layers of each that would be too wide."""
+    by_layer: dict[int, list[Box]] = {}
+    for box in boxes:
+        by_layer.setdefault(box.layer, []).append(box)
+    further = 0
+    for layer in sorted(by_layer):
+        wide = sum(box.width + GAP for box in by_layer[layer])
+        count = min(ceil(wide / widest), len(by_layer[layer]))
+        each = ceil(len(by_layer[layer]) / max(count, 1))
+        for place_in, box in enumerate(by_layer[layer]):
+            box.layer = layer + further + place_in // each
+        further += (len(by_layer[layer]) - 1) // each
+
+
+def bent(every: list[Box], boxes: list[Box], arrows: list[Arrow]) -> list[Link]:
+    """The links of all arrows but back arrows. A long arrow gets a bend in each layer that it passes."""
+    links: list[Link] = []
     for arrow in arrows:
         if arrow.is_back:
             continue
         before, leaves = arrow.source, arrow.leaves
         for layer in range(boxes[arrow.source].layer + 1, boxes[arrow.target].layer):
-            every.append(Box(2.0, 0.0, layer=layer))
+            every.append(Box(2.0, 0.0, is_bend=True, layer=layer))
             arrow.bends.append(len(every) - 1)
             links.append((before, len(every) - 1, leaves, 1.0))
             before, leaves = len(every) - 1, 1.0
         links.append((before, arrow.target, leaves, arrow.enters))
-    rows: list[list[int]] = [[] for _ in range(max(box.layer for box in every) + 1)]
-    for number, box in enumerate(every):
-        rows[box.layer].append(number)
-    rows = in_best_order(every, rows, links)
-    place(every, rows, links)
-    y = 0.0
-    for row in rows:
-        high = max((every[number].height for number in row), default=0.0)
-        for number in row:
-            box = every[number]
-            box.y = y + (high - box.height) / 2
-            box.row = y, y + high
-        y += high + LAYER_GAP
-    left = min(box.x for box in every)
-    for box in every:
-        box.x -= left
-    width = max(box.x + box.width for box in every)
-    return draw(boxes, every, arrows, width), y - LAYER_GAP
+    return links
+
+
+def cut(every: list[Box], rows: list[list[int]], links: list[Link], tallest: float) -> list[list[list[int]]]:
+    """The rows in columns that are about equally tall: a column ends near its share where the fewest links go on."""
+    heights = [max((every[number].height for number in row), default=0.0) + LAYER_GAP for row in rows]
+    count = min(ceil(sum(heights) / tallest), len(rows))
+    if count <= 1:
+        return [rows]
+    passing = [0] * (len(rows) + 1)
+    for _, target, _, _ in links:
+        passing[every[target].layer] += 1
+    ends, height, above = [0], 0.0, []
+    for high in heights:
+        above.append(height)
+        height += high
+    for number in range(1, count):
+        share = height * number / count
+        near = [row for row in range(ends[-1] + 1, len(rows)) if abs(above[row] - share) < height / count / 4]
+        nearest = min(range(ends[-1] + 1, len(rows)), key=lambda row: abs(above[row] - share), default=None)
+        if nearest is None:
+            break
+        ends.append(min(near, key=lambda row: (passing[row], abs(above[row] - share))) if near else nearest)
+    return [rows[begin:end] for begin, end in zip(ends, [*ends[1:], len(rows)])]
+
+
+def without_detours(boxes: list[Box], every: list[Box], arrows: list[Arrow], columns: list[list[list[int]]], links: list[Link]) -> list[Link]:
+    """Takes the bends away that an arrow has in columns between those of its ends: it goes past these above. The links that are left."""
+    gone: set[int] = set()
+    for arrow in arrows:
+        ends = boxes[arrow.source].column, boxes[arrow.target].column
+        gone.update(bend for bend in arrow.bends if every[bend].column not in ends)
+        arrow.bends = [bend for bend in arrow.bends if bend not in gone]
+    for column in columns:
+        column[:] = [[number for number in row if number not in gone] for row in column]
+    return [link for link in links if link[0] not in gone and link[1] not in gone]
 
 
 def in_best_order(every: list[Box], rows: list[list[int]], links: list[tuple[int, int, float, float]]) -> list[list[int]]:
@@ -163,10 +228,7 @@ def place(every: list[Box], rows: list[list[int]], links: list[tuple[int, int, f
         wants.setdefault(source, []).append((target, leaves, enters))
         wants.setdefault(target, []).append((source, enters, leaves))
     for row in rows:
-        x = 0.0
-        for number in row:
-            every[number].x = x
-            x += every[number].width + GAP
+        settle(every, row, dict.fromkeys(row, 0.0))
     for turn in range(24):
         for row in rows if turn % 2 == 0 else reversed(rows):
             wish = {}
@@ -176,57 +238,26 @@ def place(every: list[Box], rows: list[list[int]], links: list[tuple[int, int, f
             settle(every, row, wish)
 
 
+def gap(one: Box, other: Box) -> float:
+    """The room between two neighbours of a row."""
+    return GAP - (GAP - BEND_GAP) * (one.is_bend + other.is_bend) / 2
+
+
 def settle(every: list[Box], row: list[int], wish: dict[int, float]) -> None:
     """The places of a row that are nearest to the wishes, with room between: boxes that would meet move as one block."""
-    blocks: list[list] = []  # each: its boxes, its wish, the offset of its next box
+    blocks: list[list] = []  # each: its boxes with their offsets, its wish, its width
     for number in row:
-        blocks.append([[(number, 0.0)], wish[number], every[number].width + GAP])
-        while len(blocks) > 1 and blocks[-2][1] + blocks[-2][2] > blocks[-1][1]:
-            behind = blocks.pop()
-            block = blocks[-1]
+        blocks.append([[(number, 0.0)], wish[number], every[number].width])
+        while len(blocks) > 1:
+            block, behind = blocks[-2:]
+            offset = block[2] + gap(every[block[0][-1][0]], every[behind[0][0][0]])
+            if block[1] + offset <= behind[1]:
+                break
             count, more = len(block[0]), len(behind[0])
-            block[1] = (block[1] * count + (behind[1] - block[2]) * more) / (count + more)
-            block[0] += [(one, offset + block[2]) for one, offset in behind[0]]
-            block[2] += behind[2]
+            block[1] = (block[1] * count + (behind[1] - offset) * more) / (count + more)
+            block[0] += [(one, offset + further) for one, further in behind[0]]
+            block[2] = offset + behind[2]
+            blocks.pop()
     for boxes, begin, _ in blocks:
         for number, offset in boxes:
             every[number].x = begin + offset
-
-
-def draw(boxes: list[Box], every: list[Box], arrows: list[Arrow], width: float) -> float:
-    """The points of each arrow. Back arrows go round on the right; the width with these."""
-    lane = width
-    for arrow in arrows:
-        source, target = boxes[arrow.source], boxes[arrow.target]
-        begin = source.x + arrow.leaves, source.y + source.height
-        end = target.x + arrow.enters, target.y
-        if arrow.is_back:
-            lane += 22
-            arrow.points = [begin, (begin[0], begin[1] + 16), (lane, begin[1] + 16), (lane, end[1] - 16), (end[0], end[1] - 16), end]
-        else:
-            bends = [(every[bend].x + 1, y) for bend in arrow.bends for y in every[bend].row]
-            arrow.points = [begin, (begin[0], source.row[1]), *bends, (end[0], target.row[0]), end]
-    return lane + 12 if lane > width else width
-
-
-def path(points: list[tuple[float, float]], is_back: bool) -> str:
-    """An arrow's line as the path of an SVG: bends are round."""
-    if is_back:
-        said = f"M{points[0][0]:.1f},{points[0][1]:.1f}"
-        for before, at, behind in zip(points, points[1:], points[2:]):
-            said += f" L{toward(at, before)} Q{at[0]:.1f},{at[1]:.1f} {toward(at, behind)}"
-        return said + f" L{points[-1][0]:.1f},{points[-1][1]:.1f}"
-    said = f"M{points[0][0]:.1f},{points[0][1]:.1f}"
-    for (x, y), (to_x, to_y) in zip(points, points[1:]):
-        if (x, y) == (to_x, to_y):
-            continue
-        half = (to_y - y) / 2
-        said += f" C{x:.1f},{y + half:.1f} {to_x:.1f},{to_y - half:.1f} {to_x:.1f},{to_y:.1f}"
-    return said
-
-
-def toward(at: tuple[float, float], other: tuple[float, float], radius: float = 9.0) -> str:
-    """The point a little before a bend."""
-    length = max(abs(other[0] - at[0]), abs(other[1] - at[1]))
-    share = min(radius / length, 0.5) if length else 0.0
-    return f"{at[0] + (other[0] - at[0]) * share:.1f},{at[1] + (other[1] - at[1]) * share:.1f}"

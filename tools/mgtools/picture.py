@@ -6,11 +6,17 @@ from __future__ import annotations
 import html
 from dataclasses import dataclass
 from functools import cached_property
+from math import inf
 
 from .arrivals import Arrivals
 from .graph import Graph, Level, Node, Port, in_order
-from .layout import Arrow, Box, lay_out, path
+from .layout import Arrow, Box, lay_out
 from .notes import Report
+from .routes import path
+
+# Of a larger graph few forms are tried.
+MOST_TRIED = 120
+MARGIN = 12.0
 
 INPUT, OUTPUT, SIDE, FRAME, BAD = "input", "output", "side", "frame", "bad"
 STYLE = """
@@ -73,13 +79,43 @@ class Picture:
     def __init__(self, graph: Graph, report: Report | None = None):
         self.graph = graph
         self.report = report or Report()
+        self.tallest = self.widest = inf
+        self.drawn = self.level(self.graph.level)
+
+    @property
+    def width(self) -> float:
+        return self.drawn.width + 2 * MARGIN
+
+    @property
+    def height(self) -> float:
+        return self.drawn.height + 2 * MARGIN
+
+    def scale(self, width: float, height: float) -> float:
+        """How large the picture is shown in a frame of this size: at most as large as it is."""
+        return min(width / self.width, height / self.height, 1.0)
+
+    def fit(self, width: float, height: float) -> float:
+        """Lays the graph out anew, in columns or with wide layers in several rows, where that makes it larger in a frame; its scale."""
+        best, scale = self.drawn, self.scale(width, height)
+        tall, wide = best.height, best.width
+        parts = 1.5, 2, 2.5, 3, 4, 5, 6, 7
+        if len(self.graph.nodes) > MOST_TRIED:
+            # So many columns, or rows, have the form of the frame, but for what lies between them.
+            parts = max((tall * width / (wide * height)) ** 0.5, (wide * height / (tall * width)) ** 0.5),
+        tries = [(tall / part, inf) for part in parts] + [(inf, wide / part) for part in parts]
+        for self.tallest, self.widest in tries:
+            if scale == 1.0:
+                break
+            self.drawn = self.level(self.graph.level)
+            if self.scale(width, height) > scale * 1.05:
+                best, scale = self.drawn, self.scale(width, height)
+        self.drawn = best
+        return scale
 
     def svg(self) -> str:
-        drawn = self.level(self.graph.level)
         parts: list[str] = []
-        self.draw(drawn, 12, 12, parts)
-        width, height = drawn.width + 24, drawn.height + 24
-        return (f'<svg class="graph" xmlns="http://www.w3.org/2000/svg" width="{width:.0f}" height="{height:.0f}" viewBox="0 0 {width:.0f} {height:.0f}">'
+        self.draw(self.drawn, MARGIN, MARGIN, parts)
+        return (f'<svg class="graph" xmlns="http://www.w3.org/2000/svg" viewBox="0 0 {self.width:.0f} {self.height:.0f}">'
                 f"<style>{STYLE}</style>"
                 '<defs><marker id="arrow-tip" viewBox="0 0 8 8" refX="7" refY="4" markerUnits="userSpaceOnUse" markerWidth="8" markerHeight="8" orient="90">'
                 '<path d="M0,0 L8,4 L0,8 z"/></marker></defs>' + "".join(parts) + "</svg>\n")
@@ -110,8 +146,8 @@ class Picture:
         inner = self.level(level)
         inputs, outputs = cells(level.ports, "input"), cells(level.ports, "output")
         lines = [(level.title, "strong")]
-        width, _ = size(lines, inputs, outputs)
-        box = Box(max(inner.width + 28, width + 20), inner.height + 62)
+        width, height = size(lines, inputs, outputs)
+        box = Box(max(inner.width + 28, width + 20), inner.height + height + 12)
         return Item(box, lines, inputs, outputs, inner, FRAME)
 
     def level(self, level: Level) -> Drawn:
@@ -137,10 +173,7 @@ class Picture:
                 items.append(self.end(port, kind, OUTPUT if kind == "stream" else SIDE, level))
                 items[-1].box.is_last = True
                 self.join(arrows, items, sources, kind, port, len(items) - 1, items[-1].box.width / 2, False)
-        width, height = lay_out([item.box for item in items], [arrow[0] for arrow in arrows])
-        for arrow, _, _, label in arrows:
-            if arrow.is_back:
-                width = max(width, arrow.points[2][0] + text_width(label, 9.5) / 2 + 4)
+        width, height = lay_out([item.box for item in items], [arrow[0] for arrow in arrows], self.tallest, self.widest)
         return Drawn(items, arrows, width, height)
 
     def join(self, arrows, items, sources, kind: str, port: Port, target: int, enters: float, is_back: bool) -> None:
@@ -150,7 +183,8 @@ class Picture:
             sources[kind, port.name] = len(items) - 1, 10.0
         source, leaves = sources[kind, port.name]
         style = SIDE if kind == "side_packet" else BAD if port.name in self.report.stalled else ""
-        arrows.append((Arrow(source, target, leaves, enters, is_back), port.name, style, self.said(port.name, kind)))
+        label = self.said(port.name, kind)
+        arrows.append((Arrow(source, target, leaves, enters, is_back, text_width(label, 9.5)), port.name, style, label))
 
     def end(self, port: Port, kind: str, style: str, level: Level) -> Item:
         """A port of the graph, or of the file inside a frame."""
@@ -177,12 +211,12 @@ class Picture:
         for arrow, name, style, label in drawn.arrows:
             points = [(px + x, py + y) for px, py in arrow.points]
             classes = " ".join(filter(None, (style, "back" if arrow.is_back else "")))
-            parts.append(f'<path class="{classes}" marker-end="url(#arrow-tip)" d="{path(points, arrow.is_back)}"><title>{html.escape(name)}</title></path>')
+            parts.append(f'<path class="{classes}" marker-end="url(#arrow-tip)" d="{path(points)}"><title>{html.escape(name)}</title></path>')
             # A stream is named once where it leaves; further readers are told by the arrow.
             if (name, arrow.source) in said and not arrow.is_back:
                 continue
             said.add((name, arrow.source))
-            at, to = (points[2], points[3]) if arrow.is_back else (points[1], points[2])
+            at, to = points[arrow.named_at:][:2]
             middle = (at[0] + to[0]) / 2, (at[1] + to[1]) / 2
             wide = text_width(label, 9.5)
             labels.append(f'<g class="label"><rect x="{middle[0] - wide / 2 - 2:.1f}" y="{middle[1] - 8:.1f}" width="{wide + 4:.1f}" height="12"/>'
@@ -198,11 +232,11 @@ class Picture:
             number = f' data-node="{item.number}"' if item.number is not None else ""
             shape = "frame" if item.style == FRAME else f"body {item.style}"
             parts.append(f'<rect class="{shape}"{number} rx="3" x="{x:.1f}" y="{y:.1f}" width="{box.width:.1f}" height="{box.height:.1f}"/>')
-        top = 17.0 if item.inputs else 3.0
-        for cells_of, at in ((item.inputs, y), (item.outputs, y + box.height - 15)):
+        top = row_height(item.inputs) + (2 if item.inputs else 3)
+        for cells_of, at in ((item.inputs, y), (item.outputs, y + box.height - row_height(item.outputs))):
             begin = x
             for width, (_, label, style) in zip(cell_widths(box.width, cells_of), cells_of):
-                parts.append(f'<rect class="cell {style}" x="{begin:.1f}" y="{at:.1f}" width="{width:.1f}" height="15"/>')
+                parts.append(f'<rect class="cell {style}" x="{begin:.1f}" y="{at:.1f}" width="{width:.1f}" height="{row_height(cells_of):.0f}"/>')
                 parts.append(f'<text class="small" text-anchor="middle" x="{begin + width / 2:.1f}" y="{at + 11:.1f}">{html.escape(label)}</text>')
                 begin += width
         if item.style == FRAME:
@@ -230,4 +264,9 @@ def size(lines: list[tuple[str, str]], inputs: list, outputs: list) -> tuple[flo
     wide = max([text_width(line) for line, _ in lines] + [0]) + 20
     for row in (inputs, outputs):
         wide = max(wide, sum(max(16.0, text_width(cell[1], 9.5) + 8) for cell in row))
-    return wide, 14 * len(lines) + 8 + (15 if inputs else 0) + (15 if outputs else 0)
+    return wide, 14 * len(lines) + 8 + row_height(inputs) + row_height(outputs)
+
+
+def row_height(cells_of: list[tuple[tuple, str, str]]) -> float:
+    """How high a row of cells is: cells without a label are narrow."""
+    return 15.0 if any(label for _, label, _ in cells_of) else 5.0 if cells_of else 0.0

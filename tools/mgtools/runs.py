@@ -2,8 +2,10 @@
 from __future__ import annotations
 
 import pathlib
+import shutil
 import subprocess
 import tempfile
+from collections.abc import Iterator
 from dataclasses import dataclass
 
 from .flat import Flat
@@ -12,6 +14,12 @@ from .notes import Report
 from .timelines import Row, read_rows
 
 MOST_OUTPUTS = 256
+# The statuses at which a run printed all that it came to.
+RUN = (0, 4, 5, 6)
+
+
+class NotRun(Exception):
+    """A run came to nothing, as its notes say."""
 
 
 @dataclass
@@ -22,27 +30,46 @@ class Run:
     notes: list[str]
 
 
-def run(mg: str, files: list[str], recording: str) -> Run:
+def program() -> str:
+    """The program `mg`: the one on the path, or the script at the top of the repository."""
+    return shutil.which("mg") or str(pathlib.Path(__file__).resolve().parents[2] / "mg")
+
+
+def run(mg: str, files: list[str], recording: str, keeps_output: bool = True) -> Run:
     """Runs a graph over a recording, with a report."""
     with open(recording, "rb") as lines:
-        ended = subprocess.run([mg, "run", "--report", *files], stdin=lines, capture_output=True)
-    return Run(ended.returncode, ended.stdout, ended.stderr.decode(errors="replace").splitlines())
+        ended = subprocess.run([mg, "run", "--report", *files], stdin=lines, stdout=subprocess.PIPE if keeps_output else subprocess.DEVNULL,
+                               stderr=subprocess.PIPE)
+    return Run(ended.returncode, ended.stdout or b"", ended.stderr.decode(errors="replace").splitlines())
+
+
+def lines_inside(mg: str, graph: Graph, recording: str, report: Report) -> Iterator[bytes]:
+    """The lines of the packets of all streams that come out of nodes, as the runs print them. Raises NotRun. A run prints what is settled on all
+    its outputs, so streams that came equally far are had by one."""
+    written = [port.name for node in graph.nodes for port in node.outputs]
+    by_bound: dict[str, list[str]] = {}
+    for name in dict.fromkeys(written):
+        if report.packets.get(name, 0):
+            by_bound.setdefault(report.bounds[name], []).append(name)
+    for names in by_bound.values():
+        for begin in range(0, len(names), MOST_OUTPUTS):
+            yield from lines_of(mg, graph, recording, names[begin:begin + MOST_OUTPUTS])
+
+
+def lines_of(mg: str, graph: Graph, recording: str, streams: list[str]) -> Iterator[bytes]:
+    """The lines that the graph prints with these outputs in place of its own."""
+    with tempfile.TemporaryDirectory() as folder, tempfile.TemporaryFile() as notes, open(recording, "rb") as lines:
+        path = pathlib.Path(folder) / "graph.pbtxt"
+        path.write_text(Flat(graph).with_outputs(streams))
+        with subprocess.Popen([mg, "run", str(path)], stdin=lines, stdout=subprocess.PIPE, stderr=notes) as process:
+            yield from process.stdout
+        if process.returncode not in RUN:
+            notes.seek(0)
+            raise NotRun(f"mg run: status {process.returncode}: {notes.read(4096).decode(errors='replace').strip()}")
 
 
 def inner_streams(mg: str, graph: Graph, recording: str, report: Report, most: int) -> dict[str, Row]:
-    """The packets of the streams that come out of nodes. One run has them all, as far as all are settled; a stream that lacks some is run for
-    once more, by itself."""
-    written = [port.name for node in graph.nodes for port in node.outputs]
-    wanted = [name for name in dict.fromkeys(written) if report.packets.get(name, 0)]
+    """The rows of the streams that come out of nodes, each with so many packets at most."""
     found: dict[str, Row] = {}
-    with tempfile.TemporaryDirectory() as folder:
-        path = pathlib.Path(folder) / "graph.pbtxt"
-        for begin in range(0, len(wanted), MOST_OUTPUTS):
-            path.write_text(Flat(graph).with_outputs(wanted[begin:begin + MOST_OUTPUTS]))
-            read_rows(run(mg, [str(path)], recording).output.splitlines(), "inner", most, found)
-        for name in wanted:
-            if name not in found or found[name].count < report.packets[name]:
-                path.write_text(Flat(graph).with_outputs([name]))
-                found.pop(name, None)
-                read_rows(run(mg, [str(path)], recording).output.splitlines(), "inner", most, found)
+    read_rows(lines_inside(mg, graph, recording, report), "inner", most, found)
     return found
