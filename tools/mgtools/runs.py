@@ -1,7 +1,9 @@
 """A run of a graph by `mg`, also with the streams inside it: their packets are had by runs of the same graph with other outputs."""
 from __future__ import annotations
 
+import os
 import pathlib
+import shutil
 import subprocess
 import tempfile
 from dataclasses import dataclass
@@ -20,6 +22,11 @@ class Run:
     status: int
     output: bytes
     notes: list[str]
+
+
+def program() -> str:
+    """The program `mg`: the one that MG names, or that on the path, or the script at the top of the repository."""
+    return os.environ.get("MG") or shutil.which("mg") or str(pathlib.Path(__file__).resolve().parent.parent.parent / "mg")
 
 
 def run(mg: str, files: list[str], recording: str) -> Run:
