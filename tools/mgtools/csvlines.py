@@ -212,6 +212,10 @@ class Table:
         self.time, self.time_at, self.columns = "time", 0, {}
         if not self.head:
             return
+        other = next((one for one in ",;\t|" if len(self.head) == 1 and one in self.head[0]), "")
+        if other:
+            way = option("--separator", "\\t" if other == "\t" else other)
+            raise BadCell(f"{file}:1: the head is one column, `{self.head[0]}`: say what stands between cells ({way})")
         self.time = choices.time or ("time" if "time" in self.head else self.head[0])
         if self.time not in self.head:
             raise BadCell(f"{file}:1: there is no column `{self.time}`: the columns are {', '.join(self.head)}")
@@ -238,7 +242,7 @@ class Table:
                 continue
             line = self.reader.line_num
             if len(row) > len(self.head):
-                raise BadCell(f"{self.file}:{line}: the row has {len(row)} cells, and there are {len(self.head)} columns")
+                raise BadCell(f"{self.file}:{line}: the row has {len(row)} cells, more than the {len(self.head)} of the head")
             said = row[self.time_at].strip() if len(row) > self.time_at else ""
             try:
                 time = self.times.read(said)
