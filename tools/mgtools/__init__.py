@@ -14,8 +14,9 @@
     arrivals         what free nodes made of the packets that arrived at them
     spool            a pipe that is passed on and kept
     explain_all      what is wrong behind the first refusal; flat, an expanded graph that can be changed
-    csvlines         packet lines of tables
-    recordings       what recordings hold, parts of them, differences of outputs
+    csvlines         packet lines of tables; tables, the way back; columns, what is kept for it; scales, their numbers and times
+    recordings       what recordings hold, parts of them; differences, those of outputs; folders, many files
+    replays, junit   recordings that are run again and compared, also as JUnit XML
     dot              text for Graphviz
     layout, picture  a graph as SVG without Graphviz; routes, the ways of its arrows
     timelines        streams over time as SVG

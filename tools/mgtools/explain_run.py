@@ -13,8 +13,8 @@ from .graph import Graph, Node
 from .kinds import kinds, offset_of, port_kind
 from .near import said as near_said
 from .notes import Note
-from .packets import (DONE, KIND_WORDS, POST_STREAM, PRE_STREAM, Line, after, kind_of, read_bound, read_json, read_line, read_time,
-                      show_time, shown)
+from .packets import (DONE, KIND_WORDS, POST_STREAM, PRE_STREAM, Line, after, kind_of, payload_fault, read_bound, read_json, read_line,
+                      read_time, show_time, shown)
 
 
 @dataclass
@@ -152,27 +152,6 @@ def stream_fault(note: Note, name: str, line: Line, stream: Stream, graph: Graph
                 "the times of a stream rise")
     if refusal == "NotAlone" and line.time == POST_STREAM and stream.packets:
         return f"`{name}` has packets before, the last from line {stream.last}, so none may stand at PostStream: give it a stream of its own"
-    return None
-
-
-def payload_fault(value: Any, depth: int = 0) -> str | None:
-    """The first fault of a value, in its order."""
-    kind = kind_of(value)
-    if kind == "Fraction":
-        if value == 0:
-            return "-0 counts as a number with a fraction: write 0"
-        if isinstance(value, int):
-            return f"{value} has more than 64 bits: keep it as a text"
-        return f"{value!r} has a fraction or an exponent, and is no whole number: scale it (tools/recording lines --decimals), or keep it as a text"
-    if kind == "Null":
-        return "null is none: leave the packet out"
-    if kind == "TooWide":
-        return f"{value} has more than 64 signed bits: keep it as a text"
-    if kind in ("Items", "Record"):
-        if depth == 16:
-            return "lists and records stand in one another more than 16 deep"
-        inner = value if kind == "Items" else [value[key] for key in sorted(value, key=str.encode)]
-        return next(filter(None, (payload_fault(one, depth + 1) for one in inner)), None)
     return None
 
 

@@ -5,6 +5,8 @@ A timestamp is a number here, the special ones too, so that they compare as they
 from __future__ import annotations
 
 import json
+import math
+import re
 from collections.abc import Iterable, Iterator
 from dataclasses import dataclass, field
 from typing import Any
@@ -14,6 +16,8 @@ MAX, POST_STREAM, ONE_OVER_POST_STREAM, DONE = (2**63 - 4 + i for i in range(4))
 SPECIAL = {"Unset": UNSET, "Unstarted": UNSTARTED, "PreStream": PRE_STREAM, "PostStream": POST_STREAM,
            "OneOverPostStream": ONE_OVER_POST_STREAM, "Done": DONE}
 WORDS = {number: word for word, number in SPECIAL.items()}
+# The longest line that `mg` takes, without its line feed, and the most lines.
+MOST_BYTES, MOST_LINES = 1048576, 4000000
 
 
 def read_time(value: Any) -> int | None:
@@ -59,6 +63,27 @@ KIND_WORDS = {"Flag": "a truth value", "Int": "a whole number", "Text": "a text"
               "TooWide": "a whole number past 64 signed bits"}
 
 
+def payload_fault(value: Any, depth: int = 0) -> str | None:
+    """The first fault of a value, in its order."""
+    kind = kind_of(value)
+    if kind == "Fraction":
+        if value == 0:
+            return "-0 counts as a number with a fraction: write 0"
+        if isinstance(value, int):
+            return f"{value} has more than 64 bits: keep it as a text"
+        return f"{value!r} has a fraction or an exponent, and is no whole number: scale it (tools/recording lines --decimals), or keep it as a text"
+    if kind == "Null":
+        return "null is none: leave the packet out"
+    if kind == "TooWide":
+        return f"{value} has more than 64 signed bits: keep it as a text"
+    if kind in ("Items", "Record"):
+        if depth == 16:
+            return "lists and records stand in one another more than 16 deep"
+        inner = value if kind == "Items" else [value[key] for key in sorted(value, key=str.encode)]
+        return next(filter(None, (payload_fault(one, depth + 1) for one in inner)), None)
+    return None
+
+
 @dataclass
 class Line:
     """A packet line: its number, its form, and what it says. `packets` are those of one time, by stream."""
@@ -68,7 +93,7 @@ class Line:
     packets: dict[str, Any] = field(default_factory=dict)
     stream: str = ""
     value: Any = None
-    why: str = ""  # of a bad line: NotJson, BadShape or BadTimestamp
+    why: str = ""  # of a bad line: TooLong, NotJson, BadShape or BadTimestamp
 
 
 def no_constant(word: str) -> None:
@@ -78,18 +103,52 @@ def no_constant(word: str) -> None:
 
 def whole(digits: str) -> int | float:
     """A whole number; -0 is one with a fraction to JSON readers that tell it from 0."""
+    if len(digits) > 300:
+        fraction(digits)
     return -0.0 if digits == "-0" else int(digits)
 
 
+def fraction(digits: str) -> float:
+    """A number that `mg` holds in 64 bits, as far as it has room there."""
+    number = float(digits)
+    if math.isinf(number):
+        raise ValueError(digits)
+    return number
+
+
+def depth(value: Any) -> int:
+    """How deep lists and records stand in one another."""
+    inner = value if isinstance(value, list) else value.values() if isinstance(value, dict) else None
+    return 0 if inner is None else 1 + max(map(depth, inner), default=0)
+
+
+# Python's reader takes more than that of `mg`: a number past 64 bits of a fraction, half of a pair of surrogates, any depth.
+UNUSUAL = re.compile(rb"-0|\\u[dD][89a-fA-F]|\d{300}|[eE]\+?\d{3}")
+DEEPEST = 127
+BYTE_ORDER_MARK = b"\xef\xbb\xbf"
+usual_value = json.JSONDecoder(parse_constant=no_constant).decode
+unusual_value = json.JSONDecoder(parse_constant=no_constant, parse_int=whole, parse_float=fraction).decode
+
+
 def read_json(text: bytes) -> Any:
-    """The JSON value of a line. Raises ValueError where it is none."""
-    if b"-0" in text:
-        return json.loads(text, parse_constant=no_constant, parse_int=whole)
-    return json.loads(text, parse_constant=no_constant)
+    """The JSON value of a line. Raises ValueError where it is none, as behind a byte order mark."""
+    try:
+        if UNUSUAL.search(text):
+            value = unusual_value(text.decode())
+            compact(value).encode()
+        else:
+            value = usual_value(text.decode())
+        if text.count(b"[") + text.count(b"{") > DEEPEST and depth(value) > DEEPEST:
+            raise ValueError("lists and records stand too deep")
+    except RecursionError:
+        raise ValueError("lists and records stand too deep") from None
+    return value
 
 
 def read_line(number: int, text: bytes) -> Line:
     """Reads one line by its form alone; whether the stream is there, and the times rise, is for others to say."""
+    if len(text) > MOST_BYTES and len(text.rstrip(b"\n")) > MOST_BYTES:
+        return Line(number, "bad", why="TooLong")
     if not text.strip(b" \t\r\n"):
         return Line(number, "blank")
     try:

@@ -1,4 +1,4 @@
-"""What recordings hold, parts of them, and how two outputs differ. Each reads its lines once, and keeps little of them."""
+"""What recordings hold, and parts of them. Each reads its lines once, and keeps little of them."""
 from __future__ import annotations
 
 import re
@@ -6,8 +6,9 @@ from collections.abc import Iterable, Iterator
 from dataclasses import dataclass, field
 from typing import Any
 
-from .explain_run import payload_fault
-from .packets import (MAX, MIN, POST_STREAM, PRE_STREAM, Line, after, compact, kind_of, packets_line, read_line, show_time, shown, time_value)
+from .near import said as near_said
+from .packets import (BYTE_ORDER_MARK, MAX, MIN, MOST_BYTES, MOST_LINES, POST_STREAM, PRE_STREAM, Line, after, compact, kind_of, packets_line,
+                      payload_fault, read_line, show_time, shown, time_value)
 
 # The usual form of a line, whose parts are taken without a look at the rest: its stream, its time and its value.
 NUMBER = rb"(?:0|-?[1-9]\d{0,17})"
@@ -69,6 +70,10 @@ class Whole:
     faults: list[str] = field(default_factory=list)
     more_faults: int = 0
 
+    @property
+    def is_faulty(self) -> bool:
+        return bool(self.faults) or any(stream.disorder for stream in self.streams.values())
+
     def fault(self, text: str) -> None:
         if len(self.faults) < 10:
             self.faults.append(text)
@@ -84,8 +89,8 @@ def told(lines: Iterable[bytes]) -> Whole:
     number = 0
     for number, text in enumerate(lines, 1):
         found = usual(text)
-        if not found:
-            take(whole, read_line(number, text))
+        if not found or len(text) > MOST_BYTES:
+            take(whole, read_line(number, text), text)
             continue
         name, digits, value = found.groups()
         stream = streams.get(name)
@@ -104,16 +109,24 @@ def told(lines: Iterable[bytes]) -> Whole:
         stream.packets += 1
         stream.kinds[kind] += 1
         stream.last, stream.bound = time, time + 1
+    if number > MOST_LINES:
+        whole.fault(f"line {MOST_LINES + 1}: TooManyLines")
     whole.lines = number
     return whole
 
 
-def take(whole: Whole, line: Line) -> None:
+def bad_line(line: Line, text: bytes) -> str:
+    """The note of `mg` on a bad line, and what is in the way there without being seen."""
+    mark = " (a byte order mark stands before it)" if text.startswith(BYTE_ORDER_MARK) else ""
+    return f"line {line.number}: {line.why}{mark}"
+
+
+def take(whole: Whole, line: Line, text: bytes) -> None:
     """Any other line than a usual one."""
     if line.form == "blank":
         whole.blank += 1
     elif line.form == "bad":
-        whole.fault(f"line {line.number}: {line.why}")
+        whole.fault(bad_line(line, text))
     elif line.form == "side":
         if any(told.packets or told.bounds or told.closed for told in whole.streams.values()):
             whole.fault(f"line {line.number}: the side packet `{line.stream}` stands behind a line that names a stream")
@@ -170,15 +183,31 @@ def parts(stream: Told) -> Iterator[str]:
 
 @dataclass
 class Pick:
-    """Which part of a recording is wanted. Times from `since` on and below `until`."""
+    """Which part of a recording is wanted. Times from `since` on and below `until`. Of each name that came it knows which one it has."""
     keep: set[str] | None = None
     drop: set[str] = field(default_factory=set)
     rename: dict[str, str] = field(default_factory=dict)
     since: int = MIN - 1
     until: int = MAX + 2
+    seen: dict[str, str | None] = field(default_factory=dict)
 
-    def wants(self, name: str) -> bool:
-        return name not in self.drop and (self.keep is None or name in self.keep)
+    def name_of(self, name: str, number: int) -> str | None:
+        """The name of a stream or a side packet in the part; none where it isn't wanted."""
+        if name not in self.seen:
+            is_wanted = name not in self.drop and (self.keep is None or name in self.keep)
+            new = self.rename.get(name, name) if is_wanted else None
+            other = next((old for old, taken in self.seen.items() if taken == new), None) if is_wanted else None
+            if other is not None:
+                raise ValueError(f"line {number}: `{other}` and `{name}` would both be `{new}`")
+            self.seen[name] = new
+        return self.seen[name]
+
+    def check_names(self) -> None:
+        """Refuses a choice for a name that no line had."""
+        for option, names in (("--keep", self.keep or ()), ("--drop", self.drop), ("--rename", self.rename)):
+            for name in sorted(names):
+                if name not in self.seen:
+                    raise ValueError(f"no line has a stream or a side packet `{name}` ({option}){near_said(name, self.seen)}")
 
 
 def picked(lines: Iterable[bytes], pick: Pick) -> Iterator[bytes]:
@@ -190,26 +219,28 @@ def picked(lines: Iterable[bytes], pick: Pick) -> Iterator[bytes]:
         if found:
             name = found[1]
             if name not in heads:
-                wanted = pick.wants(name.decode())
-                heads[name] = b'{"stream":"' + pick.rename.get(name.decode(), name.decode()).encode() if wanted else None
+                new = pick.name_of(name.decode(), number)
+                heads[name] = b'{"stream":"' + new.encode() if new is not None else None
             if heads[name] is not None and pick.since <= int(found[2]) < pick.until:
                 yield heads[name] + text[found.end(1):].rstrip() + b"\n"
             continue
         line = read_line(number, text)
         if line.form == "bad":
-            raise ValueError(f"line {number}: {line.why}")
+            raise ValueError(bad_line(line, text))
         made = part_of(line, pick)
         if made is not None:
             yield made.encode() + b"\n"
+    pick.check_names()
 
 
 def part_of(line: Line, pick: Pick) -> str | None:
     """What is wanted of one line."""
-    name = pick.rename.get(line.stream, line.stream)
     if line.form == "packets":
-        packets = {pick.rename.get(one, one): value for one, value in line.packets.items() if pick.wants(one)}
+        packets = {pick.name_of(one, line.number): value for one, value in line.packets.items()}
+        packets.pop(None, None)
         return packets_line(line.time, packets) if packets and pick.since <= line.time < pick.until else None
-    if not line.stream or not pick.wants(line.stream):
+    name = pick.name_of(line.stream, line.number) if line.stream else None
+    if name is None:
         return None
     if line.form == "bound":
         # What is promised below the span's begin says nothing of the span.
@@ -217,103 +248,3 @@ def part_of(line: Line, pick: Pick) -> str | None:
     if line.form == "close":
         return compact({"stream": name, "close": True})
     return compact({"side": name, "value": line.value})
-
-
-@dataclass
-class Difference:
-    """How two outputs differ: the first difference, and how many packets of each stream differ, or stand in one of them alone."""
-    first: str = ""
-    changed: dict[str, int] = field(default_factory=dict)
-    only_one: dict[str, int] = field(default_factory=dict)
-    only_other: dict[str, int] = field(default_factory=dict)
-    packets: int = 0
-
-    @property
-    def total(self) -> int:
-        return sum(sum(counts.values()) for counts in (self.changed, self.only_one, self.only_other))
-
-    def count(self, counts: dict[str, int], stream: str, text: str) -> None:
-        counts[stream] = counts.get(stream, 0) + 1
-        self.first = self.first or text
-
-
-class Output:
-    """An output, read line by line. Its times rise."""
-
-    def __init__(self, lines: Iterable[bytes], name: str):
-        self.lines = iter(lines)
-        self.name = name
-        self.number = 0
-        self.last = MIN - 2
-        self.text = b""
-        self.next()
-
-    def next(self) -> None:
-        """Goes on to the next line that isn't blank; there is no text behind the last one."""
-        self.text = b""
-        for text in self.lines:
-            self.number += 1
-            if text.strip():
-                self.text = text.rstrip()
-                return
-
-    def line(self) -> Line | None:
-        """The line where it stands."""
-        if not self.text:
-            return None
-        line = read_line(self.number, self.text)
-        if line.form != "packets":
-            raise ValueError(f"{self.name}:{self.number}: this is no line of an output")
-        return line
-
-    def packets_at(self, time: int) -> dict[str, Any]:
-        """The packets of a time, from where it stands."""
-        found: dict[str, Any] = {}
-        line = self.line()
-        while line and line.time <= time:
-            if line.time < time:
-                raise ValueError(f"{self.name}:{self.number}: the times of an output rise, and {show_time(line.time)} stands behind {show_time(time)}")
-            found.update(line.packets)
-            self.next()
-            line = self.line()
-        return found
-
-
-def difference(one: Iterable[bytes], other: Iterable[bytes], names: tuple[str, str]) -> Difference:
-    """How two outputs differ, time by time. Lines that are equal byte for byte aren't looked into."""
-    found = Difference()
-    left, right = Output(one, names[0]), Output(other, names[1])
-    while left.text or right.text:
-        if left.text == right.text:
-            found.packets += 1
-            left.next()
-            right.next()
-            continue
-        times = [line.time for line in (left.line(), right.line()) if line]
-        compare(found, min(times), left.packets_at(min(times)), right.packets_at(min(times)), names)
-    return found
-
-
-def compare(found: Difference, time: int, here: dict[str, Any], there: dict[str, Any], names: tuple[str, str]) -> None:
-    """What differs at one time."""
-    found.packets += len(here.keys() | there.keys())
-    if here == there and all(type(here[name]) is type(there[name]) for name in here):
-        return
-    at = show_time(time)
-    for name in [*here, *(name for name in there if name not in here)]:
-        if name not in there:
-            found.count(found.only_one, name, f"`{name}` at {at}: {shown(here[name])} in {names[0]}, and no packet in {names[1]}")
-        elif name not in here:
-            found.count(found.only_other, name, f"`{name}` at {at}: no packet in {names[0]}, and {shown(there[name])} in {names[1]}")
-        elif shown(here[name], 10**9) != shown(there[name], 10**9):
-            found.count(found.changed, name, f"`{name}` at {at}: {shown(here[name])} in {names[0]}, and {shown(there[name])} in {names[1]}")
-
-
-def difference_said(found: Difference, names: tuple[str, str]) -> Iterator[str]:
-    """The first difference, and then how many."""
-    yield f"the first: {found.first}"
-    yield f"{found.total} of {found.packets} packets differ"
-    for counts, what in ((found.changed, "have another value"), (found.only_one, f"stand in {names[0]} alone"),
-                         (found.only_other, f"stand in {names[1]} alone")):
-        for name, number in counts.items():
-            yield f"  {name}: {number} {what}"

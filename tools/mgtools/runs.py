@@ -1,6 +1,7 @@
 """A run of a graph by `mg`, also with the streams inside it: their packets are had by runs of the same graph with other outputs."""
 from __future__ import annotations
 
+import os
 import pathlib
 import shutil
 import subprocess
@@ -31,8 +32,8 @@ class Run:
 
 
 def program() -> str:
-    """The program `mg`: the one on the path, or the script at the top of the repository."""
-    return shutil.which("mg") or str(pathlib.Path(__file__).resolve().parents[2] / "mg")
+    """The program `mg`: the one that MG names, or that on the path, or the script at the top of the repository."""
+    return os.environ.get("MG") or shutil.which("mg") or str(pathlib.Path(__file__).resolve().parents[2] / "mg")
 
 
 def run(mg: str, files: list[str], recording: str, keeps_output: bool = True) -> Run:
