@@ -20,7 +20,8 @@
     layout, picture  a graph as SVG without Graphviz
     timelines        streams over time as SVG
     runs, pages      a run with the streams inside it, and one HTML file of it (page.html)
-    porting          what goes out of a graph of MediaPipe's
+    porting          what goes out of a graph of MediaPipe's; uses, a graph ported with all its files
+    stand_ins        files that stand in for calculators; wanted, which kinds of packets are wanted of these
 
 Only what a graph says is read here; whether it can be run, `mg` decides.
 """
