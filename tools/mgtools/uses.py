@@ -5,6 +5,7 @@ from __future__ import annotations
 
 from dataclasses import dataclass, field as attribute, replace
 from itertools import count
+from pathlib import Path
 
 from .graph import LISTS, MOST_NODES, Field, File, Node, NotExpandable, Port, expand, first_text, is_true, ports_of, read_key
 from .kinds import kinds, option_faults, port_faults
@@ -208,10 +209,12 @@ class Porter:
         for name, latency in latencies.items():
             found = [one for one in self.stand_ins.values() if one.calculator == name]
             if not found:
-                raise Refusal(f"--latency {name}: no file is written in place of `{name}`" + near_said(name, [one.calculator for one in self.stand_ins.values()]))
+                close = near_said(name, [one.calculator for one in self.stand_ins.values()])
+                raise Refusal(f"--latency {name}: no file is written in place of `{name}`{close}")
             for one in found:
                 if one.loop_end or not one.ports["output_stream"]:
-                    raise Refusal(f"--latency {name}: " + ("an end of a loop over lists" if one.loop_end else "a calculator without output streams") + " has no latency")
+                    what = "an end of a loop over lists" if one.loop_end else "a calculator without output streams"
+                    raise Refusal(f"--latency {name}: {what} has no latency")
                 one.latency = latency
 
     def look_at_kinds(self) -> None:
@@ -233,7 +236,7 @@ class Porter:
                 one.needs = [what for port in node.outputs for what in wanted.said(port.name, listed([port.key], "the output"))]
         self.of_inputs = [f"{graph.files[0].place(port.at)}: {what}" for port in graph.inputs for what in wanted.said(port.name, f"`{port.name}`")]
 
-    def said(self, folder: str) -> list[str]:
+    def said(self, folder: Path) -> list[str]:
         """What a person has to know: what went, and what each file that was written assumes."""
         lines = list(dict.fromkeys(line for use in self.uses.values() for line in use.said()))
         used = [use.file for use in self.uses.values()]
@@ -242,7 +245,7 @@ class Porter:
         for one in self.stand_ins.values():
             more = f" and {len(one.places) - 1} more" if len(one.places) > 1 else ""
             said = "; ".join(one.assumes())
-            lines.append(f"{folder}/{one.file}: stands in for {one.calculator} at {one.places[0]}{more}" + (f": {said}" if said else ""))
+            lines.append(f"{folder / one.file}: stands in for {one.calculator} at {one.places[0]}{more}" + (f": {said}" if said else ""))
         return lines + self.of_inputs
 
 
