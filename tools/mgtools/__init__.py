@@ -24,7 +24,8 @@
     runs, pages      a run with the streams inside it, and one HTML file of it: page.html, and its scripts zoom.js, timeline.js and page.js
     times, traces    the times of packets in a file, and the steps of a trace followed by them
     steps            steps in words, counted, and as Chrome's events
-    porting          what goes out of a graph of MediaPipe's
+    porting          what goes out of a graph of MediaPipe's; uses, a graph ported with all its files
+    stand_ins        files that stand in for calculators; wanted, which kinds of packets are wanted of these
 
 Only what a graph says is read here; whether it can be run, `mg` decides.
 """

@@ -10,7 +10,7 @@ from .notes import Note
 
 # What helps with a calculator that isn't there, whatever else is said.
 STAND_IN = ("no file that was named has this `type`: if it is a subgraph, name its file too; if it is MediaPipe's, a file of this type can stand in "
-            "for it (docs/guide/porting.md)")
+            "for it, which `tools/port --stand-ins` writes (docs/guide/porting.md)")
 
 
 def owner_file(owner: str, files: list[File]) -> File | None:

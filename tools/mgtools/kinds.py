@@ -10,6 +10,8 @@ from .graph import Node, key_label
 from .textform import Field, Scalar
 
 LEAST, MOST = -2**63, 2**63 - 1
+# What a side packet of a graph file may be.
+PACKETS = ("int_value", "bool_value", "string_value")
 TRUTHS = ("true", "True", "t", "1", "false", "False", "f", "0")
 
 
@@ -42,7 +44,7 @@ class Option:
     def fits(self, value: Field) -> bool:
         scalar = value.value
         if self.repeated:
-            return isinstance(scalar, list)
+            return [field.name in PACKETS for field in value.fields] == [True]
         if not isinstance(scalar, Scalar):
             return False
         if self.words:
@@ -52,7 +54,7 @@ class Option:
 
     def say(self) -> str:
         if self.repeated:
-            return "a message with one of int_value, bool_value, string_value"
+            return f"a message with one of {', '.join(PACKETS)}"
         if self.words == TRUTHS:
             return "true or false"
         if self.words:

@@ -16,11 +16,11 @@ SHAPES = {"text": "a text in quotes", "number": "a whole number from -2147483648
           "truth": "true or false"}
 
 # Fields that change nothing of what comes out of a graph, at the graph and at a node: tools/port takes them out.
-IDLE_IN_GRAPH = ("executor", "profiler_config", "report_deadlock")
+IDLE_IN_GRAPH = ("executor", "profiler_config", "report_deadlock", "package")
 IDLE_IN_NODE = ("executor", "profiler_config", "source_layer")
 # Others of MediaPipe's that mg leaves out.
 LEFT_OUT = ("input_stream_handler", "output_stream_handler", "packet_factory", "packet_generator", "status_handler", "options",
-            "graph_options", "package", "option_value", "external_input")
+            "graph_options", "option_value", "external_input")
 
 
 def fields_at(path: str) -> dict[str, str]:
