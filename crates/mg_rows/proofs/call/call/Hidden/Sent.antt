@@ -3,7 +3,7 @@ use denote.Param.Send.{sendable}
 use denote.Param.Sent.{Sends}
 use Rattle.mg_batch.proofs.Sent.{batch_box}
 use Rattle.mg_route.proofs.Sent.{law_box}
-use Rattle.mg_rows.proofs.call.make_call.OwnLists.{part-1-1, part-1-2}
+use Rattle.mg_rows.proofs.call.call.OwnLists.{part-1-1, part-1-2}
 
 pub sends-part-1-1 : Sends part-1-1
 sends-part-1-1 i = search (law_box, sendable) depth 20
