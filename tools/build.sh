@@ -1,0 +1,155 @@
+# The functions that ./mg and ./prove share. They name $me, the script, and $top, the folder of the repository.
+out=$top/crates/mg_cli/out
+
+say() { echo "$me: $*" >&2; }
+
+# Lists the sources and the programs, each with its last change and its number: whatever changes one changes its line. It replaces the
+# shell that it runs in, so it stands in a pipe.
+listing() {
+    CDPATH='' cd -- "$top/crates" && exec find ../crates.txt */src */specs mg_cli/out/mg_cli mg_cli/out/first_look -printf '%p %C@ %i\n' 2>/dev/null
+}
+
+# Lists a crate and those that it stands on, each behind those below it: their lines of the crates.txt in a folder.
+lines_of() {
+    awk -F: -v top="$1" '!/^#/ && NF > 1 { split($1, word, " "); name[++n] = word[1]; libraries[n] = $2; line[n] = $0 }
+        END {
+            made[top]
+            for (i = n; i > 0; i--) if (name[i] in made) { m = split(libraries[i], each, " "); while (m) made[each[m--]] }
+            for (i = 1; i <= n; i++) if (name[i] in made) print line[i]
+        }' "$2/crates.txt"
+}
+
+# Their names alone.
+below() { lines_of "$1" "$2" | sed 's/[ :].*//'; }
+
+# Finds among the sources of the program, below a folder, by the words given. The sources are what it is made of, and the definitions that
+# its contracts name. Proofs are none: another proof changes neither the program nor what is proved of it.
+find_sources() {
+    from=$1
+    shift
+    # shellcheck disable=SC2046 # the folders are words of their own
+    (cd "$from/crates" && find $(below mg_cli .. | sed 's|.*|&/src\n&/specs|') -type f \( -name '*.rt' -o -name '*.antt' \) "$@") 2>/dev/null
+}
+
+checksum() { sha256sum | sed 's/ .*//'; }
+
+# Writes the checksum of the sources that lie below a folder, and of their lines of crates.txt.
+sum_of() { { lines_of mg_cli "$1" && find_sources "$1" -exec sha256sum {} + | LC_ALL=C sort -k 2; } | checksum; }
+
+# Returns whether a program is that of the sources, whose checksum is $sum: that and the program's own stand beside it. Those of the proved
+# program are missing where rt left it there, or aren't its own: by its time it is judged once.
+is_of_sources() {
+    [ -x "$out/$1" ] || return 1
+    own=$(checksum <"$out/$1") of_sources='' of_program=''
+    [ ! -r "$out/$1.sources" ] || read -r of_sources of_program <"$out/$1.sources"
+    if [ -n "$own" ] && [ "$of_program" = "$own" ]; then
+        [ "$of_sources" = "$sum" ]
+        return
+    fi
+    [ "$1" = mg_cli ] || return 1
+    [ -z "$({ find "$top/crates.txt" -newer "$out/mg_cli" && find_sources "$top" -newer mg_cli/out/mg_cli -print; } | head -n 1)" ] || return 1
+    echo "$sum $own" 2>/dev/null >"$out/mg_cli.sources"
+    return 0
+}
+
+# Sets $program to that of the sources: mg_cli, which is proved, before first_look, or none. What was found once is found again by the
+# listing of that time, as long as no line of it changes.
+choose() {
+    for program in mg_cli first_look; do
+        [ -e "$out/$program.seen" ] && listing | cmp -s - "$out/$program.seen" && return
+    done
+    if [ -e "$out/mg_cli" ] || [ -e "$out/first_look" ]; then
+        listed=$(listing) sum=$(sum_of "$top")
+        for program in mg_cli first_look; do
+            is_of_sources "$program" || continue
+            [ -z "$listed" ] || printf '%s\n' "$listed" 2>/dev/null >"$out/$program.seen"
+            return
+        done
+    fi
+    program=''
+}
+
+seconds() { echo $(($(date +%s) - began)); }
+
+# Ends where a program can't be built, or can't be kept.
+need_tools() {
+    if ! command -v rt >/dev/null; then
+        say "no program of these sources is built, and rt, the command of the Rattle kit that builds it, isn't on the path"
+        exit 1
+    fi
+    mkdir -p "$out" 2>/dev/null && [ -w "$out" ] && return
+    say "no program of these sources is built, and none could be kept, as $out can't be written"
+    exit 1
+}
+
+# Waits until no other call of this script builds. It lasts until this one ends, or closes the file.
+take_turn() {
+    exec 9<"$top/$me"
+    said=-25
+    # flock ends with 1 where another call holds it; where there is no flock, or no lock to be had, nothing is waited for
+    while flock -n 9 2>/dev/null; [ $? = 1 ]; do
+        if [ $(($(seconds) - said)) -ge 25 ]; then
+            said=$(seconds)
+            say "another call builds the program; waiting for it ($said seconds so far)"
+        fi
+        sleep 1
+    done
+}
+
+clean_up() {
+    trap '' INT TERM HUP PIPE
+    # shellcheck disable=SC2086 # the runs are words of their own
+    kill $main $aside 2>/dev/null
+    wait
+    rm -rf "$room" "$out/mg_cli.new" "$out/first_look.new"
+}
+
+# Makes a temporary folder with a copy of what a build reads: the crates that the program is made of, without their edits, as the top of a
+# repository. The checksum is that of the copy.
+open_room() {
+    main='' aside='' number=0
+    # a run has its temporary files there; where it is root's, it runs the program as nobody, who has to get there
+    room=$(mktemp -d) && room=$(CDPATH='' cd -- "$room" && pwd) && chmod 711 "$room" || exit 1
+    trap clean_up EXIT
+    trap 'exit 130' INT
+    trap 'exit 143' TERM HUP PIPE
+    : >"$room/log.0"
+    mkdir -p "$room/copy/.git" && cp "$top/HANDLES" "$room/copy/" && lines_of mg_cli "$top" >"$room/copy/crates.txt" || exit 1
+    for name in $(below mg_cli "$room/copy"); do
+        mkdir -p "$room/copy/crates/$name" || exit 1
+        for part in src specs proofs data args stdin stdout status; do
+            [ ! -e "$top/crates/$name/$part" ] || cp -R "$top/crates/$name/$part" "$room/copy/crates/$name/" || exit 1
+        done
+    done
+    sum=$(sum_of "$room/copy")
+}
+
+# Begins a run in a folder of the copy, by the words given.
+begin() {
+    number=$((number + 1))
+    (cd "$room/copy/$1" && shift && export TMPDIR="$room" && exec "$@" </dev/null >"$room/log.$number" 2>&1 9<&-) &
+    run=$!
+}
+
+# Writes the lines of a failed build that say why it failed: errors and what isn't proved, or, without any, its last lines.
+reasons() {
+    cat "$room"/log.* | grep -E '(^|[^a-z])error[:[]|: not proved$|NOT PROVED|not in the layout|cannot|not found|stopped|FAILED' |
+        awk '!told[$0]++' | head -n 10 | grep . || tail -n 10 "$room/log.$number" | grep . || echo 'rt said nothing'
+}
+
+fail() {
+    reasons | sed "s|$room/copy|$top|g" >&2
+    say "the build failed after $(seconds) seconds"
+    exit 1
+}
+
+# Keeps a program that a build made. Its checksums are there before it is, and its time is that of the copy, so that it never counts as that
+# of other sources.
+keep() {
+    cp "$2" "$out/$1.new" && chmod 755 "$out/$1.new" && touch -r "$room/log.0" "$out/$1.new" || exit 1
+    echo "$sum $(checksum <"$out/$1.new")" >"$out/$1.sources" && mv "$out/$1.new" "$out/$1" || exit 1
+    say "built in $(seconds) seconds"
+    clean_up
+    trap - EXIT INT TERM HUP PIPE
+    program=$1
+}
