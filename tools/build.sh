@@ -4,12 +4,13 @@ out=$top/crates/mg_cli/out
 say() { echo "$me: $*" >&2; }
 
 # Lists the sources and the programs, each with its last change and its number: whatever changes one changes its line. It replaces the
-# shell that it runs in, so it stands in a pipe.
+# shell that it runs in, so it stands in a pipe or in $( ).
 listing() {
-    CDPATH='' cd -- "$top/crates" && exec find ../crates.txt */src */specs mg_cli/out/mg_cli mg_cli/out/first_look -printf '%p %C@ %i\n' 2>/dev/null
+    CDPATH='' cd -- "$top/crates" &&
+        exec find ../crates.txt */src */specs mg_cli/out/mg_cli mg_cli/out/mg_cli.sources mg_cli/out/first_look -printf '%p %C@ %i\n' 2>/dev/null
 }
 
-# Lists a crate and those that it stands on, each behind those below it: their lines of the crates.txt in a folder.
+# Lists a crate and those that it stands on, each after those below it: their lines of the crates.txt in a folder.
 lines_of() {
     awk -F: -v top="$1" '!/^#/ && NF > 1 { split($1, word, " "); name[++n] = word[1]; libraries[n] = $2; line[n] = $0 }
         END {
@@ -28,7 +29,7 @@ find_sources() {
     from=$1
     shift
     # shellcheck disable=SC2046 # the folders are words of their own
-    (cd "$from/crates" && find $(below mg_cli .. | sed 's|.*|&/src\n&/specs|') -type f \( -name '*.rt' -o -name '*.antt' \) "$@") 2>/dev/null
+    (CDPATH='' cd -- "$from/crates" && find $(below mg_cli .. | sed 's|.*|&/src\n&/specs|') -type f \( -name '*.rt' -o -name '*.antt' \) "$@") 2>/dev/null
 }
 
 checksum() { sha256sum | sed 's/ .*//'; }
@@ -36,8 +37,8 @@ checksum() { sha256sum | sed 's/ .*//'; }
 # Writes the checksum of the sources that lie below a folder, and of their lines of crates.txt.
 sum_of() { { lines_of mg_cli "$1" && find_sources "$1" -exec sha256sum {} + | LC_ALL=C sort -k 2; } | checksum; }
 
-# Returns whether a program is that of the sources, whose checksum is $sum: that and the program's own stand beside it. Those of the proved
-# program are missing where rt left it there, or aren't its own: by its time it is judged once.
+# Returns whether a program is that of the sources, whose checksum is $sum. That checksum and the program's own stand in a file beside it.
+# rt writes no such file for the proved program, which is judged by its time then, once.
 is_of_sources() {
     [ -x "$out/$1" ] || return 1
     own=$(checksum <"$out/$1") of_sources='' of_program=''
@@ -52,8 +53,8 @@ is_of_sources() {
     return 0
 }
 
-# Sets $program to that of the sources: mg_cli, which is proved, before first_look, or none. What was found once is found again by the
-# listing of that time, as long as no line of it changes.
+# Sets $program to the one of the sources: mg_cli, which is proved, or else first_look, or none. A program that was found is found again by
+# the listing of that time, as long as no line of it changes.
 choose() {
     for program in mg_cli first_look; do
         [ -e "$out/$program.seen" ] && listing | cmp -s - "$out/$program.seen" && return
@@ -71,6 +72,9 @@ choose() {
 
 seconds() { echo $(($(date +%s) - began)); }
 
+# Returns whether nothing was said for nearly 30 seconds.
+is_silent() { [ $(($(date +%s) - last)) -ge 28 ]; }
+
 # Ends where a program can't be built, or can't be kept.
 need_tools() {
     if ! command -v rt >/dev/null; then
@@ -85,12 +89,12 @@ need_tools() {
 # Waits until no other call of this script builds. It lasts until this one ends, or closes the file.
 take_turn() {
     exec 9<"$top/$me"
-    said=-25
+    last=0
     # flock ends with 1 where another call holds it; where there is no flock, or no lock to be had, nothing is waited for
     while flock -n 9 2>/dev/null; [ $? = 1 ]; do
-        if [ $(($(seconds) - said)) -ge 25 ]; then
-            said=$(seconds)
-            say "another call builds the program; waiting for it ($said seconds so far)"
+        if is_silent; then
+            say "another call builds the program; waiting for it ($(seconds) seconds so far)"
+            last=$(date +%s)
         fi
         sleep 1
     done
@@ -100,14 +104,17 @@ clean_up() {
     trap '' INT TERM HUP PIPE
     # shellcheck disable=SC2086 # the runs are words of their own
     kill $main $aside 2>/dev/null
-    wait
-    rm -rf "$room" "$out/mg_cli.new" "$out/first_look.new"
+    for run in $main $aside; do
+        # a run that has only just begun may have lost the signal
+        while kill -0 "$run" 2>/dev/null; do sleep 1 && kill "$run" 2>/dev/null; done
+    done
+    rm -rf "$room" "$new"
 }
 
-# Makes a temporary folder with a copy of what a build reads: the crates that the program is made of, without their edits, as the top of a
-# repository. The checksum is that of the copy.
+# Makes a temporary folder for the build of a program, with a copy of what the build reads: the crates that the program is made of, without
+# their edits, as the top of a repository. $sum is the checksum of the copy.
 open_room() {
-    main='' aside='' number=0
+    main='' aside='' number=0 last=$(date +%s) new=$out/$1.new
     # a run has its temporary files there; where it is root's, it runs the program as nobody, who has to get there
     room=$(mktemp -d) && room=$(CDPATH='' cd -- "$room" && pwd) && chmod 711 "$room" || exit 1
     trap clean_up EXIT
@@ -131,7 +138,7 @@ begin() {
     run=$!
 }
 
-# Writes the lines of a failed build that say why it failed: errors and what isn't proved, or, without any, its last lines.
+# Writes the lines of a failed build that say why it failed: errors and what isn't proved, or else its last lines.
 reasons() {
     cat "$room"/log.* | grep -E '(^|[^a-z])error[:[]|: not proved$|NOT PROVED|not in the layout|cannot|not found|stopped|FAILED' |
         awk '!told[$0]++' | head -n 10 | grep . || tail -n 10 "$room/log.$number" | grep . || echo 'rt said nothing'
@@ -139,17 +146,16 @@ reasons() {
 
 fail() {
     reasons | sed "s|$room/copy|$top|g" >&2
-    say "the build failed after $(seconds) seconds"
+    say "the build failed after $(seconds) seconds$1"
     exit 1
 }
 
-# Keeps a program that a build made. Its checksums are there before it is, and its time is that of the copy, so that it never counts as that
-# of other sources.
+# Keeps a program that was built, under the name that $new begins with. Its checksums are there before it is, and its time is that of the
+# copy, so that it never counts as a program of other sources.
 keep() {
-    cp "$2" "$out/$1.new" && chmod 755 "$out/$1.new" && touch -r "$room/log.0" "$out/$1.new" || exit 1
-    echo "$sum $(checksum <"$out/$1.new")" >"$out/$1.sources" && mv "$out/$1.new" "$out/$1" || exit 1
+    cp "$1" "$new" && chmod 755 "$new" && touch -r "$room/log.0" "$new" || exit 1
+    echo "$sum $(checksum <"$new")" >"${new%.new}.sources" && mv "$new" "${new%.new}" || exit 1
     say "built in $(seconds) seconds"
     clean_up
     trap - EXIT INT TERM HUP PIPE
-    program=$1
 }
