@@ -104,10 +104,7 @@ clean_up() {
     trap '' INT TERM HUP PIPE
     # shellcheck disable=SC2086 # the runs are words of their own
     kill $main $aside 2>/dev/null
-    for run in $main $aside; do
-        # a run that has only just begun may have lost the signal
-        while kill -0 "$run" 2>/dev/null; do sleep 1 && kill "$run" 2>/dev/null; done
-    done
+    wait
     rm -rf "$room" "$new"
 }
 
@@ -131,11 +128,14 @@ open_room() {
     sum=$(sum_of "$room/copy")
 }
 
-# Begins a run in a folder of the copy, by the words given.
+# Begins a run in a folder of the copy, by the words given. A process that is begun while a signal is caught can lose that signal until it is
+# on its own, so this one isn't caught then.
 begin() {
     number=$((number + 1))
+    trap - TERM
     (cd "$room/copy/$1" && shift && export TMPDIR="$room" && exec "$@" </dev/null >"$room/log.$number" 2>&1 9<&-) &
     run=$!
+    trap 'exit 143' TERM
 }
 
 # Writes the lines of a failed build that say why it failed: errors and what isn't proved, or else its last lines.
