@@ -108,8 +108,8 @@ clean_up() {
     rm -rf "$room" "$new"
 }
 
-# Makes a temporary folder for the build of a program, with a copy of what the build reads: the crates that the program is made of, without
-# their edits, as the top of a repository. $sum is the checksum of the copy.
+# Makes a temporary folder for the build of a program, with a copy of what the build reads: the parts named of the crates that the program is
+# made of, as the top of a repository. $sum is the checksum of the copy.
 open_room() {
     main='' aside='' number=0 last=$(date +%s) new=$out/$1.new
     # a run has its temporary files there; where it is root's, it runs the program as nobody, who has to get there
@@ -119,9 +119,10 @@ open_room() {
     trap 'exit 143' TERM HUP PIPE
     : >"$room/log.0"
     mkdir -p "$room/copy/.git" && cp "$top/HANDLES" "$room/copy/" && lines_of mg_cli "$top" >"$room/copy/crates.txt" || exit 1
+    shift
     for name in $(below mg_cli "$room/copy"); do
         mkdir -p "$room/copy/crates/$name" || exit 1
-        for part in src specs proofs data args stdin stdout status; do
+        for part; do
             [ ! -e "$top/crates/$name/$part" ] || cp -R "$top/crates/$name/$part" "$room/copy/crates/$name/" || exit 1
         done
     done
