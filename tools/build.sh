@@ -37,8 +37,16 @@ checksum() { sha256sum | sed 's/ .*//'; }
 # Writes the checksum of the sources that lie below a folder, and of their lines of crates.txt.
 sum_of() { { lines_of mg_cli "$1" && find_sources "$1" -exec sha256sum {} + | LC_ALL=C sort -k 2; } | checksum; }
 
+# Returns whether no source was changed since rt made the proved program, by their times. rt ci may have read a source long before: its lock
+# tells when it began. rt run leaves a stamp where no source was changed meanwhile.
+is_newest() {
+    set -- -newer mg_cli/out/mg_cli
+    [ ! -e "$top/.git/rt-ci.lock" ] || [ -e "$out/mg_cli.stamp" ] || set -- '(' "$@" -o -newer ../.git/rt-ci.lock ')'
+    [ -z "$({ find_sources "$top" "$@" -print && CDPATH='' cd -- "$top/crates" && find ../crates.txt "$@"; } | head -n 1)" ]
+}
+
 # Returns whether a program is that of the sources, whose checksum is $sum. That checksum and the program's own stand in a file beside it.
-# rt writes no such file for the proved program, which is judged by its time then, once.
+# rt writes no such file for the proved program, which is judged by times then, once.
 is_of_sources() {
     [ -x "$out/$1" ] || return 1
     own=$(checksum <"$out/$1") of_sources='' of_program=''
@@ -47,8 +55,7 @@ is_of_sources() {
         [ "$of_sources" = "$sum" ]
         return
     fi
-    [ "$1" = mg_cli ] || return 1
-    [ -z "$({ find "$top/crates.txt" -newer "$out/mg_cli" && find_sources "$top" -newer mg_cli/out/mg_cli -print; } | head -n 1)" ] || return 1
+    [ "$1" = mg_cli ] && is_newest || return 1
     echo "$sum $own" 2>/dev/null >"$out/mg_cli.sources"
     return 0
 }
