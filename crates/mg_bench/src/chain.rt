@@ -1,4 +1,5 @@
 //! A source sends packets through a chain of nodes. Workers run the net, and each Process call is held up for a number of turns of a loop.
+//! Or a node reads the last stream of a chain at many ports, and the turns of workers that were in vain are counted.
 
 ghost use Rattle.mg_nets.specs.Driven.{IsDriven};
 ghost use Rattle.std.specs.Prelude.{IfOk};
@@ -50,8 +51,25 @@ pub fn run_by_workers<R: Threads + Wait + Sync>(
     let gate = gate_of(number(rt, 4)?);
     let workers = number(rt, 5)?;
     let driver = chain(rt.alloc(), nodes, packets, 100)?;
-    let driver = worked(threads, rt.alloc(), driver, workers, &gate);
+    let (driver, _) = worked(threads, rt.alloc(), driver, workers, &gate);
     swept(rt.alloc(), driver, &gate)
+}
+
+/// Lets workers run the net of a chain whose last stream one node reads at many ports, before it is swept. The words give how many ports,
+/// packets and workers there are. Returns how many turns of the workers were in vain.
+pub fn run_wide<R: Threads + Wait + Sync>(threads: &R, rt: &HostRuntime) -> Result<u64, Fail> {
+    let ports = number(rt, 2)?;
+    let packets = number(rt, 3)?;
+    let workers = number(rt, 4)?;
+    let gate = gate_of(0);
+    let driver = wide(rt.alloc(), ports, packets)?;
+    let (driver, vain) = worked(threads, rt.alloc(), driver, workers, &gate);
+    let sets = swept(rt.alloc(), driver, &gate)?;
+    if sets == u64::from(packets) {
+        Ok(vain)
+    } else {
+        Err(Fail::from("the last node took too few sets"))
+    }
 }
 
 /// Returns the net of a chain whose queues have a limit.
@@ -61,6 +79,25 @@ pub(crate) fn chain(alloc: Global, nodes: u32, packets: u32, limit: u32) -> Resu
     let mut text = String::new(alloc);
     push_chain(&mut text, nodes, packets, limit)?;
     driver_of(alloc, &text, "")
+}
+
+// Returns the net of four nodes in a chain, and of a node that reads their last stream at many ports.
+fn wide(alloc: Global, ports: u32, packets: u32) -> Result<Driver, Fail>
+    ensures { IfOk result (λ d. IsDriven d.plan d.inputs d.net) }
+{
+    let mut text = String::new(alloc);
+    push_chain(&mut text, 4, packets, 100)?;
+    push_sum(&mut text, ports)?;
+    driver_of(alloc, &text, "")
+}
+
+// Appends the text of a node that reads the stream `s4` at a number of ports.
+fn push_sum(text: &mut String, ports: u32) -> Result<(), AllocError> {
+    text.push_str(" node { calculator: \"IntSumCalculator\"")?;
+    for _ in 0..ports {
+        text.push_str(" input_stream: \"s4\"")?;
+    }
+    text.push_str(" output_stream: \"sum\" }")
 }
 
 // Appends the text of the graph of a chain.
@@ -89,20 +126,20 @@ fn push(text: &mut String, words: &str, number: u32) -> Result<(), AllocError> {
     write!(text, "{words}{number}")
 }
 
-// Lets workers run a net, and returns it.
+// Lets workers run a net, and returns it, and how many of their turns were in vain.
 fn worked<R: Threads + Wait + Sync>(
     rt: &R,
     alloc: Global,
     driver: Driver,
     workers: u32,
     gate: &Delay,
-) -> Driver
+) -> (Driver, u64)
     requires { IsDriven driver.plan driver.inputs driver.net }
-    ensures { IsDriven result.plan result.inputs result.net }
+    ensures { IsDriven result.0.plan result.0.inputs result.0.net }
 {
     let Driver { plan, inputs, net } = driver;
-    let net = run_workers(rt, alloc, net, workers, gate);
-    Driver { plan, inputs, net }
+    let (net, vain) = run_workers(rt, alloc, net, workers, gate);
+    (Driver { plan, inputs, net }, vain)
 }
 
 // Brings a net to rest, and returns how many sets its last node has taken.

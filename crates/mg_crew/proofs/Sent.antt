@@ -31,6 +31,7 @@ use Rattle.mg_throttle.specs.contracts.limits.Limits as Limits
 use Rattle.mg_throttle.specs.contracts.limits.Limits.TheInside as LimitsInside
 use Rattle.mg_crew.specs.contracts.gauge.Gauge as Gauge
 use Rattle.mg_crew.specs.contracts.throttle.Throttle as Throttle
+use Rattle.mg_crew.specs.contracts.waiting.Waiting as Waiting
 use Rattle.mg_crew.specs.contracts.chart.Chart as Chart
 use Rattle.mg_crew.specs.contracts.leads.Leads as Leads
 use Rattle.mg_crew.specs.contracts.leads.Leads.TheInside as LeadsInside
@@ -82,6 +83,9 @@ marks = search (sendable, crosses) depth 40 fits 20000
 node_marks : IsSync (NodeMarks.the_field).row
 node_marks = search (marks, sendable, crosses) depth 40 fits 20000
 
+waiting : IsSync (Waiting.the_field).row
+waiting = search (marks, sendable, crosses) depth 40 fits 20000
+
 links_inside : IsSend LinksInside.the_row
 links_inside = search (sendable, crosses) depth 40 fits 20000
 
@@ -116,7 +120,7 @@ held_back : IsSync (Maybe.the_field Throttle.the_row).row
 held_back = enum_sync (choice (Maybe.the_type Throttle.the_row)) (tt, ((throttle_row, tt), tt))
 
 pub tools : IsSync (Tools.the_field).row
-tools = search (levels, board, chart, node_marks, held_back, sendable) depth 20 fits 20000
+tools = search (levels, board, chart, node_marks, waiting, held_back, sendable) depth 20 fits 20000
 
 pub tools_row : IsSync Tools.the_row
 tools_row = recorded_sync (Tools.the_field).row _ _ Tools.the_type.to_one tools

@@ -5,12 +5,17 @@ use std::sync::atomic::Ordering::SeqCst;
 use std::sync::atomic::{AtomicBool, AtomicU64};
 use std::thread;
 
+// How often an idle worker looks for news before it sleeps. That takes about as long as to wake it.
+const LOOKS: u32 = 16;
+
 /// What workers tell each other. One count says how often there was something new, so that idle workers know when to look again; another
 /// says how many workers have nothing to do, so that the last of them knows that it is the last. No contract rests on it.
 #[derive(Drop)]
 pub(crate) struct Board {
     news: CachePadded<AtomicU64>,
     idle: CachePadded<AtomicU64>,
+    // How many workers sleep, or are about to.
+    asleep: CachePadded<AtomicU64>,
     begun: AtomicU64,
     // Whether a worker is looking over all nodes, and whether one has done that and found nothing.
     looking: AtomicBool,
@@ -19,6 +24,8 @@ pub(crate) struct Board {
     fed: AtomicBool,
     // Whether some work found no memory.
     short: AtomicBool,
+    // How many turns of workers that have ended were in vain.
+    vain: AtomicU64,
 }
 
 impl Board {
@@ -27,11 +34,13 @@ impl Board {
         Board {
             news: CachePadded::new(AtomicU64::new(0)),
             idle: CachePadded::new(AtomicU64::new(0)),
+            asleep: CachePadded::new(AtomicU64::new(0)),
             begun: AtomicU64::new(0),
             looking: AtomicBool::new(false),
             over: AtomicBool::new(false),
             fed: AtomicBool::new(false),
             short: AtomicBool::new(false),
+            vain: AtomicU64::new(0),
         }
     }
 
@@ -45,9 +54,12 @@ impl Board {
         self.news.load(SeqCst)
     }
 
-    /// Tells idle workers that there is something new.
+    /// Tells idle workers that there is something new, and wakes one of those that sleep.
     pub(crate) fn tell(&self) {
         self.news.fetch_add(1, SeqCst);
+        if self.asleep.load(SeqCst) > 0 {
+            self.news.wake_one();
+        }
     }
 
     /// Notes that a worker has nothing to do. Returns whether it is to look over all nodes: all workers that have begun are idle, and no
@@ -65,23 +77,45 @@ impl Board {
             self.idle.fetch_sub(1, SeqCst);
         } else {
             self.over.store(true, SeqCst);
+            self.news.fetch_add(1, SeqCst);
+            self.news.wake_all();
         }
         self.looking.store(false, SeqCst);
     }
 
-    /// Waits as an idle worker, until the count of news isn't `seen` any more or until all workers end. Returns whether there is news.
-    pub(crate) fn wait<R: Wait>(&self, rt: &R, seen: u64) -> bool {
-        for _ in rt.forever() {
-            if self.over.load(SeqCst) {
-                return false;
-            }
-            if self.news.load(SeqCst) != seen {
-                self.idle.fetch_sub(1, SeqCst);
-                return true;
+    // Sleeps until the count of news isn't `seen` any more, or until the worker is woken for no reason.
+    fn sleep<R: Wait>(&self, rt: &R, seen: u64) {
+        self.asleep.fetch_add(1, SeqCst);
+        self.news.park(rt, (seen & 0xffff_ffff) as u32);
+        self.asleep.fetch_sub(1, SeqCst);
+    }
+
+    // Waits until the count of news isn't `seen` any more. After some looks the worker sleeps.
+    fn wait_for_news<R: Wait>(&self, rt: &R, seen: u64) {
+        for _ in 0..LOOKS {
+            if self.news() != seen {
+                return;
             }
             thread::yield_now();
         }
-        unreachable!()
+        for _ in rt.forever() {
+            if self.news() != seen {
+                return;
+            }
+            self.sleep(rt, seen);
+        }
+    }
+
+    /// Waits as an idle worker, until the count of news isn't `seen` any more or until all workers end. Returns whether there is news.
+    pub(crate) fn wait<R: Wait>(&self, rt: &R, seen: u64) -> bool {
+        if !self.over.load(SeqCst) {
+            self.wait_for_news(rt, seen);
+        }
+        if self.over.load(SeqCst) {
+            return false;
+        }
+        self.idle.fetch_sub(1, SeqCst);
+        true
     }
 
     /// Returns whether the worker that asks is to bring packets from the graph inputs: it is, unless another one does or none are left.
@@ -89,9 +123,10 @@ impl Board {
         !self.fed.load(SeqCst) && !self.fed.swap(true, SeqCst)
     }
 
-    /// Notes what came of bringing packets from the graph inputs. Where anything did, there may be more.
+    /// Notes what came of bringing packets from the graph inputs. Where anything did, there may be more. What couldn't be brought, since
+    /// another worker had a consumer's turn, is left to that one.
     pub(crate) fn fed(&self, came: &Came) {
-        if !came.is_nothing() {
+        if came.did | came.more {
             self.leave_inputs();
         }
     }
@@ -111,5 +146,15 @@ impl Board {
     /// Whether some work found no memory so far.
     pub(crate) fn is_short(&self) -> bool {
         self.short.load(SeqCst)
+    }
+
+    /// Adds how many turns of a worker were in vain.
+    pub(crate) fn note_vain(&self, turns: u64) {
+        self.vain.fetch_add(turns, SeqCst);
+    }
+
+    /// Returns how many turns of the workers that have ended were in vain.
+    pub(crate) fn vain(&self) -> u64 {
+        self.vain.load(SeqCst)
     }
 }

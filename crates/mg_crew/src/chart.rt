@@ -17,8 +17,11 @@ pub(crate) struct Chart {
     pub from: Leads,
     /// The edges by their consumers: these are the nodes, and behind them the collector.
     pub into: Leads,
+    // The place from which each edge leads.
+    starts: Vec<u32>,
     // The consumer of each edge: a node, or the number behind all nodes for the collector.
     consumers: Vec<u32>,
+    edge_count: u32,
     // The nodes without inputs, in order; and for each place of `from` the number of the feeder there, if one is.
     sources: Vec<u32>,
     feeders: Vec<Option<u32>>,
@@ -156,16 +159,23 @@ fn feeders_of(alloc: Global, plan: &Plan) -> Result<Vec<Option<u32>>, AllocError
     Ok(feeders)
 }
 
-// Returns the edges of a plan by the places from which they lead.
-fn leads_of(alloc: Global, plan: &Plan) -> Result<Leads, AllocError>
+// The place from which each edge leads, and the edges by these places.
+#[derive(Drop)]
+struct Exits {
+    starts: Vec<u32>,
+    from: Leads,
+}
+
+// Returns from where the edges of a plan lead.
+fn exits_of(alloc: Global, plan: &Plan) -> Result<Exits, AllocError>
     requires { IsValid plan.now }
-    ensures places { IfOk result (λ l. l.places ≡ length plan.now.nodes + length plan.now.inputs) }
-    ensures edges { IfOk result (λ l. l.edges ≡ length plan.now.edges) }
+    ensures places { IfOk result (λ e. e.from.places ≡ length plan.now.nodes + length plan.now.inputs) }
+    ensures edges { IfOk result (λ e. e.from.edges ≡ length plan.now.edges) }
 {
     let starts = starts_of(alloc, plan)?;
     let places = plan.nodes.len() as usize + plan.inputs.len() as usize;
-    let leads = Leads::new(alloc, places, starts.as_slice())?;
-    Ok(leads)
+    let from = Leads::new(alloc, places, starts.as_slice())?;
+    Ok(Exits { starts, from })
 }
 
 // The nodes without inputs, and for each place the number of the feeder there.
@@ -203,7 +213,7 @@ impl Chart {
         ensures feeders { IfOk result (λ c. c.feeder_count ≡ length (feeders plan.now)) }
     {
         let flies = flies_of(alloc, plan)?;
-        let from = leads_of(alloc, plan)?;
+        let Exits { starts, from } = exits_of(alloc, plan)?;
         let Entries { consumers, into } = entries_of(alloc, plan)?;
         let Sources { sources, feeders } = sources_of(alloc, plan)?;
         let feeder_count = feeders_in(plan, sources.as_slice());
@@ -211,7 +221,9 @@ impl Chart {
             flies,
             from,
             into,
+            starts,
             consumers,
+            edge_count: plan.edges.len(),
             sources,
             feeders,
             feeder_count,
@@ -241,6 +253,19 @@ impl Chart {
     /// Whether several works of a node may run at once.
     pub(crate) fn flies(&self, node: u32) -> bool {
         self.flies.get(node as usize) == Some(&true)
+    }
+
+    /// Returns how many edges there are.
+    pub(crate) fn edges(&self) -> u32 {
+        self.edge_count
+    }
+
+    /// Returns the place of an edge or a node that waits: the place from which the edge leads, or the node's own.
+    pub(crate) fn place_of(&self, number: u32) -> u32 {
+        match self.starts.get(number as usize) {
+            Some(place) => *place,
+            None => number.wrapping_sub(self.edge_count),
+        }
     }
 
     /// Returns the node into which an edge leads, or the number behind all nodes where it leads into the collector.

@@ -60,6 +60,8 @@ fn work<C: Calculator, R: Wait, G: Gate>(
             continue;
         }
         if !rest(rt, shop, &mut seat, &mut place, seen) {
+            let turns = seat.misses().saturating_add(place.vain);
+            shop.tools.board.note_vain(turns);
             return seat;
         }
     }

@@ -3,6 +3,8 @@
 #![tactic(auto)]
 
 mod board;
+mod bringing;
+mod calling;
 mod chart;
 mod commits;
 mod crew;
@@ -16,6 +18,7 @@ mod serving;
 mod shop;
 mod throttle;
 mod throttling;
+mod waiting;
 mod working;
 
 pub use running::run_workers;

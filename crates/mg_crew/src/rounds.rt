@@ -1,15 +1,15 @@
 //! What a worker does next: it takes a node from the levels, and where they are empty it brings packets from the graph inputs.
 ghost use Rattle.mg_crew.specs.Code.Seats.{IsWithoutWork, StaysAtWork};
 
+use crate::bringing::wake_all;
 use crate::putting::{Place, take};
-use crate::serving::{serve, wake_all};
+use crate::serving::serve;
 use crate::shop::{Came, Shop};
 use crate::throttling::is_throttled;
 use mg_calc::Calculator;
 use mg_edge::Gate;
 use mg_turns::NetSeat;
 use std::sync::Wait;
-use std::thread;
 
 // Serves all nodes, from the one with the highest number down.
 fn serve_all<C: Calculator, R: Wait, G: Gate>(
@@ -23,6 +23,7 @@ fn serve_all<C: Calculator, R: Wait, G: Gate>(
 {
     let mut came = Came::nothing();
     for node in (0..shop.net.nodes()).rev() {
+        shop.tools.marks.inside.set(node);
         let more = serve(rt, shop, seat, place, node);
         came = came.and(&more);
     }
@@ -101,14 +102,6 @@ fn go_round<C: Calculator, R: Wait, G: Gate>(
     }
 }
 
-// Lets other threads run where nothing was done since other workers had the turns. Returns whether there was anything to do.
-fn pause(came: Came) -> bool {
-    if came.is_busy() {
-        thread::yield_now();
-    }
-    !came.is_nothing()
-}
-
 /// Serves the next node, or brings packets from the graph inputs where there is none. Returns whether there was anything to do.
 pub(crate) fn go_on<C: Calculator, R: Wait, G: Gate>(
     rt: &R,
@@ -121,13 +114,12 @@ pub(crate) fn go_on<C: Calculator, R: Wait, G: Gate>(
 {
     match take(rt, shop.tools, place) {
         Some(node) => {
-            let came = serve(rt, shop, seat, place, node);
-            pause(came);
+            serve(rt, shop, seat, place, node);
             true
         }
         None => {
             let came = go_round(rt, shop, seat, place);
-            pause(came)
+            !came.is_nothing()
         }
     }
 }

@@ -27,20 +27,20 @@ struct Executor<'a, G: Gate> {
     gate: &'a G,
 }
 
-// Runs a shared net by at least one worker, and returns a seat with all portions. Where there is no memory for what workers need, nothing
-// is done.
+// Runs a shared net by at least one worker. Returns a seat with all portions, and how many turns were in vain. Where there is no memory for
+// what workers need, nothing is done.
 fn run_shared<C: Calculator + Send, R: Threads + Wait + Sync, G: Gate + Sync>(
     rt: &R,
     executor: &Executor<'_, G>,
     net: &SharedNet<C>,
     seat: NetSeat<C>,
     plan: &Plan,
-) -> NetSeat<C>
+) -> (NetSeat<C>, u64)
     requires shared { IsShared net.now seat }
     requires whole { (view_of seat).portion ≡ 2 ^ 32 }
     requires valid { IsValid plan.now }
     requires plan { plan.now ≡ (key_of net.now).plan }
-    ensures { StaysShared net.now seat result }
+    ensures { StaysShared net.now seat result.0 }
 {
     match tools_of(executor.alloc, plan) {
         Ok((tools, place)) => {
@@ -50,33 +50,35 @@ fn run_shared<C: Calculator + Send, R: Threads + Wait + Sync, G: Gate + Sync>(
                 tools: &tools,
                 gate: executor.gate,
             };
-            crew(rt, &shop, seat, Place::new(place), executor.workers)
+            let seat = crew(rt, &shop, seat, Place::new(place), executor.workers);
+            (seat, tools.board.vain())
         }
-        Err(_) => seat,
+        Err(_) => (seat, 0),
     }
 }
 
 /// Lets workers run a net whose nodes are begun, side by side, until none of them finds anything to do (MediaPipe's documentation,
 /// Synchronization). While queues are full feeders are held back, until nothing else can be done (Real-time Streams). What workers leave
 /// undone, as for want of memory, is left to a sweep. Nothing says how far they come: without memory for sharing the net, or with no
-/// workers, nothing is done.
+/// workers, nothing is done. Beside the net it returns how many turns were in vain: a worker found them with another one, or took
+/// them and did nothing. Tests and measurements read that count, and no answer depends on it.
 pub fn run_workers<C: Calculator + Send, R: Threads + Wait + Sync, G: Gate + Sync>(
     rt: &R,
     alloc: Global,
     net: Net<C>,
     workers: u32,
     gate: &G,
-) -> Net<C>
+) -> (Net<C>, u64)
     requires running { IsRunning net }
     requires stands { StandsForSome net }
-    ensures running { IsRunning result }
-    ensures became { Became net result }
+    ensures running { IsRunning result.0 }
+    ensures became { Became net result.0 }
 
     // The net is as it was; or its claimed works stand in their windows again; or each of its parts only grew.
-    ensures left { Leaves net result }
+    ensures left { Leaves net result.0 }
 {
     if workers == 0 {
-        return net;
+        return (net, 0);
     }
     match share(alloc, net) {
         Ok((shared, seat, kept)) => {
@@ -85,9 +87,9 @@ pub fn run_workers<C: Calculator + Send, R: Threads + Wait + Sync, G: Gate + Syn
                 workers,
                 gate,
             };
-            let seat = run_shared(rt, &executor, &shared, seat, kept.plan());
-            unshare(shared, seat, kept)
+            let (seat, vain) = run_shared(rt, &executor, &shared, seat, kept.plan());
+            (unshare(shared, seat, kept), vain)
         }
-        Err(net) => net,
+        Err(net) => (net, 0),
     }
 }

@@ -7,6 +7,7 @@ use crate::chart::Chart;
 use crate::gauge::Gauge;
 use crate::marks::Marks;
 use crate::throttle::Throttle;
+use crate::waiting::Waiting;
 use mg_calc::{Calculator, Plan};
 use mg_edge::Gate;
 use mg_levels::{LevelSeat, Levels};
@@ -19,6 +20,8 @@ pub(crate) struct Tools {
     pub chart: Chart,
     pub levels: Levels,
     pub marks: NodeMarks,
+    /// Who waits for turns.
+    pub waiting: Waiting,
     /// What holds feeders back, if queues have limits.
     pub throttle: Option<Throttle>,
     pub board: Board,
@@ -27,9 +30,11 @@ pub(crate) struct Tools {
 /// Marks of nodes. No contract rests on them.
 #[derive(Drop)]
 pub(crate) struct NodeMarks {
-    /// Which nodes are in the levels, so that none is in twice: a node whose mark is set is in, or about to be, or was taken out by a
-    /// worker that has yet to look at it.
+    /// The nodes that are in the levels, or about to be, or with a worker that serves or keeps them. So none is in twice, and none is
+    /// served by two workers. If several works of a node may run at once, it has the mark only until a worker looks at it.
     pub inside: Marks,
+    /// The nodes that were to be put into the levels while they had that mark. The worker that has such a node puts it in afterwards.
+    pub again: Marks,
     /// The sources that are held, until a worker puts them into the levels.
     pub held: Marks,
     /// The nodes that laid packets which couldn't all be brought yet.
@@ -45,11 +50,15 @@ pub(crate) struct Shop<'a, C: Calculator, G: Gate> {
     pub gate: &'a G,
 }
 
-/// What came of a try: whether something was done, and whether there may be more to do, as where another worker had a turn.
+/// What came of a try.
 #[derive(Clone, Copy)]
 pub(crate) struct Came {
+    /// Whether something was done.
     pub did: bool,
+    /// Whether there may be more to do.
     pub more: bool,
+    /// The word whose turn another worker had, if one was. The rest is left to that worker.
+    pub left: Option<u32>,
 }
 
 impl Came {
@@ -58,35 +67,45 @@ impl Came {
         Came {
             did: false,
             more: false,
+            left: None,
         }
     }
 
-    /// Returns that nothing was done, since another worker had a turn.
-    pub(crate) fn busy() -> Came {
+    /// Returns that nothing was done, since another worker had the turn of a word.
+    pub(crate) fn left_to(word: u32) -> Came {
         Came {
             did: false,
-            more: true,
+            more: false,
+            left: Some(word),
         }
     }
 
     /// Returns whether something was done, and that there is no more to do.
     pub(crate) fn if_did(did: bool) -> Came {
-        Came { did, more: false }
+        Came {
+            did,
+            more: false,
+            left: None,
+        }
     }
 
     /// Returns whether a work was done, and that there may be more to do if it was.
     pub(crate) fn if_worked(did: bool) -> Came {
-        Came { did, more: did }
+        Came {
+            did,
+            more: did,
+            left: None,
+        }
     }
 
     /// Whether nothing was done, and there is no more to do.
     pub(crate) fn is_nothing(&self) -> bool {
-        !self.did && !self.more
+        !self.did && self.is_all()
     }
 
-    /// Whether nothing was done, since other workers had turns.
-    pub(crate) fn is_busy(&self) -> bool {
-        !self.did && self.more
+    /// Whether there is no more to do, and nothing is left to another worker.
+    pub(crate) fn is_all(&self) -> bool {
+        !self.more && self.left.is_none()
     }
 
     /// Returns what came of two tries together.
@@ -94,7 +113,16 @@ impl Came {
         Came {
             did: self.did | other.did,
             more: self.more | other.more,
+            left: either(self.left, other.left),
         }
+    }
+}
+
+// Returns the first of two words that is one.
+fn either(one: Option<u32>, other: Option<u32>) -> Option<u32> {
+    match one {
+        Some(word) => Some(word),
+        None => other,
     }
 }
 
@@ -114,13 +142,23 @@ fn throttle_of(alloc: Global, plan: &Plan, count: usize) -> Result<Option<Thrott
 // Returns the first marks of `nodes` nodes: none is in the levels, all are held, and none is behind.
 fn marks_of(alloc: Global, nodes: u32) -> Result<NodeMarks, AllocError> {
     let inside = Marks::new(alloc, nodes, false)?;
+    let again = Marks::new(alloc, nodes, false)?;
     let held = Marks::new(alloc, nodes, true)?;
     let behind = Marks::new(alloc, nodes, false)?;
     Ok(NodeMarks {
         inside,
+        again,
         held,
         behind,
     })
+}
+
+// Returns the lists of a plan, in which nobody waits.
+fn waiting_of(alloc: Global, plan: &Plan) -> Result<Waiting, AllocError> {
+    let nodes = plan.nodes.len();
+    let words = 2 * nodes as usize + plan.inputs.len() as usize + 1;
+    let count = plan.edges.len().checked_add(nodes).ok_or(AllocError)?;
+    Waiting::new(alloc, words, count)
 }
 
 /// Returns the tools for a plan, and a seat at its levels that has the whole portion.
@@ -136,11 +174,13 @@ pub(crate) fn tools_of(alloc: Global, plan: &Plan) -> Result<(Tools, LevelSeat),
     let chart = Chart::new(alloc, plan)?;
     let throttle = throttle_of(alloc, plan, chart.feeder_count)?;
     let marks = marks_of(alloc, plan.nodes.len())?;
+    let waiting = waiting_of(alloc, plan)?;
     let (levels, seat) = Levels::new(alloc, &plan.order)?;
     let tools = Tools {
         chart,
         levels,
         marks,
+        waiting,
         throttle,
         board: Board::new(),
     };

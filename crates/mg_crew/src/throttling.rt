@@ -110,6 +110,40 @@ fn waiting<C: Calculator, G: Gate>(
     }
 }
 
+// Notes how many packets wait at the end of an edge, and returns whether its queue was full and isn't any more.
+fn eases<C: Calculator, R: Wait, G: Gate>(
+    rt: &R,
+    shop: &Shop<'_, C, G>,
+    seat: &mut NetSeat<C>,
+    edge: u32,
+) -> bool
+    requires shared { IsShared shop.now.net.now seat.old }
+    requires edge { edge < length (key_of shop.now.net.now).plan.edges }
+    ensures { StaysShared shop.now.net.now seat.old seat.new }
+{
+    let Some(throttle) = &shop.tools.throttle else {
+        return false;
+    };
+    match waiting(shop, seat, edge) {
+        Some(packets) => throttle.note(rt, edge, packets),
+        None => false,
+    }
+}
+
+// Lets feeders go on that were held by a queue of a node, if one `eased`: it was full and isn't any more.
+fn ease<R: Wait>(rt: &R, tools: &Tools, place: &mut Place, node: u32, eased: bool)
+    requires place { IsPlaceAt tools.now.levels place.old }
+    requires sources { HasSources tools.now }
+    ensures place { IsPlaceAt tools.now.levels place.new }
+{
+    let Some(throttle) = &tools.throttle else {
+        return;
+    };
+    if eased {
+        let_go(rt, tools, throttle, place, node);
+    }
+}
+
 /// Notes how many packets wait at the end of an edge. If its queue was full and isn't any more, feeders go on that were held by it.
 pub(crate) fn note<C: Calculator, R: Wait, G: Gate>(
     rt: &R,
@@ -122,44 +156,29 @@ pub(crate) fn note<C: Calculator, R: Wait, G: Gate>(
     requires edge { edge < shop.now.tools.now.chart.from.edges }
     ensures { StaysAtWork shop.now.net.now shop.now.tools.now seat.old seat.new place.new }
 {
-    let Some(throttle) = &shop.tools.throttle else {
-        return;
-    };
-    let Some(packets) = waiting(shop, seat, edge) else {
-        return;
-    };
-    if throttle.note(rt, edge, packets) {
-        let node = shop.tools.chart.consumer(edge);
-        let_go(rt, shop.tools, throttle, place, node);
-    }
+    let eased = eases(rt, shop, seat, edge);
+    let node = shop.tools.chart.consumer(edge);
+    ease(rt, shop.tools, place, node, eased);
 }
 
-// Whether the queue of an edge was full when it was last noted.
-fn is_full(tools: &Tools, edge: u32) -> bool {
-    let Some(throttle) = &tools.throttle else {
-        return false;
-    };
-    throttle.is_full(edge)
-}
-
-// Notes anew how many packets wait at the end of an edge whose queue was full.
-fn note_if_full<C: Calculator, R: Wait, G: Gate>(
+// Notes anew how many packets wait at the end of an edge whose queue was full, and returns whether it isn't any more.
+fn eases_if_full<C: Calculator, R: Wait, G: Gate>(
     rt: &R,
     shop: &Shop<'_, C, G>,
     seat: &mut NetSeat<C>,
-    place: &mut Place,
     edge: u32,
-)
-    requires at_work { IsWithoutWork shop.now.net.now shop.now.tools.now seat.old place.old }
-    requires edge { edge < shop.now.tools.now.chart.from.edges }
-    ensures { StaysAtWork shop.now.net.now shop.now.tools.now seat.old seat.new place.new }
+) -> bool
+    requires shared { IsShared shop.now.net.now seat.old }
+    requires edge { edge < length (key_of shop.now.net.now).plan.edges }
+    ensures { StaysShared shop.now.net.now seat.old seat.new }
 {
-    if is_full(shop.tools, edge) {
-        note(rt, shop, seat, place, edge);
-    }
+    let Some(throttle) = &shop.tools.throttle else {
+        return false;
+    };
+    throttle.is_full(edge) && eases(rt, shop, seat, edge)
 }
 
-/// Notes how many packets wait at a node that worked, where its queues were full.
+/// Notes how many packets wait at a node that worked, where its queues were full. If one isn't any more, feeders go on that were held by it.
 pub(crate) fn note_worked<C: Calculator, R: Wait, G: Gate>(
     rt: &R,
     shop: &Shop<'_, C, G>,
@@ -171,11 +190,13 @@ pub(crate) fn note_worked<C: Calculator, R: Wait, G: Gate>(
     requires node { node < nodes_in (key_of shop.now.net.now) }
     ensures { StaysAtWork shop.now.net.now shop.now.tools.now seat.old seat.new place.new }
 {
+    let mut eased = false;
     let mut cursor = shop.tools.chart.into.first(node as usize);
     'edges: while let Some(edge) = cursor {
-        note_if_full(rt, shop, seat, place, edge);
+        eased |= eases_if_full(rt, shop, seat, edge);
         cursor = shop.tools.chart.into.next(edge);
     }
+    ease(rt, shop.tools, place, node, eased);
 }
 
 /// Whether the feeder at a place of the chart is throttled.

@@ -7,6 +7,7 @@ ghost use Rattle.mg_workers.specs.Shared.{IsShared, StaysShared, IsSharedWith};
 ghost use Rattle.mg_crew.specs.Code.Places.{IsPlaceAt};
 ghost use Rattle.mg_crew.specs.Code.Seats.{FitsWork, IsWithoutWork, StaysAtWork};
 
+use crate::calling::call_waiting;
 use crate::commits::finish;
 use crate::putting::{Place, put, tell_others};
 use crate::shop::{Came, Shop, Tools};
@@ -33,8 +34,9 @@ fn run<C: Calculator, G: Gate>(shop: &Shop<'_, C, G>, seat: &mut NetSeat<C>, nod
         Tried::Done(done) => Came {
             did: done > 0,
             more: done >= WORKS,
+            left: None,
         },
-        Tried::Busy { .. } => Came::busy(),
+        Tried::Busy { word } => Came::left_to(word),
     }
 }
 
@@ -59,7 +61,7 @@ fn claim<C: Calculator>(
         Tried::Done(Claimed::Draining) => Err(Came::nothing()),
         Tried::Done(Claimed::Ended) => Err(Came::nothing()),
         Tried::Done(Claimed::OutOfMemory) => Err(Came::nothing()),
-        Tried::Busy { .. } => Err(Came::busy()),
+        Tried::Busy { word } => Err(Came::left_to(word)),
     }
 }
 
@@ -90,6 +92,7 @@ fn fly<C: Calculator, R: Wait, G: Gate>(
     match claim(shop.net, seat, node) {
         Ok(work) => {
             share_node(rt, shop.tools, place, node);
+            call_waiting(rt, shop, place, node as usize);
             let did = finish(rt, shop, seat, work);
             shop.tools.board.found_memory(did);
             Came::if_worked(did)
@@ -98,8 +101,8 @@ fn fly<C: Calculator, R: Wait, G: Gate>(
     }
 }
 
-/// Does works of a node, and returns what came of it.
-pub(crate) fn work_at<C: Calculator, R: Wait, G: Gate>(
+// Does works of a node, unless another worker has one of its turns, and returns what came of it.
+fn try_work<C: Calculator, R: Wait, G: Gate>(
     rt: &R,
     shop: &Shop<'_, C, G>,
     seat: &mut NetSeat<C>,
@@ -117,8 +120,40 @@ pub(crate) fn work_at<C: Calculator, R: Wait, G: Gate>(
     }
 }
 
-/// Raises the bounds of a node's outputs, and returns what came of it.
-pub(crate) fn raise<C: Calculator, G: Gate>(
+// Lets a node wait for the turn that another worker had, and returns whether one was.
+fn waits<R: Wait>(rt: &R, tools: &Tools, came: &Came, node: u32) -> bool {
+    match came.left {
+        Some(word) => {
+            let number = tools.chart.edges().wrapping_add(node);
+            tools.waiting.join(rt, word, number);
+            true
+        }
+        None => false,
+    }
+}
+
+/// Does works of a node, and returns what came of it. If another worker has one of its turns, the node waits for that turn. It is tried once
+/// more then, as the worker may have given the turn back before it could see who waits.
+pub(crate) fn work_at<C: Calculator, R: Wait, G: Gate>(
+    rt: &R,
+    shop: &Shop<'_, C, G>,
+    seat: &mut NetSeat<C>,
+    place: &mut Place,
+    node: u32,
+) -> Came
+    requires at_work { IsWithoutWork shop.now.net.now shop.now.tools.now seat.old place.old }
+    requires node { node < nodes_in (key_of shop.now.net.now) }
+    ensures { StaysAtWork shop.now.net.now shop.now.tools.now seat.old seat.new place.new }
+{
+    let came = try_work(rt, shop, seat, place, node);
+    if !waits(rt, shop.tools, &came, node) {
+        return came;
+    }
+    try_work(rt, shop, seat, place, node)
+}
+
+// Raises the bounds of a node's outputs, unless another worker has one of its turns, and returns what came of it.
+fn try_raise<C: Calculator, G: Gate>(
     shop: &Shop<'_, C, G>,
     seat: &mut NetSeat<C>,
     node: u32,
@@ -130,12 +165,31 @@ pub(crate) fn raise<C: Calculator, G: Gate>(
     let tried = shop.net.try_raise(seat, node);
     match tried {
         Tried::Done(did) => Came::if_did(did),
-        Tried::Busy { .. } => Came::busy(),
+        Tried::Busy { word } => Came::left_to(word),
     }
 }
 
-/// Brings packets along an edge, and returns what came of it.
-pub(crate) fn bring<C: Calculator, G: Gate>(
+/// Raises the bounds of a node's outputs, and returns what came of it. If another worker has one of its turns, the node waits for that turn,
+/// and is tried once more.
+pub(crate) fn raise<C: Calculator, R: Wait, G: Gate>(
+    rt: &R,
+    shop: &Shop<'_, C, G>,
+    seat: &mut NetSeat<C>,
+    node: u32,
+) -> Came
+    requires shared { IsShared shop.now.net.now seat.old }
+    requires node { node < nodes_in (key_of shop.now.net.now) }
+    ensures { StaysShared shop.now.net.now seat.old seat.new }
+{
+    let came = try_raise(shop, seat, node);
+    if !waits(rt, shop.tools, &came, node) {
+        return came;
+    }
+    try_raise(shop, seat, node)
+}
+
+// Brings packets along an edge, unless another worker has one of the two turns, and returns what came of it.
+fn try_bring<C: Calculator, G: Gate>(
     shop: &Shop<'_, C, G>,
     seat: &mut NetSeat<C>,
     edge: u32,
@@ -149,8 +203,29 @@ pub(crate) fn bring<C: Calculator, G: Gate>(
         Tried::Done(Delivered::Moved { packets, raised }) => Came {
             did: packets > 0 || raised,
             more: packets >= PACKETS,
+            left: None,
         },
         Tried::Done(Delivered::OutOfMemory { packets }) => Came::if_did(packets > 0),
-        Tried::Busy { .. } => Came::busy(),
+        Tried::Busy { word } => Came::left_to(word),
     }
+}
+
+/// Brings packets along an edge, and returns what came of it. If another worker has one of the two turns, the edge waits for that turn, and
+/// is tried once more.
+pub(crate) fn bring<C: Calculator, R: Wait, G: Gate>(
+    rt: &R,
+    shop: &Shop<'_, C, G>,
+    seat: &mut NetSeat<C>,
+    edge: u32,
+) -> Came
+    requires shared { IsShared shop.now.net.now seat.old }
+    requires edge { edge < length (key_of shop.now.net.now).plan.edges }
+    ensures { StaysShared shop.now.net.now seat.old seat.new }
+{
+    let came = try_bring(shop, seat, edge);
+    let Some(word) = came.left else {
+        return came;
+    };
+    shop.tools.waiting.join(rt, word, edge);
+    try_bring(shop, seat, edge)
 }

@@ -52,7 +52,8 @@ impl<'a, C: Calculator + Send, R: Threads + Wait + Sync, G: Gate + Sync> ManyThr
             return;
         };
         let net = mem::replace(&mut self.one.net, nothing);
-        self.one.net = run_workers(self.rt, self.alloc, net, self.workers, self.one.gate);
+        let (net, _) = run_workers(self.rt, self.alloc, net, self.workers, self.one.gate);
+        self.one.net = net;
     }
 
     /// Lets the workers run the net, and then sweeps it until no node can go further. It takes no set of the outputs.

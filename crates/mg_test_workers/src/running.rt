@@ -57,34 +57,35 @@ fn expect_rest(driver: &mut Driver) -> Result<(), Fail>
     }
 }
 
-// Lets `workers` workers run a net.
+// Lets `workers` workers run a net, and returns it, and how many of their turns were in vain.
 fn run<R: Threads + Wait + Sync, G: Gate + Sync>(
     rt: &R,
     alloc: Global,
     driver: Driver,
     workers: u32,
     gate: &G,
-) -> Driver
+) -> (Driver, u64)
     requires { IsDriven driver.plan driver.inputs driver.net }
-    ensures { IsDriven result.plan result.inputs result.net }
+    ensures { IsDriven result.0.plan result.0.inputs result.0.net }
 {
     let Driver { plan, inputs, net } = driver;
-    let net = run_workers(rt, alloc, net, workers, gate);
-    Driver { plan, inputs, net }
+    let (net, vain) = run_workers(rt, alloc, net, workers, gate);
+    (Driver { plan, inputs, net }, vain)
 }
 
 /// Lets `workers` workers run the net of a case under its limit, each Process call through a gate. Expects them to leave nothing to do, and
-/// a wanted outcome.
+/// a wanted outcome. Returns how many of their turns were in vain.
 pub(crate) fn expect_run<R: Threads + Wait + Sync, G: Gate + Sync>(
     rt: &R,
     alloc: Global,
     case: &Case,
     workers: u32,
     gate: &G,
-) -> Result<(), Fail> {
+) -> Result<u64, Fail> {
     let driver = driver_under(alloc, case, case.limit)?;
-    let driver = run(rt, alloc, driver, workers, gate);
-    expect(alloc, driver, &mut Rest, case)
+    let (driver, vain) = run(rt, alloc, driver, workers, gate);
+    expect(alloc, driver, &mut Rest, case)?;
+    Ok(vain)
 }
 
 /// The numbers of workers that are tried.

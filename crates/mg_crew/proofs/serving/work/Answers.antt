@@ -5,7 +5,7 @@ pub work_at-came-requires-clause-at_work : goal.work_at-came-requires-clause-at_
 work_at-came-requires-clause-at_work g c = record { shared = c.requires.at_work.shared; fits = c.requires.at_work.fits; placed = c.tell_others.ensures.place }
 
 pub note_worked-requires-clause-at_work : goal.note_worked-requires-clause-at_work
-note_worked-requires-clause-at_work g c = at_work_still _ _ _ _ _ _ c.requires.at_work c.work_at-came.ensures
+note_worked-requires-clause-at_work g c = record { shared = c.work_at-came.ensures.stays.shared; fits = c.requires.at_work.fits; placed = c.note_turns.ensures.place }
 
 pub returns : goal.returns
-returns g c = works_on _ _ _ _ _ _ _ c.work_at-came.ensures c.note_worked.ensures
+returns g c = works_on _ _ _ _ _ _ _ (record { stays = c.work_at-came.ensures.stays; placed = c.note_turns.ensures.place }) c.note_worked.ensures

@@ -1,16 +1,15 @@
-use Rattle.std.proofs.Common.{◌<◌, ℕ, Option, IfSome, sym, subst}
+use Rattle.std.proofs.Common.{◌<◌, ◌∙◌, ℕ, Option, IfSome, sym, subst}
 use Rattle.mg_sched.proofs.Sweeping.{edges_left, fewer_edges, second_of}
-use Rattle.mg_crew.proofs.Levelled.{at_work_still, stays_at_work, works_on}
+use Rattle.mg_crew.proofs.Sharing.{stays_itself, stays_on}
 use Rattle.mg_crew.proofs.throttling.note_worked.Goals as goal
 
 pub edges-init : goal.edges-init
-edges-init g c = record { stays = stays_at_work _ _ _ _ c.requires.at_work; there = c.first-cursor.ensures }
+edges-init g c = record { stays = stays_itself _ _ c.requires.at_work.shared; there = c.first-cursor.ensures }
 
-pub note_if_full-requires-clause-at_work : goal.note_if_full-requires-clause-at_work
-note_if_full-requires-clause-at_work g c = at_work_still _ _ _ _ _ _ c.requires.at_work c.edges.invariant.stays
-
-pub note_if_full-requires-clause-edge : goal.note_if_full-requires-clause-edge
-note_if_full-requires-clause-edge g c = subst (λ (n : ℕ). c.in-Some.edge < n) c.requires.at_work.fits.entries (subst (λ (o : Option ℕ). IfSome o (λ e. e < c.args.shop.now.tools.now.chart.into.edges)) c.in-Some.is c.edges.invariant.there)
+pub eases_if_full-eased-requires-clause-edge : goal.eases_if_full-eased-requires-clause-edge
+eases_if_full-eased-requires-clause-edge g c =
+    let fits = c.requires.at_work.fits in
+    subst (λ (n : ℕ). c.in-Some.edge < n) (fits.entries ∙ fits.edges) (subst (λ (o : Option ℕ). IfSome o (λ e. e < c.args.shop.now.tools.now.chart.into.edges)) c.in-Some.is c.edges.invariant.there)
 
 pub next-cursor-requires : goal.next-cursor-requires
 next-cursor-requires g c = subst (λ (o : Option ℕ). IfSome o (λ e. e < c.args.shop.now.tools.now.chart.into.edges)) c.in-Some.is c.edges.invariant.there
@@ -23,6 +22,6 @@ edges-smaller g c =
 
 pub edges-preserved : goal.edges-preserved
 edges-preserved g c = record {
-  stays = works_on _ _ _ _ _ _ _ c.edges.invariant.stays c.note_if_full.ensures;
+  stays = stays_on _ _ _ _ c.edges.invariant.stays c.eases_if_full-eased.ensures;
   there = second_of c.next-cursor.result c.in-Some.edge c.args.shop.now.tools.now.chart.into.edges c.next-cursor.ensures;
 }

@@ -1,12 +1,12 @@
 -- Each edge stands behind the last one.
 use Rattle.std.proofs.Common.{◌<◌, IfSome}
 use Rattle.mg_sched.proofs.Sweeping.{edges_left}
-use Rattle.mg_crew.specs.Code.Seats.{StaysAtWork}
+use Rattle.mg_workers.specs.Shared.{StaysShared}
 use Rattle.mg_crew.proofs.throttling.note_worked.Given as goal
 
 abbrev pub invariant-edges : goal.invariant-edges
 invariant-edges g l = record {
-  stays : StaysAtWork l.shop.net.now l.shop.tools.now l.fn.seat l.seat l.place;
+  stays : StaysShared l.shop.net.now l.fn.seat l.seat;
   there : IfSome l.cursor (λ e. e < l.shop.tools.now.chart.into.edges);
 }
 

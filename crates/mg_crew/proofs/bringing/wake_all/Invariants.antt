@@ -2,7 +2,7 @@
 use Rattle.std.proofs.Common.{◌<◌, IfSome}
 use Rattle.mg_sched.proofs.Sweeping.{edges_left}
 use Rattle.mg_crew.specs.Code.Seats.{StaysAtWork}
-use Rattle.mg_crew.proofs.serving.wake_all.Given as goal
+use Rattle.mg_crew.proofs.bringing.wake_all.Given as goal
 
 abbrev pub invariant-edges : goal.invariant-edges
 invariant-edges g l = record {
