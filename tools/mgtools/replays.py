@@ -152,8 +152,9 @@ def stop(process: subprocess.Popen) -> None:
 
 def tried(case: Case, command: list[str], seconds: float, updates: bool, running: set[subprocess.Popen]) -> Outcome:
     """Runs a case, and compares it or takes over what came."""
-    if not case.recording.exists():
-        return Outcome(case, "FAIL", [f"there is no recording {case.recording}"], True)
+    for what, path in ("recording", case.recording), ("graph", case.folder / case.files[0]):
+        if not path.exists():
+            return Outcome(case, "FAIL", [f"there is no {what} {path}"], True)
     with tempfile.TemporaryDirectory() as folder:
         came = run(case, command, seconds, pathlib.Path(folder), running)
         fault = went_wrong(came, seconds)
