@@ -75,6 +75,6 @@ function widen(isWide) { graph.classList.toggle("whole", isWide); wide.setAttrib
 wide.addEventListener("click", () => widen(!graph.classList.contains("whole")));
 window.addEventListener("keydown", event => { if (event.key === "Escape" && graph.classList.contains("whole")) widen(false); });
 new ResizeObserver(() => picture.resized()).observe(frame);
-window.addEventListener("resize", () => charts.forEach(chart => chart.draw()));
+new ResizeObserver(() => charts.forEach(chart => chart.draw())).observe(document.getElementById("axes"));
 picture.all();
 charts.forEach(chart => chart.draw());
