@@ -28,13 +28,13 @@ free_rounds job zero = refl
 free_rounds job (suc n) = free_round job (iterate job nothing_held n (round job 0)) ∙ ap (next_round job) (free_rounds job n)
 
 -- there is a round that meets the equations
-pub a_round_meets : (Good : Law → List Plain → Type 0) (job : Job) → IsKnown Good job → IsValid job.plan → length job.inputs.streams ≡ length job.plan.inputs → (n : ℕ) × MeetsEquations job (round job n)
-a_round_meets Good job known valid many =
+pub a_round_meets : (job : Job) → IsKnown job → IsValid job.plan → length job.inputs.streams ≡ length job.plan.inputs → (n : ℕ) × MeetsEquations job (round job n)
+a_round_meets job known valid many =
     let start : Stands job nothing_held (round job 0) = record {
-      keeps = round_keeps Good job known 0;
-      rises = subst (AreExtendedBy (round job 0)) (sym (free_round job (round job 0))) (rounds_ascend Good job known 0);
+      keeps = round_keeps job known 0;
+      rises = subst (AreExtendedBy (round job 0)) (sym (free_round job (round job 0))) (rounds_ascend job known 0);
     } in
-    let settled = rest_settles job.plan.order [] Good job nothing_held (round job 0) (record { known = known; valid = valid; many = many }) refl (λ k node at. tt) tt start in
+    let settled = rest_settles job.plan.order [] job nothing_held (round job 0) (record { known = known; valid = valid; many = many }) refl (λ k node at. tt) tt start in
     let n = settled.0 in
     (n, sym (free_round job (round job n)) ∙ (ap (held_round job nothing_held) (sym (free_rounds job n)) ∙ (settled.1 ∙ free_rounds job n)))
 
@@ -64,8 +64,8 @@ all_same_or_not (x ∷ xs) (y ∷ ys) e = elim (same_or_not x y e.0) [
   ]
 ]
 
-meets_or_not : (Good : Law → List Plain → Type 0) (job : Job) → IsKnown Good job → (n : ℕ) → MeetsEquations job (round job n) ⊎ ¬ MeetsEquations job (round job n)
-meets_or_not Good job known n = elim (all_same_or_not (round job n) (round job (suc n)) (rounds_ascend Good job known n)) [
+meets_or_not : (job : Job) → IsKnown job → (n : ℕ) → MeetsEquations job (round job n) ⊎ ¬ MeetsEquations job (round job n)
+meets_or_not job known n = elim (all_same_or_not (round job n) (round job (suc n)) (rounds_ascend job known n)) [
   | inl same ↦ inl (sym same)
   | inr other ↦ inr (λ meets. other (sym meets))
 ]
@@ -76,11 +76,11 @@ record FirstRound (job : Job) : Type 0 where
   pub meets : MeetsEquations job (round job number)
   pub first : (earlier : ℕ) → earlier < number → ¬ MeetsEquations job (round job earlier)
 
-first_round : (Good : Law → List Plain → Type 0) (job : Job) → IsKnown Good job → (n : ℕ) → FirstRound job ⊎ ((earlier : ℕ) → earlier < n → ¬ MeetsEquations job (round job earlier))
-first_round Good job known zero = inr (λ earlier le. absurd (omega (arith, le)))
-first_round Good job known (suc n) = elim (first_round Good job known n) [
+first_round : (job : Job) → IsKnown job → (n : ℕ) → FirstRound job ⊎ ((earlier : ℕ) → earlier < n → ¬ MeetsEquations job (round job earlier))
+first_round job known zero = inr (λ earlier le. absurd (omega (arith, le)))
+first_round job known (suc n) = elim (first_round job known n) [
   | inl found ↦ inl found
-  | inr none ↦ elim (meets_or_not Good job known n) [
+  | inr none ↦ elim (meets_or_not job known n) [
     | inl meets ↦ inl (record { number = n; meets = meets; first = none })
     | inr other ↦ inr (λ earlier le. elim (cases_lt earlier n) [
       | inl before ↦ none earlier before
@@ -89,10 +89,10 @@ first_round Good job known (suc n) = elim (first_round Good job known n) [
   ]
 ]
 
-pub a_solution : (Good : Law → List Plain → Type 0) (job : Job) → IsKnown Good job → IsValid job.plan → length job.inputs.streams ≡ length job.plan.inputs → (streams : List (StreamPrefix Plain)) × IsSolution job streams
-a_solution Good job known valid many =
-    let settled = a_round_meets Good job known valid many in
-    elim (first_round Good job known (suc settled.0)) [
+pub a_solution : (job : Job) → IsKnown job → IsValid job.plan → length job.inputs.streams ≡ length job.plan.inputs → (streams : List (StreamPrefix Plain)) × IsSolution job streams
+a_solution job known valid many =
+    let settled = a_round_meets job known valid many in
+    elim (first_round job known (suc settled.0)) [
       | inl found ↦ (round job found.number, record { number = found.number; reached = refl; meets = found.meets; first = found.first })
       | inr none ↦ absurd (none settled.0 (omega arith) settled.1)
     ]

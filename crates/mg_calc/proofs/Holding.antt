@@ -14,7 +14,6 @@ use Rattle.mg_calc.specs.declared.plan_stream.Producer.{Producer}
 use Rattle.mg_calc.specs.declared.plan_stream.Producer.TheVariants.{Input, Node}
 use Rattle.mg_calc.specs.Plan.{producers, numbers}
 use Rattle.mg_calc.specs.Equations.{Job, outcome_of}
-use Rattle.mg_calc.proofs.Outcomes.{KeepsTimes}
 use Rattle.mg_calc.proofs.Rounds.{IsKnown, outcome_follows, outcome_keeps, outcome_has_outputs}
 use Rattle.mg_calc.proofs.Positions.{Agree, agree_both, agree_same, agree_parts, parts, givers, GivesAll, GiveSame}
 use Rattle.mg_calc.proofs.Earlier.{KnownBy, at_place}
@@ -94,20 +93,17 @@ give_same_from K f g from (n ∷ nodes) all = (
 )
 
 -- what is known of each node
-pub node_times : (Good : Law → List Plain → Type 0) (job : Job) → IsKnown Good job → OfNodes job.plan.nodes (λ k node. KeepsTimes node.law (Good node.law))
-node_times Good job known k node e = at_place (λ (n : PlanNode). KeepsTimes n.law (Good n.law)) job.plan.nodes k node known.times e
-
-pub node_loops : (Good : Law → List Plain → Type 0) (job : Job) → IsKnown Good job → OfNodes job.plan.nodes (λ k node. node.law ≡ Loopback → length node.outputs ≡ 1)
-node_loops Good job known k node e = at_place (λ (n : PlanNode). n.law ≡ Loopback → length n.outputs ≡ 1) job.plan.nodes k node known.loops e
+pub node_loops : (job : Job) → IsKnown job → OfNodes job.plan.nodes (λ k node. node.law ≡ Loopback → length node.outputs ≡ 1)
+node_loops job known k node e = at_place (λ (n : PlanNode). n.law ≡ Loopback → length n.outputs ≡ 1) job.plan.nodes k node known.loops e
 
 -- held rounds follow their streams, keep prefixes and have all outputs
-pub held_follow : (Good : Law → List Plain → Type 0) (job : Job) (held : Held) (xs ys : List (StreamPrefix Plain)) → IsKnown Good job → AllByRecursion IsPrefix xs → AllByRecursion IsPrefix ys → AreExtendedBy xs ys
+pub held_follow : (job : Job) (held : Held) (xs ys : List (StreamPrefix Plain)) → IsKnown job → AllByRecursion IsPrefix xs → AllByRecursion IsPrefix ys → AreExtendedBy xs ys
     → AreExtendedBy (held_round job held xs) (held_round job held ys)
-held_follow Good job held xs ys known kx ky e =
+held_follow job held xs ys known kx ky e =
     both_extend job.inputs.streams job.inputs.streams _ _ (all_by_themselves job.inputs.streams)
     (parts_extend_from (given job held xs) (given job held ys) 0 job.plan.nodes
     (from_zero job.plan.nodes (λ k node. AreExtendedBy (given job held xs k node) (given job held ys k node))
-    (λ k node at. follows (held k) (outcome_of job xs node).outputs (outcome_of job ys node).outputs (outcome_follows Good job node xs ys (node_times Good job known k node at) kx ky e))))
+    (λ k node at. follows (held k) (outcome_of job xs node).outputs (outcome_of job ys node).outputs (outcome_follows job node xs ys kx ky e))))
   where
     follows : (h : Option (List (StreamPrefix Plain))) (a b : List (StreamPrefix Plain)) → AreExtendedBy a b → AreExtendedBy (unwrap_or h a) (unwrap_or h b)
     follows (Some outs) a b e = all_by_themselves outs
@@ -122,22 +118,22 @@ keeps_by (Some outs) n a f k = f.1
 keeps_by None n a f k = k
 
 -- what a node gives are prefixes, one for each output
-pub given_long : (Good : Law → List Plain → Type 0) (job : Job) (held : Held) (xs : List (StreamPrefix Plain)) → IsKnown Good job → HeldFits job held → AllByRecursion IsPrefix xs → OfNodes job.plan.nodes (λ k node. length (given job held xs k node) ≡ length node.outputs)
-given_long Good job held xs known fits kx k node at =
-    long_by (held k) (length node.outputs) (outcome_of job xs node).outputs (fits k node at) (outcome_has_outputs Good job node xs (node_times Good job known k node at) (node_loops Good job known k node at) kx)
+pub given_long : (job : Job) (held : Held) (xs : List (StreamPrefix Plain)) → IsKnown job → HeldFits job held → AllByRecursion IsPrefix xs → OfNodes job.plan.nodes (λ k node. length (given job held xs k node) ≡ length node.outputs)
+given_long job held xs known fits kx k node at =
+    long_by (held k) (length node.outputs) (outcome_of job xs node).outputs (fits k node at) (outcome_has_outputs job node xs (node_loops job known k node at) kx)
 
-pub given_keeps : (Good : Law → List Plain → Type 0) (job : Job) (held : Held) (xs : List (StreamPrefix Plain)) → IsKnown Good job → HeldFits job held → AllByRecursion IsPrefix xs → OfNodes job.plan.nodes (λ k node. AllByRecursion IsPrefix (given job held xs k node))
-given_keeps Good job held xs known fits kx k node at =
-    keeps_by (held k) (length node.outputs) (outcome_of job xs node).outputs (fits k node at) (outcome_keeps Good job node xs (node_times Good job known k node at) kx)
+pub given_keeps : (job : Job) (held : Held) (xs : List (StreamPrefix Plain)) → IsKnown job → HeldFits job held → AllByRecursion IsPrefix xs → OfNodes job.plan.nodes (λ k node. AllByRecursion IsPrefix (given job held xs k node))
+given_keeps job held xs known fits kx k node at =
+    keeps_by (held k) (length node.outputs) (outcome_of job xs node).outputs (fits k node at) (outcome_keeps job node xs kx)
 
-pub held_keep : (Good : Law → List Plain → Type 0) (job : Job) (held : Held) (xs : List (StreamPrefix Plain)) → IsKnown Good job → HeldFits job held → AllByRecursion IsPrefix xs → AllByRecursion IsPrefix (held_round job held xs)
-held_keep Good job held xs known fits kx =
+pub held_keep : (job : Job) (held : Held) (xs : List (StreamPrefix Plain)) → IsKnown job → HeldFits job held → AllByRecursion IsPrefix xs → AllByRecursion IsPrefix (held_round job held xs)
+held_keep job held xs known fits kx =
     both_keep job.inputs.streams _ known.inputs
-    (parts_keep_from (given job held xs) 0 job.plan.nodes (from_zero job.plan.nodes (λ k node. AllByRecursion IsPrefix (given job held xs k node)) (given_keeps Good job held xs known fits kx)))
+    (parts_keep_from (given job held xs) 0 job.plan.nodes (from_zero job.plan.nodes (λ k node. AllByRecursion IsPrefix (given job held xs k node)) (given_keeps job held xs known fits kx)))
 
-given_has_all : (Good : Law → List Plain → Type 0) (job : Job) (held : Held) (xs : List (StreamPrefix Plain)) → IsKnown Good job → HeldFits job held → AllByRecursion IsPrefix xs → GivesAll (given job held xs) 0 job.plan.nodes
-given_has_all Good job held xs known fits kx =
-    gives_all_from (given job held xs) 0 job.plan.nodes (from_zero job.plan.nodes (λ k node. length (given job held xs k node) ≡ length node.outputs) (given_long Good job held xs known fits kx))
+given_has_all : (job : Job) (held : Held) (xs : List (StreamPrefix Plain)) → IsKnown job → HeldFits job held → AllByRecursion IsPrefix xs → GivesAll (given job held xs) 0 job.plan.nodes
+given_has_all job held xs known fits kx =
+    gives_all_from (given job held xs) 0 job.plan.nodes (from_zero job.plan.nodes (λ k node. length (given job held xs k node) ≡ length node.outputs) (given_long job held xs known fits kx))
 
 -- a node is held
 abbrev pub IsHeld : Held → ℕ → Type 0
@@ -148,12 +144,12 @@ held_same (Some outs) a b e = refl
 held_same None a b e = absurd cc
 
 -- two rounds agree at the graph inputs and at what is held
-pub rounds_agree : (Good : Law → List Plain → Type 0) (job : Job) (held : Held) (xs ys : List (StreamPrefix Plain)) → IsKnown Good job → length job.inputs.streams ≡ length job.plan.inputs → HeldFits job held
+pub rounds_agree : (job : Job) (held : Held) (xs ys : List (StreamPrefix Plain)) → IsKnown job → length job.inputs.streams ≡ length job.plan.inputs → HeldFits job held
     → AllByRecursion IsPrefix xs → AllByRecursion IsPrefix ys → Agree (KnownBy (IsHeld held)) (producers job.plan) (held_round job held xs) (held_round job held ys)
-rounds_agree Good job held xs ys known many fits kx ky =
+rounds_agree job held xs ys known many fits kx ky =
     agree_both (KnownBy (IsHeld held)) (map Input (numbers (length job.plan.inputs))) (givers 0 job.plan.nodes) job.inputs.streams job.inputs.streams _ _
     (agree_same (KnownBy (IsHeld held)) (map Input (numbers (length job.plan.inputs))) job.inputs.streams (many ∙ sym (length-map-range_with_len Input 0 (length job.plan.inputs))))
-    (agree_parts (KnownBy (IsHeld held)) (given job held xs) (given job held ys) 0 job.plan.nodes (given_has_all Good job held xs known fits kx) (given_has_all Good job held ys known fits ky)
+    (agree_parts (KnownBy (IsHeld held)) (given job held xs) (given job held ys) 0 job.plan.nodes (given_has_all job held xs known fits kx) (given_has_all job held ys known fits ky)
     (give_same_from (KnownBy (IsHeld held)) (given job held xs) (given job held ys) 0 job.plan.nodes
     (from_zero job.plan.nodes (λ k node. (port : ℕ) → KnownBy (IsHeld held) (Node k port) → given job held xs k node ≡ given job held ys k node)
     (λ k node at port is. held_same (held k) (outcome_of job xs node).outputs (outcome_of job ys node).outputs is))))

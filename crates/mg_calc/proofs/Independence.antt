@@ -18,9 +18,9 @@ use Rattle.mg_calc.proofs.Rounds.{outcome_has_outputs}
 use Rattle.mg_calc.proofs.Solutions.{round_keeps, met_stays}
 use Rattle.mg_calc.proofs.Positions.{Agree, agree_at, agree_both, agree_same, agree_parts, parts, parts_flat, givers, GivesAll, GiveSame}
 use Rattle.mg_calc.proofs.Earlier.{there, get_map, node_reads_below}
-use Rattle.mg_calc.proofs.Holding.{from_zero, gives_all_from, give_same_from, node_times, node_loops}
+use Rattle.mg_calc.proofs.Holding.{from_zero, gives_all_from, give_same_from, node_loops}
 use Rattle.mg_calc.proofs.Settling.{outcome_of_inputs_by}
-use Rattle.mg_calc.proofs.Jobs.{any_state, job_known, outcome_of_sides_by}
+use Rattle.mg_calc.proofs.Jobs.{job_known, outcome_of_sides_by}
 
 -- the graph inputs that a producer may depend on are the same in both
 abbrev Safe : Plan → Inputs → Inputs → Producer → Type 0
@@ -95,9 +95,9 @@ rounds_agree_safely plan inputs more is other sides (suc n) =
     let known = job_known job is in
     let known' = job_known changed other in
     let long : GivesAll mine 0 plan.nodes = gives_all_from mine 0 plan.nodes (from_zero plan.nodes (λ k node. length (mine k node) ≡ length node.outputs)
-    (λ k node at. outcome_has_outputs any_state job node xs (node_times any_state job known k node at) (node_loops any_state job known k node at) (round_keeps any_state job known n))) in
+    (λ k node at. outcome_has_outputs job node xs (node_loops job known k node at) (round_keeps job known n))) in
     let long' : GivesAll others 0 plan.nodes = gives_all_from others 0 plan.nodes (from_zero plan.nodes (λ k node. length (others k node) ≡ length node.outputs)
-    (λ k node at. outcome_has_outputs any_state changed node ys (node_times any_state changed known' k node at) (node_loops any_state changed known' k node at) (round_keeps any_state changed known' n))) in
+    (λ k node at. outcome_has_outputs changed node ys (node_loops changed known' k node at) (round_keeps changed known' n))) in
     let same : GiveSame (Safe plan inputs more) mine others 0 plan.nodes = give_same_from (Safe plan inputs more) mine others 0 plan.nodes
     (from_zero plan.nodes (λ k node. (port : ℕ) → Safe plan inputs more (Node k port) → mine k node ≡ others k node)
     (λ k node at port safe. ap (λ (o : Outcome). o.outputs)

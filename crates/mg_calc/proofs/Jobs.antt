@@ -16,21 +16,12 @@ use Rattle.mg_calc.specs.declared.plan.Plan.{Plan}
 use Rattle.mg_calc.specs.declared.plan_node.PlanNode.{PlanNode}
 use Rattle.mg_calc.specs.declared.port_kind.PortKind.{PortKind}
 use Rattle.mg_calc.specs.Plan.{HasNumbers, numbers, node_sides}
-use Rattle.mg_calc.specs.Shape.{ParametersFit, IsShapeOf, HasOutputs, calls_of}
+use Rattle.mg_calc.specs.Law.{rules_of}
+use Rattle.mg_calc.specs.Shape.{IsShapeOf, HasOutputs, calls_of}
 use Rattle.mg_calc.specs.Outcome.{Outcome, source_outcome, node_outcome}
 use Rattle.mg_calc.specs.Equations.{Job, IsJob, inputs_of, outcome_by, outcome_of, next_round, IsSolution}
-use Rattle.mg_calc.proofs.Outcomes.{KeepsTimes}
-use Rattle.mg_calc.proofs.LawCases.{law_keeps_times}
 use Rattle.mg_calc.proofs.Rounds.{IsKnown}
 use Rattle.mg_calc.proofs.Solutions.{solution_keeps, solution_least}
-
--- nothing has to be known of a state
-abbrev pub any_state : Law → List Plain → Type 0
-any_state law state = Unit {0}
-
-times_of_nodes : (nodes : List PlanNode) → AllByRecursion (λ node. ParametersFit node.law) nodes → AllByRecursion (λ node. KeepsTimes node.law (any_state node.law)) nodes
-times_of_nodes [] fit = tt
-times_of_nodes (node ∷ nodes) fit = (law_keeps_times node.law fit.0, times_of_nodes nodes fit.1)
 
 one_output : (law : Law) (inputs ps : List PortKind) → HasOutputs law inputs ps → law ≡ Loopback → length ps ≡ 1
 one_output law inputs ps has e = (let same = subst (λ (l : Law). HasOutputs l inputs ps) e has in ap length same)
@@ -40,9 +31,8 @@ loops_of_nodes [] numbers shapes = tt
 loops_of_nodes (node ∷ nodes) numbers shapes =
     ((λ e. numbers.0.outputs ∙ one_output node.law node.shape.inputs node.shape.outputs shapes.0.outputs e), loops_of_nodes nodes numbers.1 shapes.1)
 
-pub job_known : (job : Job) → IsJob job → IsKnown any_state job
+pub job_known : (job : Job) → IsJob job → IsKnown job
 job_known job is = record {
-  times = times_of_nodes job.plan.nodes (recursion_from_All (λ (node : PlanNode). ParametersFit node.law) job.plan.nodes is.plan.parameters);
   loops = loops_of_nodes job.plan.nodes (recursion_from_All HasNumbers job.plan.nodes is.plan.ports) (recursion_from_All (λ (node : PlanNode). IsShapeOf node.law node.shape) job.plan.nodes is.plan.shapes);
   inputs = recursion_from_All IsPrefix job.inputs.streams is.inputs.prefixes;
   streams = sym (length-range_with_len 0 (length job.plan.streams)) ∙ (ap length (sym is.plan.streams)
@@ -57,7 +47,7 @@ outcome_of_sides_by (Count count start step) plan inputs more node xs same = ap 
 outcome_of_sides_by (SideOnce at) plan inputs more node xs same = ap (λ sides. source_outcome node.law (calls_of node.law) (length node.outputs) (node_sides plan sides node)) same
 outcome_of_sides_by Constants plan inputs more node xs same = ap (λ sides. source_outcome node.law (calls_of node.law) (length node.outputs) (node_sides plan sides node)) same
 outcome_of_sides_by Loopback plan inputs more node xs same = refl
-outcome_of_sides_by law plan inputs more node xs same = ap (λ sides. node_outcome node.law node.shape.offset node.policy (length node.outputs) (node_sides plan sides node) (inputs_of xs node)) same
+outcome_of_sides_by law plan inputs more node xs same = ap (λ sides. node_outcome (rules_of node.law) node.shape.offset node.policy (length node.outputs) (node_sides plan sides node) (inputs_of xs node)) same
 
 nodes_of_sides : (plan : Plan) (inputs more : Inputs) (nodes : List PlanNode) (xs : List (StreamPrefix Plain)) → inputs.sides ≡ more.sides
     → flat_map (λ node. (outcome_of (record { plan = plan; inputs = inputs }) xs node).outputs) nodes ≡ flat_map (λ node. (outcome_of (record { plan = plan; inputs = more }) xs node).outputs) nodes
@@ -79,8 +69,8 @@ pub solution_grows : (plan : Plan) (inputs more : Inputs) (xs ys : List (StreamP
 solution_grows plan inputs more xs ys is other sides e a b =
     let job : Job = record { plan = plan; inputs = inputs } in
     let longer : Job = record { plan = plan; inputs = more } in
-    let keeps = solution_keeps any_state longer (job_known longer other) ys b in
+    let keeps = solution_keeps longer (job_known longer other) ys b in
     let follows : AreExtendedBy (next_round job ys) (next_round longer ys) =
     subst (λ (rest : List (StreamPrefix Plain)). AreExtendedBy (inputs.streams ++ rest) (next_round longer ys)) (sym (nodes_of_sides plan inputs more plan.nodes ys sides))
     (first_extend inputs.streams more.streams (flat_map (λ node. (outcome_of longer ys node).outputs) plan.nodes) e) in
-    solution_least any_state job (job_known job is) xs ys a keeps (subst (λ (zs : List (StreamPrefix Plain)). AreExtendedBy (next_round job ys) zs) b.meets follows)
+    solution_least job (job_known job is) xs ys a keeps (subst (λ (zs : List (StreamPrefix Plain)). AreExtendedBy (next_round job ys) zs) b.meets follows)

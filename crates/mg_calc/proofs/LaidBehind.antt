@@ -1,5 +1,5 @@
 -- Laying extends each output, and keeps prefixes.
-use Rattle.std.proofs.Common.{◌≡◌, ℕ, ℤ, pos, negsuc, max, append-nil, ◌≤◌, Bool, true, false, not, nat_lt, List, [], ◌∷◌, map, Option, Some, None, Result, Ok, Err, IfSome, refl, sym, ap, subst, arith, if◌then◌else◌}
+use Rattle.std.proofs.Common.{◌≡◌, ℕ, ℤ, pos, negsuc, min, max, append-nil, ◌≤◌, Bool, true, false, not, nat_lt, List, [], ◌∷◌, map, Option, Some, None, Result, Ok, Err, refl, sym, ap, subst, arith, if◌then◌else◌}
 use Rattle.std.specs.List.{AllByRecursion}
 use Rattle.std.proofs.lemmas.Bool.Decides.{nat_tests}
 use Rattle.std.proofs.lemmas.List.Elements.{All-nil}
@@ -65,11 +65,11 @@ packets_keep offset phase output longer (packet ∷ packets) h k =
 
 raised_to_extends : (bound : Option ℕ) (output : StreamPrefix Plain) → IsExtendedBy output (raised_to bound output)
 raised_to_extends None output = extended_by_itself output
-raised_to_extends (Some b) output = raised_extends output b
+raised_to_extends (Some b) output = raised_extends output (min b done)
 
-raised_to_keeps : (bound : Option ℕ) (output : StreamPrefix Plain) → IfSome bound (λ b. b ≤ done) → IsPrefix output → IsPrefix (raised_to bound output)
-raised_to_keeps None output le k = k
-raised_to_keeps (Some b) output le k = raised_is_prefix output b k le
+raised_to_keeps : (bound : Option ℕ) (output : StreamPrefix Plain) → IsPrefix output → IsPrefix (raised_to bound output)
+raised_to_keeps None output k = k
+raised_to_keeps (Some b) output k = raised_is_prefix output (min b done) k (omega arith)
 
 laid_extends : (offset : Option ℤ) (phase : Phase) (output longer : StreamPrefix Plain) (laid : Laid) → with_laid offset phase output laid ≡ Ok longer → IsExtendedBy output longer
 laid_extends offset phase output longer laid h =
@@ -77,15 +77,11 @@ laid_extends offset phase output longer laid h =
     subst (IsExtendedBy output) (good_same (raised_to laid.bound good.0) longer good.2)
     (extended_further output good.0 (raised_to laid.bound good.0) (packets_extend offset phase output good.0 laid.packets good.1) (raised_to_extends laid.bound good.0))
 
--- the bounds of an emission are times
-abbrev pub TimesByRecursion : List Laid → Type 0
-TimesByRecursion emission = AllByRecursion (λ laid. IfSome laid.bound (λ b. b ≤ done)) emission
-
-laid_keeps : (offset : Option ℤ) (phase : Phase) (output longer : StreamPrefix Plain) (laid : Laid) → with_laid offset phase output laid ≡ Ok longer → IfSome laid.bound (λ b. b ≤ done) → IsPrefix output → IsPrefix longer
-laid_keeps offset phase output longer laid h le k =
+laid_keeps : (offset : Option ℤ) (phase : Phase) (output longer : StreamPrefix Plain) (laid : Laid) → with_laid offset phase output laid ≡ Ok longer → IsPrefix output → IsPrefix longer
+laid_keeps offset phase output longer laid h k =
     let good = after_good (with_packets offset phase output laid.packets) (λ l. Ok (raised_to laid.bound l)) longer h in
     subst IsPrefix (good_same (raised_to laid.bound good.0) longer good.2)
-    (raised_to_keeps laid.bound good.0 le (packets_keep offset phase output good.0 laid.packets good.1 k))
+    (raised_to_keeps laid.bound good.0 (packets_keep offset phase output good.0 laid.packets good.1 k))
 
 -- so does an emission
 pub emission_extends : (offset : Option ℤ) (phase : Phase) (outputs longer : List (StreamPrefix Plain)) (emission : List Laid) → laid_behind offset phase outputs emission ≡ Ok longer → AreExtendedBy outputs longer
@@ -97,14 +93,14 @@ emission_extends offset phase (output ∷ outputs) longer (laid ∷ emission) h 
     subst (AreExtendedBy (output ∷ outputs)) (good_same (here.0 ∷ rest.0) longer rest.2)
     (laid_extends offset phase output here.0 laid here.1, emission_extends offset phase outputs rest.0 emission rest.1)
 
-pub emission_keeps : (offset : Option ℤ) (phase : Phase) (outputs longer : List (StreamPrefix Plain)) (emission : List Laid) → laid_behind offset phase outputs emission ≡ Ok longer → TimesByRecursion emission → AllByRecursion IsPrefix outputs → AllByRecursion IsPrefix longer
-emission_keeps offset phase outputs longer [] h times k = subst (AllByRecursion IsPrefix) (good_same outputs longer h) k
-emission_keeps offset phase [] longer (laid ∷ emission) h times k = subst (AllByRecursion IsPrefix) (good_same [] longer h) tt
-emission_keeps offset phase (output ∷ outputs) longer (laid ∷ emission) h times k =
+pub emission_keeps : (offset : Option ℤ) (phase : Phase) (outputs longer : List (StreamPrefix Plain)) (emission : List Laid) → laid_behind offset phase outputs emission ≡ Ok longer → AllByRecursion IsPrefix outputs → AllByRecursion IsPrefix longer
+emission_keeps offset phase outputs longer [] h k = subst (AllByRecursion IsPrefix) (good_same outputs longer h) k
+emission_keeps offset phase [] longer (laid ∷ emission) h k = subst (AllByRecursion IsPrefix) (good_same [] longer h) tt
+emission_keeps offset phase (output ∷ outputs) longer (laid ∷ emission) h k =
     let here = after_good (with_laid offset phase output laid) (λ l. after (laid_behind offset phase outputs emission) (λ others. Ok (l ∷ others))) longer h in
     let rest = after_good (laid_behind offset phase outputs emission) (λ others. Ok (here.0 ∷ others)) longer here.2 in
     subst (AllByRecursion IsPrefix) (good_same (here.0 ∷ rest.0) longer rest.2)
-    (laid_keeps offset phase output here.0 laid here.1 times.0 k.0, emission_keeps offset phase outputs rest.0 emission rest.1 times.1 k.1)
+    (laid_keeps offset phase output here.0 laid here.1 k.0, emission_keeps offset phase outputs rest.0 emission rest.1 k.1)
 
 -- outputs that are raised are extended, and stay prefixes; the higher the bound, the further
 abbrev raised_by : ℤ → ℕ → StreamPrefix Plain → StreamPrefix Plain

@@ -9,7 +9,6 @@ pub mod Earlier
 pub mod Holding
 pub mod Settling
 pub mod FirstRound
-pub mod LawTimes
 pub mod LawCases
 pub mod Jobs
 pub mod Independence

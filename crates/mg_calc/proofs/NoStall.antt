@@ -20,8 +20,8 @@ use Rattle.mg_calc.specs.Shape.{IsShapeOf, HasInputs}
 use Rattle.mg_calc.specs.Equations.{Job, IsJob, IsSolution, stream_of, inputs_of, outcome_of}
 use Rattle.mg_calc.proofs.Earlier.{Forward, IsNext, KnownBy, at_place, edges_into, forward_same, get_or_some, node_reads_below}
 use Rattle.mg_calc.proofs.EndedInputs.{AreEnded, LoopEnded, outcome_ends}
-use Rattle.mg_calc.proofs.Holding.{OfNodes, from_zero, gives_all_from, give_same_from, node_loops, node_times, parts_same}
-use Rattle.mg_calc.proofs.Jobs.{any_state, job_known}
+use Rattle.mg_calc.proofs.Holding.{OfNodes, from_zero, gives_all_from, give_same_from, node_loops, parts_same}
+use Rattle.mg_calc.proofs.Jobs.{job_known}
 use Rattle.mg_calc.proofs.Positions.{Agree, agree_both, agree_parts, agree_same, givers, parts, parts_flat}
 use Rattle.mg_calc.proofs.Rounds.{outcome_has_outputs, stream_is_prefix, streams_are_prefixes}
 use Rattle.mg_calc.proofs.Solutions.{solution_has_each, solution_keeps}
@@ -84,9 +84,9 @@ agrees job streams r =
     let K = KnownBy (HasEnded job streams) in
     let nodes = job.plan.nodes in
     let known = job_known job r.is_job in
-    let keeps = solution_keeps any_state job known streams r.solution in
+    let keeps = solution_keeps job known streams r.solution in
     let long : OfNodes nodes (λ k node. length (outcome_of job streams node).outputs ≡ length node.outputs) =
-    λ k node at. outcome_has_outputs any_state job node streams (node_times any_state job known k node at) (node_loops any_state job known k node at) keeps in
+    λ k node at. outcome_has_outputs job node streams (node_loops job known k node at) keeps in
     let closed_long : OfNodes nodes (λ k node. length (map closed (outcome_of job streams node).outputs) ≡ length node.outputs) =
     λ k node at. length-map (outcome_of job streams node).outputs closed ∙ long k node at in
     subst (λ (xs : List (StreamPrefix Plain)). Agree K (producers job.plan) xs (map closed streams)) (sym (whole job streams r))
@@ -122,11 +122,11 @@ next_ends : (job : Job) (streams : List (StreamPrefix Plain)) (w : ℕ) → Runs
 next_ends job streams w r next node at =
     let plan = job.plan in
     let known = job_known job r.is_job in
-    let keeps = solution_keeps any_state job known streams r.solution in
+    let keeps = solution_keeps job known streams r.solution in
     let edges = edges_forward plan plan.edges (recursion_from_All (λ (e : Edge). e.back ≡ false → LeadsForward plan e) plan.edges r.is_job.plan.forward)
     (recursion_from_All (λ (e : Edge). e.back ≡ false) plan.edges r.ahead) in
     let forward = edges_into plan (Forward plan) w node r.is_job.plan edges at in
-    let ended = reads_ended job streams w 0 node.inputs r next (node_reads_below plan w node r.is_job.plan at) forward (solution_has_each any_state job known streams r.solution) in
+    let ended = reads_ended job streams w 0 node.inputs r next (node_reads_below plan w node r.is_job.plan at) forward (solution_has_each job known streams r.solution) in
     let prefixes = All-from_recursion IsPrefix (inputs_of streams node) (streams_are_prefixes streams node.inputs keeps) in
     let loop : node.law ≡ Loopback → LoopEnded streams node = λ is. (
     let numbers = at_place HasNumbers plan.nodes w node (recursion_from_All HasNumbers plan.nodes r.is_job.plan.ports) at in

@@ -64,24 +64,24 @@ pub record Stands (job : Job) (held : Held) (xs : List (StreamPrefix Plain)) : T
   pub rises : AreExtendedBy xs (held_round job held xs)
 
 -- what a job and a plan have to have
-pub record Sound (Good : Law → List Plain → Type 0) (job : Job) : Type 0 where
-  pub known : IsKnown Good job
+pub record Sound (job : Job) : Type 0 where
+  pub known : IsKnown job
   pub valid : IsValid job.plan
   pub many : length job.inputs.streams ≡ length job.plan.inputs
 
-stands_next : (Good : Law → List Plain → Type 0) (job : Job) (held : Held) (xs : List (StreamPrefix Plain)) → Sound Good job → HeldFits job held → Stands job held xs → Stands job held (held_round job held xs)
-stands_next Good job held xs sound fits s =
-    let next = held_keep Good job held xs sound.known fits s.keeps in
-    record { keeps = next; rises = held_follow Good job held xs (held_round job held xs) sound.known s.keeps next s.rises }
+stands_next : (job : Job) (held : Held) (xs : List (StreamPrefix Plain)) → Sound job → HeldFits job held → Stands job held xs → Stands job held (held_round job held xs)
+stands_next job held xs sound fits s =
+    let next = held_keep job held xs sound.known fits s.keeps in
+    record { keeps = next; rises = held_follow job held xs (held_round job held xs) sound.known s.keeps next s.rises }
 
-stands_later : (Good : Law → List Plain → Type 0) (job : Job) (held : Held) (n : ℕ) (xs : List (StreamPrefix Plain)) → Sound Good job → HeldFits job held → Stands job held xs → Stands job held (iterate job held n xs)
-stands_later Good job held zero xs sound fits s = s
-stands_later Good job held (suc n) xs sound fits s = stands_next Good job held (iterate job held n xs) sound fits (stands_later Good job held n xs sound fits s)
+stands_later : (job : Job) (held : Held) (n : ℕ) (xs : List (StreamPrefix Plain)) → Sound job → HeldFits job held → Stands job held xs → Stands job held (iterate job held n xs)
+stands_later job held zero xs sound fits s = s
+stands_later job held (suc n) xs sound fits s = stands_next job held (iterate job held n xs) sound fits (stands_later job held n xs sound fits s)
 
-later_extends : (Good : Law → List Plain → Type 0) (job : Job) (held : Held) (n : ℕ) (xs : List (StreamPrefix Plain)) → Sound Good job → HeldFits job held → Stands job held xs → AreExtendedBy xs (iterate job held n xs)
-later_extends Good job held zero xs sound fits s = all_by_themselves xs
-later_extends Good job held (suc n) xs sound fits s =
-    all_further xs (iterate job held n xs) _ (later_extends Good job held n xs sound fits s) (stands_later Good job held n xs sound fits s).rises
+later_extends : (job : Job) (held : Held) (n : ℕ) (xs : List (StreamPrefix Plain)) → Sound job → HeldFits job held → Stands job held xs → AreExtendedBy xs (iterate job held n xs)
+later_extends job held zero xs sound fits s = all_by_themselves xs
+later_extends job held (suc n) xs sound fits s =
+    all_further xs (iterate job held n xs) _ (later_extends job held n xs sound fits s) (stands_later job held n xs sound fits s).rises
 
 -- streams that a held round gave
 record IsGiven (job : Job) (held : Held) (xs : List (StreamPrefix Plain)) : Type 0 where
@@ -101,16 +101,16 @@ iterates_same job held other xs (suc n) same =
     let before = iterates_same job held other xs n (λ i le e. same i (omega (arith, le)) e) in
     same n (omega arith) before ∙ ap (held_round job other) before
 
-agrees : (Good : Law → List Plain → Type 0) (job : Job) (held : Held) (xs ys : List (StreamPrefix Plain)) → Sound Good job → HeldFits job held → IsGiven job held xs → IsGiven job held ys
+agrees : (job : Job) (held : Held) (xs ys : List (StreamPrefix Plain)) → Sound job → HeldFits job held → IsGiven job held xs → IsGiven job held ys
     → Agree (KnownBy (IsHeld held)) (producers job.plan) xs ys
-agrees Good job held xs ys sound fits gx gy =
+agrees job held xs ys sound fits gx gy =
     subst (λ (zs : List (StreamPrefix Plain)). Agree (KnownBy (IsHeld held)) (producers job.plan) zs ys) (sym gx.is)
     (subst (λ (zs : List (StreamPrefix Plain)). Agree (KnownBy (IsHeld held)) (producers job.plan) (held_round job held gx.from) zs) (sym gy.is)
-    (rounds_agree Good job held gx.from gy.from sound.known sound.many fits gx.keeps gy.keeps))
+    (rounds_agree job held gx.from gy.from sound.known sound.many fits gx.keeps gy.keeps))
 
-iterate_given : (Good : Law → List Plain → Type 0) (job : Job) (held : Held) (n : ℕ) (xs : List (StreamPrefix Plain)) → Sound Good job → HeldFits job held → Stands job held xs → IsGiven job held xs → IsGiven job held (iterate job held n xs)
-iterate_given Good job held zero xs sound fits s g = g
-iterate_given Good job held (suc n) xs sound fits s g = given_round job held (iterate job held n xs) (stands_later Good job held n xs sound fits s).keeps
+iterate_given : (job : Job) (held : Held) (n : ℕ) (xs : List (StreamPrefix Plain)) → Sound job → HeldFits job held → Stands job held xs → IsGiven job held xs → IsGiven job held (iterate job held n xs)
+iterate_given job held zero xs sound fits s g = g
+iterate_given job held (suc n) xs sound fits s g = given_round job held (iterate job held n xs) (stands_later job held n xs sound fits s).keeps
 
 -- a node that is held, with what is known of it
 record Holds (job : Job) (held : Held) (w : ℕ) (node : PlanNode) (outs : List (StreamPrefix Plain)) : Type 0 where
@@ -128,17 +128,17 @@ stands_held job held w node outs xs at is s = record {
   rises = subst (AreExtendedBy xs) (sym (with_held_same job held w node outs xs at is)) s.rises;
 }
 
-constant_settles : (Good : Law → List Plain → Type 0) (job : Job) (held : Held) (w : ℕ) (node : PlanNode) (outs xs : List (StreamPrefix Plain)) → Sound Good job → Holds job held w node outs
+constant_settles : (job : Job) (held : Held) (w : ℕ) (node : PlanNode) (outs xs : List (StreamPrefix Plain)) → Sound job → Holds job held w node outs
     → ((ys : List (StreamPrefix Plain)) → IsGiven job held ys → given job held ys w node ≡ outs) → ((ys : List (StreamPrefix Plain)) → Stands job (with_held held w outs) ys → Settles job (with_held held w outs) ys)
     → Stands job held xs → IsGiven job held xs → Settles job held xs
-constant_settles Good job held w node outs xs sound h constant others s g =
+constant_settles job held w node outs xs sound h constant others s g =
     let settled = others xs (stands_held job held w node outs xs h.there (constant xs g) s) in
     let n = settled.0 in
     let same : (ys : List (StreamPrefix Plain)) → IsGiven job held ys → held_round job held ys ≡ held_round job (with_held held w outs) ys =
     λ ys gy. sym (with_held_same job held w node outs ys h.there (constant ys gy)) in
     let all : iterate job held n xs ≡ iterate job (with_held held w outs) n xs =
-    iterates_same job held (with_held held w outs) xs n (λ i le e. same (iterate job held i xs) (iterate_given Good job held i xs sound h.fits s g)) in
-    (n, same (iterate job held n xs) (iterate_given Good job held n xs sound h.fits s g) ∙ (ap (held_round job (with_held held w outs)) all ∙ (settled.1 ∙ sym all)))
+    iterates_same job held (with_held held w outs) xs n (λ i le e. same (iterate job held i xs) (iterate_given job held i xs sound h.fits s g)) in
+    (n, same (iterate job held n xs) (iterate_given job held n xs sound h.fits s g) ∙ (ap (held_round job (with_held held w outs)) all ∙ (settled.1 ∙ sym all)))
 
 -- The case of a loopback.
 abbrev main_of : PlanNode → List (StreamPrefix Plain) → StreamPrefix Plain
@@ -163,8 +163,8 @@ replies_rise main loop more e =
 loop_gives : (job : Job) (held : Held) (w : ℕ) (node : PlanNode) (xs : List (StreamPrefix Plain)) → held w ≡ None → node.law ≡ Loopback → given job held xs w node ≡ loopback (main_of node xs) (loop_of node xs) ∷ []
 loop_gives job held w node xs none is = ap (λ h. unwrap_or h (outcome_of job xs node).outputs) none ∙ ap (λ law. (outcome_by law job xs node).outputs) is
 
-record IsLoop (Good : Law → List Plain → Type 0) (job : Job) (held : Held) (w : ℕ) (node : PlanNode) (main : StreamPrefix Plain) : Type 0 where
-  pub sound : Sound Good job
+record IsLoop (job : Job) (held : Held) (w : ℕ) (node : PlanNode) (main : StreamPrefix Plain) : Type 0 where
+  pub sound : Sound job
   pub there : slice_get job.plan.nodes w ≡ Some node
   pub fits : HeldFits job held
   pub unheld : held w ≡ None
@@ -172,9 +172,9 @@ record IsLoop (Good : Law → List Plain → Type 0) (job : Job) (held : Held) (
   pub main_stays : (ys : List (StreamPrefix Plain)) → IsGiven job held ys → main_of node ys ≡ main
 
 -- as many answers, and so the same output
-loop_same : (Good : Law → List Plain → Type 0) (job : Job) (held : Held) (w : ℕ) (node : PlanNode) (main : StreamPrefix Plain) (xs ys : List (StreamPrefix Plain)) → IsLoop Good job held w node main → IsGiven job held xs → IsGiven job held ys → AreExtendedBy xs ys
+loop_same : (job : Job) (held : Held) (w : ℕ) (node : PlanNode) (main : StreamPrefix Plain) (xs ys : List (StreamPrefix Plain)) → IsLoop job held w node main → IsGiven job held xs → IsGiven job held ys → AreExtendedBy xs ys
     → length (replies main (loop_of node ys)) ≡ length (replies main (loop_of node xs)) → given job held ys w node ≡ given job held xs w node
-loop_same Good job held w node main xs ys l gx gy e many =
+loop_same job held w node main xs ys l gx gy e many =
     loop_gives job held w node ys l.unheld l.law
     ∙ (ap (λ m. loopback m (loop_of node ys) ∷ []) (l.main_stays ys gy)
     ∙ (ap (λ s. s ∷ []) (loopback-same main (loop_of node xs) (loop_of node ys) (loop_extends node xs ys e) (extended_by_itself main) many)
@@ -204,17 +204,17 @@ OthersSettle job held w node =
 
 -- With a loopback held at what it answers now, the others settle. Then all is settled, or some round comes in which it
 -- answers more.
-loop_step : (Good : Law → List Plain → Type 0) (job : Job) (held : Held) (w : ℕ) (node : PlanNode) (main : StreamPrefix Plain) (xs : List (StreamPrefix Plain)) → IsLoop Good job held w node main → OthersSettle job held w node
+loop_step : (job : Job) (held : Held) (w : ℕ) (node : PlanNode) (main : StreamPrefix Plain) (xs : List (StreamPrefix Plain)) → IsLoop job held w node main → OthersSettle job held w node
     → Stands job held xs → IsGiven job held xs
     → Settles job held xs ⊎ ((i : ℕ) × (length (replies main (loop_of node xs)) < length (replies main (loop_of node (iterate job held i xs)))))
-loop_step Good job held w node main xs l others s g =
+loop_step job held w node main xs l others s g =
     let outs = given job held xs w node in
     let more = with_held held w outs in
     let h : Holds job held w node outs = record {
       there = l.there;
       fits = l.fits;
-      long = given_long Good job held xs l.sound.known l.fits s.keeps w node l.there;
-      keeps = given_keeps Good job held xs l.sound.known l.fits s.keeps w node l.there;
+      long = given_long job held xs l.sound.known l.fits s.keeps w node l.there;
+      keeps = given_keeps job held xs l.sound.known l.fits s.keeps w node l.there;
     } in
     let standing : Stands job more xs = stands_held job held w node outs xs l.there refl s in
     let settled = others outs h xs standing in
@@ -222,10 +222,10 @@ loop_step Good job held w node main xs l others s g =
     let answered : ℕ → ℕ = λ i. length (replies main (loop_of node (iterate job more i xs))) in
     let old = length (replies main (loop_of node xs)) in
     let rises : (i : ℕ) → old ≤ answered i = λ i. replies_rise main (loop_of node xs) (loop_of node (iterate job more i xs))
-    (loop_extends node xs (iterate job more i xs) (later_extends Good job more i xs l.sound (more_fits job held w node outs h) standing)) in
+    (loop_extends node xs (iterate job more i xs) (later_extends job more i xs l.sound (more_fits job held w node outs h) standing)) in
     let same : (i : ℕ) → answered i ≡ old → iterate job held i xs ≡ iterate job more i xs → held_round job held (iterate job held i xs) ≡ held_round job more (iterate job held i xs) =
     λ i many e. sym (with_held_same job held w node outs (iterate job held i xs) l.there
-    (loop_same Good job held w node main xs (iterate job held i xs) l g (iterate_given Good job held i xs l.sound l.fits s g) (later_extends Good job held i xs l.sound l.fits s)
+    (loop_same job held w node main xs (iterate job held i xs) l g (iterate_given job held i xs l.sound l.fits s g) (later_extends job held i xs l.sound l.fits s)
     (ap (λ zs. length (replies main (loop_of node zs))) e ∙ many))) in
     elim (first_greater answered old (suc n) rises) [
       | inl none ↦
@@ -236,16 +236,16 @@ loop_step Good job held w node main xs l others s g =
           inr (i, subst (λ zs. old < length (replies main (loop_of node zs))) (sym all) greater))
     ]
 
-loop_settles : (fuel : ℕ) (Good : Law → List Plain → Type 0) (job : Job) (held : Held) (w : ℕ) (node : PlanNode) (main : StreamPrefix Plain) (xs : List (StreamPrefix Plain)) → IsLoop Good job held w node main → OthersSettle job held w node
+loop_settles : (fuel : ℕ) (job : Job) (held : Held) (w : ℕ) (node : PlanNode) (main : StreamPrefix Plain) (xs : List (StreamPrefix Plain)) → IsLoop job held w node main → OthersSettle job held w node
     → Stands job held xs → IsGiven job held xs → length main.packets ≤ length (replies main (loop_of node xs)) + fuel → Settles job held xs
-loop_settles zero Good job held w node main xs l others s g few = elim (loop_step Good job held w node main xs l others s g) [
+loop_settles zero job held w node main xs l others s g few = elim (loop_step job held w node main xs l others s g) [
   | inl settled ↦ settled
   | inr (i, greater) ↦ absurd (let most = replies-most main (loop_of node (iterate job held i xs)) in omega (arith, few, greater, most))
 ]
-loop_settles (suc fuel) Good job held w node main xs l others s g few = elim (loop_step Good job held w node main xs l others s g) [
+loop_settles (suc fuel) job held w node main xs l others s g few = elim (loop_step job held w node main xs l others s g) [
   | inl settled ↦ settled
   | inr (i, greater) ↦ settles_long_before job held i xs
-      (loop_settles fuel Good job held w node main (iterate job held i xs) l others (stands_later Good job held i xs l.sound l.fits s) (iterate_given Good job held i xs l.sound l.fits s g) (omega (arith, few, greater)))
+      (loop_settles fuel job held w node main (iterate job held i xs) l others (stands_later job held i xs l.sound l.fits s) (iterate_given job held i xs l.sound l.fits s g) (omega (arith, few, greater)))
 ]
 
 -- The case of no further node.
@@ -272,47 +272,47 @@ all_more held w outs [] all = (with_held_holds held w outs, tt)
 all_more held w outs (k ∷ ks) all = (with_held_more held w outs k all.0, all_more held w outs ks all.1)
 
 -- One node further, where the others settle with it held.
-node_settles : (Good : Law → List Plain → Type 0) (job : Job) (held : Held) (w : ℕ) (node : PlanNode) (xs : List (StreamPrefix Plain)) → Sound Good job → HeldFits job held → slice_get job.plan.nodes w ≡ Some node
+node_settles : (job : Job) (held : Held) (w : ℕ) (node : PlanNode) (xs : List (StreamPrefix Plain)) → Sound job → HeldFits job held → slice_get job.plan.nodes w ≡ Some node
     → IsNext job.plan (IsHeld held) w → OthersSettle job held w node → Stands job held xs → IsGiven job held xs → Settles job held xs
-node_settles Good job held w node xs sound fits at next others s g =
+node_settles job held w node xs sound fits at next others s g =
     let outs = given job held xs w node in
     let h : Holds job held w node outs = record {
       there = at;
       fits = fits;
-      long = given_long Good job held xs sound.known fits s.keeps w node at;
-      keeps = given_keeps Good job held xs sound.known fits s.keeps w node at;
+      long = given_long job held xs sound.known fits s.keeps w node at;
+      keeps = given_keeps job held xs sound.known fits s.keeps w node at;
     } in
     elim (option_cases (held w)) [
-      | inr is ↦ constant_settles Good job held w node outs xs sound h
+      | inr is ↦ constant_settles job held w node outs xs sound h
           (λ ys gy. held_same (held w) (outcome_of job ys node).outputs (outcome_of job xs node).outputs is) (others outs h) s g
       | inl unheld ↦ elim (loop_cases node.law) [
-        | inr other ↦ constant_settles Good job held w node outs xs sound h
+        | inr other ↦ constant_settles job held w node outs xs sound h
             (λ ys gy. ap (λ (o : Outcome). unwrap_or (held w) o.outputs)
-            (outcome_of_inputs_by node.law job node ys xs (known_inputs job.plan (IsHeld held) w node ys xs sound.valid next at other (agrees Good job held ys xs sound fits gy g))))
+            (outcome_of_inputs_by node.law job node ys xs (known_inputs job.plan (IsHeld held) w node ys xs sound.valid next at other (agrees job held ys xs sound fits gy g))))
             (others outs h) s g
         | inl law ↦ (let main = main_of node xs in
-            loop_settles (length main.packets) Good job held w node main xs
+            loop_settles (length main.packets) job held w node main xs
             (record {
               sound = sound;
               there = at;
               fits = fits;
               unheld = unheld;
               law = law;
-              main_stays = (λ ys gy. known_main job.plan (IsHeld held) w node ys xs sound.valid next at (agrees Good job held ys xs sound fits gy g));
+              main_stays = (λ ys gy. known_main job.plan (IsHeld held) w node ys xs sound.valid next at (agrees job held ys xs sound fits gy g));
             })
             others s g (omega arith))
       ]
     ]
 
-pub rest_settles : (rest earlier : List ℕ) (Good : Law → List Plain → Type 0) (job : Job) (held : Held) (xs : List (StreamPrefix Plain)) → Sound Good job → job.plan.order ≡ earlier ++ rest → HeldFits job held → AllByRecursion (IsHeld held) earlier
+pub rest_settles : (rest earlier : List ℕ) (job : Job) (held : Held) (xs : List (StreamPrefix Plain)) → Sound job → job.plan.order ≡ earlier ++ rest → HeldFits job held → AllByRecursion (IsHeld held) earlier
     → Stands job held xs → Settles job held xs
-rest_settles [] earlier Good job held xs sound order fits all s = all_held_settles job held xs (held_at job held earlier sound.valid (order ∙ append-nil earlier) all)
-rest_settles (w ∷ rest) earlier Good job held xs sound order fits all s =
+rest_settles [] earlier job held xs sound order fits all s = all_held_settles job held xs (held_at job held earlier sound.valid (order ∙ append-nil earlier) all)
+rest_settles (w ∷ rest) earlier job held xs sound order fits all s =
     let below : w < length job.plan.nodes =
     at_place (λ (n : ℕ). n < length job.plan.nodes) job.plan.order (length earlier) w (recursion_from_All (λ (n : ℕ). n < length job.plan.nodes) job.plan.order sound.valid.order.below)
     (subst (λ (o : List ℕ). slice_get o (length earlier) ≡ Some w) (sym order) (behind earlier rest w)) in
     let node = there job.plan.nodes w below in
     settles_before job held xs
-    (node_settles Good job held w node.0 (held_round job held xs) sound fits node.1 (record { earlier = earlier; later = rest; order = order; held = all })
-    (λ outs h ys stands. rest_settles rest (earlier ++ w ∷ []) Good job (with_held held w outs) ys sound (order ∙ sym (append_assoc earlier (w ∷ []) rest)) (more_fits job held w node.0 outs h) (all_more held w outs earlier all) stands)
-    (stands_next Good job held xs sound fits s) (given_round job held xs s.keeps))
+    (node_settles job held w node.0 (held_round job held xs) sound fits node.1 (record { earlier = earlier; later = rest; order = order; held = all })
+    (λ outs h ys stands. rest_settles rest (earlier ++ w ∷ []) job (with_held held w outs) ys sound (order ∙ sym (append_assoc earlier (w ∷ []) rest)) (more_fits job held w node.0 outs h) (all_more held w outs earlier all) stands)
+    (stands_next job held xs sound fits s) (given_round job held xs s.keeps))

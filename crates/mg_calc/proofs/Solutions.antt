@@ -34,38 +34,38 @@ empties_keep zero = tt
 empties_keep (suc n) = (empty_is_prefix, empties_keep n)
 
 -- rounds consist of prefixes
-pub round_keeps : (Good : Law → List Plain → Type 0) (job : Job) → IsKnown Good job → (n : ℕ) → AllByRecursion IsPrefix (round job n)
-round_keeps Good job known zero = empties_keep (length job.plan.streams)
-round_keeps Good job known (suc n) = equations_keep Good job (round job n) known (round_keeps Good job known n)
+pub round_keeps : (job : Job) → IsKnown job → (n : ℕ) → AllByRecursion IsPrefix (round job n)
+round_keeps job known zero = empties_keep (length job.plan.streams)
+round_keeps job known (suc n) = equations_keep job (round job n) known (round_keeps job known n)
 
 -- and each is extended by the next
-pub rounds_ascend : (Good : Law → List Plain → Type 0) (job : Job) → IsKnown Good job → (n : ℕ) → AreExtendedBy (round job n) (round job (suc n))
-rounds_ascend Good job known zero =
-    empties_extend (length job.plan.streams) (next_round job (round job 0)) (equations_are_as_many Good job (round job 0) known (round_keeps Good job known 0)) (round_keeps Good job known 1)
-rounds_ascend Good job known (suc n) =
-    equations_follow Good job (round job n) (round job (suc n)) known (round_keeps Good job known n) (round_keeps Good job known (suc n)) (rounds_ascend Good job known n)
+pub rounds_ascend : (job : Job) → IsKnown job → (n : ℕ) → AreExtendedBy (round job n) (round job (suc n))
+rounds_ascend job known zero =
+    empties_extend (length job.plan.streams) (next_round job (round job 0)) (equations_are_as_many job (round job 0) known (round_keeps job known 0)) (round_keeps job known 1)
+rounds_ascend job known (suc n) =
+    equations_follow job (round job n) (round job (suc n)) known (round_keeps job known n) (round_keeps job known (suc n)) (rounds_ascend job known n)
 
 -- each round is extended by prefixes that extend what the equations make of them
-pub round_least : (Good : Law → List Plain → Type 0) (job : Job) → IsKnown Good job → (ys : List (StreamPrefix Plain)) → AllByRecursion IsPrefix ys → AreExtendedBy (next_round job ys) ys
+pub round_least : (job : Job) → IsKnown job → (ys : List (StreamPrefix Plain)) → AllByRecursion IsPrefix ys → AreExtendedBy (next_round job ys) ys
     → (n : ℕ) → AreExtendedBy (round job n) ys
-round_least Good job known ys k e zero =
-    empties_extend (length job.plan.streams) ys (sym (length_all_zip IsExtendedBy (next_round job ys) ys e) ∙ equations_are_as_many Good job ys known k) k
-round_least Good job known ys k e (suc n) =
-    all_further (next_round job (round job n)) (next_round job ys) ys (equations_follow Good job (round job n) ys known (round_keeps Good job known n) k (round_least Good job known ys k e n)) e
+round_least job known ys k e zero =
+    empties_extend (length job.plan.streams) ys (sym (length_all_zip IsExtendedBy (next_round job ys) ys e) ∙ equations_are_as_many job ys known k) k
+round_least job known ys k e (suc n) =
+    all_further (next_round job (round job n)) (next_round job ys) ys (equations_follow job (round job n) ys known (round_keeps job known n) k (round_least job known ys k e n)) e
 
 -- the solution consists of prefixes
-pub solution_keeps : (Good : Law → List Plain → Type 0) (job : Job) → IsKnown Good job → (xs : List (StreamPrefix Plain)) → IsSolution job xs → AllByRecursion IsPrefix xs
-solution_keeps Good job known xs solution = subst (AllByRecursion IsPrefix) (sym solution.reached) (round_keeps Good job known solution.number)
+pub solution_keeps : (job : Job) → IsKnown job → (xs : List (StreamPrefix Plain)) → IsSolution job xs → AllByRecursion IsPrefix xs
+solution_keeps job known xs solution = subst (AllByRecursion IsPrefix) (sym solution.reached) (round_keeps job known solution.number)
 
 -- and is extended by each list of prefixes that extends what the equations make of it
-pub solution_least : (Good : Law → List Plain → Type 0) (job : Job) → IsKnown Good job → (xs ys : List (StreamPrefix Plain)) → IsSolution job xs → AllByRecursion IsPrefix ys → AreExtendedBy (next_round job ys) ys → AreExtendedBy xs ys
-solution_least Good job known xs ys solution k e = subst (λ (zs : List (StreamPrefix Plain)). AreExtendedBy zs ys) (sym solution.reached) (round_least Good job known ys k e solution.number)
+pub solution_least : (job : Job) → IsKnown job → (xs ys : List (StreamPrefix Plain)) → IsSolution job xs → AllByRecursion IsPrefix ys → AreExtendedBy (next_round job ys) ys → AreExtendedBy xs ys
+solution_least job known xs ys solution k e = subst (λ (zs : List (StreamPrefix Plain)). AreExtendedBy zs ys) (sym solution.reached) (round_least job known ys k e solution.number)
 
 met_extends : (job : Job) (ys : List (StreamPrefix Plain)) → MeetsEquations job ys → AreExtendedBy (next_round job ys) ys
 met_extends job ys meets = subst (λ (zs : List (StreamPrefix Plain)). AreExtendedBy zs ys) (sym meets) (all_by_themselves ys)
 
-pub solution_is_least : (Good : Law → List Plain → Type 0) (job : Job) → IsKnown Good job → (xs ys : List (StreamPrefix Plain)) → IsSolution job xs → AllByRecursion IsPrefix ys → MeetsEquations job ys → AreExtendedBy xs ys
-solution_is_least Good job known xs ys solution k meets = solution_least Good job known xs ys solution k (met_extends job ys meets)
+pub solution_is_least : (job : Job) → IsKnown job → (xs ys : List (StreamPrefix Plain)) → IsSolution job xs → AllByRecursion IsPrefix ys → MeetsEquations job ys → AreExtendedBy xs ys
+solution_is_least job known xs ys solution k meets = solution_least job known xs ys solution k (met_extends job ys meets)
 
 -- There is one solution at most: of two numbers of first rounds neither is the lesser.
 pub one_solution : (job : Job) (xs ys : List (StreamPrefix Plain)) → IsSolution job xs → IsSolution job ys → xs ≡ ys
@@ -84,6 +84,6 @@ met_stays job n (suc k) meets =
     (let e : n + suc k ≡ suc (n + k) = omega arith in ap (round job) e) ∙ (ap (next_round job) (met_stays job n k meets) ∙ meets)
 
 -- the solution has a prefix for each stream
-pub solution_has_each : (Good : Law → List Plain → Type 0) (job : Job) → IsKnown Good job → (xs : List (StreamPrefix Plain)) → IsSolution job xs → length xs ≡ length job.plan.streams
-solution_has_each Good job known xs solution =
-    ap length (sym solution.meets) ∙ equations_are_as_many Good job xs known (solution_keeps Good job known xs solution)
+pub solution_has_each : (job : Job) → IsKnown job → (xs : List (StreamPrefix Plain)) → IsSolution job xs → length xs ≡ length job.plan.streams
+solution_has_each job known xs solution =
+    ap length (sym solution.meets) ∙ equations_are_as_many job xs known (solution_keeps job known xs solution)

@@ -14,6 +14,7 @@ use Rattle.mg_calc.specs.declared.plan_node.PlanNode.{PlanNode}
 use Rattle.mg_calc.specs.declared.inputs.Inputs.{Inputs}
 use Rattle.mg_calc.specs.Plan.{IsValid, InputsFit, node_sides}
 use Rattle.mg_calc.specs.Shape.{calls_of}
+use Rattle.mg_calc.specs.Law.{rules_of}
 use Rattle.mg_calc.specs.Outcome.{Outcome, node_outcome, source_outcome, loopback_outcome}
 
 -- a job: a plan, and what is handed to it
@@ -47,7 +48,7 @@ outcome_by Constants job streams node = source_outcome node.law (calls_of node.l
 outcome_by Loopback job streams node =
     loopback_outcome (slice_index_or (inputs_of streams node) 1 empty_prefix) (slice_index_or (inputs_of streams node) 0 empty_prefix)
 outcome_by law job streams node =
-    node_outcome node.law node.shape.offset node.policy (length node.outputs) (sides_of job node) (inputs_of streams node)
+    node_outcome (rules_of node.law) node.shape.offset node.policy (length node.outputs) (sides_of job node) (inputs_of streams node)
 
 -- what becomes of a node of a job, from the streams
 abbrev pub outcome_of : Job → List (StreamPrefix Plain) → PlanNode → Outcome

@@ -13,6 +13,7 @@ use Rattle.mg_calc.specs.declared.law.Keep.TheVariants.{Even, Odd, Negative, Non
 use Rattle.mg_calc.specs.declared.emission.Laid.{Laid}
 use Rattle.mg_calc.specs.declared.cause.Cause.TheVariants.{WrongKind, NoSide, Overflow}
 use Rattle.mg_calc.specs.Answer.{Answer, emission_of}
+use Rattle.mg_calc.specs.Rules.{Rules}
 use Rattle.mg_calc.specs.Values.{place_at, fits, number_of, total, moved_time, time_of, stored}
 use Rattle.mg_calc.specs.State.{state_of, number_in, count_in, kept_at}
 use Rattle.mg_calc.specs.IntMap.{mapped}
@@ -141,3 +142,7 @@ call _ state i = Ok (state, [])
 abbrev pub finish : Law → List Plain → Answer
 finish (Scripted offset first steps last) state = Ok (state, last)
 finish _ state = Ok (state, [])
+
+-- the rules of a law
+abbrev pub rules_of : Law → Rules
+rules_of law = record { opening = opening law; step = step law; finish = finish law }

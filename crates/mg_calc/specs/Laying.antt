@@ -1,7 +1,7 @@
 -- Laying: how what a call of a calculator emits is put behind the node's output streams, after the pages Calculators and
 -- Synchronization of the MediaPipe framework. Definitions speak of the whole prefixes of these streams, one per output.
-use Rattle.std.specs.Prelude.{ℕ, ℤ, Bool, true, false, not, ◌&&◌, ◌==◌, nat_lt, nat_le, List, [], ◌∷◌, length, map, Option, Some, None, Result, Ok, Err, if◌then◌else◌}
-use Rattle.mg_time.specs.Time.{pre_stream, post_stream, shift}
+use Rattle.std.specs.Prelude.{ℕ, ℤ, Bool, true, false, not, ◌&&◌, ◌==◌, nat_lt, nat_le, List, [], ◌∷◌, length, map, min, Option, Some, None, Result, Ok, Err, if◌then◌else◌}
+use Rattle.mg_time.specs.Time.{pre_stream, post_stream, done, shift}
 use Rattle.mg_value.specs.Payload.{Plain}
 use Rattle.mg_value.specs.Packet.{Stamped}
 use Rattle.mg_settled.specs.Prefix.{StreamPrefix, appended, raised}
@@ -55,10 +55,10 @@ with_packets offset phase output [] = Ok output
 with_packets offset phase output (packet ∷ packets) =
     unless (laying_fault offset phase output packet) (with_packets offset phase (appended output packet) packets)
 
--- an output raised to a bound, if there is one
+-- an output raised to a bound, if there is one; no bound raises it past Done, the end of all times
 abbrev pub raised_to : Option ℕ → StreamPrefix Plain → StreamPrefix Plain
 raised_to None output = output
-raised_to (Some bound) output = raised output bound
+raised_to (Some bound) output = raised output (min bound done)
 
 -- an output with what is emitted there put behind it, first the packets and then the bound, or the cause against a packet
 abbrev pub with_laid : Option ℤ → Phase → StreamPrefix Plain → Laid → Result (StreamPrefix Plain) Cause

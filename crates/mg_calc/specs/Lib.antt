@@ -12,6 +12,7 @@ pub mod Outcome
 pub mod Plan
 pub mod Reaching
 pub mod Routing
+pub mod Rules
 pub mod Shape
 pub mod Side
 pub mod SideView

@@ -15,7 +15,8 @@ use Rattle.mg_calc.specs.declared.node_fault.Phase.{Phase}
 use Rattle.mg_calc.specs.declared.node_fault.Phase.TheVariants.{Open, Call, Process, Close}
 use Rattle.mg_calc.specs.Laying.{after, laid_behind, all_raised}
 use Rattle.mg_calc.specs.Answer.{Answer}
-use Rattle.mg_calc.specs.Law.{opening, step, call, finish}
+use Rattle.mg_calc.specs.Rules.{Rules}
+use Rattle.mg_calc.specs.Law.{call, rules_of}
 
 -- a fault: what a node was doing, and why it failed
 pub record Failure : Type 0 where
@@ -51,8 +52,8 @@ abbrev pub unopened : ℕ → Outcome
 unopened outputs = record { state = []; outputs = replicate outputs empty_prefix; taken = 0; fault = None }
 
 -- a node that was opened with side packets
-abbrev pub opened : Law → Option ℤ → ℕ → List (Option Plain) → Outcome
-opened law offset outputs sides = after_call offset Open (unopened outputs) (opening law sides)
+abbrev pub opened : Rules → Option ℤ → ℕ → List (Option Plain) → Outcome
+opened rules offset outputs sides = after_call offset Open (unopened outputs) (rules.opening sides)
 
 -- the next outcome of a node, or, where it has failed, the outcome as it is
 abbrev pub unless_failed : Option Failure → Outcome → Outcome → Outcome
@@ -60,15 +61,15 @@ unless_failed (Some failure) outcome next = outcome
 unless_failed None outcome next = next
 
 -- a node after a set was shown to it: before that its outputs are raised to the set's time plus its offset
-abbrev pub shown : Law → Option ℤ → Outcome → TimedSet Plain → Outcome
-shown law offset outcome set =
+abbrev pub shown : Rules → Option ℤ → Outcome → TimedSet Plain → Outcome
+shown rules offset outcome set =
     unless_failed outcome.fault outcome (after_call offset (Process set.at)
     (record outcome { outputs = all_raised offset set.at outcome.outputs; taken = outcome.taken + 1 })
-    (step law outcome.state set.at set.set))
+    (rules.step outcome.state set.at set.set))
 
 -- a node after it was opened and shown sets, up to the one at which it fails
-abbrev pub shown_all : Law → Option ℤ → ℕ → List (Option Plain) → List (TimedSet Plain) → Outcome
-shown_all law offset outputs sides sets = fold (shown law offset) (opened law offset outputs sides) sets
+abbrev pub shown_all : Rules → Option ℤ → ℕ → List (Option Plain) → List (TimedSet Plain) → Outcome
+shown_all rules offset outputs sides sets = fold (shown rules offset) (opened rules offset outputs sides) sets
 
 -- a node after Close, whose emission is laid before the outputs close
 abbrev pub after_close : Outcome → Result (List (StreamPrefix Plain)) Cause → Outcome
@@ -76,26 +77,26 @@ after_close outcome (Ok outputs) = record outcome { outputs = map closed outputs
 after_close outcome (Err cause) = failed Close cause outcome
 
 -- a node to which no more sets come: it is closed
-abbrev pub finished : Law → Option ℤ → Outcome → Outcome
-finished law offset outcome =
-    after_close outcome (after (finish law outcome.state) (λ given. laid_behind offset Close outcome.outputs given.1))
+abbrev pub finished : Rules → Option ℤ → Outcome → Outcome
+finished rules offset outcome =
+    after_close outcome (after (rules.finish outcome.state) (λ given. laid_behind offset Close outcome.outputs given.1))
 
 -- a node that was shown its settled sets, by how far these reach: its outputs are raised to the reach plus its offset, and
 -- where the reach is the end of all times, it is closed
-abbrev pub with_reach : Law → Option ℤ → ℕ → Outcome → Outcome
-with_reach law offset reached outcome =
+abbrev pub with_reach : Rules → Option ℤ → ℕ → Outcome → Outcome
+with_reach rules offset reached outcome =
     if reached == done
-    then finished law offset (record outcome { outputs = all_raised offset reached outcome.outputs })
+    then finished rules offset (record outcome { outputs = all_raised offset reached outcome.outputs })
     else record outcome { outputs = all_raised offset reached outcome.outputs }
 
 -- a node that was shown its settled sets, by how far these reach; where it has failed, it stays as it is
-abbrev pub ended : Law → Option ℤ → ℕ → Outcome → Outcome
-ended law offset reached outcome = unless_failed outcome.fault outcome (with_reach law offset reached outcome)
+abbrev pub ended : Rules → Option ℤ → ℕ → Outcome → Outcome
+ended rules offset reached outcome = unless_failed outcome.fault outcome (with_reach rules offset reached outcome)
 
 -- what becomes of a node with input streams
-abbrev pub node_outcome : Law → Option ℤ → Policy → ℕ → List (Option Plain) → List (StreamPrefix Plain) → Outcome
-node_outcome law offset policy outputs sides inputs =
-    ended law offset (reach policy inputs) (shown_all law offset outputs sides (settled_sets policy inputs))
+abbrev pub node_outcome : Rules → Option ℤ → Policy → ℕ → List (Option Plain) → List (StreamPrefix Plain) → Outcome
+node_outcome rules offset policy outputs sides inputs =
+    ended rules offset (reach policy inputs) (shown_all rules offset outputs sides (settled_sets policy inputs))
 
 -- a source after the call of a number
 abbrev pub called : Law → Outcome → ℕ → Outcome
@@ -109,7 +110,7 @@ with_last_call outcome = unless_failed outcome.fault outcome (record outcome { o
 
 -- what becomes of a source, which is called a number of times
 abbrev pub source_outcome : Law → ℕ → ℕ → List (Option Plain) → Outcome
-source_outcome law calls outputs sides = with_last_call (fold (called law) (opened law None outputs sides) (range_with_len 0 calls))
+source_outcome law calls outputs sides = with_last_call (fold (called law) (opened (rules_of law) None outputs sides) (range_with_len 0 calls))
 
 -- what becomes of a loopback: it keeps nothing, and its one output answers the packets of MAIN
 abbrev pub loopback_outcome : StreamPrefix Plain → StreamPrefix Plain → Outcome

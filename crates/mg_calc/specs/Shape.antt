@@ -85,10 +85,6 @@ calls_of _ = 0
 abbrev pub IsLanes : ℕ → Type 0
 IsLanes lanes = (1 ≤ lanes) × (lanes ≤ 64)
 
--- the bounds of a written emission are timestamps
-abbrev pub BoundsAreTimes : List Laid → Type 0
-BoundsAreTimes emission = All (λ laid. IfSome laid.bound (λ bound. bound ≤ done)) emission
-
 -- a law's parameters are in their ranges
 abbrev pub ParametersFit : Law → Type 0
 ParametersFit (Gate lanes disallow empty_as_allow) = IsLanes lanes
@@ -101,7 +97,6 @@ ParametersFit (Count count start apart) = (count ≤ 1000000) × IsTrue (is_in_r
 ParametersFit (SideOnce at) = (at ≡ pre_stream) ⊎ (at ≡ place_of (pos 0)) ⊎ (at ≡ post_stream)
 ParametersFit (FirstCome lanes) = IsLanes lanes
 ParametersFit (Limiter most) = (1 ≤ most) × (most ≤ 2147483647)
-ParametersFit (Scripted offset first steps last) = BoundsAreTimes first × All BoundsAreTimes steps × BoundsAreTimes last
 ParametersFit _ = ⊤
 
 -- Shapes.
