@@ -24,13 +24,14 @@ use Rattle.mg_calc.specs.declared.node_fault.Phase.TheVariants.{Open, Process, C
 use Rattle.mg_calc.specs.declared.node_fault.NodeFault.{NodeFault}
 use Rattle.mg_calc.specs.declared.plan_node.PlanNode.{PlanNode}
 use Rattle.mg_calc.specs.Answer.{Answer}
-use Rattle.mg_calc.specs.Law.{opening, step, finish}
+use Rattle.mg_calc.specs.Law.{opening, step, finish, rules_of}
 use Rattle.mg_calc.specs.Laying.{after, laid_behind, all_raised}
 use Rattle.mg_calc.specs.Outcome.{Failure, Outcome, after_laying, after_call, opened, unopened, unless_failed, shown, shown_all, after_close, finished, with_reach, ended, node_outcome}
 use Rattle.mg_calc.specs.Shape.{IsOuter}
 use Rattle.mg_calc.specs.Equations.{Job, inputs_of, sides_of, outcome_by, outcome_of}
 use Rattle.mg_calc.proofs.Rounds.{streams_are_prefixes}
 use Rattle.mg_calc.specs.Meaning.{fault_of, faults, stalled, count_of, shown_sets, last_call, log_of, weight}
+use Rattle.mg_calc.specs.Rules.{Rules}
 
 -- a call that answers changes no count
 laying_counts : (phase : Phase) (outcome : Outcome) (answer : Result (List (StreamPrefix Plain)) Cause) → (after_laying phase outcome answer).taken ≡ outcome.taken
@@ -46,12 +47,12 @@ unless_counts : (fault : Option Failure) (outcome next : Outcome) → next.taken
 unless_counts (Some failure) outcome next e = omega arith
 unless_counts None outcome next e = omega (arith, e)
 
-sets_count : (law : Law) (offset : Option ℤ) (outcome : Outcome) (sets : List (TimedSet Plain)) → (fold (shown law offset) outcome sets).taken ≤ outcome.taken + length sets
-sets_count law offset outcome [] = omega arith
-sets_count law offset outcome (set ∷ sets) =
-    let later = sets_count law offset (shown law offset outcome set) sets in
-    let next : Outcome = after_call offset (Process set.at) (record outcome { outputs = all_raised offset set.at outcome.outputs; taken = outcome.taken + 1 }) (step law outcome.state set.at set.set) in
-    let here = unless_counts outcome.fault outcome next (call_counts offset (Process set.at) (record outcome { outputs = all_raised offset set.at outcome.outputs; taken = outcome.taken + 1 }) (step law outcome.state set.at set.set)) in
+sets_count : (rules : Rules) (offset : Option ℤ) (outcome : Outcome) (sets : List (TimedSet Plain)) → (fold (shown rules offset) outcome sets).taken ≤ outcome.taken + length sets
+sets_count rules offset outcome [] = omega arith
+sets_count rules offset outcome (set ∷ sets) =
+    let later = sets_count rules offset (shown rules offset outcome set) sets in
+    let next : Outcome = after_call offset (Process set.at) (record outcome { outputs = all_raised offset set.at outcome.outputs; taken = outcome.taken + 1 }) (rules.step outcome.state set.at set.set) in
+    let here = unless_counts outcome.fault outcome next (call_counts offset (Process set.at) (record outcome { outputs = all_raised offset set.at outcome.outputs; taken = outcome.taken + 1 }) (rules.step outcome.state set.at set.set)) in
     omega (arith, later, here)
 
 close_counts : (outcome : Outcome) (answer : Result (List (StreamPrefix Plain)) Cause) → (after_close outcome answer).taken ≡ outcome.taken
@@ -66,17 +67,17 @@ pub end_counts_by : (fault : Option Failure) (outcome next : Outcome) → next.t
 end_counts_by (Some failure) outcome next e = refl
 end_counts_by None outcome next e = e
 
-pub end_counts : (law : Law) (offset : Option ℤ) (reached : ℕ) (outcome : Outcome) → (ended law offset reached outcome).taken ≡ outcome.taken
-end_counts law offset reached outcome =
+pub end_counts : (rules : Rules) (offset : Option ℤ) (reached : ℕ) (outcome : Outcome) → (ended rules offset reached outcome).taken ≡ outcome.taken
+end_counts rules offset reached outcome =
     let before : Outcome = record outcome { outputs = all_raised offset reached outcome.outputs } in
-    end_counts_by outcome.fault outcome (with_reach law offset reached outcome)
-    (if_counts (reached == done) (finished law offset before) before outcome.taken (close_counts before (after (finish law outcome.state) (λ given. laid_behind offset Close before.outputs given.1))) refl)
+    end_counts_by outcome.fault outcome (with_reach rules offset reached outcome)
+    (if_counts (reached == done) (finished rules offset before) before outcome.taken (close_counts before (after (rules.finish outcome.state) (λ given. laid_behind offset Close before.outputs given.1))) refl)
 
-node_counts : (law : Law) (offset : Option ℤ) (policy : Policy) (outputs : ℕ) (sides : List (Option Plain)) (inputs : List (StreamPrefix Plain)) → (node_outcome law offset policy outputs sides inputs).taken ≤ length (settled_sets policy inputs)
-node_counts law offset policy outputs sides inputs =
-    let all = end_counts law offset (reach policy inputs) (shown_all law offset outputs sides (settled_sets policy inputs)) in
-    let sets = sets_count law offset (opened law offset outputs sides) (settled_sets policy inputs) in
-    let none = call_counts offset Open (unopened outputs) (opening law sides) in
+node_counts : (rules : Rules) (offset : Option ℤ) (policy : Policy) (outputs : ℕ) (sides : List (Option Plain)) (inputs : List (StreamPrefix Plain)) → (node_outcome rules offset policy outputs sides inputs).taken ≤ length (settled_sets policy inputs)
+node_counts rules offset policy outputs sides inputs =
+    let all = end_counts rules offset (reach policy inputs) (shown_all rules offset outputs sides (settled_sets policy inputs)) in
+    let sets = sets_count rules offset (opened rules offset outputs sides) (settled_sets policy inputs) in
+    let none = call_counts offset Open (unopened outputs) (rules.opening sides) in
     omega (arith, all, sets, none)
 
 -- as many sets are shown as are counted
@@ -85,7 +86,7 @@ count_by_law (Count count start step) job streams node is = absurd is
 count_by_law (SideOnce at) job streams node is = absurd is
 count_by_law Constants job streams node is = absurd is
 count_by_law Loopback job streams node is = absurd is
-count_by_law law job streams node is = node_counts node.law node.shape.offset node.policy (length node.outputs) (sides_of job node) (inputs_of streams node)
+count_by_law law job streams node is = node_counts (rules_of node.law) node.shape.offset node.policy (length node.outputs) (sides_of job node) (inputs_of streams node)
 
 pub shown_as_counted : (job : Job) (streams : List (StreamPrefix Plain)) (node : PlanNode) → IsOuter node.law → length (shown_sets job streams node) ≡ count_of job streams node
 shown_as_counted job streams node is =
