@@ -15,7 +15,7 @@ use Rattle.mg_answer.specs.Report.{report_of, asked_report}
 use Rattle.mg_answer.specs.declared.status.Status.TheVariants.{Good}
 use Rattle.mg_calc.proofs.FirstRound.{a_solution}
 use Rattle.mg_calc.proofs.Solutions.{one_solution}
-use Rattle.mg_calc.proofs.Jobs.{any_state, job_known}
+use Rattle.mg_calc.proofs.Jobs.{job_known}
 use Rattle.mg_feed.specs.Graph.{inputs_of}
 use Rattle.mg_feed.specs.Lines.{all_lines, whole_lines}
 use Rattle.mg_answer.specs.Answer.{Telling, by_lines, output_in, Read, RunAnswer, end_by, ended_input, cut_input, job_of, answer_of, IsAnswerOf, IsAnswer, AnswersEnded, AnswersCut}
@@ -24,7 +24,7 @@ use Rattle.mg_answer.proofs.Fitting.{accepted-fit}
 -- a job has an answer
 pub answer-of : (telling : Telling) (job : Job) (end : FeedEnd) → IsJob job → (answer : RunAnswer) × IsAnswerOf telling job end answer
 answer-of telling job end is =
-    let it = a_solution any_state job (job_known job is) is.plan is.inputs.streams in
+    let it = a_solution job (job_known job is) is.plan is.inputs.streams in
     (answer_of telling job end it.0, record { streams = it.0; solution = it.1; is = refl })
 
 pub answer-ended : (report : Bool) (plan : Plan) (bytes : List ℕ) → IsValid plan → (answer : RunAnswer) × AnswersEnded report plan bytes answer

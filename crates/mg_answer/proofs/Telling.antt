@@ -15,7 +15,7 @@ use Rattle.mg_calc.specs.Equations.{Job, IsJob, IsSolution, outcome_of}
 use Rattle.mg_calc.specs.Meaning.{stalled, faults, fault_of}
 use Rattle.mg_calc.specs.Plan.{IsValid, InputsFit}
 use Rattle.mg_calc.proofs.Solutions.{solution_keeps, solution_has_each}
-use Rattle.mg_calc.proofs.Jobs.{any_state, job_known}
+use Rattle.mg_calc.proofs.Jobs.{job_known}
 use Rattle.mg_answer.specs.Notes.{bounds_of}
 use Rattle.mg_settled.specs.Ends.{end_of}
 use Rattle.mg_answer.specs.Report.{open_numbers, end_bounds}
@@ -82,11 +82,11 @@ pub solved-prefixes : (plan : Plan) (inputs : Inputs) (ss : List (StreamPrefix P
 solved-prefixes plan inputs ss valid fit solution =
     let job : Job = record { plan = plan; inputs = inputs } in
     let is : IsJob job = record { plan = valid; inputs = fit } in
-    All-from_recursion IsPrefix ss (solution_keeps any_state job (job_known job is) ss solution)
+    All-from_recursion IsPrefix ss (solution_keeps job (job_known job is) ss solution)
 
 pub solved-each : (plan : Plan) (inputs : Inputs) (ss : List (StreamPrefix Plain)) → IsValid plan → InputsFit plan inputs → IsSolution (record { plan = plan; inputs = inputs }) ss
     → length ss ≡ length plan.streams
 solved-each plan inputs ss valid fit solution =
     let job : Job = record { plan = plan; inputs = inputs } in
     let is : IsJob job = record { plan = valid; inputs = fit } in
-    solution_has_each any_state job (job_known job is) ss solution
+    solution_has_each job (job_known job is) ss solution

@@ -22,7 +22,7 @@ use Rattle.mg_calc.specs.Values.{iterable_port}
 use Rattle.mg_calc.specs.Outcome.{Outcome, node_outcome}
 use Rattle.mg_calc.specs.Equations.{Job, IsJob, IsSolution, stream_of, inputs_of, outcome_by, outcome_of, sides_of}
 use Rattle.mg_calc.proofs.Earlier.{at_place, get_map}
-use Rattle.mg_calc.proofs.Jobs.{any_state, job_known}
+use Rattle.mg_calc.proofs.Jobs.{job_known}
 use Rattle.mg_calc.proofs.Solutions.{solution_keeps}
 use Rattle.mg_batch.specs.Loop.{IsInner, IsOf, Leads, IsLoop, RunThrough, list_of_images}
 use Rattle.mg_batch.proofs.Runs.{Runs, packets_at, node_packets}
@@ -98,7 +98,7 @@ ended_first streams (x ∷ xs) ys h = (h.0, ended_first streams xs ys h.1)
 
 module _ (job : Job) (streams : List (StreamPrefix Plain)) (is_job : IsJob job) (solution : IsSolution job streams) where
   prefixes : AllByRecursion IsPrefix streams
-  prefixes = solution_keeps any_state job (job_known job is_job) streams solution
+  prefixes = solution_keeps job (job_known job is_job) streams solution
 
   -- a node that runs through: it has no fault, and its streams have ended
   record Through (node : PlanNode) : Type 0 where

@@ -10,7 +10,7 @@ use Rattle.mg_stream.specs.Pool.{Backlog}
 use Rattle.mg_calc.specs.declared.plan.Plan.{Plan}
 use Rattle.mg_calc.specs.declared.plan_stream.PlanStream.{PlanStream}
 use Rattle.mg_calc.specs.Equations.{stream_of}
-use Rattle.mg_calc.proofs.Jobs.{any_state, job_known}
+use Rattle.mg_calc.proofs.Jobs.{job_known}
 use Rattle.mg_calc.proofs.Solutions.{solution_has_each}
 use Rattle.mg_node.specs.Views.{EngineView}
 use Rattle.mg_node.specs.Job.{LoggedJob}
@@ -35,7 +35,7 @@ some_stands net streams are = record { job = are.job; stands = are.stands }
 -- there are as many streams as the plan has
 pub as_many_streams : (net : NetView) (streams : List (StreamPrefix Plain)) → AreRested net streams → length streams ≡ length net.plan.streams
 as_many_streams net streams are =
-    solution_has_each any_state are.job.job (job_known are.job.job are.solves.is_job) streams are.solves.solution ∙ ap (λ (p : Plan). length p.streams) (sym (plan_stood are.job net are.stands))
+    solution_has_each are.job.job (job_known are.job.job are.solves.is_job) streams are.solves.solution ∙ ap (λ (p : Plan). length p.streams) (sym (plan_stood are.job net are.stands))
 
 -- each has its output
 written_by : (streams : List PlanStream) (stream : ℕ) (s : PlanStream) → slice_get streams stream ≡ Some s → option_map (λ (x : PlanStream). x.producer) (slice_get streams stream) ≡ Some s.producer

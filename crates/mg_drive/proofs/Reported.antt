@@ -7,7 +7,7 @@ use Rattle.mg_calc.specs.declared.plan.Plan.{Plan}
 use Rattle.mg_calc.specs.declared.node_fault.NodeFault.{NodeFault}
 use Rattle.mg_calc.specs.Meaning.{faults, count_of}
 use Rattle.mg_calc.proofs.Solutions.{solution_has_each}
-use Rattle.mg_calc.proofs.Jobs.{any_state, job_known}
+use Rattle.mg_calc.proofs.Jobs.{job_known}
 use Rattle.mg_feed.specs.declared.feed_end.FeedEnd.{FeedEnd}
 use Rattle.mg_settled.specs.Ends.{end_of}
 use Rattle.mg_answer.specs.Outcomes.{TellsOf}
@@ -45,7 +45,7 @@ ends_many plan net outcomes some tells =
     let found = solved some.job (valid_plan some.job net some.stands) in
     let told = tells_at some.job net found.0 outcomes some.has_rested found.1 tells in
     ap length told.ends ∙ length-map found.0 end_of
-    ∙ solution_has_each any_state some.job.job (job_known some.job.job found.1.is_job) found.0 found.1.solution ∙ ap (λ (p : Plan). length p.streams) some.plan_is
+    ∙ solution_has_each some.job.job (job_known some.job.job found.1.is_job) found.0 found.1.solution ∙ ap (λ (p : Plan). length p.streams) some.plan_is
 
 pub sets_many : (plan : Plan) (net : NetView) (outcomes : Outcomes) → SomeRested plan net → TellsNet net outcomes → length outcomes.sets ≡ length plan.nodes
 sets_many plan net outcomes some tells =

@@ -13,7 +13,7 @@ use Rattle.mg_settled.proofs.Lemmas.{all_inputs, sets-places}
 use Rattle.std.proofs.lemmas.List.Elements.{All-from_recursion}
 use Rattle.mg_calc.specs.declared.plan.Plan.{Plan}
 use Rattle.mg_calc.proofs.Solutions.{solution_keeps}
-use Rattle.mg_calc.proofs.Jobs.{any_state, job_known}
+use Rattle.mg_calc.proofs.Jobs.{job_known}
 use Rattle.mg_node.specs.Job.{LoggedJob, Solves}
 use Rattle.mg_node.specs.Intakes.{HasSet}
 use Rattle.mg_node.proofs.Claiming.{few_sets}
@@ -32,7 +32,7 @@ use Rattle.mg_drive.proofs.Jobs.{valid_plan, plan_stood}
 -- the sets of a solution are few
 few_settled : (job : LoggedJob) (streams : List (StreamPrefix Plain)) → Solves job streams → length (settled_outputs job.job.plan streams) ≤ done
 few_settled job streams solves =
-    let all = All-from_recursion IsPrefix streams (solution_keeps any_state job.job (job_known job.job solves.is_job) streams solves.solution) in
+    let all = All-from_recursion IsPrefix streams (solution_keeps job.job (job_known job.job solves.is_job) streams solves.solution) in
     subst (λ (l : List (TimedSet Plain)). length l ≤ done) (sym (outputs_by_default job streams solves)) (few_sets Default (inputs_of streams job.job.plan.outputs) (all_inputs streams job.job.plan.outputs all))
 
 -- so as many may be taken

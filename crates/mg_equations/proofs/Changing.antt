@@ -13,7 +13,7 @@ use Rattle.mg_settled.specs.Extension.{IsExtendedBy, AreExtendedBy}
 use Rattle.mg_settled.proofs.Extending.{same_prefix}
 use Rattle.mg_settled.proofs.PrefixSteps.{next_above}
 use Rattle.mg_calc.specs.Equations.{Job, IsJob, stream_of, next_round, round, MeetsEquations, IsSolution}
-use Rattle.mg_calc.proofs.Jobs.{any_state, job_known}
+use Rattle.mg_calc.proofs.Jobs.{job_known}
 use Rattle.mg_calc.proofs.Rounds.{equations_are_as_many}
 use Rattle.mg_calc.proofs.Solutions.{round_keeps, rounds_ascend}
 use Rattle.mg_equations.specs.declared.solving.Streams.{Streams}
@@ -104,14 +104,14 @@ pub record AreReached (job : Job) (streams : List (StreamPrefix Plain)) : Type 0
   pub first : (earlier : ℕ) → earlier < number → ¬ MeetsEquations job (round job earlier)
 
 pub reached_keep : (job : Job) (streams : List (StreamPrefix Plain)) → IsJob job → AreReached job streams → AllByRecursion IsPrefix streams
-reached_keep job streams is reached = subst (AllByRecursion IsPrefix) (sym reached.is) (round_keeps any_state job (job_known job is) reached.number)
+reached_keep job streams is reached = subst (AllByRecursion IsPrefix) (sym reached.is) (round_keeps job (job_known job is) reached.number)
 
 pub reached_prefixes : (job : Job) (streams : List (StreamPrefix Plain)) → IsJob job → AreReached job streams → All IsPrefix streams
 reached_prefixes job streams is reached = All-from_recursion IsPrefix streams (reached_keep job streams is reached)
 
 round_long : (job : Job) → IsJob job → (n : ℕ) → length (round job n) ≡ length job.plan.streams
 round_long job is zero = length-replicate (length job.plan.streams) empty_prefix
-round_long job is (suc n) = equations_are_as_many any_state job (round job n) (job_known job is) (round_keeps any_state job (job_known job is) n)
+round_long job is (suc n) = equations_are_as_many job (round job n) (job_known job is) (round_keeps job (job_known job is) n)
 
 pub reached_long : (job : Job) (streams : List (StreamPrefix Plain)) → IsJob job → AreReached job streams → length streams ≡ length job.plan.streams
 reached_long job streams is reached = ap length reached.is ∙ round_long job is reached.number
@@ -119,11 +119,11 @@ reached_long job streams is reached = ap length reached.is ∙ round_long job is
 pub next_extends : (job : Job) (streams next : List (StreamPrefix Plain)) → IsJob job → AreReached job streams → next ≡ next_round job streams → AreExtendedBy streams next
 next_extends job streams next is reached next_is =
     let P : List (StreamPrefix Plain) → Type 0 = λ xs. AreExtendedBy xs next in
-    subst P (sym reached.is) (subst (AreExtendedBy (round job reached.number)) (sym (next_is ∙ ap (next_round job) reached.is)) (rounds_ascend any_state job (job_known job is) reached.number))
+    subst P (sym reached.is) (subst (AreExtendedBy (round job reached.number)) (sym (next_is ∙ ap (next_round job) reached.is)) (rounds_ascend job (job_known job is) reached.number))
 
 next_keeps : (job : Job) (streams next : List (StreamPrefix Plain)) → IsJob job → AreReached job streams → next ≡ next_round job streams → AllByRecursion IsPrefix next
 next_keeps job streams next is reached next_is =
-    subst (AllByRecursion IsPrefix) (sym (next_is ∙ ap (next_round job) reached.is)) (round_keeps any_state job (job_known job is) (suc reached.number))
+    subst (AllByRecursion IsPrefix) (sym (next_is ∙ ap (next_round job) reached.is)) (round_keeps job (job_known job is) (suc reached.number))
 
 pub next_long : (job : Job) (streams next : List (StreamPrefix Plain)) → IsJob job → AreReached job streams → next ≡ next_round job streams → length streams ≡ length next
 next_long job streams next is reached next_is =

@@ -19,8 +19,7 @@ use Rattle.mg_calc.specs.Meaning.{counts, faults}
 use Rattle.mg_calc.specs.Outcome.{Outcome}
 use Rattle.mg_calc.specs.Plan.{producers}
 use Rattle.mg_calc.proofs.Earlier.{at_place}
-use Rattle.mg_calc.proofs.Jobs.{any_state, job_known}
-use Rattle.mg_calc.proofs.Outcomes.{KeepsTimes}
+use Rattle.mg_calc.proofs.Jobs.{job_known}
 use Rattle.mg_calc.proofs.Rounds.{outcome_has_outputs}
 use Rattle.mg_calc.proofs.Settling.{outcome_of_inputs_by}
 use Rattle.mg_equations.specs.declared.progress.Progress.{Progress}
@@ -74,7 +73,7 @@ outcomes_give job streams is keep = record {
   many = refl;
   each = λ k node other at there.
       (let known = job_known job is in
-      let has = outcome_has_outputs any_state job node streams (at_place (λ (n : PlanNode). KeepsTimes n.law (any_state n.law)) job.plan.nodes k node known.times at) (at_place (λ (n : PlanNode). n.law ≡ Loopback → length n.outputs ≡ 1) job.plan.nodes k node known.loops at) keep in
+      let has = outcome_has_outputs job node streams (at_place (λ (n : PlanNode). n.law ≡ Loopback → length n.outputs ≡ 1) job.plan.nodes k node known.loops at) keep in
       ap (λ (n : PlanNode). length (outcome_of job streams n).outputs) (same_Some other node (sym there ∙ at)) ∙ has);
 }
 

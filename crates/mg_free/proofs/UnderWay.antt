@@ -10,7 +10,7 @@ use Rattle.mg_settled.proofs.Lemmas.{empty_is_prefix, all_by_themselves}
 use Rattle.mg_calc.specs.declared.inputs.Inputs.{Inputs}
 use Rattle.mg_calc.specs.Plan.{IsValid, given_places}
 use Rattle.mg_calc.specs.Equations.{Job, IsJob, IsSolution, stream_of}
-use Rattle.mg_calc.proofs.Jobs.{any_state, job_known, solution_grows}
+use Rattle.mg_calc.proofs.Jobs.{job_known, solution_grows}
 use Rattle.mg_calc.proofs.Solutions.{solution_keeps}
 use Rattle.mg_calc.proofs.FirstRound.{a_solution}
 use Rattle.mg_free.specs.declared.node.FreeNode.{FreeNode}
@@ -113,10 +113,10 @@ pub record IsUnderWay (split : FreePlan) (inputs : Inputs) (takens : List Taken)
   pub well : AreWell streams split.free takens
 
 pub kept : (job : Job) (streams : List (StreamPrefix Plain)) → IsJob job → IsSolution job streams → AllByRecursion IsPrefix streams
-kept job streams is solution = solution_keeps any_state job (job_known job is) streams solution
+kept job streams is solution = solution_keeps job (job_known job is) streams solution
 
 solved : (job : Job) → IsJob job → (streams : List (StreamPrefix Plain)) × IsSolution job streams
-solved job is = a_solution any_state job (job_known job is) is.plan is.inputs.streams
+solved job is = a_solution job (job_known job is) is.plan is.inputs.streams
 
 -- what was under way still is with more that came, whether from outside or from the free nodes
 further : (split : FreePlan) (inputs more : Inputs) (before after : List Taken) (streams : List (StreamPrefix Plain)) → FitsCore split more → IsJob (core_job split inputs before) → IsSolution (core_job split inputs before) streams

@@ -12,7 +12,7 @@ use Rattle.mg_calc.specs.declared.inputs.Inputs.{Inputs}
 use Rattle.mg_calc.specs.declared.plan.Plan.{Plan}
 use Rattle.mg_calc.specs.Plan.{IsValidWithFree, InputsFit}
 use Rattle.mg_calc.specs.Equations.{IsJob, IsSolution, stream_of}
-use Rattle.mg_calc.proofs.Jobs.{any_state, job_known}
+use Rattle.mg_calc.proofs.Jobs.{job_known}
 use Rattle.mg_calc.proofs.Solutions.{one_solution, solution_has_each}
 use Rattle.mg_free.specs.declared.plan.FreePlan.{FreePlan}
 use Rattle.mg_free.specs.Core.{split_of}
@@ -130,7 +130,7 @@ may_all_turn plan inputs earlier takens streams valid come h solution place free
     record {
       ports = sym (length-map free.inputs (stream_of streams)) ∙ well.ports;
       among = λ port stream at_port.
-          let each = solution_has_each any_state (core_job split inputs takens) (job_known (core_job split inputs takens) u.job) streams solution in
+          let each = solution_has_each (core_job split inputs takens) (job_known (core_job split inputs takens) u.job) streams solution in
           let reads = reads_core plan place port stream free valid at at_port in
           omega (arith, each, reads);
       prefixes = All-from_recursion IsPrefix (free_inputs streams free) (inputs_keep streams free.inputs (kept (core_job split inputs takens) streams u.job solution));

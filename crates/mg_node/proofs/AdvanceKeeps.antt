@@ -22,7 +22,7 @@ use Rattle.mg_calc.specs.Shape.{IsOuter, IsSource, IsShapeOf}
 use Rattle.mg_calc.specs.Equations.{Job, inputs_of}
 use Rattle.mg_calc.proofs.LaidBehind.{shift_within}
 use Rattle.mg_calc.proofs.Rounds.{stream_extends, stream_is_prefix, streams_are_prefixes}
-use Rattle.mg_calc.proofs.Jobs.{any_state, job_known}
+use Rattle.mg_calc.proofs.Jobs.{job_known}
 use Rattle.mg_calc.proofs.Solutions.{solution_keeps, one_solution}
 use Rattle.mg_node.specs.declared.role.Role.{Role}
 use Rattle.mg_node.specs.declared.role.Role.TheVariants.{Input, Source, Loop as LoopRole, Sets as SetsRole}
@@ -117,7 +117,7 @@ loop_rises_by job number engine h (Loop held) role going holds =
     let at : streams_at h.streams (ports_of job.job.plan number) ≡ inputs_of h.streams h.node = ap (λ (o : Option PlanNode). streams_at h.streams (unwrap_or (option_map (λ n. n.inputs) o) job.job.plan.outputs)) h.there in
     let came : List (StreamPrefix Plain) = holds.1.loop ∷ holds.1.main ∷ [] in
     let both : AreExtendedBy came (inputs_of h.streams h.node) = subst (AreExtendedBy came) at holds.1.extended in
-    let prefixes = solution_keeps any_state job.job (job_known job.job h.solves.is_job) h.streams h.solves.solution in
+    let prefixes = solution_keeps job.job (job_known job.job h.solves.is_job) h.streams h.solves.solution in
     let is : IsPrefix main = stream_is_prefix (inputs_of h.streams h.node) 1 (streams_are_prefixes h.streams h.node.inputs prefixes) in
     let u = after_replies engine.claimed holds.1.main holds.1.loop in
     let tells : Tells engine.claimed (reached held) main loop u =

@@ -18,7 +18,7 @@ use Rattle.mg_calc.specs.declared.plan_node.PlanNode.{PlanNode}
 use Rattle.mg_calc.specs.Equations.{Job, inputs_of, outcome_by}
 use Rattle.mg_calc.specs.Plan.{FlightFits}
 use Rattle.mg_calc.specs.Shape.{IsShapeOf, is_stateless}
-use Rattle.mg_calc.proofs.Jobs.{any_state, job_known}
+use Rattle.mg_calc.proofs.Jobs.{job_known}
 use Rattle.mg_calc.proofs.Rounds.{stream_is_prefix}
 use Rattle.mg_calc.proofs.Solutions.{solution_keeps, one_solution}
 use Rattle.mg_node.specs.declared.role.Role.{Role}
@@ -207,7 +207,7 @@ into_is job number engine held cell =
 pub stream_is : (job : LoggedJob) (number : ℕ) (engine : EngineView) (held : Held Plain) (cell : IsLoopCell job number engine held) → IsPrefix (loopback (main_of cell.engine_is.streams cell.engine_is.node) (loop_of cell.engine_is.streams cell.engine_is.node))
 stream_is job number engine held cell =
     let h = cell.engine_is in
-    let prefixes = solution_keeps any_state job.job (job_known job.job h.solves.is_job) h.streams h.solves.solution in
+    let prefixes = solution_keeps job.job (job_known job.job h.solves.is_job) h.streams h.solves.solution in
     subst IsPrefix (first_stream h.streams (loopback (main_of h.streams h.node) (loop_of h.streams h.node)) h.node.outputs (into_is job number engine held cell)) (stream_is_prefix h.streams (get_or h.node.outputs 0 0) prefixes)
 
 pub one_of : (job : LoggedJob) (number : ℕ) (engine : EngineView) (held : Held Plain) (cell : IsLoopCell job number engine held)

@@ -20,7 +20,7 @@ use Rattle.mg_calc.specs.Equations.{Job, sides_of}
 use Rattle.mg_calc.specs.Outcome.{Outcome, opened}
 use Rattle.mg_calc.specs.Told.{with_call}
 use Rattle.mg_route.specs.HolderView.{HolderView}
-use Rattle.mg_calc.proofs.Jobs.{any_state, job_known}
+use Rattle.mg_calc.proofs.Jobs.{job_known}
 use Rattle.mg_calc.proofs.Outcomes.{opened_keeps}
 use Rattle.mg_node.specs.Views.{ContextView, EngineView}
 use Rattle.mg_settled.specs.Extension.{AreExtendedBy}
@@ -138,7 +138,7 @@ begun_lawful job streams number node told view solves handed h =
     let zero_is = zero_stage job streams number node solves there in
     let flight : FlightFits node = at_node FlightFits job.job.plan.nodes number node solves.is_job.plan.flights there in
     let some = flight.some in
-    let prefixes = (opened_keeps node.law (any_state node.law) node.shape.offset (length node.outputs) sides (node_known job streams number node solves there).times).prefixes in
+    let prefixes = opened_keeps node.law node.shape.offset (length node.outputs) sides in
     let P : ContextView → Type 0 = IsIdle job streams node 0 false in
     let owns = own_contexts node in
     let told_context = context_of node h.now in

@@ -24,7 +24,7 @@ use Rattle.mg_calc.specs.declared.port_kind.PortKind.{PortKind}
 use Rattle.mg_calc.specs.Plan.{IsValid, HasNumbers, MayHavePolicy}
 use Rattle.mg_calc.specs.Shape.{ParametersFit, HasInputs, IsShapeOf, ports, tagged}
 use Rattle.mg_calc.specs.Equations.{stream_of}
-use Rattle.mg_calc.proofs.Jobs.{any_state, job_known}
+use Rattle.mg_calc.proofs.Jobs.{job_known}
 use Rattle.mg_calc.proofs.Rounds.{streams_are_prefixes}
 use Rattle.mg_calc.proofs.Solutions.{solution_keeps, empties_extend}
 use Rattle.mg_node.specs.declared.pending.Pending.{Pending}
@@ -80,7 +80,7 @@ fresh_sets job streams consumer inbox solves is =
     subst (λ (i : Gathered). HoldsSets job streams consumer 0 i) (sym is) (record {
       policy = refl;
       came = replicate n empty_prefix;
-      extended = empties_extend n (streams_at streams ps) (length-map ps (stream_of streams)) (streams_are_prefixes streams ps (solution_keeps any_state job.job (job_known job.job solves.is_job) streams solves.solution));
+      extended = empties_extend n (streams_at streams ps) (length-map ps (stream_of streams)) (streams_are_prefixes streams ps (solution_keeps job.job (job_known job.job solves.is_job) streams solves.solution));
       stands = fresh_stands (policy_of job.job.plan consumer) n qs long (All-from_recursion (λ (q : Waiting Plain). IsLike q empty_queue) qs (none_came n));
     })
 
@@ -91,7 +91,7 @@ fresh_held job streams consumer held solves law fresh =
     record {
       main = empty_prefix;
       loop = empty_prefix;
-      extended = empties_extend 2 (streams_at streams ps) (length-map ps (stream_of streams) ∙ two) (streams_are_prefixes streams ps (solution_keeps any_state job.job (job_known job.job solves.is_job) streams solves.solution));
+      extended = empties_extend 2 (streams_at streams ps) (length-map ps (stream_of streams) ∙ two) (streams_are_prefixes streams ps (solution_keeps job.job (job_known job.job solves.is_job) streams solves.solution));
       stands = fresh_loop held fresh;
     }
 

@@ -33,7 +33,7 @@ use Rattle.mg_calc.specs.Outcome.{Failure, Outcome, after_laying, after_call, un
 use Rattle.mg_calc.specs.Shape.{calls_of}
 use Rattle.mg_calc.specs.Equations.{Job, inputs_of, sides_of, outcome_by}
 use Rattle.mg_calc.specs.Meaning.{count_of}
-use Rattle.mg_calc.proofs.Jobs.{any_state, job_known}
+use Rattle.mg_calc.proofs.Jobs.{job_known}
 use Rattle.mg_calc.proofs.Rounds.{stream_extends, streams_are_prefixes, stream_is_prefix}
 use Rattle.mg_calc.proofs.Solutions.{solution_keeps, one_solution}
 use Rattle.mg_node.specs.declared.role.Role.{Role}
@@ -54,7 +54,7 @@ sets_over : (job : LoggedJob) (streams : List (StreamPrefix Plain)) (number k : 
     → (length (settled_sets inbox.policy (streams_at streams (ports_of job.job.plan number))) ≡ k) × (reach inbox.policy (streams_at streams (ports_of job.job.plan number)) ≡ done)
 sets_over job streams number k inbox solves h over =
     let ss = streams_at streams (ports_of job.job.plan number) in
-    let prefixes : All IsPrefix ss = All-from_recursion IsPrefix ss (streams_are_prefixes streams (ports_of job.job.plan number) (solution_keeps any_state job.job (job_known job.job solves.is_job) streams solves.solution)) in
+    let prefixes : All IsPrefix ss = All-from_recursion IsPrefix ss (streams_are_prefixes streams (ports_of job.job.plan number) (solution_keeps job.job (job_known job.job solves.is_job) streams solves.solution)) in
     let rest = what_is_next inbox.policy k (queues_of inbox.pool) h.came h.stands in
     let none : drop k (settled_sets inbox.policy h.came) ≡ [] = sym rest ∙ no-sets inbox.policy _ over.empty in
     let claimed = h.stands.gone.claimed in
@@ -172,7 +172,7 @@ loop_close job number streams node k (Loop held) solves there role holds next =
     let at : streams_at streams (ports_of job.job.plan number) ≡ inputs_of streams node = ap (λ (o : Option PlanNode). streams_at streams (unwrap_or (option_map (λ n. n.inputs) o) job.job.plan.outputs)) there in
     let came : List (StreamPrefix Plain) = holds.1.loop ∷ holds.1.main ∷ [] in
     let both : AreExtendedBy came (inputs_of streams node) = subst (AreExtendedBy came) at holds.1.extended in
-    let prefixes = solution_keeps any_state job.job (job_known job.job solves.is_job) streams solves.solution in
+    let prefixes = solution_keeps job.job (job_known job.job solves.is_job) streams solves.solution in
     let wider : IsPrefix (main_of streams node) = stream_is_prefix (inputs_of streams node) 1 (streams_are_prefixes streams node.inputs prefixes) in
     let ended = loop_over k held holds.1.main holds.1.loop (main_of streams node) (loop_of streams node) wider holds.1.stands (stream_extends came (inputs_of streams node) 1 both) (stream_extends came (inputs_of streams node) 0 both) next.0 next.1 in
     loop_last node.law streams node k (loop_law node.law role) ended.0 (ended.1, ended.2)

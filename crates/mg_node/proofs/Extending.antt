@@ -8,7 +8,7 @@ use Rattle.mg_settled.specs.Prefix.{StreamPrefix, IsPrefix, Ascends, first_time,
 use Rattle.mg_settled.proofs.Behind.{drop_is_prefix}
 use Rattle.mg_stream.specs.Queue.{Waiting, StandsFor, IsLike, IsQueue, cut_back}
 use Rattle.mg_stream.specs.Pool.{Backlog, backlog_of, queue_of, empty_backlog}
-use Rattle.mg_calc.proofs.Jobs.{any_state, job_known}
+use Rattle.mg_calc.proofs.Jobs.{job_known}
 use Rattle.mg_calc.proofs.Rounds.{stream_is_prefix}
 use Rattle.mg_calc.proofs.Solutions.{one_solution, solution_keeps}
 use Rattle.mg_node.specs.Views.{EngineView}
@@ -108,7 +108,7 @@ unfolding LawfulEngine
 extended_lawful job later input streams longer engine more h solves further there is =
     let same : h.streams ≡ streams = one_solution job.job h.streams streams h.solves.solution solves.solution in
     let stand : StandForAll engine.outputs (get_or streams input empty_prefix ∷ []) = subst (λ (ss : List (StreamPrefix Plain)). StandForAll engine.outputs (get_or ss input empty_prefix ∷ [])) same h.kept in
-    let whole : IsPrefix (get_or longer input empty_prefix) = stream_is_prefix longer input (solution_keeps any_state later.job (job_known later.job further.is_job) longer further.solution) in
+    let whole : IsPrefix (get_or longer input empty_prefix) = stream_is_prefix longer input (solution_keeps later.job (job_known later.job further.is_job) longer further.solution) in
     record {
       streams = longer;
       solves = further;

@@ -22,7 +22,7 @@ use Rattle.mg_calc.specs.Plan.{HasNumbers, node_sides}
 use Rattle.mg_calc.specs.Shape.{IsShapeOf, HasInputs}
 use Rattle.mg_calc.specs.Equations.{IsJob}
 use Rattle.mg_calc.proofs.FirstRound.{a_solution}
-use Rattle.mg_calc.proofs.Jobs.{any_state, job_known, solution_grows}
+use Rattle.mg_calc.proofs.Jobs.{job_known, solution_grows}
 use Rattle.mg_calc.proofs.Rounds.{streams_extend, streams_are_prefixes}
 use Rattle.mg_calc.proofs.Solutions.{solution_keeps}
 use Rattle.mg_node.specs.declared.pending.Pending.{Pending}
@@ -55,7 +55,7 @@ record IsLater (job : LoggedJob) (more : Inputs) (streams : List (StreamPrefix P
 later_solution : (job : LoggedJob) (more : Inputs) → IsMore job more → (streams : List (StreamPrefix Plain)) → Solves job streams → IsLater job more streams
 later_solution job more m streams solves =
     let is = m.is_job in
-    let found = a_solution any_state (with_inputs job more).job (job_known (with_inputs job more).job is) is.plan is.inputs.streams in
+    let found = a_solution (with_inputs job more).job (job_known (with_inputs job more).job is) is.plan is.inputs.streams in
     record {
       later = found.0;
       solves = record { is_job = is; solution = found.1 };
@@ -78,7 +78,7 @@ node_goes_on job more m streams number node solves l there =
     let has : HasNumbers node = at_node HasNumbers nodes number node solves.is_job.plan.ports there in
     record {
       sides = ap (λ (ss : List (Option Plain)). node_sides job.job.plan ss node) m.sides;
-      prefixes = streams_are_prefixes l.later node.inputs (solution_keeps any_state (with_inputs job more).job (job_known (with_inputs job more).job m.is_job) l.later l.solves.solution);
+      prefixes = streams_are_prefixes l.later node.inputs (solution_keeps (with_inputs job more).job (job_known (with_inputs job more).job m.is_job) l.later l.solves.solution);
       extended = streams_extend streams l.later node.inputs l.extended;
       no_ports = (λ is. nil_from_length node.inputs (has.inputs ∙ ap length (called_inputs node.law node.shape.inputs is shape.inputs)));
     }

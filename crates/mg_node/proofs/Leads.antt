@@ -11,7 +11,7 @@ use Rattle.mg_stream.specs.Queue.{Waiting, StandsFor, count_of}
 use Rattle.mg_stream.specs.Pool.{Backlog, empty_backlog, queue_of, backlog_of}
 use Rattle.mg_calc.specs.declared.edge.Edge.{Edge}
 use Rattle.mg_calc.specs.Equations.{stream_of}
-use Rattle.mg_calc.proofs.Jobs.{any_state, job_known}
+use Rattle.mg_calc.proofs.Jobs.{job_known}
 use Rattle.mg_calc.proofs.Rounds.{stream_is_prefix}
 use Rattle.mg_calc.proofs.Solutions.{solution_keeps, one_solution}
 use Rattle.mg_node.specs.declared.delivered.Delivered.{Delivered}
@@ -115,7 +115,7 @@ abbrev of_one : (job : LoggedJob) (engine : EngineView) (e : Edge) (intake : Int
 of_one job engine e intake laid come held stream is =
     let same : laid.streams ≡ come.is_intake.streams = one_solution job.job laid.streams come.is_intake.streams laid.solves.solution come.is_intake.solves.solution in
     let whole : IsPrefix (stream_of come.is_intake.streams e.stream) =
-    stream_is_prefix come.is_intake.streams e.stream (solution_keeps any_state job.job (job_known job.job come.is_intake.solves.is_job) come.is_intake.streams come.is_intake.solves.solution) in
+    stream_is_prefix come.is_intake.streams e.stream (solution_keeps job.job (job_known job.job come.is_intake.solves.is_job) come.is_intake.streams come.is_intake.solves.solution) in
     record {
       stream = stream;
       whole = subst IsPrefix (sym come.stream_is ∙ is) whole;

@@ -8,8 +8,7 @@ use Rattle.mg_settled.specs.Prefix.{StreamPrefix, IsPrefix, empty_prefix}
 use Rattle.mg_calc.specs.declared.plan_node.PlanNode.{PlanNode}
 use Rattle.mg_calc.specs.Equations.{Job, stream_of, outcome_of}
 use Rattle.mg_calc.specs.declared.law.Law.TheVariants.{Loopback}
-use Rattle.mg_calc.proofs.Outcomes.{KeepsTimes}
-use Rattle.mg_calc.proofs.Jobs.{any_state, job_known}
+use Rattle.mg_calc.proofs.Jobs.{job_known}
 use Rattle.mg_calc.proofs.Rounds.{outcome_has_outputs}
 use Rattle.mg_calc.proofs.Solutions.{solution_keeps, solution_has_each}
 use Rattle.mg_node.specs.Job.{LoggedJob, Solves, streams_at}
@@ -73,20 +72,20 @@ part_of job streams (n ∷ nodes) i node same long there =
     by_place job streams n nodes i node parts.0 (λ j at. part_of job streams nodes j node parts.1 long.1 at) there
 
 -- each node has all its outputs
-all_long : (job : Job) (streams : List (StreamPrefix Plain)) (nodes : List PlanNode) → AllByRecursion (λ node. KeepsTimes node.law (any_state node.law)) nodes → AllByRecursion (λ node. node.law ≡ Loopback → length node.outputs ≡ 1) nodes → AllByRecursion IsPrefix streams
+all_long : (job : Job) (streams : List (StreamPrefix Plain)) (nodes : List PlanNode) → AllByRecursion (λ node. node.law ≡ Loopback → length node.outputs ≡ 1) nodes → AllByRecursion IsPrefix streams
     → AllByRecursion (λ n. length (outcome_of job streams n).outputs ≡ length n.outputs) nodes
-all_long job streams [] times ones is = tt
-all_long job streams (node ∷ nodes) times ones is = (outcome_has_outputs any_state job node streams times.0 ones.0 is, all_long job streams nodes times.1 ones.1 is)
+all_long job streams [] ones is = tt
+all_long job streams (node ∷ nodes) ones is = (outcome_has_outputs job node streams ones.0 is, all_long job streams nodes ones.1 is)
 
 pub node_streams : (job : LoggedJob) (streams : List (StreamPrefix Plain)) (number : ℕ) (node : PlanNode) → Solves job streams → slice_get job.job.plan.nodes number ≡ Some node → streams_at streams node.outputs ≡ (outcome_of job.job streams node).outputs
 node_streams job streams number node solves there =
     let plan = job.job.plan in
     let known = job_known job.job solves.is_job in
-    let prefixes = solution_keeps any_state job.job known streams solves.solution in
-    let each : length streams ≡ length plan.streams = solution_has_each any_state job.job known streams solves.solution in
+    let prefixes = solution_keeps job.job known streams solves.solution in
+    let each : length streams ≡ length plan.streams = solution_has_each job.job known streams solves.solution in
     let written : List ℕ = plan.inputs ++ flat_map (λ n. n.outputs) plan.nodes in
     let all : map (stream_of streams) written ≡ job.job.inputs.streams ++ flat_map (λ n. (outcome_of job.job streams n).outputs) plan.nodes =
     ap (map (stream_of streams)) (solves.is_job.plan.streams ∙ ap (λ (n : ℕ). range_with_len 0 n) (sym each)) ∙ streams_in_order 0 [] streams refl ∙ sym solves.solution.meets in
     let parts = same_parts (map (stream_of streams) plan.inputs) (map (stream_of streams) (flat_map (λ n. n.outputs) plan.nodes)) job.job.inputs.streams (flat_map (λ n. (outcome_of job.job streams n).outputs) plan.nodes)
     (sym (map-both (stream_of streams) plan.inputs (flat_map (λ n. n.outputs) plan.nodes)) ∙ all) (length-map plan.inputs (stream_of streams) ∙ sym solves.is_job.inputs.streams) in
-    part_of job.job streams plan.nodes number node parts.1 (all_long job.job streams plan.nodes known.times known.loops prefixes) there
+    part_of job.job streams plan.nodes number node parts.1 (all_long job.job streams plan.nodes known.loops prefixes) there

@@ -27,7 +27,6 @@ use Rattle.mg_calc.specs.Laying.{all_raised}
 use Rattle.mg_calc.specs.Outcome.{Outcome, shown_all, ended, with_reach, node_outcome}
 use Rattle.mg_calc.specs.Shape.{IsOuter}
 use Rattle.mg_calc.specs.Equations.{Job, inputs_of, sides_of, outcome_by, outcome_of}
-use Rattle.mg_calc.proofs.Jobs.{any_state}
 use Rattle.mg_calc.proofs.NodeStreams.{node_follows}
 use Rattle.mg_calc.proofs.Outcomes.{goes_on}
 use Rattle.mg_calc.proofs.Rounds.{stream_extends, stream_is_prefix}
@@ -66,7 +65,7 @@ outcome_follows job streams more node known prefixes wider e = elim (kind_of nod
       let shows : List (StreamPrefix Plain) → Outcome = λ ss. node_outcome node.law node.shape.offset node.policy (length node.outputs) (sides_of job node) ss in
       subst (λ (o : Outcome). AreExtendedBy o.outputs (outcome_of job more node).outputs) (sym (outer_outcome node.law job streams node is))
       (subst (λ (o : Outcome). AreExtendedBy (shows (inputs_of streams node)).outputs o.outputs) (sym (outer_outcome node.law job more node is))
-      (node_follows node.law (any_state node.law) node.shape.offset node.policy (length node.outputs) (sides_of job node) (inputs_of streams node) (inputs_of more node) known.times
+      (node_follows node.law node.shape.offset node.policy (length node.outputs) (sides_of job node) (inputs_of streams node) (inputs_of more node)
       (All-from_recursion IsPrefix (inputs_of streams node) prefixes) known.inputs e)))
   | inr (inl is) ↦ subst (λ (o : Outcome). AreExtendedBy (outcome_of job streams node).outputs o.outputs) (called_outcome node.law job streams node is ∙ sym (called_outcome node.law job more node is)) (all_by_themselves (outcome_of job streams node).outputs)
   | inr (inr is) ↦ loop_follows node.law job streams more node is wider e

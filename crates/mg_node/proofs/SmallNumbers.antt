@@ -16,7 +16,7 @@ use Rattle.mg_calc.specs.declared.plan_node.PlanNode.{PlanNode}
 use Rattle.mg_calc.specs.Equations.{inputs_of}
 use Rattle.mg_calc.specs.Meaning.{count_of as count_of_node}
 use Rattle.mg_calc.specs.Shape.{ParametersFit, calls_of}
-use Rattle.mg_calc.proofs.Jobs.{any_state, job_known}
+use Rattle.mg_calc.proofs.Jobs.{job_known}
 use Rattle.mg_calc.proofs.Rounds.{stream_is_prefix, streams_are_prefixes}
 use Rattle.mg_calc.proofs.Solutions.{solution_keeps}
 use Rattle.mg_node.specs.declared.pending.Pending.{Pending}
@@ -48,7 +48,7 @@ few_replies law streams node is few =
 
 few_counted : (job : LoggedJob) (streams : List (StreamPrefix Plain)) (number : ℕ) (node : PlanNode) → Solves job streams → slice_get job.job.plan.nodes number ≡ Some node → count_of_all streams node ≤ done
 few_counted job streams number node solves there =
-    let prefixes : AllByRecursion IsPrefix (inputs_of streams node) = streams_are_prefixes streams node.inputs (solution_keeps any_state job.job (job_known job.job solves.is_job) streams solves.solution) in
+    let prefixes : AllByRecursion IsPrefix (inputs_of streams node) = streams_are_prefixes streams node.inputs (solution_keeps job.job (job_known job.job solves.is_job) streams solves.solution) in
     elim (kind_of node.law) [
       | inl is ↦
           (let count = outer_count node.law streams node is in

@@ -19,9 +19,8 @@ use Rattle.mg_calc.specs.Outcome.{Outcome, opened, shown, shown_all, ended, with
 use Rattle.mg_calc.specs.Shape.{IsOuter, ParametersFit, calls_of}
 use Rattle.mg_calc.specs.Equations.{Job, inputs_of, sides_of, outcome_by, outcome_of}
 use Rattle.mg_calc.proofs.Counting.{all_of_first}
-use Rattle.mg_calc.proofs.Jobs.{any_state, job_known}
-use Rattle.mg_calc.proofs.LawCases.{law_keeps_times}
-use Rattle.mg_calc.proofs.Outcomes.{KeepsTimes, IsKept, Further, opened_keeps, sets_keep, sets_extend, end_extends, raised_extends_end, calls_keep, calls_extend, last_call_extends}
+use Rattle.mg_calc.proofs.Jobs.{job_known}
+use Rattle.mg_calc.proofs.Outcomes.{Further, opened_keeps, sets_keep, sets_extend, end_extends, raised_extends_end, calls_keep, calls_extend, last_call_extends}
 use Rattle.mg_calc.proofs.Rounds.{streams_are_prefixes, stream_is_prefix}
 use Rattle.mg_calc.proofs.Solutions.{solution_keeps, empties_extend}
 use Rattle.mg_node.specs.Job.{LoggedJob, Solves, streams_at, sets_of, main_of, loop_of, count_of_all, answered, stage_by, stage}
@@ -30,15 +29,13 @@ use Rattle.mg_node.proofs.NodeSolution.{node_streams}
 use Rattle.mg_node.proofs.Performing.{of_node}
 use Rattle.mg_node.proofs.Stages.{IsCalled, kind_of, outer_stage, outer_outcome, calls_made, called_stage, called_outcome, called_count, sets_in_parts, calls_in_parts}
 
--- What is known of a node of a job: its law keeps times, and its inputs are prefixes.
+-- What is known of a node of a job: its inputs are prefixes.
 pub record IsKnownNode (streams : List (StreamPrefix Plain)) (node : PlanNode) : Type 0 where
-  pub times : KeepsTimes node.law (any_state node.law)
   pub inputs : All IsPrefix (inputs_of streams node)
 
 pub node_known : (job : LoggedJob) (streams : List (StreamPrefix Plain)) (number : ℕ) (node : PlanNode) → Solves job streams → slice_get job.job.plan.nodes number ≡ Some node → IsKnownNode streams node
 node_known job streams number node solves there = record {
-  times = law_keeps_times node.law (of_node (λ (m : PlanNode). ParametersFit m.law) job.job.plan.nodes number node solves.is_job.plan.parameters there);
-  inputs = All-from_recursion IsPrefix (inputs_of streams node) (streams_are_prefixes streams node.inputs (solution_keeps any_state job.job (job_known job.job solves.is_job) streams solves.solution));
+  inputs = All-from_recursion IsPrefix (inputs_of streams node) (streams_are_prefixes streams node.inputs (solution_keeps job.job (job_known job.job solves.is_job) streams solves.solution));
 }
 
 -- Of a node that is shown sets.
@@ -50,15 +47,15 @@ module _ (job : Job) (streams : List (StreamPrefix Plain)) (node : PlanNode) (kn
       recursion_from_All (λ (set : TimedSet Plain). set.at ≤ done) (sets_of streams node)
       (All-weaker (λ (set : TimedSet Plain). set.at < reach node.policy inputs) (λ (set : TimedSet Plain). set.at ≤ done) (λ set below. omega (arith, below, most)) (sets_of streams node) (below-reach node.policy inputs known.inputs))
 
-  first_kept : (n : ℕ) → IsKept (any_state node.law) (shown_all node.law node.shape.offset (length node.outputs) (sides_of job node) (take n (sets_of streams node)))
+  first_kept : (n : ℕ) → AllByRecursion IsPrefix (shown_all node.law node.shape.offset (length node.outputs) (sides_of job node) (take n (sets_of streams node))).outputs
   first_kept n =
-      sets_keep node.law (any_state node.law) node.shape.offset (opened node.law node.shape.offset (length node.outputs) (sides_of job node)) (take n (sets_of streams node)) known.times
-      (all_of_first (λ (set : TimedSet Plain). set.at ≤ done) n (sets_of streams node) set_times_end) (opened_keeps node.law (any_state node.law) node.shape.offset (length node.outputs) (sides_of job node) known.times)
+      sets_keep node.law node.shape.offset (opened node.law node.shape.offset (length node.outputs) (sides_of job node)) (take n (sets_of streams node))
+      (all_of_first (λ (set : TimedSet Plain). set.at ≤ done) n (sets_of streams node) set_times_end) (opened_keeps node.law node.shape.offset (length node.outputs) (sides_of job node))
 
-  all_kept : IsKept (any_state node.law) (shown_all node.law node.shape.offset (length node.outputs) (sides_of job node) (sets_of streams node))
+  all_kept : AllByRecursion IsPrefix (shown_all node.law node.shape.offset (length node.outputs) (sides_of job node) (sets_of streams node)).outputs
   all_kept =
-      sets_keep node.law (any_state node.law) node.shape.offset (opened node.law node.shape.offset (length node.outputs) (sides_of job node)) (sets_of streams node) known.times set_times_end
-      (opened_keeps node.law (any_state node.law) node.shape.offset (length node.outputs) (sides_of job node) known.times)
+      sets_keep node.law node.shape.offset (opened node.law node.shape.offset (length node.outputs) (sides_of job node)) (sets_of streams node) set_times_end
+      (opened_keeps node.law node.shape.offset (length node.outputs) (sides_of job node))
 
   outer_extended : (n : ℕ) → IsOuter node.law → AreExtendedBy (stage job streams node n).outputs (outcome_of job streams node).outputs
   outer_extended n is =
@@ -69,22 +66,22 @@ module _ (job : Job) (streams : List (StreamPrefix Plain)) (node : PlanNode) (kn
       let whole = shown_all node.law offset (length node.outputs) (sides_of job node) sets in
       let parts : fold (shown node.law offset) first (drop n sets) ≡ whole = sym (sets_in_parts node.law offset (length node.outputs) (sides_of job node) sets n) in
       let shown_more : AreExtendedBy first.outputs whole.outputs = subst (λ (o : Outcome). AreExtendedBy first.outputs o.outputs) parts (sets_extend node.law offset first (drop n sets)) in
-      let to_end : AreExtendedBy whole.outputs (ended node.law offset reached whole).outputs = end_extends node.law (any_state node.law) offset reached whole known.times (reach-most node.policy (inputs_of streams node) known.inputs) all_kept in
+      let to_end : AreExtendedBy whole.outputs (ended node.law offset reached whole).outputs = end_extends node.law offset reached whole (reach-most node.policy (inputs_of streams node) known.inputs) all_kept in
       subst (λ (o : Outcome). AreExtendedBy o.outputs (outcome_of job streams node).outputs) (sym (outer_stage node.law job streams node n is))
       (subst (λ (o : Outcome). AreExtendedBy first.outputs o.outputs) (sym (outer_outcome node.law job streams node is)) (all_further first.outputs whole.outputs _ shown_more to_end))
 
 -- Of a source.
-called_extended : (job : Job) (streams : List (StreamPrefix Plain)) (node : PlanNode) (n : ℕ) → KeepsTimes node.law (any_state node.law) → IsCalled node.law → n ≤ calls_of node.law → AreExtendedBy (stage job streams node n).outputs (outcome_of job streams node).outputs
-called_extended job streams node n times is le =
+called_extended : (job : Job) (streams : List (StreamPrefix Plain)) (node : PlanNode) (n : ℕ) → IsCalled node.law → n ≤ calls_of node.law → AreExtendedBy (stage job streams node n).outputs (outcome_of job streams node).outputs
+called_extended job streams node n is le =
     let begun = opened node.law None (length node.outputs) (sides_of job node) in
     let first = calls_made job node n in
     let whole = calls_made job node (calls_of node.law) in
     let more : AreExtendedBy first.outputs whole.outputs =
     subst (λ (o : Outcome). AreExtendedBy first.outputs o.outputs) (sym (calls_in_parts job node n (calls_of node.law) le)) (calls_extend node.law first (range_with_len n (calls_of node.law - n))) in
-    let kept : IsKept (any_state node.law) whole = calls_keep node.law (any_state node.law) begun (range_with_len 0 (calls_of node.law)) times (opened_keeps node.law (any_state node.law) None (length node.outputs) (sides_of job node) times) in
+    let kept : AllByRecursion IsPrefix whole.outputs = calls_keep node.law begun (range_with_len 0 (calls_of node.law)) (opened_keeps node.law None (length node.outputs) (sides_of job node)) in
     subst (λ (o : Outcome). AreExtendedBy o.outputs (outcome_of job streams node).outputs) (sym (called_stage node.law job streams node n is))
     (subst (λ (o : Outcome). AreExtendedBy first.outputs o.outputs) (sym (called_outcome node.law job streams node is))
-    (all_further first.outputs whole.outputs (with_last_call whole).outputs more (last_call_extends whole.fault whole kept.prefixes)))
+    (all_further first.outputs whole.outputs (with_last_call whole).outputs more (last_call_extends whole.fault whole kept)))
 
 -- Of a loopback: the first packets of a stream, one behind the other.
 front_extended : (stream w : StreamPrefix Plain) (ps qs : List (Stamped Plain)) → IsPrefix stream → IsExtendedBy w stream → stream.packets ≡ w.packets ++ (ps ++ qs) → IsExtendedBy (all_appended w ps) stream
@@ -113,9 +110,9 @@ stage_extended job streams number node n solves there le =
     subst (AreExtendedBy (stage job.job streams node n).outputs) (sym (node_streams job streams number node solves there))
     (elim (kind_of node.law) [
       | inl is ↦ outer_extended job.job streams node known n is
-      | inr (inl is) ↦ called_extended job.job streams node n known.times is (let count = called_count node.law streams node is in omega (arith, le, count))
+      | inr (inl is) ↦ called_extended job.job streams node n is (let count = called_count node.law streams node is in omega (arith, le, count))
       | inr (inr is) ↦ loop_extended node.law job.job streams node n is
-          (stream_is_prefix (inputs_of streams node) 1 (streams_are_prefixes streams node.inputs (solution_keeps any_state job.job (job_known job.job solves.is_job) streams solves.solution)))
+          (stream_is_prefix (inputs_of streams node) 1 (streams_are_prefixes streams node.inputs (solution_keeps job.job (job_known job.job solves.is_job) streams solves.solution)))
     ])
 
 -- Raised to a time.
@@ -153,8 +150,8 @@ raised_stage_extended job streams number node n t solves there is good le next =
     let above = all_above_from 0 t n sets (times-rise node.policy inputs known.inputs) next in
     let below = recursion_from_All (λ (e : TimedSet Plain). e.at < reached) (drop n sets) (All-drop (λ (e : TimedSet Plain). e.at < reached) n sets (below-reach node.policy inputs known.inputs)) in
     let further : Further t reached (drop n sets) = record { rises = le; within = most; above = above; none = none_at_end t reached (drop n sets) most above below } in
-    let raised = raised_extends_end node.law (any_state node.law) offset t reached first (drop n sets) known.times further (first_kept job.job streams node known n)
-    (subst (IsKept (any_state node.law)) parts (all_kept job.job streams node known)) (ap (λ (o : Outcome). o.fault) (sym at) ∙ good) in
+    let raised = raised_extends_end node.law offset t reached first (drop n sets) further (first_kept job.job streams node known n)
+    (subst (λ (o : Outcome). AllByRecursion IsPrefix o.outputs) parts (all_kept job.job streams node known)) (ap (λ (o : Outcome). o.fault) (sym at) ∙ good) in
     subst (λ (o : Outcome). AreExtendedBy (all_raised offset t o.outputs) (streams_at streams node.outputs)) (sym at)
     (subst (AreExtendedBy (all_raised offset t first.outputs)) (sym (node_streams job streams number node solves there))
     (subst (λ (o : Outcome). AreExtendedBy (all_raised offset t first.outputs) o.outputs) (sym (outer_outcome node.law job.job streams node is ∙ ap (ended node.law offset reached) parts)) raised))

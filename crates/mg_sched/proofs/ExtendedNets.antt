@@ -14,7 +14,7 @@ use Rattle.mg_calc.specs.declared.plan.Plan.{Plan}
 use Rattle.mg_calc.specs.Equations.{IsJob}
 use Rattle.mg_calc.specs.Told.{CalculatorTold}
 use Rattle.mg_calc.proofs.FirstRound.{a_solution}
-use Rattle.mg_calc.proofs.Jobs.{any_state, job_known}
+use Rattle.mg_calc.proofs.Jobs.{job_known}
 use Rattle.mg_calc.proofs.Rounds.{stream_is_prefix}
 use Rattle.mg_calc.proofs.Solutions.{solution_keeps}
 use Rattle.mg_node.specs.Views.{IntakeView, EngineView}
@@ -37,7 +37,7 @@ use Rattle.mg_sched.proofs.WoundNets.{order_of}
 
 solved : (job : LoggedJob) → IsJob job.job → (streams : List (StreamPrefix Plain)) × Solves job streams
 solved job is =
-    let it = a_solution any_state job.job (job_known job.job is) is.plan is.inputs.streams in
+    let it = a_solution job.job (job_known job.job is) is.plan is.inputs.streams in
     (it.0, record { is_job = is; solution = it.1 })
 
 -- the solution's stream of a graph input is what was handed in
@@ -79,7 +79,7 @@ may_extend more first later engine input piece g h at =
         whole = get_or h.streams input empty_prefix;
         stands = first_stands engine.outputs (get_or h.streams input empty_prefix) h.kept;
         is_prefix = subst IsPrefix (piece_behind more first later h.streams l.0 input piece g h.solves l.1 at)
-            (stream_is_prefix l.0 input (solution_keeps any_state later.job (job_known later.job g.grows.is_job) l.0 l.1.solution));
+            (stream_is_prefix l.0 input (solution_keeps later.job (job_known later.job g.grows.is_job) l.0 l.1.solution));
       };
     }
 

@@ -18,7 +18,7 @@ use Rattle.mg_calc.specs.declared.law.Law.TheVariants.{Loopback}
 use Rattle.mg_calc.specs.declared.plan.Plan.{Plan}
 use Rattle.mg_calc.specs.declared.plan_node.PlanNode.{PlanNode}
 use Rattle.mg_calc.specs.Equations.{stream_of}
-use Rattle.mg_calc.proofs.Jobs.{any_state, job_known}
+use Rattle.mg_calc.proofs.Jobs.{job_known}
 use Rattle.mg_calc.proofs.Rounds.{stream_extends}
 use Rattle.mg_calc.proofs.Solutions.{solution_has_each}
 use Rattle.mg_node.specs.declared.pending.Pending.{Pending}
@@ -153,7 +153,7 @@ pub outputs_by_default : (job : LoggedJob) (solution : List (StreamPrefix Plain)
 outputs_by_default job solution solves =
     let plan = job.job.plan in
     let last = length plan.nodes in
-    let count : length solution ≡ length plan.streams = solution_has_each any_state job.job (job_known job.job solves.is_job) solution solves.solution in
+    let count : length solution ≡ length plan.streams = solution_has_each job.job (job_known job.job solves.is_job) solution solves.solution in
     let policy : policy_of plan last ≡ Default = ap (λ (o : Option PlanNode). unwrap_or (option_map (λ n. n.policy) o) Default) (slice_get_past plan.nodes last (omega arith)) in
     let shown : All (λ s. s < length solution) plan.outputs = subst (λ (n : ℕ). All (λ s. s < n) plan.outputs) (sym count) solves.is_job.plan.ranges.shown in
     ap₂ (λ (p : Policy) (ns : List ℕ). settled_sets p (streams_at solution ns)) policy (ports_of_collector plan)

@@ -17,7 +17,7 @@ use Rattle.mg_calc.specs.declared.plan_stream.Producer.{Producer}
 use Rattle.mg_calc.specs.Equations.{stream_of, inputs_of, outcome_of, next_round}
 use Rattle.mg_calc.specs.Meaning.{count_of, fault_of}
 use Rattle.mg_calc.specs.Plan.{IsValid, written_streams}
-use Rattle.mg_calc.proofs.Jobs.{any_state, job_known}
+use Rattle.mg_calc.proofs.Jobs.{job_known}
 use Rattle.mg_calc.proofs.Rounds.{streams_extend}
 use Rattle.mg_calc.proofs.Solutions.{solution_has_each, solution_least}
 use Rattle.mg_node.specs.Views.{IntakeView, EngineView}
@@ -135,10 +135,10 @@ rests_solved job net solution streams h running rest solves all =
     let known = job_known job.job solves.is_job in
     let plan : length net.plan.streams ≡ length job.job.plan.streams = ap (λ (p : Plan). length p.streams) h.plan in
     let count = all.count in
-    let each : length solution ≡ length job.job.plan.streams = solution_has_each any_state job.job known solution solves.solution in
+    let each : length solution ≡ length job.job.plan.streams = solution_has_each job.job known solution solves.solution in
     let below : AreExtendedBy streams solution = each_extended streams solution (count ∙ plan ∙ sym each) (λ i within. (all.each i (omega (arith, within, count))).extended) in
     let prefixes : AllByRecursion IsPrefix streams = each_prefix streams (λ i within. (all.each i (omega (arith, within, count))).prefix) in
-    all_both_ways streams solution below (solution_least any_state job.job known solution streams solves.solution prefixes (round_meets job net solution streams h running rest solves all below))
+    all_both_ways streams solution below (solution_least job.job known solution streams solves.solution prefixes (round_meets job net solution streams h running rest solves all below))
 
 pub rests_with_streams : (job : LoggedJob) (net : NetView) (solution : List (StreamPrefix Plain)) (number : ℕ) (stream : PlanStream) (engine : EngineView) → StandsFor job net → IsRunning net → IsAtRest net → Solves job solution
     → slice_get net.plan.streams number ≡ Some stream → slice_get net.engines (place_of net.plan stream.producer) ≡ Some engine → IsQueueOf (laid_at engine (number - engine.first)) (stream_of solution number)

@@ -15,7 +15,7 @@ use Rattle.mg_calc.specs.declared.plan_node.PlanNode.{PlanNode}
 use Rattle.mg_calc.specs.Equations.{stream_of}
 use Rattle.mg_calc.specs.Meaning.{count_of, counts, fault_of, faults}
 use Rattle.mg_calc.specs.Plan.{written_streams}
-use Rattle.mg_calc.proofs.Jobs.{any_state, job_known}
+use Rattle.mg_calc.proofs.Jobs.{job_known}
 use Rattle.mg_calc.proofs.Solutions.{solution_has_each}
 use Rattle.mg_node.specs.Views.{EngineView}
 use Rattle.mg_node.specs.Job.{LoggedJob, Solves, streams_at}
@@ -124,7 +124,7 @@ rests_with_ends job net solution h running rest solves =
     let some : StandsForSome net = record { job = job; stands = h } in
     let outputs : List ℕ = flat_map (λ node. node.outputs) net.plan.nodes in
     let count : length solution ≡ length net.plan.streams =
-    solution_has_each any_state job.job (job_known job.job solves.is_job) solution solves.solution ∙ ap (λ (p : Plan). length p.streams) (sym h.plan) in
+    solution_has_each job.job (job_known job.job solves.is_job) solution solves.solution ∙ ap (λ (p : Plan). length p.streams) (sym h.plan) in
     ap₂ (λ (xs ys : List StreamEnd). xs ++ ys) (input_ends job net solution h solves) (node_ends job net solution h running rest solves)
     ∙ sym (map-append (end_at solution) net.plan.inputs outputs)
     ∙ sym (map-map end_of (stream_of solution) (written_streams net.plan))

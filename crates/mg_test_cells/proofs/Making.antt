@@ -13,7 +13,7 @@ use Rattle.mg_calc.specs.Plan.{side_packet}
 use Rattle.mg_calc.specs.Equations.{IsJob, Job, sides_of}
 use Rattle.mg_route.specs.HolderView.{HolderView}
 use Rattle.mg_calc.proofs.FirstRound.{a_solution}
-use Rattle.mg_calc.proofs.Jobs.{any_state, job_known}
+use Rattle.mg_calc.proofs.Jobs.{job_known}
 use Rattle.mg_node.specs.Views.{EngineView}
 use Rattle.mg_node.specs.Job.{Solves}
 use Rattle.mg_node.specs.Begun.{IsHanded, IsNew, IsUnbegun, HasBegun, LawfulUnbegun, SomeUnbegun}
@@ -26,7 +26,7 @@ use Rattle.mg_test_cells.proofs.Keeping.{whole_keeps}
 pub solved : (plan : Plan) (inputs : Inputs) → IsJob (record { plan = plan; inputs = inputs }) → (streams : List (StreamPrefix Plain)) × Solves (job_of plan inputs) streams
 solved plan inputs is =
     let job : Job = record { plan = plan; inputs = inputs } in
-    let found = a_solution any_state job (job_known job is) is.plan is.inputs.streams in
+    let found = a_solution job (job_known job is) is.plan is.inputs.streams in
     (found.0, record { is_job = is; solution = found.1 })
 
 no_log : (o : Option ℕ) → (let r : Option (List Call) = None in r) ≡ option_and_then (λ number. option_and_then (λ box. box.log) (slice_get (let boxes : List CalculatorTold = [] in boxes) number)) o

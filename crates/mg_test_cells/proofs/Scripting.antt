@@ -7,7 +7,7 @@ use Rattle.mg_calc.specs.declared.emission.Laid.{Laid}
 use Rattle.mg_calc.specs.declared.law.Law.TheVariants.{Scripted}
 use Rattle.mg_calc.specs.declared.port_kind.PortKind.{PortKind}
 use Rattle.mg_calc.specs.declared.shape.Shape.{Shape}
-use Rattle.mg_calc.specs.Shape.{untagged, ArePorts, AreAnyInputs, AreEmissions, BoundsAreTimes, ParametersFit, IsShapeOf}
+use Rattle.mg_calc.specs.Shape.{untagged, ArePorts, AreAnyInputs, AreEmissions, IsShapeOf}
 
 one_port : ArePorts (untagged 1 Any)
 unfolding IsStrictlySortedBy
@@ -19,10 +19,6 @@ no_port = tt
 
 any_input : AreAnyInputs (untagged 1 Any)
 any_input = record { some = omega arith; ordered = one_port; any = All-from_recursion (λ (p : PortKind). p.kind ≡ Any) (untagged 1 Any) (refl, tt) }
-
-pub scripted_parameters : (offset : Option ℤ) (first step last : List Laid) (steps : List (List Laid)) → steps ≡ step ∷ [] → BoundsAreTimes first → BoundsAreTimes step → BoundsAreTimes last → ParametersFit (Scripted offset first steps last)
-scripted_parameters offset first step last steps is at_open at_set at_close =
-    (at_open, subst (λ (es : List (List Laid)). All BoundsAreTimes es) (sym is) (All-from_recursion BoundsAreTimes (step ∷ []) (at_set, tt)), at_close)
 
 pub scripted_shape : (offset : Option ℤ) (first step last : List Laid) (steps : List (List Laid)) (shape : Shape) → steps ≡ step ∷ [] → length first ≡ 1 → length step ≡ 1 → length last ≡ 1
     → shape.inputs ≡ untagged 1 Any → shape.outputs ≡ untagged 1 Any → shape.sides ≡ [] → shape.offset ≡ offset → shape.stateless ≡ false → IsShapeOf (Scripted offset first steps last) shape

@@ -1,6 +1,5 @@
 //! Calculators whose emissions are written down.
 ghost use Rattle.std.specs.Prelude.{◌≡◌, length, All, IfOk};
-ghost use Rattle.mg_calc.specs.Shape.{BoundsAreTimes};
 ghost use Rattle.mg_check.specs.Check.{IsOuterShape};
 
 use mg_calc::{Emission, Laid, LaidPackets, Law, OuterShape, one_output};
@@ -23,8 +22,7 @@ fn packets_of(alloc: Global, text: &str) -> Result<LaidPackets, Fail> {
 
 // Reads an emission at one output, which is written as its packets.
 fn emission_of(alloc: Global, text: &str) -> Result<Emission, Fail>
-    ensures one { IfOk result (λ e. length e ≡ 1) }
-    ensures times { IfOk result (λ e. BoundsAreTimes e) }
+    ensures { IfOk result (λ e. length e ≡ 1) }
 {
     let packets = packets_of(alloc, text)?;
     Ok(one_output(Laid {
