@@ -16,7 +16,7 @@ use Rattle.mg_settled.proofs.SettledTimes.{settled_rises}
 use Rattle.mg_calc.specs.declared.law.Law.{Law}
 use Rattle.mg_calc.specs.declared.law.Law.TheVariants.{Pass, Map, Filter, BeginLoop, EndLoop}
 use Rattle.mg_calc.specs.declared.plan_node.PlanNode.{PlanNode}
-use Rattle.mg_calc.specs.Law.{opening, finish}
+use Rattle.mg_calc.specs.Law.{opening, finish, rules_of}
 use Rattle.mg_calc.specs.Plan.{MayHavePolicy}
 use Rattle.mg_calc.specs.Values.{iterable_port}
 use Rattle.mg_calc.specs.Outcome.{Outcome, node_outcome}
@@ -73,7 +73,7 @@ quiet_policy EndLoop policy h may = may
 quiet_policy law policy h may = absurd h
 
 quiet_outcome : (law : Law) (job : Job) (streams : List (StreamPrefix Plain)) (node : PlanNode) → Quiet law
-    → outcome_by law job streams node ≡ node_outcome node.law node.shape.offset node.policy (length node.outputs) (sides_of job node) (inputs_of streams node)
+    → outcome_by law job streams node ≡ node_outcome (rules_of node.law) node.shape.offset node.policy (length node.outputs) (sides_of job node) (inputs_of streams node)
 quiet_outcome Pass job streams node h = refl
 quiet_outcome (Map op operand) job streams node h = refl
 quiet_outcome (Filter keep raises) job streams node h = refl
@@ -113,10 +113,10 @@ module _ (job : Job) (streams : List (StreamPrefix Plain)) (is_job : IsJob job) 
       let own : Quiet node.law = subst Quiet (sym is) quiet in
       let default : node.policy ≡ Default =
       quiet_policy node.law node.policy own (at_place (λ (n : PlanNode). MayHavePolicy n.law n.policy) job.plan.nodes h.of_plan.0 node (recursion_from_All (λ (n : PlanNode). MayHavePolicy n.law n.policy) job.plan.nodes is_job.plan.policies) h.of_plan.1) in
-      let same : outcome_of job streams node ≡ node_outcome law node.shape.offset Default (length node.outputs) (sides_of job node) ss =
+      let same : outcome_of job streams node ≡ node_outcome (rules_of law) node.shape.offset Default (length node.outputs) (sides_of job node) ss =
       quiet_outcome node.law job streams node own
       ∙ ap (λ (l : Law). node_outcome l node.shape.offset node.policy (length node.outputs) (sides_of job node) (inputs_of streams node)) is
-      ∙ ap₂ (λ (p : Policy) (xs : List (StreamPrefix Plain)). node_outcome law node.shape.offset p (length node.outputs) (sides_of job node) xs) default reads in
+      ∙ ap₂ (λ (p : Policy) (xs : List (StreamPrefix Plain)). node_outcome (rules_of law) node.shape.offset p (length node.outputs) (sides_of job node) xs) default reads in
       let runs = node_packets law node.shape.offset Default (length node.outputs) (sides_of job node) ss i (quiet_opening law (sides_of job node) quiet) (quiet_finish law quiet) (slice_get_within node.outputs i out there)
       (ap (λ (o : Outcome). o.fault) (sym same) ∙ h.faultless) in
       let put : runs.0 ≡ (stream_of streams out).packets =

@@ -18,6 +18,7 @@ use Rattle.mg_answer.specs.Devices.{Device, Untouched}
 use Rattle.mg_answer.specs.Ran.{CameTo}
 use Rattle.mg_answer.specs.declared.status.Status.{Status}
 use Rattle.mg_answer.specs.declared.status.Status.TheVariants.{OutOfMemory}
+use Rattle.mg_calc.specs.Law.{rules_of}
 
 -- the first `count` calls of a node's calculator: Open, and a Process for each set that the node is shown; with Close behind them or not
 abbrev pub first_calls : Job → List (StreamPrefix Plain) → PlanNode → ℕ → Bool → List Call
@@ -65,7 +66,7 @@ pub record HadAFront (job : Job) (streams : List (StreamPrefix Plain)) (node : P
 
 -- what a node has come to once it was opened and shown its first `shown` settled sets
 abbrev pub come_to : Job → List (StreamPrefix Plain) → PlanNode → ℕ → Outcome
-come_to job streams node shown = shown_all node.law node.shape.offset (length node.outputs) (sides_of job node) (take shown (settled_sets node.policy (ports_of streams node)))
+come_to job streams node shown = shown_all (rules_of node.law) node.shape.offset (length node.outputs) (sides_of job node) (take shown (settled_sets node.policy (ports_of streams node)))
 
 -- A calculator had a front of its node's calls. Before Open its state is what it was, and from Open on it is the one to which its node has
 -- come after the sets that it was shown. Close changes nothing of it.

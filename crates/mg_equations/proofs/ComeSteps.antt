@@ -34,6 +34,7 @@ use Rattle.mg_equations.proofs.PortSteps.{inputs_long}
 use Rattle.mg_equations.proofs.RoundSteps.{node_at}
 use Rattle.mg_calc.proofs.Settling.{outcome_of_inputs_by}
 use Rattle.mg_equations.proofs.ProgressSteps.{shown_more, shown_first, answered_more, within_later, within_gone}
+use Rattle.mg_calc.specs.Law.{rules_of}
 
 -- the streams of a loopback, by port
 two_ports : (law : Law) (ps : List PortKind) → HasInputs law ps → law ≡ Loopback → length ps ≡ 2
@@ -51,7 +52,7 @@ loop_outcome job streams node known two e =
     ∙ ap (λ (ss : List (StreamPrefix Plain)). loopback_outcome (port_of ss 1) (port_of ss 0)) (sym (inputs_are streams node.inputs known))
 
 outer_is : (job : Job) (streams : List (StreamPrefix Plain)) (node : PlanNode) → All (λ i. i < length streams) node.inputs → IsOuter node.law
-    → outcome_of job streams node ≡ node_outcome node.law node.shape.offset node.policy (length node.outputs) (sides_of job node) (inputs_at streams node.inputs)
+    → outcome_of job streams node ≡ node_outcome (rules_of node.law) node.shape.offset node.policy (length node.outputs) (sides_of job node) (inputs_at streams node.inputs)
 outer_is job streams node known outer = sym (outer_outcome node.law job streams node (sides_of job node) outer known refl)
 
 -- What a node of a job has where its streams have grown.
@@ -137,7 +138,7 @@ pub record HasBegun (job : Job) (node : PlanNode) (progress : Progress) : Type 0
 pub has_begun : (job : Job) (node : PlanNode) (outcome : CodeOutcome) (progress : Progress) → seen outcome ≡ begun_by node.law job node → progress.outcome ≡ outcome → progress.read.items ≡ replicate (length node.inputs) 0 → progress.reached ≡ pre_stream → HasBegun job node progress
 has_begun job node outcome progress is same read reached = record { outcome = ap seen same ∙ is; read = read; reached = reached }
 
-begun_outer : (law : Law) (job : Job) (node : PlanNode) → IsOuter law → begun_by law job node ≡ opened node.law node.shape.offset (length node.outputs) (sides_of job node)
+begun_outer : (law : Law) (job : Job) (node : PlanNode) → IsOuter law → begun_by law job node ≡ opened (rules_of node.law) node.shape.offset (length node.outputs) (sides_of job node)
 begun_outer (Count count start step) job node outer = absurd outer
 begun_outer (SideOnce at) job node outer = absurd outer
 begun_outer Constants job node outer = absurd outer
@@ -226,7 +227,7 @@ begun_can job streams node progress h begun =
       room = λ outer. (
           let ht = all_inputs streams node.inputs h in
           let left = sets-gone node.policy 0 tt progress.read.items ht (subst (λ (ns : List ℕ). AreGone node.policy 0 tt ns) (sym none) (none-gone node.policy tt)) in
-          let zero_taken = ap (λ (o : Outcome). o.taken) (begun.outcome ∙ begun_outer node.law job node outer) ∙ opened_counts node.law node.shape.offset (length node.outputs) (sides_of job node) in
+          let zero_taken = ap (λ (o : Outcome). o.taken) (begun.outcome ∙ begun_outer node.law job node outer) ∙ opened_counts (rules_of node.law) node.shape.offset (length node.outputs) (sides_of job node) in
           omega (arith, few_sets node.policy tt ht, zero_taken, ap length left));
       output = λ loop. ap (λ (o : Outcome). length o.outputs) (begun.outcome ∙ ap (λ (law : Law). begun_by law job node) loop);
     }
@@ -246,7 +247,7 @@ come_can job before streams node progress may come =
           let claimed = gone.claimed in
           let left = sets-gone policy k tt progress.read.items ht gone in
           let taken = ap (λ (o : Outcome). o.taken) (come.outcome ∙ outer_is job before node may.was_known outer) in
-          let few = node_counts node.law node.shape.offset policy (length node.outputs) (sides_of job node) ss in
+          let few = node_counts (rules_of node.law) node.shape.offset policy (length node.outputs) (sides_of job node) ss in
           omega (arith, few_sets policy tt ht, claimed, ap length left, length-drop k (settled_sets policy tt), taken, few));
       output = λ loop. ap (λ (o : Outcome). length o.outputs) (come.outcome ∙ loop_outcome job before node may.was_known (loop_ports node may.numbers may.shape loop) loop);
     }

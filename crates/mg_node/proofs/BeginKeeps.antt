@@ -35,6 +35,7 @@ use Rattle.mg_node.proofs.Performing.{of_node as at_node}
 use Rattle.mg_node.proofs.Stages.{kind_of, outer_stage, called_stage, called_offset}
 use Rattle.mg_node.proofs.StageStreams.{node_known, stage_extended}
 use Rattle.mg_node.proofs.Stateless.{KeepsNothing, several_keep_nothing, stage_empty}
+use Rattle.mg_calc.specs.Law.{rules_of}
 
 -- The outputs of a node have numbers that follow each other.
 
@@ -71,7 +72,7 @@ first_outputs plan number node valid there =
 
 -- What an opened node has come to is its first stage.
 
-loop_zero : (law : Law) (job : Job) (streams : List (StreamPrefix Plain)) (node : PlanNode) (offset : Option ℤ) (outputs : ℕ) (sides : List (Option Plain)) → law ≡ Loopback → outputs ≡ 1 → stage_by law job streams node 0 ≡ opened law offset outputs sides
+loop_zero : (law : Law) (job : Job) (streams : List (StreamPrefix Plain)) (node : PlanNode) (offset : Option ℤ) (outputs : ℕ) (sides : List (Option Plain)) → law ≡ Loopback → outputs ≡ 1 → stage_by law job streams node 0 ≡ opened (rules_of law) offset outputs sides
 loop_zero law job streams node offset outputs sides is one =
     subst (λ (l : Law). stage_by l job streams node 0 ≡ opened l offset outputs sides) (sym is)
     (subst (λ (k : ℕ). stage_by Loopback job streams node 0 ≡ opened Loopback offset k sides) (sym one) refl)
@@ -82,7 +83,7 @@ zero_stage job streams number node solves there = elim (kind_of node.law) [
   | inr (inl is) ↦
       (let shape : IsShapeOf node.law node.shape = at_node (λ (m : PlanNode). IsShapeOf m.law m.shape) job.job.plan.nodes number node solves.is_job.plan.shapes there in
       let offset : node.shape.offset ≡ None = shape.offset ∙ called_offset node.law is in
-      called_stage node.law job.job streams node 0 is ∙ ap (λ (o : Option ℤ). opened node.law o (length node.outputs) (sides_of job.job node)) (sym offset))
+      called_stage node.law job.job streams node 0 is ∙ ap (λ (o : Option ℤ). opened (rules_of node.law) o (length node.outputs) (sides_of job.job node)) (sym offset))
   | inr (inr is) ↦
       (let one = at_node (λ (m : PlanNode). m.law ≡ Loopback → length m.outputs ≡ 1) job.job.plan.nodes number node
       (All-from_recursion (λ (m : PlanNode). m.law ≡ Loopback → length m.outputs ≡ 1) job.job.plan.nodes (job_known job.job solves.is_job).loops) there in
@@ -138,7 +139,7 @@ begun_lawful job streams number node told view solves handed h =
     let zero_is = zero_stage job streams number node solves there in
     let flight : FlightFits node = at_node FlightFits job.job.plan.nodes number node solves.is_job.plan.flights there in
     let some = flight.some in
-    let prefixes = opened_keeps node.law node.shape.offset (length node.outputs) sides in
+    let prefixes = opened_keeps (rules_of node.law) node.shape.offset (length node.outputs) sides in
     let P : ContextView → Type 0 = IsIdle job streams node 0 false in
     let owns = own_contexts node in
     let told_context = context_of node h.now in

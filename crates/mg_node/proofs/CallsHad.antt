@@ -17,7 +17,7 @@ use Rattle.mg_calc.specs.declared.node_fault.Phase.{Phase}
 use Rattle.mg_calc.specs.declared.node_fault.Phase.TheVariants.{Open, Call as SourceCall, Process, Close}
 use Rattle.mg_calc.specs.declared.plan_node.PlanNode.{PlanNode}
 use Rattle.mg_calc.specs.Answer.{Answer}
-use Rattle.mg_calc.specs.Law.{opening, step, finish}
+use Rattle.mg_calc.specs.Law.{opening, step, finish, rules_of}
 use Rattle.mg_calc.specs.Laying.{after, laid_behind, all_raised}
 use Rattle.mg_calc.specs.Outcome.{Failure, Outcome, after_laying, after_call, unopened, opened, unless_failed, shown, after_close}
 use Rattle.mg_calc.specs.Shape.{IsOuter}
@@ -64,21 +64,21 @@ pub unless_not_in : (other : Phase) (fault : Option Failure) (o next : Outcome) 
 unless_not_in other (Some failure) o next before later = before
 unless_not_in other None o next before later = later
 
-set_not_in : (other : Phase) (law : Law) (offset : Option ℤ) (o : Outcome) (set : TimedSet Plain) → ((at : ℕ) → Process at ≡ other → ⊥) → IsNotIn other o.fault → IsNotIn other (shown law offset o set).fault
+set_not_in : (other : Phase) (law : Law) (offset : Option ℤ) (o : Outcome) (set : TimedSet Plain) → ((at : ℕ) → Process at ≡ other → ⊥) → IsNotIn other o.fault → IsNotIn other (shown (rules_of law) offset o set).fault
 set_not_in other law offset o set differs earlier =
     let before : Outcome = record o { outputs = all_raised offset set.at o.outputs; taken = o.taken + 1 } in
     let answer = step law o.state set.at set.set in
     unless_not_in other o.fault o (after_call offset (Process set.at) before answer) earlier (call_not_in other offset (Process set.at) before answer (differs set.at) earlier)
 
-pub sets_not_in : (other : Phase) (law : Law) (offset : Option ℤ) (o : Outcome) (sets : List (TimedSet Plain)) → ((at : ℕ) → Process at ≡ other → ⊥) → IsNotIn other o.fault → IsNotIn other (fold (shown law offset) o sets).fault
+pub sets_not_in : (other : Phase) (law : Law) (offset : Option ℤ) (o : Outcome) (sets : List (TimedSet Plain)) → ((at : ℕ) → Process at ≡ other → ⊥) → IsNotIn other o.fault → IsNotIn other (fold (shown (rules_of law) offset) o sets).fault
 sets_not_in other law offset o [] differs before = before
-sets_not_in other law offset o (set ∷ sets) differs before = sets_not_in other law offset (shown law offset o set) sets differs (set_not_in other law offset o set differs before)
+sets_not_in other law offset o (set ∷ sets) differs before = sets_not_in other law offset (shown (rules_of law) offset o set) sets differs (set_not_in other law offset o set differs before)
 
 pub stage_earlier : (job : Job) (streams : List (StreamPrefix Plain)) (node : PlanNode) (n : ℕ) → IsOuter node.law → IsNotIn Close (stage job streams node n).fault
 stage_earlier job streams node n is =
     let offset = node.shape.offset in
     let sides = sides_of job node in
-    let begun = opened node.law offset (length node.outputs) sides in
+    let begun = opened (rules_of node.law) offset (length node.outputs) sides in
     subst (λ (o : Outcome). IsNotIn Close o.fault) (sym (outer_stage node.law job streams node n is))
     (sets_not_in Close node.law offset begun (take n (sets_of streams node)) (λ at e. absurd cc) (call_not_in Close offset Open (unopened (length node.outputs)) (opening node.law sides) (λ e. absurd cc) tt))
 

@@ -18,7 +18,7 @@ use Rattle.mg_calc.specs.declared.node_fault.Phase.{Phase}
 use Rattle.mg_calc.specs.declared.node_fault.Phase.TheVariants.{Open, Call as SourceCall, Process, Close}
 use Rattle.mg_calc.specs.declared.plan_node.PlanNode.{PlanNode}
 use Rattle.mg_calc.specs.Laying.{after, laid_behind, all_raised}
-use Rattle.mg_calc.specs.Law.{finish}
+use Rattle.mg_calc.specs.Law.{finish, rules_of}
 use Rattle.mg_calc.specs.Equations.{Job, sides_of, inputs_of, outcome_of}
 use Rattle.mg_calc.specs.Outcome.{Failure, Outcome, after_close, shown_all, finished, with_reach}
 use Rattle.mg_calc.specs.Shape.{IsOuter}
@@ -40,6 +40,7 @@ use Rattle.mg_node.proofs.Stages.{failed_is_all, outer_stage, outer_outcome, set
 use Rattle.mg_node.proofs.StatesKept.{next_state, finish_state, come_state}
 use Rattle.mg_node.proofs.TaskLogs.{set_logged, task_within}
 use Rattle.mg_node.proofs.FrontsHad.{front_by, calls_front, stage_at, never_called, AtWork, at_work, goes_well, goes_on, found_is}
+use Rattle.mg_calc.specs.Rules.{Rules}
 
 -- A node that hasn't failed in Open after some of its sets doesn't fail there.
 
@@ -47,24 +48,24 @@ closed_past : (o : Outcome) (r : Result (List (StreamPrefix Plain)) Cause) → I
 closed_past o (Ok outputs) past = past
 closed_past o (Err cause) past = λ is. absurd cc
 
-reach_past : (law : Law) (offset : Option ℤ) (reached : ℕ) (o : Outcome) (at_end : Bool) → IsNotIn Open o.fault
-    → IsNotIn Open (if at_end then finished law offset (record o { outputs = all_raised offset reached o.outputs }) else record o { outputs = all_raised offset reached o.outputs }).fault
-reach_past law offset reached o true past = (let up : Outcome = record o { outputs = all_raised offset reached o.outputs } in
-    closed_past up (after (finish law up.state) (λ given. laid_behind offset Close up.outputs given.1)) past)
-reach_past law offset reached o false past = past
+reach_past : (rules : Rules) (offset : Option ℤ) (reached : ℕ) (o : Outcome) (at_end : Bool) → IsNotIn Open o.fault
+    → IsNotIn Open (if at_end then finished rules offset (record o { outputs = all_raised offset reached o.outputs }) else record o { outputs = all_raised offset reached o.outputs }).fault
+reach_past rules offset reached o true past = (let up : Outcome = record o { outputs = all_raised offset reached o.outputs } in
+    closed_past up (after (rules.finish up.state) (λ given. laid_behind offset Close up.outputs given.1)) past)
+reach_past rules offset reached o false past = past
 
 past_open : (job : Job) (streams : List (StreamPrefix Plain)) (node : PlanNode) (n : ℕ) → IsOuter node.law → IsNotIn Open (stage job streams node n).fault → ¬ FailsToOpen job streams node
 past_open job streams node n outer past fails =
     let offset = node.shape.offset in
     let reached = reach node.policy (inputs_of streams node) in
     let sets = sets_of streams node in
-    let first = shown_all node.law offset (length node.outputs) (sides_of job node) (take n sets) in
-    let all = shown_all node.law offset (length node.outputs) (sides_of job node) sets in
+    let first = shown_all (rules_of node.law) offset (length node.outputs) (sides_of job node) (take n sets) in
+    let all = shown_all (rules_of node.law) offset (length node.outputs) (sides_of job node) sets in
     let here : IsNotIn Open first.fault = subst (λ (o : Outcome). IsNotIn Open o.fault) (outer_stage node.law job streams node n outer) past in
-    let sets_past : IsNotIn Open all.fault = subst (λ (o : Outcome). IsNotIn Open o.fault) (sym (sets_in_parts node.law offset (length node.outputs) (sides_of job node) sets n))
+    let sets_past : IsNotIn Open all.fault = subst (λ (o : Outcome). IsNotIn Open o.fault) (sym (sets_in_parts (rules_of node.law) offset (length node.outputs) (sides_of job node) sets n))
     (sets_not_in Open node.law offset first (drop n sets) (λ at e. absurd cc) here) in
     let whole : IsNotIn Open (outcome_of job streams node).fault = subst (λ (o : Outcome). IsNotIn Open o.fault) (sym (outer_outcome node.law job streams node outer))
-    (unless_not_in Open all.fault all (with_reach node.law offset reached all) sets_past (reach_past node.law offset reached all (reached == done) sets_past)) in
+    (unless_not_in Open all.fault all (with_reach (rules_of node.law) offset reached all) sets_past (reach_past (rules_of node.law) offset reached all (reached == done) sets_past)) in
     subst (IsNotIn Open) fails.fails whole fails.in_open
 
 good_open : (job : Job) (streams : List (StreamPrefix Plain)) (node : PlanNode) (n : ℕ) → IsOuter node.law → (stage job streams node n).fault ≡ None → ¬ FailsToOpen job streams node
@@ -104,7 +105,7 @@ phase_closed job streams number node held now n (Process at) set answer solves t
     (log ∙ ap (log_after job node) (set_logged streams node n (record { at = at; set = set }) outer task.1 ∙ append-nil (calls_before streams node (n + 1))))
     (next_state job streams number node n at set answer held.state solves there task good answered) (good_open job.job streams node n outer good) (closes refl)
 phase_closed job streams number node held now n Close set answer solves there outer fits task le more good answered log closes had =
-    same_closed job streams node held now (had refl) (close_by job streams node held n outer fits le log (finish_state node.law (stage job.job streams node n).state held.state answer answered) (good_open job.job streams node n outer good))
+    same_closed job streams node held now (had refl) (close_by job streams node held n outer fits le log (finish_state (rules_of node.law) (stage job.job streams node n).state held.state answer answered) (good_open job.job streams node n outer good))
 
 never_both : (b : Bool) → (b && false) ≡ false
 never_both true = refl

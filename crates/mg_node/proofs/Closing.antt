@@ -27,7 +27,7 @@ use Rattle.mg_calc.specs.declared.node_fault.Phase.TheVariants.{Open, Call as So
 use Rattle.mg_calc.specs.declared.node_fault.NodeFault.{NodeFault}
 use Rattle.mg_calc.specs.declared.plan_node.PlanNode.{PlanNode}
 use Rattle.mg_calc.specs.Answer.{Answer}
-use Rattle.mg_calc.specs.Law.{opening, call}
+use Rattle.mg_calc.specs.Law.{opening, call, rules_of}
 use Rattle.mg_calc.specs.Laying.{laid_behind}
 use Rattle.mg_calc.specs.Outcome.{Failure, Outcome, after_laying, after_call, unopened, opened, unless_failed, called, source_outcome}
 use Rattle.mg_calc.specs.Shape.{calls_of}
@@ -93,7 +93,7 @@ last_takes None outcome next e = e
 
 source_takes : (law : Law) (calls outputs : ℕ) (sides : List (Option Plain)) → (source_outcome law calls outputs sides).taken ≤ calls
 source_takes law calls outputs sides =
-    let begun = opened law None outputs sides in
+    let begun = opened (rules_of law) None outputs sides in
     let made = fold (called law) begun (range_with_len 0 calls) in
     let first : begun.taken ≡ 0 = call_takes Open (unopened outputs) (opening law sides) in
     let all = calls_take law begun (range_with_len 0 calls) in

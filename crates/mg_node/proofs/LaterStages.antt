@@ -28,6 +28,7 @@ use Rattle.mg_node.specs.Job.{sets_of, main_of, loop_of, count_by, count_of_all,
 use Rattle.mg_node.proofs.Claiming.{stays_at}
 use Rattle.mg_node.proofs.StageCounts.{one_more_counted}
 use Rattle.mg_node.proofs.Stages.{IsCalled, kind_of, outer_stage, outer_outcome, outer_count, outer_over, calls_made, called_stage, called_outcome, called_count, failed_is_all}
+use Rattle.mg_calc.specs.Law.{rules_of}
 
 -- the first of a list's elements, where it stands first in another
 same_first : {X : Type 0} (n : ℕ) (xs ys : List X) → n ≤ length xs → take (length xs) ys ≡ xs → take n xs ≡ take n ys
@@ -98,11 +99,11 @@ module _ {job later : Job} {streams more : List (StreamPrefix Plain)} {node : Pl
   outer_stays : (n : ℕ) → IsOuter node.law → n ≤ length (sets_of streams node) → stage job streams node n ≡ stage later more node n
   outer_stays n is few =
       outer_stage node.law job streams node n is
-      ∙ ap₂ (λ (ss : List (Option Plain)) (es : List (TimedSet Plain)). shown_all node.law node.shape.offset (length node.outputs) ss es) on.sides (same_first n (sets_of streams node) (sets_of more node) few sets_stay)
+      ∙ ap₂ (λ (ss : List (Option Plain)) (es : List (TimedSet Plain)). shown_all (rules_of node.law) node.shape.offset (length node.outputs) ss es) on.sides (same_first n (sets_of streams node) (sets_of more node) few sets_stay)
       ∙ sym (outer_stage node.law later more node n is)
 
   calls_stay_made : (n : ℕ) → calls_made job node n ≡ calls_made later node n
-  calls_stay_made n = ap (λ (ss : List (Option Plain)). fold (called node.law) (opened node.law None (length node.outputs) ss) (range_with_len 0 n)) on.sides
+  calls_stay_made n = ap (λ (ss : List (Option Plain)). fold (called node.law) (opened (rules_of node.law) None (length node.outputs) ss) (range_with_len 0 n)) on.sides
 
   called_stays : (n : ℕ) → IsCalled node.law → stage job streams node n ≡ stage later more node n
   called_stays n is = called_stage node.law job streams node n is ∙ calls_stay_made n ∙ sym (called_stage node.law later more node n is)
@@ -162,12 +163,12 @@ module _ {job later : Job} {streams more : List (StreamPrefix Plain)} {node : Pl
       let most = reach-most node.policy now prefixes in
       let reached : reach node.policy now ≡ done = omega (arith, end, rises, most) in
       let sets : sets_of more node ≡ sets_of streams node = sets-end node.policy before now prefixes on.extended end in
-      let shows : List (Option Plain) → List (TimedSet Plain) → Outcome = λ ss es. shown_all law node.shape.offset (length node.outputs) ss es in (
+      let shows : List (Option Plain) → List (TimedSet Plain) → Outcome = λ ss es. shown_all (rules_of law) node.shape.offset (length node.outputs) ss es in (
         outer_count law more node is ∙ ap length sets ∙ sym (outer_count law streams node is),
         over_outer law more node is reached,
         outer_outcome law job streams node is
-            ∙ ap₂ (λ (r : ℕ) (ss : List (Option Plain)). ended law node.shape.offset r (shows ss (sets_of streams node))) (end ∙ sym reached) on.sides
-            ∙ ap (λ (es : List (TimedSet Plain)). ended law node.shape.offset (reach node.policy now) (shows (sides_of later node) es)) (sym sets)
+            ∙ ap₂ (λ (r : ℕ) (ss : List (Option Plain)). ended (rules_of law) node.shape.offset r (shows ss (sets_of streams node))) (end ∙ sym reached) on.sides
+            ∙ ap (λ (es : List (TimedSet Plain)). ended (rules_of law) node.shape.offset (reach node.policy now) (shows (sides_of later node) es)) (sym sets)
             ∙ sym (outer_outcome law later more node is),
       )
 

@@ -50,6 +50,8 @@ use Rattle.mg_node.proofs.RestingStands.{stood_same, all_stood_same, each_stands
 use Rattle.mg_node.proofs.NodeSolution.{node_streams}
 use Rattle.mg_node.proofs.Stages.{IsCalled, kind_of, outer_stage, outer_outcome, called_outcome}
 use Rattle.mg_node.proofs.StageStreams.{IsKnownNode, node_known}
+use Rattle.mg_calc.specs.Rules.{Rules}
+use Rattle.mg_calc.specs.Law.{rules_of}
 
 -- What becomes of a node follows what comes.
 loop_follows : (law : Law) (job : Job) (streams more : List (StreamPrefix Plain)) (node : PlanNode) → law ≡ Loopback → IsPrefix (main_of more node) → AreExtendedBy (inputs_of streams node) (inputs_of more node)
@@ -62,10 +64,10 @@ outcome_follows : (job : Job) (streams more : List (StreamPrefix Plain)) (node :
     → AreExtendedBy (outcome_of job streams node).outputs (outcome_of job more node).outputs
 outcome_follows job streams more node known prefixes wider e = elim (kind_of node.law) [
   | inl is ↦ (
-      let shows : List (StreamPrefix Plain) → Outcome = λ ss. node_outcome node.law node.shape.offset node.policy (length node.outputs) (sides_of job node) ss in
+      let shows : List (StreamPrefix Plain) → Outcome = λ ss. node_outcome (rules_of node.law) node.shape.offset node.policy (length node.outputs) (sides_of job node) ss in
       subst (λ (o : Outcome). AreExtendedBy o.outputs (outcome_of job more node).outputs) (sym (outer_outcome node.law job streams node is))
       (subst (λ (o : Outcome). AreExtendedBy (shows (inputs_of streams node)).outputs o.outputs) (sym (outer_outcome node.law job more node is))
-      (node_follows node.law node.shape.offset node.policy (length node.outputs) (sides_of job node) (inputs_of streams node) (inputs_of more node)
+      (node_follows (rules_of node.law) node.shape.offset node.policy (length node.outputs) (sides_of job node) (inputs_of streams node) (inputs_of more node)
       (All-from_recursion IsPrefix (inputs_of streams node) prefixes) known.inputs e)))
   | inr (inl is) ↦ subst (λ (o : Outcome). AreExtendedBy (outcome_of job streams node).outputs o.outputs) (called_outcome node.law job streams node is ∙ sym (called_outcome node.law job more node is)) (all_by_themselves (outcome_of job streams node).outputs)
   | inr (inr is) ↦ loop_follows node.law job streams more node is wider e
@@ -95,8 +97,8 @@ sets_claimed policy k qs came stands none not_over =
 abbrev pub up_to : Option ℤ → ℕ → Outcome → Outcome
 up_to offset reached outcome = record outcome { outputs = all_raised offset reached outcome.outputs }
 
-not_at_end : (law : Law) (offset : Option ℤ) (reached : ℕ) (outcome : Outcome) → (reached ≡ done → ⊥) → with_reach law offset reached outcome ≡ up_to offset reached outcome
-not_at_end law offset reached outcome early = elim (eqb_tells reached done) [
+not_at_end : (rules : Rules) (offset : Option ℤ) (reached : ℕ) (outcome : Outcome) → (reached ≡ done → ⊥) → with_reach rules offset reached outcome ≡ up_to offset reached outcome
+not_at_end rules offset reached outcome early = elim (eqb_tells reached done) [
   | inl (test, end) ↦ absurd (early end)
   | inr (test, further) ↦ rw test refl
 ]
@@ -107,10 +109,10 @@ outer_at_rest job streams more node k is e all early good =
     let offset = node.shape.offset in
     let reached = reach node.policy (inputs_of streams node) in
     let before = stage job more node k in
-    let shows : List (TimedSet Plain) → Outcome = λ sets. shown_all node.law offset (length node.outputs) (sides_of job node) sets in
+    let shows : List (TimedSet Plain) → Outcome = λ sets. shown_all (rules_of node.law) offset (length node.outputs) (sides_of job node) sets in
     let at : before ≡ shows (sets_of streams node) =
     outer_stage node.law job more node k is ∙ ap shows (ap (λ (n : ℕ). take n (sets_of more node)) (sym all) ∙ sets-stay node.policy (inputs_of streams node) (inputs_of more node) e) in
-    outer_outcome node.law job streams node is ∙ ap (ended node.law offset reached) (sym at) ∙ goes_on before.fault before (with_reach node.law offset reached before) good ∙ not_at_end node.law offset reached before early
+    outer_outcome node.law job streams node is ∙ ap (ended (rules_of node.law) offset reached) (sym at) ∙ goes_on before.fault before (with_reach (rules_of node.law) offset reached before) good ∙ not_at_end (rules_of node.law) offset reached before early
 
 -- Who is early.
 outer_is : (law : Law) → IsOuter law → role_of law ≡ SetsRole

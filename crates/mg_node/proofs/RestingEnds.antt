@@ -13,7 +13,7 @@ use Rattle.mg_calc.specs.declared.law.Law.TheVariants.{Loopback}
 use Rattle.mg_calc.specs.declared.node_fault.NodeFault.{NodeFault}
 use Rattle.mg_calc.specs.declared.node_fault.Phase.TheVariants.{Open, Call as SourceCall, Process}
 use Rattle.mg_calc.specs.declared.plan_node.PlanNode.{PlanNode}
-use Rattle.mg_calc.specs.Law.{opening, step, call}
+use Rattle.mg_calc.specs.Law.{opening, step, call, rules_of}
 use Rattle.mg_calc.specs.Laying.{all_raised}
 use Rattle.mg_calc.specs.Outcome.{Failure, Outcome, after_call, unopened, opened, unless_failed, shown, shown_all, called}
 use Rattle.mg_calc.specs.Shape.{calls_of}
@@ -28,16 +28,17 @@ use Rattle.mg_node.specs.Lawful.{IsRaised, StandForAll, come_to, IsEngineOf, Law
 use Rattle.mg_node.proofs.NodeSolution.{node_streams}
 use Rattle.mg_node.proofs.Stages.{kind_of, outer_stage, outer_outcome, outer_count, calls_made, called_stage, called_outcome, called_count, failed_is_all}
 use Rattle.mg_node.proofs.RestingStands.{none_are_raised}
+use Rattle.mg_calc.specs.Rules.{Rules}
 
 -- No more is counted than there are works.
 unless_most : (fault : Option Failure) (outcome next : Outcome) → next.taken ≡ outcome.taken + 1 → (unless_failed fault outcome next).taken ≤ outcome.taken + 1
 unless_most (Some failure) outcome next one = omega arith
 unless_most None outcome next one = omega (arith, one)
 
-set_most : (law : Law) (offset : Option ℤ) (o : Outcome) (set : TimedSet Plain) → (shown law offset o set).taken ≤ o.taken + 1
-set_most law offset o set =
+set_most : (rules : Rules) (offset : Option ℤ) (o : Outcome) (set : TimedSet Plain) → (shown rules offset o set).taken ≤ o.taken + 1
+set_most rules offset o set =
     let before : Outcome = record o { outputs = all_raised offset set.at o.outputs; taken = o.taken + 1 } in
-    unless_most o.fault o (after_call offset (Process set.at) before (step law o.state set.at set.set)) (call_counts offset (Process set.at) before (step law o.state set.at set.set))
+    unless_most o.fault o (after_call offset (Process set.at) before (rules.step o.state set.at set.set)) (call_counts offset (Process set.at) before (rules.step o.state set.at set.set))
 
 call_most : (law : Law) (o : Outcome) (number : ℕ) → (called law o number).taken ≤ o.taken + 1
 call_most law o number =
@@ -48,15 +49,15 @@ all_most : {X : Type 0} (go : Outcome → X → Outcome) → ((o : Outcome) (x :
 all_most go most o [] = omega arith
 all_most go most o (x ∷ xs) = (let one = most o x in let more = all_most go most (go o x) xs in omega (arith, one, more))
 
-sets_most : (law : Law) (offset : Option ℤ) (outputs : ℕ) (sides : List (Option Plain)) (sets : List (TimedSet Plain)) → (shown_all law offset outputs sides sets).taken ≤ length sets
-sets_most law offset outputs sides sets =
-    let none : (opened law offset outputs sides).taken ≡ 0 = call_counts offset Open (unopened outputs) (opening law sides) in
-    let most = all_most (shown law offset) (set_most law offset) (opened law offset outputs sides) sets in
+sets_most : (rules : Rules) (offset : Option ℤ) (outputs : ℕ) (sides : List (Option Plain)) (sets : List (TimedSet Plain)) → (shown_all rules offset outputs sides sets).taken ≤ length sets
+sets_most rules offset outputs sides sets =
+    let none : (opened rules offset outputs sides).taken ≡ 0 = call_counts offset Open (unopened outputs) (rules.opening sides) in
+    let most = all_most (shown rules offset) (set_most rules offset) (opened rules offset outputs sides) sets in
     omega (arith, none, most)
 
 calls_most : (job : Job) (node : PlanNode) (n : ℕ) → (calls_made job node n).taken ≤ n
 calls_most job node n =
-    let begun = opened node.law None (length node.outputs) (sides_of job node) in
+    let begun = opened (rules_of node.law) None (length node.outputs) (sides_of job node) in
     let none : begun.taken ≡ 0 = call_counts None Open (unopened (length node.outputs)) (opening node.law (sides_of job node)) in
     let most = all_most (called node.law) (call_most node.law) begun (range_with_len 0 n) in
     let many = length-range_with_len 0 n in
@@ -70,7 +71,7 @@ stage_most : (job : Job) (streams : List (StreamPrefix Plain)) (node : PlanNode)
 stage_most job streams node n = elim (kind_of node.law) [
   | inl is ↦
       (let at = ap (λ (o : Outcome). o.taken) (outer_stage node.law job streams node n is) in
-      let most = sets_most node.law node.shape.offset (length node.outputs) (sides_of job node) (take n (sets_of streams node)) in
+      let most = sets_most (rules_of node.law) node.shape.offset (length node.outputs) (sides_of job node) (take n (sets_of streams node)) in
       let cut = length-take n (sets_of streams node) in
       omega (arith, at, most, cut))
   | inr (inl is) ↦ (let at = ap (λ (o : Outcome). o.taken) (called_stage node.law job streams node n is) in let most = calls_most job node n in omega (arith, at, most))
@@ -83,9 +84,9 @@ loop_counts law job streams node is = subst (λ (l : Law). (outcome_by l job str
 pub most_counted : (job : Job) (streams : List (StreamPrefix Plain)) (node : PlanNode) → count_of job streams node ≤ count_of_all streams node
 most_counted job streams node = elim (kind_of node.law) [
   | inl is ↦
-      (let whole = shown_all node.law node.shape.offset (length node.outputs) (sides_of job node) (sets_of streams node) in
-      let end = ap (λ (o : Outcome). o.taken) (outer_outcome node.law job streams node is) ∙ end_counts node.law node.shape.offset (reach node.policy (inputs_of streams node)) whole in
-      let most = sets_most node.law node.shape.offset (length node.outputs) (sides_of job node) (sets_of streams node) in
+      (let whole = shown_all (rules_of node.law) node.shape.offset (length node.outputs) (sides_of job node) (sets_of streams node) in
+      let end = ap (λ (o : Outcome). o.taken) (outer_outcome node.law job streams node is) ∙ end_counts (rules_of node.law) node.shape.offset (reach node.policy (inputs_of streams node)) whole in
+      let most = sets_most (rules_of node.law) node.shape.offset (length node.outputs) (sides_of job node) (sets_of streams node) in
       let count = outer_count node.law streams node is in
       omega (arith, end, most, count))
   | inr (inl is) ↦

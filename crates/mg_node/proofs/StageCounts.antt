@@ -10,7 +10,7 @@ use Rattle.mg_calc.specs.declared.law.Law.{Law}
 use Rattle.mg_calc.specs.declared.law.Law.TheVariants.{Loopback}
 use Rattle.mg_calc.specs.declared.node_fault.Phase.TheVariants.{Open, Call as SourceCall, Process}
 use Rattle.mg_calc.specs.declared.plan_node.PlanNode.{PlanNode}
-use Rattle.mg_calc.specs.Law.{opening, step, call}
+use Rattle.mg_calc.specs.Law.{opening, step, call, rules_of}
 use Rattle.mg_calc.specs.Laying.{all_raised}
 use Rattle.mg_calc.specs.Outcome.{Failure, Outcome, after_call, unopened, opened, shown, shown_all, called}
 use Rattle.mg_calc.specs.Shape.{IsOuter, calls_of}
@@ -20,6 +20,7 @@ use Rattle.mg_calc.proofs.Outcomes.{goes_on, failed_stays}
 use Rattle.mg_calc.proofs.Counting.{call_counts, end_counts, end_counts_by}
 use Rattle.mg_node.specs.Job.{sets_of, count_by, count_of_all, stage}
 use Rattle.mg_node.proofs.Stages.{kind_of, IsCalled, calls_made, outer_stage, outer_outcome, outer_count, called_stage, called_outcome, called_count, calls_stay, sets_in_parts, calls_in_parts}
+use Rattle.mg_calc.specs.Rules.{Rules}
 
 -- Steps that count one, unless the node has failed.
 module _ {X : Type 0} (go : Outcome → X → Outcome) (stay : (o : Outcome) (f : Failure) (xs : List X) → o.fault ≡ Some f → fold go o xs ≡ o) (count : (o : Outcome) (x : X) → o.fault ≡ None → (go o x).taken ≡ o.taken + 1) where
@@ -48,27 +49,27 @@ module _ {X : Type 0} (go : Outcome → X → Outcome) (stay : (o : Outcome) (f 
       by_fault (Some f) h more = absurd (let same : (fold go (go o x) xs).fault ≡ o.fault = ap (λ (p : Outcome). p.fault) (stay o f (x ∷ xs) h) in cc)
       by_fault None h more = (let one = count o x h in omega (arith, one, more))
 
-set_counts : (law : Law) (offset : Option ℤ) (o : Outcome) (set : TimedSet Plain) → o.fault ≡ None → (shown law offset o set).taken ≡ o.taken + 1
-set_counts law offset o set h =
+set_counts : (rules : Rules) (offset : Option ℤ) (o : Outcome) (set : TimedSet Plain) → o.fault ≡ None → (shown rules offset o set).taken ≡ o.taken + 1
+set_counts rules offset o set h =
     let before : Outcome = record o { outputs = all_raised offset set.at o.outputs; taken = o.taken + 1 } in
-    ap (λ (p : Outcome). p.taken) (goes_on o.fault o (after_call offset (Process set.at) before (step law o.state set.at set.set)) h) ∙ call_counts offset (Process set.at) before (step law o.state set.at set.set)
+    ap (λ (p : Outcome). p.taken) (goes_on o.fault o (after_call offset (Process set.at) before (rules.step o.state set.at set.set)) h) ∙ call_counts offset (Process set.at) before (rules.step o.state set.at set.set)
 
 one_called : (law : Law) (o : Outcome) (number : ℕ) → o.fault ≡ None → (called law o number).taken ≡ o.taken + 1
 one_called law o number h =
     let before : Outcome = record o { taken = o.taken + 1 } in
     ap (λ (p : Outcome). p.taken) (goes_on o.fault o (after_call None (SourceCall number) before (call law o.state number)) h) ∙ call_counts None (SourceCall number) before (call law o.state number)
 
-none_opened : (law : Law) (offset : Option ℤ) (outputs : ℕ) (sides : List (Option Plain)) → (opened law offset outputs sides).taken ≡ 0
-none_opened law offset outputs sides = call_counts offset Open (unopened outputs) (opening law sides)
+none_opened : (rules : Rules) (offset : Option ℤ) (outputs : ℕ) (sides : List (Option Plain)) → (opened rules offset outputs sides).taken ≡ 0
+none_opened rules offset outputs sides = call_counts offset Open (unopened outputs) (rules.opening sides)
 
 -- A stage of a node that hasn't failed has taken all works before it.
 outer_taken : (job : Job) (streams : List (StreamPrefix Plain)) (node : PlanNode) (n : ℕ) → IsOuter node.law → n ≤ count_of_all streams node → (stage job streams node n).fault ≡ None → (stage job streams node n).taken ≡ n
 outer_taken job streams node n is le good =
     let at = outer_stage node.law job streams node n is in
-    let begun = opened node.law node.shape.offset (length node.outputs) (sides_of job node) in
-    let go = shown node.law node.shape.offset in
-    let all = all_counted go (failed_stays node.law node.shape.offset) (set_counts node.law node.shape.offset) begun (take n (sets_of streams node)) (ap (λ (o : Outcome). o.fault) (sym at) ∙ good) in
-    let none = none_opened node.law node.shape.offset (length node.outputs) (sides_of job node) in
+    let begun = opened (rules_of node.law) node.shape.offset (length node.outputs) (sides_of job node) in
+    let go = shown (rules_of node.law) node.shape.offset in
+    let all = all_counted go (failed_stays (rules_of node.law) node.shape.offset) (set_counts (rules_of node.law) node.shape.offset) begun (take n (sets_of streams node)) (ap (λ (o : Outcome). o.fault) (sym at) ∙ good) in
+    let none = none_opened (rules_of node.law) node.shape.offset (length node.outputs) (sides_of job node) in
     let many = length-take n (sets_of streams node) in
     let count = outer_count node.law streams node is in
     ap (λ (o : Outcome). o.taken) at ∙ omega (arith, all, none, many, count, le)
@@ -76,9 +77,9 @@ outer_taken job streams node n is le good =
 called_taken : (job : Job) (streams : List (StreamPrefix Plain)) (node : PlanNode) (n : ℕ) → IsCalled node.law → (stage job streams node n).fault ≡ None → (stage job streams node n).taken ≡ n
 called_taken job streams node n is good =
     let at = called_stage node.law job streams node n is in
-    let begun = opened node.law None (length node.outputs) (sides_of job node) in
+    let begun = opened (rules_of node.law) None (length node.outputs) (sides_of job node) in
     let all = all_counted (called node.law) (calls_stay node.law) (one_called node.law) begun (range_with_len 0 n) (ap (λ (o : Outcome). o.fault) (sym at) ∙ good) in
-    let none = none_opened node.law None (length node.outputs) (sides_of job node) in
+    let none = none_opened (rules_of node.law) None (length node.outputs) (sides_of job node) in
     let many = length-range_with_len 0 n in
     ap (λ (o : Outcome). o.taken) at ∙ omega (arith, all, none, many)
 
@@ -88,15 +89,15 @@ outer_further job streams node n is less good =
     let offset = node.shape.offset in
     let sets = sets_of streams node in
     let at = outer_stage node.law job streams node n is in
-    let first = shown_all node.law offset (length node.outputs) (sides_of job node) (take n sets) in
-    let whole = shown_all node.law offset (length node.outputs) (sides_of job node) sets in
+    let first = shown_all (rules_of node.law) offset (length node.outputs) (sides_of job node) (take n sets) in
+    let whole = shown_all (rules_of node.law) offset (length node.outputs) (sides_of job node) sets in
     let count = outer_count node.law streams node is in
     let taken = outer_taken job streams node n is (omega (arith, less)) good in
     let here = ap (λ (o : Outcome). o.taken) at in
     let many = length-drop n sets in
-    let more = one_further (shown node.law offset) (failed_stays node.law offset) (set_counts node.law offset) first (drop n sets) (ap (λ (o : Outcome). o.fault) (sym at) ∙ good) (omega (arith, many, less, count)) in
-    let parts = ap (λ (o : Outcome). o.taken) (sets_in_parts node.law offset (length node.outputs) (sides_of job node) sets n) in
-    let end = ap (λ (o : Outcome). o.taken) (outer_outcome node.law job streams node is) ∙ end_counts node.law offset (reach node.policy (inputs_of streams node)) whole in
+    let more = one_further (shown (rules_of node.law) offset) (failed_stays (rules_of node.law) offset) (set_counts (rules_of node.law) offset) first (drop n sets) (ap (λ (o : Outcome). o.fault) (sym at) ∙ good) (omega (arith, many, less, count)) in
+    let parts = ap (λ (o : Outcome). o.taken) (sets_in_parts (rules_of node.law) offset (length node.outputs) (sides_of job node) sets n) in
+    let end = ap (λ (o : Outcome). o.taken) (outer_outcome node.law job streams node is) ∙ end_counts (rules_of node.law) offset (reach node.policy (inputs_of streams node)) whole in
     omega (arith, taken, here, more, parts, end)
 
 called_further : (job : Job) (streams : List (StreamPrefix Plain)) (node : PlanNode) (n : ℕ) → IsCalled node.law → n < count_of_all streams node → (stage job streams node n).fault ≡ None → n + 1 ≤ count_of job streams node

@@ -21,7 +21,7 @@ use Rattle.mg_calc.specs.declared.node_fault.Phase.{Phase}
 use Rattle.mg_calc.specs.declared.node_fault.Phase.TheVariants.{Open, Call as SourceCall, Process, Close}
 use Rattle.mg_calc.specs.declared.plan_node.PlanNode.{PlanNode}
 use Rattle.mg_calc.specs.Answer.{Answer}
-use Rattle.mg_calc.specs.Law.{call, finish}
+use Rattle.mg_calc.specs.Law.{call, finish, rules_of}
 use Rattle.mg_calc.specs.Laying.{after, laid_behind, all_raised}
 use Rattle.mg_calc.specs.Outcome.{Failure, Outcome, after_laying, after_call, opened, unless_failed, shown, shown_all, after_close, finished, with_reach, ended, called, with_last_call}
 use Rattle.mg_calc.specs.Shape.{IsOuter, IsSource, IsShapeOf, calls_of, offset_of}
@@ -31,6 +31,7 @@ use Rattle.mg_node.specs.Job.{LoggedJob, Solves, sets_of, main_of, loop_of, coun
 use Rattle.mg_node.specs.Lawful.{HasAnswered, answer_in, is_close}
 use Rattle.mg_node.specs.Commits.{raised_before, closed_after, laid_by, outputs_by, failure_by}
 use Rattle.mg_node.proofs.Performing.{of_node}
+use Rattle.mg_calc.specs.Rules.{Rules}
 
 -- By the kind of law: it is shown sets, or it is called, or it is a loopback.
 
@@ -60,7 +61,7 @@ called_offset Constants is = refl
 called_offset law is = absurd is
 
 pub outer_stage : (law : Law) (job : Job) (streams : List (StreamPrefix Plain)) (node : PlanNode) (n : ℕ) → IsOuter law
-    → stage_by law job streams node n ≡ shown_all node.law node.shape.offset (length node.outputs) (sides_of job node) (take n (sets_of streams node))
+    → stage_by law job streams node n ≡ shown_all (rules_of node.law) node.shape.offset (length node.outputs) (sides_of job node) (take n (sets_of streams node))
 outer_stage (Count count start apart) job streams node n is = absurd is
 outer_stage (SideOnce at) job streams node n is = absurd is
 outer_stage Constants job streams node n is = absurd is
@@ -68,7 +69,7 @@ outer_stage Loopback job streams node n is = absurd is
 outer_stage law job streams node n is = refl
 
 pub outer_outcome : (law : Law) (job : Job) (streams : List (StreamPrefix Plain)) (node : PlanNode) → IsOuter law
-    → outcome_by law job streams node ≡ ended node.law node.shape.offset (reach node.policy (inputs_of streams node)) (shown_all node.law node.shape.offset (length node.outputs) (sides_of job node) (sets_of streams node))
+    → outcome_by law job streams node ≡ ended (rules_of node.law) node.shape.offset (reach node.policy (inputs_of streams node)) (shown_all (rules_of node.law) node.shape.offset (length node.outputs) (sides_of job node) (sets_of streams node))
 outer_outcome (Count count start apart) job streams node is = absurd is
 outer_outcome (SideOnce at) job streams node is = absurd is
 outer_outcome Constants job streams node is = absurd is
@@ -91,7 +92,7 @@ outer_over law streams node is over = over
 
 -- a source's calls, the first ones, a number of them
 abbrev pub calls_made : Job → PlanNode → ℕ → Outcome
-calls_made job node n = fold (called node.law) (opened node.law None (length node.outputs) (sides_of job node)) (range_with_len 0 n)
+calls_made job node n = fold (called node.law) (opened (rules_of node.law) None (length node.outputs) (sides_of job node)) (range_with_len 0 n)
 
 pub called_stage : (law : Law) (job : Job) (streams : List (StreamPrefix Plain)) (node : PlanNode) (n : ℕ) → IsCalled law → stage_by law job streams node n ≡ calls_made job node n
 called_stage (Count count start apart) job streams node n is = refl
@@ -123,14 +124,14 @@ range_parts a (suc m) n =
 first_and_next : {X : Type 0} (xs : List X) (n : ℕ) (x : X) → slice_get xs n ≡ Some x → take (n + 1) xs ≡ take n xs ++ x ∷ []
 first_and_next {X} xs n x there = take_more xs n x (slice_get_within xs n x there) ∙ ap (λ (y : X). take n xs ++ y ∷ []) (get_or_from_slice_get xs n x x there)
 
-next_set : (law : Law) (offset : Option ℤ) (outputs : ℕ) (sides : List (Option Plain)) (sets : List (TimedSet Plain)) (n : ℕ) (e : TimedSet Plain) → slice_get sets n ≡ Some e
-    → shown_all law offset outputs sides (take (n + 1) sets) ≡ shown law offset (shown_all law offset outputs sides (take n sets)) e
-next_set law offset outputs sides sets n e there =
-    ap (shown_all law offset outputs sides) (first_and_next sets n e there) ∙ fold-append (shown law offset) (opened law offset outputs sides) (take n sets) (e ∷ [])
+next_set : (rules : Rules) (offset : Option ℤ) (outputs : ℕ) (sides : List (Option Plain)) (sets : List (TimedSet Plain)) (n : ℕ) (e : TimedSet Plain) → slice_get sets n ≡ Some e
+    → shown_all rules offset outputs sides (take (n + 1) sets) ≡ shown rules offset (shown_all rules offset outputs sides (take n sets)) e
+next_set rules offset outputs sides sets n e there =
+    ap (shown_all rules offset outputs sides) (first_and_next sets n e there) ∙ fold-append (shown rules offset) (opened rules offset outputs sides) (take n sets) (e ∷ [])
 
 next_call : (job : Job) (node : PlanNode) (n : ℕ) → calls_made job node (n + 1) ≡ called node.law (calls_made job node n) n
 next_call job node n =
-    let begun = opened node.law None (length node.outputs) (sides_of job node) in
+    let begun = opened (rules_of node.law) None (length node.outputs) (sides_of job node) in
     let numbers : range_with_len 0 (n + 1) ≡ range_with_len 0 n ++ n ∷ [] = range_parts 0 n 1 ∙ ap (λ (k : ℕ). range_with_len 0 n ++ k ∷ []) (let e : 0 + n ≡ n = omega arith in e) in
     ap (fold (called node.law) begun) numbers ∙ fold-append (called node.law) begun (range_with_len 0 n) (n ∷ [])
 
@@ -146,8 +147,8 @@ next_stage job streams number node n Open set solves there task more = absurd ta
 next_stage job streams number node n Close set solves there task more = absurd cc
 next_stage job streams number node n (Process at) set solves there task more =
     outer_stage node.law job.job streams node (n + 1) task.0
-    ∙ next_set node.law node.shape.offset (length node.outputs) (sides_of job.job node) (sets_of streams node) n (record { at = at; set = set }) task.1
-    ∙ ap (λ (o : Outcome). shown node.law node.shape.offset o (record { at = at; set = set })) (sym (outer_stage node.law job.job streams node n task.0))
+    ∙ next_set (rules_of node.law) node.shape.offset (length node.outputs) (sides_of job.job node) (sets_of streams node) n (record { at = at; set = set }) task.1
+    ∙ ap (λ (o : Outcome). shown (rules_of node.law) node.shape.offset o (record { at = at; set = set })) (sym (outer_stage node.law job.job streams node n task.0))
 next_stage job streams number node n (SourceCall call_number) set solves there task more =
     let is = source_called node.law task.0 in
     let shape : IsShapeOf node.law node.shape = of_node (λ (m : PlanNode). IsShapeOf m.law m.shape) job.job.plan.nodes number node solves.is_job.plan.shapes there in
@@ -165,14 +166,14 @@ calls_stay law outcome failure (number ∷ numbers) h =
     ap (λ o. fold (called law) o numbers) same ∙ calls_stay law outcome failure numbers h
 
 -- the sets that are shown, and those behind them
-pub sets_in_parts : (law : Law) (offset : Option ℤ) (outputs : ℕ) (sides : List (Option Plain)) (sets : List (TimedSet Plain)) (n : ℕ)
-    → shown_all law offset outputs sides sets ≡ fold (shown law offset) (shown_all law offset outputs sides (take n sets)) (drop n sets)
-sets_in_parts law offset outputs sides sets n =
-    ap (shown_all law offset outputs sides) (sym (take-append-drop n sets)) ∙ fold-append (shown law offset) (opened law offset outputs sides) (take n sets) (drop n sets)
+pub sets_in_parts : (rules : Rules) (offset : Option ℤ) (outputs : ℕ) (sides : List (Option Plain)) (sets : List (TimedSet Plain)) (n : ℕ)
+    → shown_all rules offset outputs sides sets ≡ fold (shown rules offset) (shown_all rules offset outputs sides (take n sets)) (drop n sets)
+sets_in_parts rules offset outputs sides sets n =
+    ap (shown_all rules offset outputs sides) (sym (take-append-drop n sets)) ∙ fold-append (shown rules offset) (opened rules offset outputs sides) (take n sets) (drop n sets)
 
 pub calls_in_parts : (job : Job) (node : PlanNode) (n calls : ℕ) → n ≤ calls → calls_made job node calls ≡ fold (called node.law) (calls_made job node n) (range_with_len n (calls - n))
 calls_in_parts job node n calls le =
-    let begun = opened node.law None (length node.outputs) (sides_of job node) in
+    let begun = opened (rules_of node.law) None (length node.outputs) (sides_of job node) in
     let all : range_with_len 0 calls ≡ range_with_len 0 n ++ range_with_len n (calls - n) =
     ap (range_with_len 0) (let e : calls ≡ n + (calls - n) = omega (arith, le) in e) ∙ range_parts 0 n (calls - n) ∙ ap (λ (k : ℕ). range_with_len 0 n ++ range_with_len k (calls - n)) (let e : 0 + n ≡ n = omega arith in e) in
     ap (fold (called node.law) begun) all ∙ fold-append (called node.law) begun (range_with_len 0 n) (range_with_len n (calls - n))
@@ -193,12 +194,12 @@ failed_is_all job streams node n failure le failed =
     failed_sets is =
         let offset = node.shape.offset in
         let reached = reach node.policy (inputs_of streams node) in
-        let first = shown_all node.law offset (length node.outputs) (sides_of job node) (take n (sets_of streams node)) in
+        let first = shown_all (rules_of node.law) offset (length node.outputs) (sides_of job node) (take n (sets_of streams node)) in
         let at : stage job streams node n ≡ first = outer_stage node.law job streams node n is in
         let fault : first.fault ≡ Some failure = ap (λ (o : Outcome). o.fault) (sym at) ∙ failed in
-        let all : shown_all node.law offset (length node.outputs) (sides_of job node) (sets_of streams node) ≡ first =
-        sets_in_parts node.law offset (length node.outputs) (sides_of job node) (sets_of streams node) n ∙ failed_stays node.law offset first failure (drop n (sets_of streams node)) fault in
-        outer_outcome node.law job streams node is ∙ ap (ended node.law offset reached) all ∙ stays first.fault first (with_reach node.law offset reached first) failure fault ∙ sym at
+        let all : shown_all (rules_of node.law) offset (length node.outputs) (sides_of job node) (sets_of streams node) ≡ first =
+        sets_in_parts (rules_of node.law) offset (length node.outputs) (sides_of job node) (sets_of streams node) n ∙ failed_stays (rules_of node.law) offset first failure (drop n (sets_of streams node)) fault in
+        outer_outcome node.law job streams node is ∙ ap (ended (rules_of node.law) offset reached) all ∙ stays first.fault first (with_reach (rules_of node.law) offset reached first) failure fault ∙ sym at
 
     failed_calls : IsCalled node.law → outcome_of job streams node ≡ stage job streams node n
     failed_calls is =
@@ -254,13 +255,13 @@ stage_laid job streams number node n phase set answer now solves there task more
     (answer_laid offset phase up given answer now more good has)
 
 -- Close keeps the state, and all laws but the one that is written down emit nothing there.
-finish_keeps : (law : Law) (state : List Plain) (given : List Plain × List Laid) → finish law state ≡ Ok given → state ≡ given.0
+finish_keeps : (rules : Rules) (state : List Plain) (given : List Plain × List Laid) → rules.finish state ≡ Ok given → state ≡ given.0
 finish_keeps (Scripted offset first steps last) state given is = cc
-finish_keeps law state given is = cc
+finish_keeps rules state given is = cc
 
-pub state_stays : (law : Law) (state now : List Plain) (answer : Result (List Laid) Cause) → HasAnswered answer state now (finish law state) → state ≡ now
-state_stays law state now (Ok emission) has = finish_keeps law state (now, emission) has
-state_stays law state now (Err cause) has = sym has.1
+pub state_stays : (rules : Rules) (state now : List Plain) (answer : Result (List Laid) Cause) → HasAnswered answer state now (rules.finish state) → state ≡ now
+state_stays rules state now (Ok emission) has = finish_keeps rules state (now, emission) has
+state_stays rules state now (Err cause) has = sym has.1
 
 close_after : (before : Outcome) (laid : Result (List (StreamPrefix Plain)) Cause) (now : List Plain) → before.fault ≡ None → before.state ≡ now
     → IsLaid Close before.outputs (after laid (λ longer. Ok (map closed longer))) now (after_close before laid)
@@ -278,16 +279,16 @@ close_laid offset before given (Err cause) now good same has =
 
 -- of a node that is shown sets
 pub outer_last : (job : Job) (streams : List (StreamPrefix Plain)) (node : PlanNode) (n : ℕ) → IsOuter node.law → IsLastWork job streams node n
-    → outcome_of job streams node ≡ finished node.law node.shape.offset (record (stage job streams node n) { outputs = all_raised node.shape.offset done (stage job streams node n).outputs })
+    → outcome_of job streams node ≡ finished (rules_of node.law) node.shape.offset (record (stage job streams node n) { outputs = all_raised node.shape.offset done (stage job streams node n).outputs })
 outer_last job streams node n is last =
     let offset = node.shape.offset in
     let reached = reach node.policy (inputs_of streams node) in
     let sets = sets_of streams node in
     let before = stage job streams node n in
     let many : length sets ≤ n = (let all = last.all in let count = outer_count node.law streams node is in omega (arith, all, count)) in
-    let at : before ≡ shown_all node.law offset (length node.outputs) (sides_of job node) sets = outer_stage node.law job streams node n is ∙ ap (shown_all node.law offset (length node.outputs) (sides_of job node)) (take_all n sets many) in
-    outer_outcome node.law job streams node is ∙ ap (ended node.law offset reached) (sym at) ∙ goes_on before.fault before (with_reach node.law offset reached before) last.good
-    ∙ ap (λ (r : ℕ). with_reach node.law offset r before) (outer_over node.law streams node is last.over)
+    let at : before ≡ shown_all (rules_of node.law) offset (length node.outputs) (sides_of job node) sets = outer_stage node.law job streams node n is ∙ ap (shown_all (rules_of node.law) offset (length node.outputs) (sides_of job node)) (take_all n sets many) in
+    outer_outcome node.law job streams node is ∙ ap (ended (rules_of node.law) offset reached) (sym at) ∙ goes_on before.fault before (with_reach (rules_of node.law) offset reached before) last.good
+    ∙ ap (λ (r : ℕ). with_reach (rules_of node.law) offset r before) (outer_over node.law streams node is last.over)
 
 -- of a source, and of a loopback: its outputs close
 abbrev closes : Outcome → Outcome
@@ -317,7 +318,7 @@ silent_close : (offset : Option ℤ) (law : Law) (before next : Outcome) (answer
 silent_close offset law before next answer now none silent is good has =
     subst (IsLaid Close (all_raised offset done before.outputs) (laid_by offset Close (all_raised offset done before.outputs) answer) now) (sym is)
     (subst (λ (off : Option ℤ). IsLaid Close (all_raised off done before.outputs) (laid_by off Close (all_raised off done before.outputs) answer) now (closes before)) (sym none)
-    (close_laid None before (Ok (before.state, [])) answer now good (state_stays law before.state now answer has) (subst (HasAnswered answer before.state now) silent has)))
+    (close_laid None before (Ok (before.state, [])) answer now good (state_stays (rules_of law) before.state now answer has) (subst (HasAnswered answer before.state now) silent has)))
 
 called_finish : (law : Law) (state : List Plain) → IsCalled law → finish law state ≡ Ok (state, [])
 called_finish (Count count start apart) state is = refl
@@ -336,7 +337,7 @@ closed_stage job streams number node n answer now solves there last has =
     let shape : IsShapeOf node.law node.shape = of_node (λ (m : PlanNode). IsShapeOf m.law m.shape) job.job.plan.nodes number node solves.is_job.plan.shapes there in
     elim (kind_of node.law) [
       | inl is ↦ subst (IsLaid Close (all_raised offset done before.outputs) (laid_by offset Close (all_raised offset done before.outputs) answer) now) (sym (outer_last job.job streams node n is last))
-          (close_laid offset (record before { outputs = all_raised offset done before.outputs }) (finish node.law before.state) answer now last.good (state_stays node.law before.state now answer has) has)
+          (close_laid offset (record before { outputs = all_raised offset done before.outputs }) (finish node.law before.state) answer now last.good (state_stays (rules_of node.law) before.state now answer has) has)
       | inr (inl is) ↦ silent_close offset node.law before (outcome_of job.job streams node) answer now (shape.offset ∙ called_offset node.law is) (called_finish node.law before.state is) (called_last job.job streams node n is last) last.good has
       | inr (inr is) ↦ silent_close offset node.law before (outcome_of job.job streams node) answer now (shape.offset ∙ ap offset_of is) (ap (λ (l : Law). finish l before.state) is) (loop_last node.law job.job streams node n is last.all last.over) last.good has
     ]

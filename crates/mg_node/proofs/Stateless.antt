@@ -16,7 +16,7 @@ use Rattle.mg_calc.specs.declared.node_fault.Phase.TheVariants.{Open, Process}
 use Rattle.mg_calc.specs.declared.plan_node.PlanNode.{PlanNode}
 use Rattle.mg_calc.specs.declared.shape.Shape.{Shape}
 use Rattle.mg_calc.specs.Answer.{Answer}
-use Rattle.mg_calc.specs.Law.{opening, step}
+use Rattle.mg_calc.specs.Law.{opening, step, rules_of}
 use Rattle.mg_calc.specs.Laying.{laid_behind, all_raised}
 use Rattle.mg_calc.specs.Outcome.{Failure, Outcome, after_laying, after_call, unopened, opened, unless_failed, shown, shown_all}
 use Rattle.mg_calc.specs.Plan.{HasNumbers, FlightFits}
@@ -74,19 +74,19 @@ if_given P (Ok g) given h e = (let same : g ≡ given = cc in subst (λ (x : Lis
 if_given P (Err cause) given h e = absurd cc
 
 module _ (law : Law) (shape : Shape) (is : is_stateless law ≡ true) (of_law : IsShapeOf law shape) where
-  shown_empty : (offset : Option ℤ) (outcome : Outcome) (set : TimedSet Plain) → FitsInputs shape set.set → outcome.state ≡ [] → (shown law offset outcome set).state ≡ []
+  shown_empty : (offset : Option ℤ) (outcome : Outcome) (set : TimedSet Plain) → FitsInputs shape set.set → outcome.state ≡ [] → (shown (rules_of law) offset outcome set).state ≡ []
   shown_empty offset outcome set fits empty =
       let before : Outcome = record outcome { outputs = all_raised offset set.at outcome.outputs; taken = outcome.taken + 1 } in
       unless_state (λ (s : List Plain). s ≡ []) outcome.fault outcome (after_call offset (Process set.at) before (step law outcome.state set.at set.set)) empty
       (call_state (λ (s : List Plain). s ≡ []) offset (Process set.at) before (step law outcome.state set.at set.set) empty (λ given e.
       form_empty law given.0 is (if_given (IsStateOf law) (step law outcome.state set.at set.set) given (stepped law shape outcome.state set.at set.set of_law fits (empty_form law outcome.state is empty)) e)))
 
-  all_empty : (offset : Option ℤ) (outcome : Outcome) (sets : List (TimedSet Plain)) → AllByRecursion (λ e. FitsInputs shape e.set) sets → outcome.state ≡ [] → (fold (shown law offset) outcome sets).state ≡ []
+  all_empty : (offset : Option ℤ) (outcome : Outcome) (sets : List (TimedSet Plain)) → AllByRecursion (λ e. FitsInputs shape e.set) sets → outcome.state ≡ [] → (fold (shown (rules_of law) offset) outcome sets).state ≡ []
   all_empty offset outcome [] fits empty = empty
-  all_empty offset outcome (set ∷ sets) fits empty = all_empty offset (shown law offset outcome set) sets fits.1 (shown_empty offset outcome set fits.0 empty)
+  all_empty offset outcome (set ∷ sets) fits empty = all_empty offset (shown (rules_of law) offset outcome set) sets fits.1 (shown_empty offset outcome set fits.0 empty)
 
 stage_sets : (law : Law) (job : Job) (streams : List (StreamPrefix Plain)) (node : PlanNode) (n : ℕ) → is_stateless law ≡ true
-    → stage_by law job streams node n ≡ shown_all node.law node.shape.offset (length node.outputs) (sides_of job node) (take n (sets_of streams node))
+    → stage_by law job streams node n ≡ shown_all (rules_of node.law) node.shape.offset (length node.outputs) (sides_of job node) (take n (sets_of streams node))
 stage_sets (Count count start apart) job streams node n is = absurd cc
 stage_sets (SideOnce at) job streams node n is = absurd cc
 stage_sets Constants job streams node n is = absurd cc
@@ -102,7 +102,7 @@ stage_empty job streams number node n solves there stateless =
     let long : length inputs ≡ length node.shape.inputs = length-map node.inputs (stream_of streams) ∙ has.inputs in
     let fits : AllByRecursion (λ (e : TimedSet Plain). FitsInputs node.shape e.set) (settled_sets node.policy inputs) =
     subst (λ (k : ℕ). AllByRecursion (λ (e : TimedSet Plain). length e.set ≡ k) (settled_sets node.policy inputs)) long (recursion_from_All (λ (e : TimedSet Plain). length e.set ≡ length inputs) (settled_sets node.policy inputs) (sets-places node.policy inputs)) in
-    let begun = opened node.law node.shape.offset (length node.outputs) (sides_of job.job node) in
+    let begun = opened (rules_of node.law) node.shape.offset (length node.outputs) (sides_of job.job node) in
     let first : begun.state ≡ [] =
     call_state (λ (s : List Plain). s ≡ []) node.shape.offset Open (unopened (length node.outputs)) (opening node.law (sides_of job.job node)) refl (λ given e. opens_empty node.law (sides_of job.job node) given is e) in
     ap (λ (o : Outcome). o.state) (stage_sets node.law job.job streams node n is)

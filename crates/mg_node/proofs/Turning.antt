@@ -32,6 +32,7 @@ use Rattle.mg_node.proofs.StageStreams.{stage_extended, raised_stage_extended}
 use Rattle.mg_node.proofs.Stateless.{stage_empty}
 use Rattle.mg_node.proofs.TaskLogs.{set_logged, call_logged, task_within, task_most}
 use Rattle.mg_node.proofs.Turns.{behind_work, IsDone, Turns}
+use Rattle.mg_calc.specs.Law.{rules_of}
 
 module _ (job : LoggedJob) (streams : List (StreamPrefix Plain)) (number : ℕ) (node : PlanNode) (n : ℕ) (solves : Solves job streams) (there : slice_get job.job.plan.nodes number ≡ Some node) (good : (stage job.job streams node n).fault ≡ None) where
   -- A set or a call: the outputs that are raised before it come first in those of the next stage.
@@ -108,7 +109,7 @@ module _ (job : LoggedJob) (streams : List (StreamPrefix Plain)) (number : ℕ) 
         fault = laid.fault;
         state = sym laid.state_is;
         log = ap (λ (k : ℕ). calls_by streams node k true) same;
-        nothing = (λ stateless. laid.state_is ∙ sym (state_stays node.law (stage job.job streams node n).state context.told.state answer d.answered));
+        nothing = (λ stateless. laid.state_is ∙ sym (state_stays (rules_of node.law) (stage job.job streams node n).state context.told.state answer d.answered));
         taken = (λ le. omega (arith, le));
         last = (λ closes. subst (IsLastWork job.job streams node) same last);
         none = (λ closes k f set later task. (let all = last.all in let most = task_most job streams node k f set task in omega (arith, all, most, later)));

@@ -8,7 +8,7 @@ use Rattle.mg_calc.specs.declared.emission.Laid.{Laid}
 use Rattle.mg_calc.specs.declared.node_fault.Phase.TheVariants.{Open}
 use Rattle.mg_calc.specs.declared.plan_node.PlanNode.{PlanNode}
 use Rattle.mg_calc.specs.Equations.{sides_of}
-use Rattle.mg_calc.specs.Law.{opening}
+use Rattle.mg_calc.specs.Law.{opening, rules_of}
 use Rattle.mg_calc.specs.Outcome.{Outcome, opened}
 use Rattle.mg_calc.specs.Plan.{FitsNode}
 use Rattle.mg_calc.specs.Shape.{IsOuter}
@@ -53,7 +53,7 @@ IsUnbegun node number told sides view = (view ≡ fresh_engine node number told)
 
 -- what a node has come to once it is opened
 abbrev pub opened_node : PlanNode → List (Option Plain) → Outcome
-opened_node node sides = opened node.law node.shape.offset (length node.outputs) sides
+opened_node node sides = opened (rules_of node.law) node.shape.offset (length node.outputs) sides
 
 -- an engine is begun: what Open emits is laid, or its fault is kept
 pub record HasBegun (node : PlanNode) (number : ℕ) (told : HolderView) (sides : List (Option Plain)) (view : EngineView) : Type 0 where

@@ -25,6 +25,7 @@ use Rattle.mg_calc.specs.Outcome.{Outcome, opened, called, shown_all}
 use Rattle.mg_calc.specs.Equations.{Job, IsJob, IsSolution, sides_of, inputs_of}
 use Rattle.mg_node.specs.declared.role.Role.{Role}
 use Rattle.mg_node.specs.declared.role.Role.TheVariants.{Source, Loop, Sets}
+use Rattle.mg_calc.specs.Law.{rules_of}
 
 -- a job, and the calculators that are handed in, as each was at its start
 pub record LoggedJob : Type 0 where
@@ -103,11 +104,11 @@ answered n main loop = all_appended empty_prefix (filter_map packet_of (take n (
 -- what a node has come to after its first n sets, calls or answers, by its law: it was opened, and then shown these sets or called so
 -- often, up to its first fault
 abbrev pub stage_by : Law → Job → List (StreamPrefix Plain) → PlanNode → ℕ → Outcome
-stage_by (Count count start step) job streams node n = fold (called node.law) (opened node.law None (length node.outputs) (sides_of job node)) (range_with_len 0 n)
-stage_by (SideOnce at) job streams node n = fold (called node.law) (opened node.law None (length node.outputs) (sides_of job node)) (range_with_len 0 n)
-stage_by Constants job streams node n = fold (called node.law) (opened node.law None (length node.outputs) (sides_of job node)) (range_with_len 0 n)
+stage_by (Count count start step) job streams node n = fold (called node.law) (opened (rules_of node.law) None (length node.outputs) (sides_of job node)) (range_with_len 0 n)
+stage_by (SideOnce at) job streams node n = fold (called node.law) (opened (rules_of node.law) None (length node.outputs) (sides_of job node)) (range_with_len 0 n)
+stage_by Constants job streams node n = fold (called node.law) (opened (rules_of node.law) None (length node.outputs) (sides_of job node)) (range_with_len 0 n)
 stage_by Loopback job streams node n = record { state = []; outputs = answered n (main_of streams node) (loop_of streams node) ∷ []; taken = n; fault = None }
-stage_by law job streams node n = shown_all node.law node.shape.offset (length node.outputs) (sides_of job node) (take n (sets_of streams node))
+stage_by law job streams node n = shown_all (rules_of node.law) node.shape.offset (length node.outputs) (sides_of job node) (take n (sets_of streams node))
 
 -- what a node has come to after its first n sets, calls or answers
 abbrev pub stage : Job → List (StreamPrefix Plain) → PlanNode → ℕ → Outcome
