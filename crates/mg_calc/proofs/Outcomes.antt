@@ -22,8 +22,8 @@ use Rattle.mg_calc.proofs.LaidBehind.{after_good, emission_extends, emission_kee
 
 -- a call extends the outputs
 laying_extends : (phase : Phase) (outcome : Outcome) (answer : Result (List (StreamPrefix Plain)) Cause)
-   → ((outputs : List (StreamPrefix Plain)) → answer ≡ Ok outputs → AreExtendedBy outcome.outputs outputs)
-   → AreExtendedBy outcome.outputs (after_laying phase outcome answer).outputs
+    → ((outputs : List (StreamPrefix Plain)) → answer ≡ Ok outputs → AreExtendedBy outcome.outputs outputs)
+    → AreExtendedBy outcome.outputs (after_laying phase outcome answer).outputs
 laying_extends phase outcome (Ok outputs) e = e outputs refl
 laying_extends phase outcome (Err cause) e = all_by_themselves outcome.outputs
 
@@ -78,7 +78,7 @@ failed_stays rules offset outcome failure (set ∷ sets) h =
 
 -- sets from a time on extend the outputs that are raised to it
 sets_extend_raised : (rules : Rules) (offset : Option ℤ) (outcome : Outcome) (bound : ℕ) (set : TimedSet Plain) (sets : List (TimedSet Plain)) → outcome.fault ≡ None → bound ≤ set.at
-   → AreExtendedBy (all_raised offset bound outcome.outputs) (fold (shown rules offset) outcome (set ∷ sets)).outputs
+    → AreExtendedBy (all_raised offset bound outcome.outputs) (fold (shown rules offset) outcome (set ∷ sets)).outputs
 sets_extend_raised rules offset outcome bound set sets h le =
     all_further (all_raised offset bound outcome.outputs) (all_raised offset set.at outcome.outputs) _ (raise_higher offset bound set.at outcome.outputs le)
     (all_further (all_raised offset set.at outcome.outputs) (shown rules offset outcome set).outputs _ (set_extends_raised rules offset outcome set h)
@@ -86,8 +86,8 @@ sets_extend_raised rules offset outcome bound set sets h le =
 
 -- all that a node lays are prefixes
 laying_keeps : (phase : Phase) (outcome : Outcome) (answer : Result (List (StreamPrefix Plain)) Cause) → AllByRecursion IsPrefix outcome.outputs
-   → ((outputs : List (StreamPrefix Plain)) → answer ≡ Ok outputs → AllByRecursion IsPrefix outputs)
-   → AllByRecursion IsPrefix (after_laying phase outcome answer).outputs
+    → ((outputs : List (StreamPrefix Plain)) → answer ≡ Ok outputs → AllByRecursion IsPrefix outputs)
+    → AllByRecursion IsPrefix (after_laying phase outcome answer).outputs
 laying_keeps phase outcome (Ok outputs) k e = e outputs refl
 laying_keeps phase outcome (Err cause) k e = k
 
@@ -120,14 +120,14 @@ sets_keep rules offset outcome (set ∷ sets) le k =
 
 -- Close extends the outputs, and keeps prefixes
 close_answer_extends : (outcome : Outcome) (answer : Result (List (StreamPrefix Plain)) Cause)
-   → ((outputs : List (StreamPrefix Plain)) → answer ≡ Ok outputs → AreExtendedBy outcome.outputs outputs × AllByRecursion IsPrefix outputs)
-   → AreExtendedBy outcome.outputs (after_close outcome answer).outputs
+    → ((outputs : List (StreamPrefix Plain)) → answer ≡ Ok outputs → AreExtendedBy outcome.outputs outputs × AllByRecursion IsPrefix outputs)
+    → AreExtendedBy outcome.outputs (after_close outcome answer).outputs
 close_answer_extends outcome (Ok outputs) e = all_further outcome.outputs outputs (map closed outputs) (e outputs refl).0 (close_extends outputs (e outputs refl).1)
 close_answer_extends outcome (Err cause) e = all_by_themselves outcome.outputs
 
 close_answer_keeps : (outcome : Outcome) (answer : Result (List (StreamPrefix Plain)) Cause) → AllByRecursion IsPrefix outcome.outputs
-   → ((outputs : List (StreamPrefix Plain)) → answer ≡ Ok outputs → AllByRecursion IsPrefix outputs)
-   → AllByRecursion IsPrefix (after_close outcome answer).outputs
+    → ((outputs : List (StreamPrefix Plain)) → answer ≡ Ok outputs → AllByRecursion IsPrefix outputs)
+    → AllByRecursion IsPrefix (after_close outcome answer).outputs
 close_answer_keeps outcome (Ok outputs) k e = close_keeps outputs (e outputs refl)
 close_answer_keeps outcome (Err cause) k e = k
 
@@ -145,7 +145,7 @@ if_keeps false a b e f = f
 
 -- the end of a node that hasn't failed
 reach_extends : (rules : Rules) (offset : Option ℤ) (reached : ℕ) (outcome : Outcome) → reached ≤ done → AllByRecursion IsPrefix outcome.outputs → outcome.fault ≡ None
-   → AreExtendedBy (all_raised offset reached outcome.outputs) (with_reach rules offset reached outcome).outputs
+    → AreExtendedBy (all_raised offset reached outcome.outputs) (with_reach rules offset reached outcome).outputs
 reach_extends rules offset reached outcome le k h =
     let before = before_end offset reached outcome in
     let kept = raise_keeps offset reached outcome.outputs le k in
@@ -158,7 +158,7 @@ reach_extends rules offset reached outcome le k h =
     (all_by_themselves before.outputs)
 
 reach_keeps : (rules : Rules) (offset : Option ℤ) (reached : ℕ) (outcome : Outcome) → reached ≤ done → AllByRecursion IsPrefix outcome.outputs → outcome.fault ≡ None
-   → AllByRecursion IsPrefix (with_reach rules offset reached outcome).outputs
+    → AllByRecursion IsPrefix (with_reach rules offset reached outcome).outputs
 reach_keeps rules offset reached outcome le k h =
     let before = before_end offset reached outcome in
     let kept = raise_keeps offset reached outcome.outputs le k in
@@ -173,7 +173,7 @@ fault_cases None = inl refl
 fault_cases (Some failure) = inr (failure, refl)
 
 pub end_keeps : (rules : Rules) (offset : Option ℤ) (reached : ℕ) (outcome : Outcome) → reached ≤ done → AllByRecursion IsPrefix outcome.outputs
-   → AllByRecursion IsPrefix (ended rules offset reached outcome).outputs
+    → AllByRecursion IsPrefix (ended rules offset reached outcome).outputs
 end_keeps rules offset reached outcome le k =
     elim (fault_cases outcome.fault) [
       | inl h ↦ subst (λ (o : Outcome). AllByRecursion IsPrefix o.outputs) (sym (goes_on outcome.fault outcome (with_reach rules offset reached outcome) h)) (reach_keeps rules offset reached outcome le k h)
@@ -181,7 +181,7 @@ end_keeps rules offset reached outcome le k =
     ]
 
 pub end_extends : (rules : Rules) (offset : Option ℤ) (reached : ℕ) (outcome : Outcome) → reached ≤ done → AllByRecursion IsPrefix outcome.outputs
-   → AreExtendedBy outcome.outputs (ended rules offset reached outcome).outputs
+    → AreExtendedBy outcome.outputs (ended rules offset reached outcome).outputs
 end_extends rules offset reached outcome le k =
     elim (fault_cases outcome.fault) [
       | inl h ↦ subst (λ (o : Outcome). AreExtendedBy outcome.outputs o.outputs) (sym (goes_on outcome.fault outcome (with_reach rules offset reached outcome) h))
@@ -201,8 +201,8 @@ not_done : (rules : Rules) (offset : Option ℤ) (reached : ℕ) (outcome : Outc
 not_done rules offset reached outcome h = rw h refl
 
 pub raised_extends_end : (rules : Rules) (offset : Option ℤ) (low high : ℕ) (outcome : Outcome) (sets : List (TimedSet Plain)) → Further low high sets
-   → AllByRecursion IsPrefix outcome.outputs → AllByRecursion IsPrefix (fold (shown rules offset) outcome sets).outputs → outcome.fault ≡ None
-   → AreExtendedBy (all_raised offset low outcome.outputs) (ended rules offset high (fold (shown rules offset) outcome sets)).outputs
+    → AllByRecursion IsPrefix outcome.outputs → AllByRecursion IsPrefix (fold (shown rules offset) outcome sets).outputs → outcome.fault ≡ None
+    → AreExtendedBy (all_raised offset low outcome.outputs) (ended rules offset high (fold (shown rules offset) outcome sets)).outputs
 raised_extends_end rules offset low high outcome [] f k l h =
     all_further (all_raised offset low outcome.outputs) (all_raised offset high outcome.outputs) _ (raise_higher offset low high outcome.outputs f.rises)
     (subst (λ (o : Outcome). AreExtendedBy (all_raised offset high outcome.outputs) o.outputs) (sym (goes_on outcome.fault outcome (with_reach rules offset high outcome) h))
@@ -214,7 +214,7 @@ raised_extends_end rules offset low high outcome (set ∷ sets) f k l h =
 
 -- with nothing further all stays
 end_same : (rules : Rules) (offset : Option ℤ) (low high : ℕ) (outcome : Outcome) (sets : List (TimedSet Plain)) → sets ≡ [] → high ≡ low
-   → AreExtendedBy (ended rules offset low outcome).outputs (ended rules offset high (fold (shown rules offset) outcome sets)).outputs
+    → AreExtendedBy (ended rules offset low outcome).outputs (ended rules offset high (fold (shown rules offset) outcome sets)).outputs
 end_same rules offset low high outcome sets none same =
     subst (λ (n : ℕ). AreExtendedBy (ended rules offset low outcome).outputs (ended rules offset n (fold (shown rules offset) outcome sets)).outputs) (sym same)
     (subst (λ (ss : List (TimedSet Plain)). AreExtendedBy (ended rules offset low outcome).outputs (ended rules offset low (fold (shown rules offset) outcome ss)).outputs) (sym none)
@@ -222,7 +222,7 @@ end_same rules offset low high outcome sets none same =
 
 -- a node that has failed shows the same outputs
 end_failed : (rules : Rules) (offset : Option ℤ) (low high : ℕ) (outcome : Outcome) (sets : List (TimedSet Plain)) (failure : Failure) → outcome.fault ≡ Some failure
-   → AreExtendedBy (ended rules offset low outcome).outputs (ended rules offset high (fold (shown rules offset) outcome sets)).outputs
+    → AreExtendedBy (ended rules offset low outcome).outputs (ended rules offset high (fold (shown rules offset) outcome sets)).outputs
 end_failed rules offset low high outcome sets failure h =
     let before : ended rules offset low outcome ≡ outcome = stays outcome.fault outcome (with_reach rules offset low outcome) failure h in
     let after : ended rules offset high (fold (shown rules offset) outcome sets) ≡ outcome =
@@ -231,8 +231,8 @@ end_failed rules offset low high outcome sets failure h =
     (subst (λ (o : Outcome). AreExtendedBy outcome.outputs o.outputs) (sym after) (all_by_themselves outcome.outputs))
 
 pub end_grows : (rules : Rules) (offset : Option ℤ) (low high : ℕ) (outcome : Outcome) (sets : List (TimedSet Plain)) → Further low high sets
-   → AllByRecursion IsPrefix outcome.outputs → AllByRecursion IsPrefix (fold (shown rules offset) outcome sets).outputs
-   → AreExtendedBy (ended rules offset low outcome).outputs (ended rules offset high (fold (shown rules offset) outcome sets)).outputs
+    → AllByRecursion IsPrefix outcome.outputs → AllByRecursion IsPrefix (fold (shown rules offset) outcome sets).outputs
+    → AreExtendedBy (ended rules offset low outcome).outputs (ended rules offset high (fold (shown rules offset) outcome sets)).outputs
 end_grows rules offset low high outcome sets f k l =
     elim (fault_cases outcome.fault) [
       | inr (failure, h) ↦ end_failed rules offset low high outcome sets failure h
