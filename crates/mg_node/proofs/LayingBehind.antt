@@ -1,5 +1,5 @@
 -- Laying behind the queues of outputs is laying behind the prefixes that they stand for.
-use Rattle.std.proofs.Common.{◌≡◌, ℕ, zero, suc, ℤ, ◌+◌, ◌-◌, ◌<◌, ◌≤◌, true, false, is_some, List, [], ◌∷◌, ◌++◌, length, length-drop, drop, slice_get, get_or, set, map, Option, Some, None, Result, Ok, Err, IfSome, refl, sym, ap, ap₂, subst, ◌∙◌, arith}
+use Rattle.std.proofs.Common.{◌≡◌, min, ℕ, zero, suc, ℤ, ◌+◌, ◌-◌, ◌<◌, ◌≤◌, true, false, is_some, List, [], ◌∷◌, ◌++◌, length, length-drop, drop, slice_get, get_or, set, map, Option, Some, None, Result, Ok, Err, IfSome, refl, sym, ap, ap₂, subst, ◌∙◌, arith}
 use Rattle.std.proofs.lemmas.List.{get_or_default}
 use Rattle.mg_time.specs.Time.{done, shift}
 use Rattle.mg_value.specs.Payload.{Plain}
@@ -30,7 +30,7 @@ all_stand q (p ∷ ps) s may h = all_stand (appended q p) ps (prefix.appended s 
 
 raise_stands : (bound : Option ℕ) (q : Waiting Plain) (s : StreamPrefix Plain) → IfSome bound (λ b. b ≤ done) → StandsFor q s → StandsFor (perhaps_raised bound q) (laying.raised_to bound s)
 raise_stands None q s le h = h
-raise_stands (Some b) q s le h = stands_raised q b s le h
+raise_stands (Some b) q s le h = (let same : b ≡ min b done = omega (arith, le) in subst (λ (n : ℕ). StandsFor (queue.raised_to q b) (raised s n)) same (stands_raised q b s le h))
 
 pub part_stands : (q : Waiting Plain) (laid : Laid) (s : StreamPrefix Plain) → MayAllCome q laid.packets → HasTime laid → StandsFor q s → StandsFor (with_part q laid) (laid_on s laid)
 part_stands q laid s may time h = raise_stands laid.bound (all_appended q laid.packets) (prefix.all_appended s laid.packets) time (all_stand q laid.packets s may h)

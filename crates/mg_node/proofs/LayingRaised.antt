@@ -1,10 +1,11 @@
 -- Outputs that were raised meanwhile: what can be laid behind the outputs of a stage can be laid behind them too, and with the same
 -- packets, as long as the solution's streams extend both.
-use Rattle.std.proofs.Common.{◌≡◌, ℕ, ℤ, ◌≤◌, Bool, true, false, not, nat_lt, List, [], ◌∷◌, ◌++◌, append_assoc, append-nil, All, Option, Some, None, Result, Ok, ap, sym, refl, subst, ◌∙◌, arith, if◌then◌else◌}
+use Rattle.std.proofs.Common.{◌≡◌, ℕ, ℤ, ◌≤◌, min, Bool, true, false, not, nat_lt, List, [], ◌∷◌, ◌++◌, append_assoc, append-nil, All, Option, Some, None, Result, Ok, ap, sym, refl, subst, ◌∙◌, arith, if◌then◌else◌}
 use Rattle.std.specs.List.{AllByRecursion}
 use Rattle.std.proofs.lemmas.Bool.Decides.{nat_tests}
 use Rattle.std.proofs.lemmas.List.{append_cancel_left}
 use Rattle.std.proofs.lemmas.List.Elements.{All-nil, recursion_from_All}
+use Rattle.mg_time.specs.Time.{done}
 use Rattle.mg_value.specs.Payload.{Plain}
 use Rattle.mg_value.specs.Packet.{Stamped}
 use Rattle.mg_settled.specs.Prefix.{StreamPrefix, appended, raised}
@@ -95,8 +96,8 @@ pub record LaidToo (offset : Option ℤ) (phase : Phase) (r : StreamPrefix Plain
 raised_to_too : (bound : Option ℕ) (s r t : StreamPrefix Plain) → IsRaised s r → (IsExtendedBy s t → IsExtendedBy r t) → IsRaised (raised_to bound s) (raised_to bound r) × (IsExtendedBy (raised_to bound s) t → IsExtendedBy (raised_to bound r) t)
 raised_to_too None s r t up e = (up, e)
 raised_to_too (Some b) s r t up e = (
-  raise_raised b s r up,
-  (λ f. raise_both b s r t up (e (extended_further s (raised s b) t (raised_extends s b) f)) f),
+  raise_raised (min b done) s r up,
+  (λ f. raise_both (min b done) s r t up (e (extended_further s (raised s (min b done)) t (raised_extends s (min b done)) f)) f),
 )
 
 raised_to_packets : (bound : Option ℕ) (s : StreamPrefix Plain) → (raised_to bound s).packets ≡ s.packets
