@@ -115,7 +115,7 @@ module _ (job : Job) (streams : List (StreamPrefix Plain)) (is_job : IsJob job) 
       quiet_policy node.law node.policy own (at_place (λ (n : PlanNode). MayHavePolicy n.law n.policy) job.plan.nodes h.of_plan.0 node (recursion_from_All (λ (n : PlanNode). MayHavePolicy n.law n.policy) job.plan.nodes is_job.plan.policies) h.of_plan.1) in
       let same : outcome_of job streams node ≡ node_outcome (rules_of law) node.shape.offset Default (length node.outputs) (sides_of job node) ss =
       quiet_outcome node.law job streams node own
-      ∙ ap (λ (l : Law). node_outcome l node.shape.offset node.policy (length node.outputs) (sides_of job node) (inputs_of streams node)) is
+      ∙ ap (λ (l : Law). node_outcome (rules_of l) node.shape.offset node.policy (length node.outputs) (sides_of job node) (inputs_of streams node)) is
       ∙ ap₂ (λ (p : Policy) (xs : List (StreamPrefix Plain)). node_outcome (rules_of law) node.shape.offset p (length node.outputs) (sides_of job node) xs) default reads in
       let runs = node_packets law node.shape.offset Default (length node.outputs) (sides_of job node) ss i (quiet_opening law (sides_of job node) quiet) (quiet_finish law quiet) (slice_get_within node.outputs i out there)
       (ap (λ (o : Outcome). o.fault) (sym same) ∙ h.faultless) in
