@@ -68,7 +68,7 @@ impl Outcome {
         sides: &GivenList,
     ) -> Result<Outcome, AllocError>
         requires { IsServed law.now }
-        ensures { IfOk result (λ outcome. seen outcome ≡ the_opened law.now offset outputs sides.now) }
+        ensures { IfOk result (λ outcome. seen outcome ≡ the_opened (rules_of law.now) offset outputs sides.now) }
     {
         let mut outcome = Outcome::before_open(alloc, outputs)?;
         let answer = begin_in(alloc, law, &mut outcome.state, sides);

@@ -74,8 +74,8 @@ first_outputs plan number node valid there =
 
 loop_zero : (law : Law) (job : Job) (streams : List (StreamPrefix Plain)) (node : PlanNode) (offset : Option ℤ) (outputs : ℕ) (sides : List (Option Plain)) → law ≡ Loopback → outputs ≡ 1 → stage_by law job streams node 0 ≡ opened (rules_of law) offset outputs sides
 loop_zero law job streams node offset outputs sides is one =
-    subst (λ (l : Law). stage_by l job streams node 0 ≡ opened l offset outputs sides) (sym is)
-    (subst (λ (k : ℕ). stage_by Loopback job streams node 0 ≡ opened Loopback offset k sides) (sym one) refl)
+    subst (λ (l : Law). stage_by l job streams node 0 ≡ opened (rules_of l) offset outputs sides) (sym is)
+    (subst (λ (k : ℕ). stage_by Loopback job streams node 0 ≡ opened (rules_of Loopback) offset k sides) (sym one) refl)
 
 zero_stage : (job : LoggedJob) (streams : List (StreamPrefix Plain)) (number : ℕ) (node : PlanNode) → Solves job streams → slice_get job.job.plan.nodes number ≡ Some node → stage job.job streams node 0 ≡ opened_node node (sides_of job.job node)
 zero_stage job streams number node solves there = elim (kind_of node.law) [
