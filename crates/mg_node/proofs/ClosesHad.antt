@@ -105,7 +105,7 @@ phase_closed job streams number node held now n (Process at) set answer solves t
     (log ∙ ap (log_after job node) (set_logged streams node n (record { at = at; set = set }) outer task.1 ∙ append-nil (calls_before streams node (n + 1))))
     (next_state job streams number node n at set answer held.state solves there task good answered) (good_open job.job streams node n outer good) (closes refl)
 phase_closed job streams number node held now n Close set answer solves there outer fits task le more good answered log closes had =
-    same_closed job streams node held now (had refl) (close_by job streams node held n outer fits le log (finish_state (rules_of node.law) (stage job.job streams node n).state held.state answer answered) (good_open job.job streams node n outer good))
+    same_closed job streams node held now (had refl) (close_by job streams node held n outer fits le log (finish_state node.law (stage job.job streams node n).state held.state answer answered) (good_open job.job streams node n outer good))
 
 never_both : (b : Bool) → (b && false) ≡ false
 never_both true = refl

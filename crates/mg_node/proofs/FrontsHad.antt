@@ -90,7 +90,7 @@ phase_front job streams number node held n (Process at) set answer solves there 
     (log ∙ ap (log_after job node) (set_logged streams node n (record { at = at; set = set }) outer task.1))
     (next_state job streams number node n at set answer held.state solves there task good answered)
 phase_front job streams number node held n Close set answer solves there outer fits task le more good answered log =
-    front_by job streams node held n true outer fits le log (finish_state (rules_of node.law) (stage job.job streams node n).state held.state answer answered)
+    front_by job streams node held n true outer fits le log (finish_state node.law (stage job.job streams node n).state held.state answer answered)
 
 abbrev pub AtWork : LoggedJob → OutcomeView → List (StreamPrefix Plain) → PlanNode → Type 0
 AtWork job o streams node = FitsHolder node o.work.context.told × IsTask job.job streams node o.work.number o.work.phase o.work.context.set × IsAtWork job streams node o.work o.answer

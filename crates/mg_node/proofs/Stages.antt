@@ -255,13 +255,13 @@ stage_laid job streams number node n phase set answer now solves there task more
     (answer_laid offset phase up given answer now more good has)
 
 -- Close keeps the state, and all laws but the one that is written down emit nothing there.
-finish_keeps : (rules : Rules) (state : List Plain) (given : List Plain × List Laid) → rules.finish state ≡ Ok given → state ≡ given.0
+finish_keeps : (law : Law) (state : List Plain) (given : List Plain × List Laid) → finish law state ≡ Ok given → state ≡ given.0
 finish_keeps (Scripted offset first steps last) state given is = cc
-finish_keeps rules state given is = cc
+finish_keeps law state given is = cc
 
-pub state_stays : (rules : Rules) (state now : List Plain) (answer : Result (List Laid) Cause) → HasAnswered answer state now (rules.finish state) → state ≡ now
-state_stays rules state now (Ok emission) has = finish_keeps rules state (now, emission) has
-state_stays rules state now (Err cause) has = sym has.1
+pub state_stays : (law : Law) (state now : List Plain) (answer : Result (List Laid) Cause) → HasAnswered answer state now (finish law state) → state ≡ now
+state_stays law state now (Ok emission) has = finish_keeps law state (now, emission) has
+state_stays law state now (Err cause) has = sym has.1
 
 close_after : (before : Outcome) (laid : Result (List (StreamPrefix Plain)) Cause) (now : List Plain) → before.fault ≡ None → before.state ≡ now
     → IsLaid Close before.outputs (after laid (λ longer. Ok (map closed longer))) now (after_close before laid)
@@ -318,7 +318,7 @@ silent_close : (offset : Option ℤ) (law : Law) (before next : Outcome) (answer
 silent_close offset law before next answer now none silent is good has =
     subst (IsLaid Close (all_raised offset done before.outputs) (laid_by offset Close (all_raised offset done before.outputs) answer) now) (sym is)
     (subst (λ (off : Option ℤ). IsLaid Close (all_raised off done before.outputs) (laid_by off Close (all_raised off done before.outputs) answer) now (closes before)) (sym none)
-    (close_laid None before (Ok (before.state, [])) answer now good (state_stays (rules_of law) before.state now answer has) (subst (HasAnswered answer before.state now) silent has)))
+    (close_laid None before (Ok (before.state, [])) answer now good (state_stays law before.state now answer has) (subst (HasAnswered answer before.state now) silent has)))
 
 called_finish : (law : Law) (state : List Plain) → IsCalled law → finish law state ≡ Ok (state, [])
 called_finish (Count count start apart) state is = refl
@@ -337,7 +337,7 @@ closed_stage job streams number node n answer now solves there last has =
     let shape : IsShapeOf node.law node.shape = of_node (λ (m : PlanNode). IsShapeOf m.law m.shape) job.job.plan.nodes number node solves.is_job.plan.shapes there in
     elim (kind_of node.law) [
       | inl is ↦ subst (IsLaid Close (all_raised offset done before.outputs) (laid_by offset Close (all_raised offset done before.outputs) answer) now) (sym (outer_last job.job streams node n is last))
-          (close_laid offset (record before { outputs = all_raised offset done before.outputs }) (finish node.law before.state) answer now last.good (state_stays (rules_of node.law) before.state now answer has) has)
+          (close_laid offset (record before { outputs = all_raised offset done before.outputs }) (finish node.law before.state) answer now last.good (state_stays node.law before.state now answer has) has)
       | inr (inl is) ↦ silent_close offset node.law before (outcome_of job.job streams node) answer now (shape.offset ∙ called_offset node.law is) (called_finish node.law before.state is) (called_last job.job streams node n is last) last.good has
       | inr (inr is) ↦ silent_close offset node.law before (outcome_of job.job streams node) answer now (shape.offset ∙ ap offset_of is) (ap (λ (l : Law). finish l before.state) is) (loop_last node.law job.job streams node n is last.all last.over) last.good has
     ]

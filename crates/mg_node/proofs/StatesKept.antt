@@ -65,10 +65,10 @@ kept_by (Err cause) = []
 same_state : (a b : List Plain) (l m : List Laid) → good_answer a l ≡ good_answer b m → b ≡ a
 same_state a b l m e = sym (ap kept_by e)
 
-pub finish_state : (rules : Rules) (before now : List Plain) (answer : Result (List Laid) Cause) → HasAnswered answer before now (rules.finish before) → now ≡ before
+pub finish_state : (law : Law) (before now : List Plain) (answer : Result (List Laid) Cause) → HasAnswered answer before now (finish law before) → now ≡ before
 finish_state (Scripted offset first steps last) before now (Ok emission) h = same_state before now last emission h
-finish_state rules before now (Ok emission) h = same_state before now [] emission h
-finish_state rules before now (Err cause) h = h.1
+finish_state law before now (Ok emission) h = same_state before now [] emission h
+finish_state law before now (Err cause) h = h.1
 
 last_state : (job : Job) (streams : List (StreamPrefix Plain)) (node : PlanNode) (n : ℕ) → IsOuter node.law → IsLastWork job streams node n → (outcome_of job streams node).state ≡ (stage job streams node n).state
 last_state job streams node n outer last =

@@ -109,7 +109,7 @@ module _ (job : LoggedJob) (streams : List (StreamPrefix Plain)) (number : ℕ) 
         fault = laid.fault;
         state = sym laid.state_is;
         log = ap (λ (k : ℕ). calls_by streams node k true) same;
-        nothing = (λ stateless. laid.state_is ∙ sym (state_stays (rules_of node.law) (stage job.job streams node n).state context.told.state answer d.answered));
+        nothing = (λ stateless. laid.state_is ∙ sym (state_stays node.law (stage job.job streams node n).state context.told.state answer d.answered));
         taken = (λ le. omega (arith, le));
         last = (λ closes. subst (IsLastWork job.job streams node) same last);
         none = (λ closes k f set later task. (let all = last.all in let most = task_most job streams node k f set task in omega (arith, all, most, later)));
