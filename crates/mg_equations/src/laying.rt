@@ -8,6 +8,7 @@ use crate::output::Output;
 use mg_calc::{Cause, Emission, Laid, LaidPackets, Phase};
 use mg_route::packets_fault;
 use mg_time::Timestamp;
+use mg_time::laws::done_is_greatest;
 use std::alloc::AllocError;
 
 // Returns the first cause why packets can't be put behind an output one after the other, if there is one.
@@ -49,6 +50,7 @@ fn lay(output: &mut Output, laid: &Laid) -> Result<(), AllocError>
 {
     output.append_all(&laid.packets)?;
     if let Some(bound) = laid.bound {
+        done_is_greatest(bound);
         output.raise(bound);
     }
     Ok(())
