@@ -112,7 +112,18 @@ clean_up() {
     # shellcheck disable=SC2086 # the runs are words of their own
     kill $main $aside 2>/dev/null
     wait
-    rm -rf "$room" "$new"
+    rm -f "$new"
+    # some disks take long to remove many files; then that goes on after this script has ended, without the lock and without the terminal
+    rm -rf "$room" >/dev/null 2>&1 9<&- &
+    run=$! waited=0
+    while kill -0 "$run" 2>/dev/null; do
+        waited=$((waited + 1))
+        if [ "$waited" -gt 15 ]; then
+            say "$room is still being removed"
+            break
+        fi
+        sleep 0.2 2>/dev/null || sleep 1
+    done
 }
 
 # Makes a temporary folder for the build of a program, with a copy of what the build reads: the parts named of the crates that the program is

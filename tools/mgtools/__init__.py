@@ -11,7 +11,7 @@
     counterparts     the guide's page on porting, read
     explain          notes explained: explain_files, explain_graph and explain_run by what they are about
     homes            where a name of the expanded graph is at home; contents: what a file is that was taken for another
-    arrivals         what free nodes made of the packets that arrived at them
+    arrivals         what free nodes made of the packets that arrived at them; cores, the graph without them, and runs checked by it
     spool            a pipe that is passed on and kept
     explain_all      what is wrong behind the first refusal; flat, an expanded graph that can be changed
     csvlines         packet lines of tables; tables, the way back; columns, what is kept for it; scales, their numbers and times

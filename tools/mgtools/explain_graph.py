@@ -270,4 +270,4 @@ def too_many(note: Note, graph: Graph) -> list[str]:
 def free_node(note: Note, graph: Graph) -> list[str]:
     node = node_of(note, graph)
     return [f"{node.place}: {node.describe()} is a free node: what it lays depends on the order in which packets arrive, and this command doesn't serve it: "
-            "take it away, or `run` the graph"]
+            "`run` the graph, or take the node away, as `tools/core` does (docs/guide/live.md#a-run-checked)"]

@@ -67,7 +67,9 @@ def hints(home: Home, kind: str, name: str) -> list[str]:
     what = f"`{name}` is `{home.name}` of {home.file.name}"
     if port:
         return ["", f"{what}, which comes in at its port `{port.spelled}`, and the subgraph node at {file.place(node.at)} leaves this port open: "
-                    + to_connect(file, port, kind)]
+                    + to_connect(file, port, kind),
+                "MediaPipe lets it stay open, and takes it from the nodes inside: `tools/port --stand-ins` writes the file so "
+                "(docs/guide/porting.md#ports-that-nobody-connects)"]
     return ["", what + (hint or f"; if it comes in from outside, that file needs a port for it, as `{field}: \"TAG:{home.name}\"`, "
                                 f"and the subgraph node at {file.place(node.at)} has to connect it")]
 

@@ -4,7 +4,9 @@ from __future__ import annotations
 import os
 import pathlib
 import shutil
+import stat
 import subprocess
+import sys
 import tempfile
 from collections.abc import Iterator
 from dataclasses import dataclass
@@ -44,10 +46,23 @@ def run(mg: str, files: list[str], recording: str, keeps_output: bool = True) ->
     return Run(ended.returncode, ended.stdout or b"", ended.stderr.decode(errors="replace").splitlines())
 
 
-def lines_inside(mg: str, graph: Graph, recording: str, report: Report) -> Iterator[bytes]:
-    """The lines of the packets of all streams that come out of nodes, as the runs print them. Raises NotRun. A run prints what is settled on all
-    its outputs, so streams that came equally far are had by one."""
-    written = [port.name for node in graph.nodes for port in node.outputs]
+def recording_of(name: str | None, folder: str) -> str:
+    """The file with the packet lines: the one that is named, or standard input. What comes through a pipe is kept in the folder, since it is read
+    more than once."""
+    if name:
+        return name
+    if stat.S_ISREG(os.fstat(0).st_mode):
+        return "/dev/fd/0"
+    path = pathlib.Path(folder) / "packets.jsonl"
+    with open(path, "wb") as file:
+        shutil.copyfileobj(sys.stdin.buffer, file)
+    return str(path)
+
+
+def lines_inside(mg: str, graph: Graph, recording: str, report: Report, streams: list[str] | None = None) -> Iterator[bytes]:
+    """The lines of the packets of some streams that come out of nodes, or of all of these, as the runs print them. Raises NotRun. A run prints what
+    is settled on all its outputs, so one run prints the streams that came equally far."""
+    written = [port.name for node in graph.nodes for port in node.outputs] if streams is None else streams
     by_bound: dict[str, list[str]] = {}
     for name in dict.fromkeys(written):
         if report.packets.get(name, 0):
