@@ -9,7 +9,6 @@ use Rattle.mg_settled.specs.Extension.{IsExtendedBy}
 use Rattle.mg_settled.proofs.Lemmas.{appended_is_prefix, raised_is_prefix, appended_extends, raised_extends, extended_by_itself}
 use Rattle.mg_free.specs.declared.law.FreeLaw.{FreeLaw}
 use Rattle.mg_free.specs.declared.law.FreeLaw.TheVariants.{FirstCome, Limiter}
-use Rattle.mg_free.specs.Code.Room.{may_arrive, comes_in_time}
 use Rattle.mg_free.specs.Free.{Arrival, Flow, ports_of, IsInTime, can_follow, is_laid, with_laid, without_laid, arrived, MayArrive}
 
 -- what may follow an allowed time is a time
@@ -78,34 +77,3 @@ limiter_dropped most flow a first many = rw (first, many) refl
 pub limiter_finished : {X : Type 0} (most : ℕ) (flow : Flow X) (a : Arrival X) → (a.port == 0) ≡ false
     → arrived (Limiter most) flow a ≡ record { output = flow.output; in_flight = flow.in_flight - 1 }
 limiter_finished most flow a finished = rw finished refl
-
--- the test of an arrival tells whether it may come
-in_time_tells : {X : Type 0} (law : FreeLaw) (flow : Flow X) (a : Arrival X) → comes_in_time law flow a ≡ true → IsInTime law flow a
-in_time_tells (FirstCome lanes) flow a is = tt
-in_time_tells (Limiter most) flow a is = λ first. (grind (arith, nat_tests), λ post. grind (arith, nat_tests))
-
-in_time_told : {X : Type 0} (law : FreeLaw) (flow : Flow X) (a : Arrival X) → IsInTime law flow a → comes_in_time law flow a ≡ true
-in_time_told (FirstCome lanes) flow a h = refl
-in_time_told (Limiter most) flow a h = elim (eqb_tells a.port 0) [
-  | inl (test, first) ↦ (let le = (h first).0 in elim (eqb_tells a.packet.at post_stream) [
-    | inl (post, at) ↦ (let none = (h first).1 at in grind (arith, nat_tests))
-    | inr (post, other) ↦ grind (arith, nat_tests)
-  ])
-  | inr (test, other) ↦ rw test refl
-]
-
-pub arrival_tells : {X : Type 0} (law : FreeLaw) (flow : Flow X) (a : Arrival X) → may_arrive law flow a ≡ true → MayArrive law flow a
-arrival_tells law flow a is =
-    let last = and_parts (nat_lt a.port (ports_of law) && (nat_le pre_stream a.packet.at && nat_le a.packet.at post_stream)) (comes_in_time law flow a) is in
-    let first = and_parts (nat_lt a.port (ports_of law)) (nat_le pre_stream a.packet.at && nat_le a.packet.at post_stream) last.0 in
-    let times = and_parts (nat_le pre_stream a.packet.at) (nat_le a.packet.at post_stream) first.1 in
-    record { port = grind (arith, nat_tests); allowed = (leb-true pre_stream a.packet.at times.0, leb-true a.packet.at post_stream times.1); in_time = in_time_tells law flow a last.1 }
-
-pub arrival_told : {X : Type 0} (law : FreeLaw) (flow : Flow X) (a : Arrival X) → MayArrive law flow a → may_arrive law flow a ≡ true
-arrival_told law flow a may =
-    let within = may.port in
-    let allowed = may.allowed in
-    and_from (nat_lt a.port (ports_of law) && (nat_le pre_stream a.packet.at && nat_le a.packet.at post_stream)) (comes_in_time law flow a)
-    (and_from (nat_lt a.port (ports_of law)) (nat_le pre_stream a.packet.at && nat_le a.packet.at post_stream) (grind (arith, nat_tests))
-    (and_from (nat_le pre_stream a.packet.at) (nat_le a.packet.at post_stream) (le-leb pre_stream a.packet.at allowed.0) (le-leb a.packet.at post_stream allowed.1)))
-    (in_time_told law flow a may.in_time)

@@ -1,4 +1,5 @@
 pub mod Arriving
+pub mod Keeping
 pub mod Logging
 pub mod Counting
 pub mod Placing

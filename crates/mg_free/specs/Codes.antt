@@ -10,5 +10,5 @@ use Rattle.mg_free.specs.Free.{FreeStanding}
 
 abbrev pub standing_code : Coded FreeStanding
 standing_code =
-    code_by (FreeLaw × (StreamPrefix Plain × ℕ)) (coded× law.the_row.coded (coded× plain_prefix_code coded_ℕ))
-    (λ s. (s.law, (s.flow.output, s.flow.in_flight))) (λ p. record { law = p.0; flow = record { output = p.1.0; in_flight = p.1.1 } }) (λ _. refl)
+    code_by (FreeLaw × (StreamPrefix Plain × (ℕ × ℕ))) (coded× law.the_row.coded (coded× plain_prefix_code (coded× coded_ℕ coded_ℕ)))
+    (λ s. (s.law, (s.rest.piece, (s.rest.handed, s.rest.in_flight)))) (λ p. record { law = p.0; rest = record { piece = p.1.0; handed = p.1.1.0; in_flight = p.1.1.1 } }) (λ _. refl)

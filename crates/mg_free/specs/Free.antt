@@ -1,6 +1,6 @@
 -- The law of free nodes, after the page Real-time Streams of the MediaPipe framework. What such a node lays depends on the
 -- order in which packets arrive at it, so it has no equation: it takes arrivals one by one, each a port and a packet.
-use Rattle.std.specs.Prelude.{◌≡◌, ℕ, ◌+◌, ◌-◌, ◌≤◌, ◌<◌, Bool, not, ◌&&◌, ◌==◌, nat_lt, nat_le, length, if◌then◌else◌}
+use Rattle.std.specs.Prelude.{◌≡◌, ℕ, ◌+◌, ◌-◌, ◌≤◌, ◌<◌, Bool, not, ◌&&◌, ◌==◌, nat_lt, nat_le, List, ◌++◌, length, if◌then◌else◌}
 use Rattle.mg_time.specs.Time.{post_stream, IsAllowed, next}
 use Rattle.mg_value.specs.Payload.{Plain}
 use Rattle.mg_value.specs.Packet.{Stamped}
@@ -70,7 +70,27 @@ pub record MayArrive {X : Type 0} (law : FreeLaw) (flow : Flow X) (arrival : Arr
   pub allowed : IsAllowed arrival.packet.at
   pub in_time : IsInTime law flow arrival
 
--- the state of a free node: its law, and what it has come to
+-- What is kept of a free node: the packets of its output that weren't handed on yet, with the output's bound; how many were handed on
+-- before these; and how many packets are in flight.
+pub record FreeRest : Type 0 where
+  pub piece : StreamPrefix Plain
+  pub handed : ℕ
+  pub in_flight : ℕ
+
+-- what is kept at first: nothing was laid
+abbrev pub nothing_laid : FreeRest
+nothing_laid = record { piece = empty_prefix; handed = 0; in_flight = 0 }
+
+-- What is kept is of a free node that has come to this. The output's packets are those that were handed on, which are gone, and behind
+-- them those that are kept.
+pub record IsRestOf (flow : Flow Plain) (rest : FreeRest) : Type 0 where
+  pub gone : List (Stamped Plain)
+  pub packets : flow.output.packets ≡ gone ++ rest.piece.packets
+  pub count : rest.handed ≡ length gone
+  pub bound : flow.output.bound ≡ rest.piece.bound
+  pub flight : flow.in_flight ≡ rest.in_flight
+
+-- the state of a free node: its law, and what is kept of it
 pub record FreeStanding : Type 0 where
   pub law : FreeLaw
-  pub flow : Flow Plain
+  pub rest : FreeRest

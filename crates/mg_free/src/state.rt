@@ -1,9 +1,9 @@
-ghost use Rattle.std.specs.Prelude.{◌≡◌, ◌↔◌, IsTrue, IfOk, OnErr};
+ghost use Rattle.std.specs.Prelude.{◌≡◌, IfOk, OnOk, OnErr};
 ghost use Rattle.mg_time.specs.Time.{IsAllowed};
 ghost use Rattle.mg_value.specs.Payload.{Plain};
-ghost use Rattle.mg_settled.specs.Prefix.{IsPrefix, MayFollow, closed};
-ghost use Rattle.mg_free.specs.Code.Room.{HasRoom, may_arrive, comes_in_time};
-ghost use Rattle.mg_free.specs.Free.{begun, ports_of, is_laid, risen, arrived, with_laid, without_laid, MayArrive};
+ghost use Rattle.mg_settled.specs.Prefix.{closed};
+ghost use Rattle.mg_free.specs.Code.Room.{HasRoom, can_go_behind, lays_on, rest_laid, rest_passed, rest_arrived, rest_handed};
+ghost use Rattle.mg_free.specs.Free.{Flow, is_laid, risen, arrived, nothing_laid, IsRestOf};
 
 use crate::output::{self, no_packets};
 use crate::{FreeLaw, FreeNode};
@@ -12,19 +12,20 @@ use mg_time::Timestamp;
 use mg_value::Packet;
 use std::alloc::{AllocError, Global};
 use std::marker::Model;
+use std::mem;
 
-/// The state of a free node (MediaPipe, Real-time Streams). Contracts see its law, its output so far, and how many packets are in
-/// flight.
+/// The state of a free node (MediaPipe, Real-time Streams). Contracts see its law, the packets of its output that weren't handed on yet,
+/// the output's bound, how many packets were handed on before, and how many are in flight.
 #[derive(Drop)]
 pub struct FreeState {
     alloc: Global,
     law: FreeLaw,
-    output: Prefix,
+    piece: Prefix,
+    handed: u64,
     in_flight: u32,
 }
 
 impl Model for FreeState {
-    ghost use Rattle.mg_settled.specs.Prefix.{IsPrefix};
     ghost use Rattle.mg_free.specs.Free.{FreeStanding};
     ghost use Rattle.mg_free.specs.Codes.{standing_code};
 
@@ -32,23 +33,22 @@ impl Model for FreeState {
 
     ghost coded = { standing_code };
 
-    ghost view = { λ s. record { law = s.law; flow = record { output = s.output; in_flight = s.in_flight } } };
-
-    ghost invariant = { λ s. IsPrefix s.output };
+    ghost view = { λ s. record { law = s.law; rest = record { piece = s.piece; handed = s.handed; in_flight = s.in_flight } } };
 }
 
 impl FreeState {
     /// Returns the state of a free node at which nothing has arrived.
     pub fn new(alloc: Global, free: &FreeNode) -> Result<FreeState, AllocError>
-        ensures { IfOk result (λ s. s ≡ record { law = free.now.law; flow = begun }) }
+        ensures { IfOk result (λ s. s ≡ record { law = free.now.law; rest = nothing_laid }) }
     {
         Ok(FreeState {
             alloc,
             law: free.law,
-            output: Prefix {
+            piece: Prefix {
                 packets: no_packets(alloc),
                 bound: Timestamp::PRE_STREAM,
             },
+            handed: 0,
             in_flight: 0,
         })
     }
@@ -56,9 +56,52 @@ impl FreeState {
     /// Takes a packet that arrives at a port, by the free law, and returns whether it was laid on the output. On an error the state
     /// stays, as if nothing had arrived.
     pub fn arrive(&mut self, port: u32, packet: &Packet) -> Result<bool, AllocError>
-        requires { MayArrive self.old.law self.old.flow (record { port = port; packet = packet.now }) }
-        ensures laid { IfOk result (λ laid. laid ≡ is_laid self.old.law self.old.flow (record { port = port; packet = packet.now })) }
-        ensures arrived { IfOk result (λ _. self.new.flow ≡ arrived self.old.law self.old.flow (record { port = port; packet = packet.now })) }
+        requires { IsAllowed packet.now.at }
+
+        // If what is kept is of some flow, the free law for that flow says whether the packet is laid. What is kept then is of the flow
+        // after the arrival.
+        ensures laid { (flow : Flow Plain) → IsRestOf flow self.old.rest → IfOk result (λ laid. laid ≡ is_laid self.old.law flow (record { port = port; packet = packet.now })) }
+        ensures arrived { (flow : Flow Plain) → IsRestOf flow self.old.rest → OnOk result (IsRestOf (arrived self.old.law flow (record { port = port; packet = packet.now })) self.new.rest) }
+        ensures law { self.new.law ≡ self.old.law }
+        ensures handed { self.new.rest.handed ≡ self.old.rest.handed }
+        ensures unchanged { OnErr result (self.new ≡ self.old) }
+    {
+        let laid = self.take_in(port, packet)?;
+        Ok(laid)
+    }
+
+    /// Hands out what was laid on the output since the last call, with the bound as it is now, and keeps no packet of it. 2^64 packets
+    /// or more in all count as want of memory; on an error the state stays.
+    pub fn hand_on(&mut self) -> Result<Prefix, AllocError>
+        ensures piece { IfOk result (λ piece. piece ≡ self.old.rest.piece) }
+        ensures rest { IfOk result (λ _. self.new.rest ≡ rest_handed self.old.rest) }
+        ensures law { self.new.law ≡ self.old.law }
+        ensures unchanged { OnErr result (self.new ≡ self.old) }
+    {
+        let Some(handed) = self.handed.checked_add(self.piece.packets.len() as u64) else {
+            return Err(AllocError);
+        };
+        let packets = mem::replace(&mut self.piece.packets, no_packets(self.alloc));
+        self.handed = handed;
+        Ok(Prefix {
+            packets,
+            bound: self.piece.bound,
+        })
+    }
+
+    /// Closes the output: nothing is laid any more.
+    pub fn close(&mut self)
+        ensures closed { self.new.rest ≡ record { piece = closed self.old.rest.piece; handed = self.old.rest.handed; in_flight = self.old.rest.in_flight } }
+        ensures law { self.new.law ≡ self.old.law }
+    {
+        output::close(&mut self.piece);
+    }
+
+    // Takes a packet that arrives at a port, and returns whether it was laid on the output.
+    fn take_in(&mut self, port: u32, packet: &Packet) -> Result<bool, AllocError>
+        requires { IsAllowed packet.now.at }
+        ensures laid { IfOk result (λ laid. laid ≡ lays_on self.old.law self.old.rest (record { port = port; packet = packet.now })) }
+        ensures arrived { IfOk result (λ _. self.new.rest ≡ rest_arrived self.old.law self.old.rest (record { port = port; packet = packet.now })) }
         ensures law { self.new.law ≡ self.old.law }
         ensures unchanged { OnErr result (self.new ≡ self.old) }
     {
@@ -71,64 +114,31 @@ impl FreeState {
         }
     }
 
-    /// Whether a packet may arrive at a port now: the node has the port, a packet may stand at the time, and at the first port of a
-    /// Limiter the packet can still be laid on the output.
-    pub fn may_arrive(&self, port: u32, packet: &Packet) -> bool
-        ensures { IsTrue result ↔ MayArrive self.now.law self.now.flow (record { port = port; packet = packet.now }) }
+    // Whether a packet at a time can still be laid on the output.
+    fn can_follow(&self, at: Timestamp) -> bool
+        ensures { result ≡ can_go_behind self.now.rest at }
     {
-        self.comes(port, packet)
-    }
-
-    /// Closes the output: nothing is laid any more.
-    pub fn close(&mut self)
-        ensures closed { self.new.flow ≡ record { output = closed self.old.flow.output; in_flight = self.old.flow.in_flight } }
-        ensures law { self.new.law ≡ self.old.law }
-    {
-        output::close(&mut self.output);
-    }
-
-    /// Returns the output so far.
-    pub fn output(&self) -> &Prefix
-        ensures output { result.now ≡ self.now.flow.output }
-        ensures prefix { IsPrefix result.now }
-    {
-        &self.output
-    }
-
-    fn comes(&self, port: u32, packet: &Packet) -> bool
-        ensures { result ≡ may_arrive self.now.law self.now.flow (record { port = port; packet = packet.now }) }
-    {
-        port < ports_of(self.law) && packet.at.is_allowed() && self.is_in_time(port, packet)
-    }
-
-    fn is_in_time(&self, port: u32, packet: &Packet) -> bool
-        ensures { result ≡ comes_in_time self.now.law self.now.flow (record { port = port; packet = packet.now }) }
-    {
-        match self.law {
-            FreeLaw::FirstCome { .. } => true,
-            FreeLaw::Limiter { .. } => port != 0 || output::can_follow(&self.output, packet.at),
-        }
+        output::can_follow(&self.piece, at) && !(at == Timestamp::POST_STREAM && self.handed > 0)
     }
 
     // Whether a packet that arrives at a port is laid.
     fn lays(&self, port: u32, packet: &Packet) -> bool
-        ensures { result ≡ is_laid self.now.law self.now.flow (record { port = port; packet = packet.now }) }
+        ensures { result ≡ lays_on self.now.law self.now.rest (record { port = port; packet = packet.now }) }
     {
         match self.law {
-            FreeLaw::FirstCome { .. } => output::can_follow(&self.output, packet.at),
+            FreeLaw::FirstCome { .. } => self.can_follow(packet.at),
             FreeLaw::Limiter { most } => port == 0 && self.in_flight < most,
         }
     }
 
     // Lays a packet on the output; a Limiter then has one more in flight.
     fn lay(&mut self, packet: &Packet) -> Result<(), AllocError>
-        requires follows { MayFollow self.old.flow.output packet.now }
-        requires few { HasRoom self.old.law self.old.flow.in_flight }
-        ensures laid { IfOk result (λ _. self.new.flow ≡ with_laid self.old.law self.old.flow packet.now) }
+        requires few { HasRoom self.old.law self.old.rest.in_flight }
+        ensures laid { IfOk result (λ _. self.new.rest ≡ rest_laid self.old.law self.old.rest packet.now) }
         ensures law { self.new.law ≡ self.old.law }
         ensures unchanged { OnErr result (self.new ≡ self.old) }
     {
-        output::lay(self.alloc, &mut self.output, packet)?;
+        output::lay(self.alloc, &mut self.piece, packet)?;
         self.in_flight = risen(self.law, self.in_flight);
         Ok(())
     }
@@ -137,26 +147,16 @@ impl FreeState {
     // leaves it one less in flight.
     fn pass(&mut self, port: u32, at: Timestamp)
         requires { IsAllowed at }
-        ensures passed { (value : Plain) → self.new.flow ≡ without_laid self.old.law self.old.flow (record { port = port; packet = record { at = at; value = value } }) }
+        ensures passed { (value : Plain) → self.new.rest ≡ rest_passed self.old.law self.old.rest (record { port = port; packet = record { at = at; value = value } }) }
         ensures law { self.new.law ≡ self.old.law }
     {
         if let FreeLaw::Limiter { .. } = self.law {
             if port == 0 {
-                output::raise(&mut self.output, at.next_allowed());
+                output::raise(&mut self.piece, at.next_allowed());
             } else {
                 self.in_flight = self.in_flight.saturating_sub(1);
             }
         }
-    }
-}
-
-// Returns how many input ports a law has.
-fn ports_of(law: FreeLaw) -> u32
-    ensures { result ≡ ports_of law }
-{
-    match law {
-        FreeLaw::FirstCome { lanes } => lanes,
-        FreeLaw::Limiter { .. } => 2,
     }
 }
 

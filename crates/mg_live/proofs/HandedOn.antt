@@ -50,7 +50,7 @@ out_at (f ∷ frees) (t ∷ takens) (suc i) free taken at at_taken = out_at free
 take_set : (takers : List Taker) (i : ℕ) (now : Taker) → take i (handed_of (set takers i now)) ≡ take i (handed_of takers)
 take_set [] i now = refl
 take_set (t ∷ takers) zero now = refl
-take_set (t ∷ takers) (suc i) now = ap (λ (l : List ℕ). t.handed ∷ l) (take_set takers i now)
+take_set (t ∷ takers) (suc i) now = ap (λ (l : List ℕ). t.state.rest.handed ∷ l) (take_set takers i now)
 
 put_there : (takers : List Taker) (i : ℕ) (now : Taker) → i < length takers → slice_get (set takers i now) i ≡ Some now
 put_there [] i now less = absurd (omega (arith, less))
@@ -76,7 +76,7 @@ put_taken frees takens takers i old now at keeps h = record {
 }
 
 pub one_handed : (frees : List FreeNode) (takens : List Taken) (before takers : List Taker) (front pieces more : List (StreamPrefix Plain)) (piece : StreamPrefix Plain) (i : ℕ) (old now : Taker) → slice_get takers i ≡ Some old → slice_get takers i ≡ slice_get before i
-    → ((free : FreeNode) (taken : Taken) → HasTaken free taken old → piece ≡ piece_behind old.handed (output_so_far free taken)) → ((free : FreeNode) (taken : Taken) → HasTaken free taken old → HasHanded free taken now)
+    → ((free : FreeNode) (taken : Taken) → HasTaken free taken old → piece ≡ piece_behind old.state.rest.handed (output_so_far free taken)) → ((free : FreeNode) (taken : Taken) → HasTaken free taken old → HasHanded free taken now)
     → ((free : FreeNode) (taken : Taken) → HasTaken free taken old → HasTaken free taken now) → more ≡ pieces ++ piece ∷ [] → HandedOn frees takens before front i takers pieces → HandedOn frees takens before front (i + 1) (set takers i now) more
 one_handed frees takens before takers front pieces more piece i old now at same is handed keeps pushed h =
     let within = slice_get_within takers i old at in
@@ -85,17 +85,17 @@ one_handed frees takens before takers front pieces more piece i old now at same 
     let taken = taken_there frees takens takers i h.have_taken (omega (arith, within, long)) in
     let has = h.have_taken.each i free.0 taken.0 old free.1 taken.1 at in
     let out = out_at frees takens i free.0 taken.0 free.1 taken.1 in
-    let n = map_at (λ (t : Taker). t.handed) before i old (sym same ∙ at) in
+    let n = map_at (λ (t : Taker). t.state.rest.handed) before i old (sym same ∙ at) in
     let up : suc i ≡ i + 1 = omega arith in
     record {
       pieces_are = pushed ∙ ap₂ (λ (l : List (StreamPrefix Plain)) (s : StreamPrefix Plain). l ++ s ∷ []) h.pieces_are (is free.0 taken.0 has)
-          ∙ append_assoc front (pieces_behind (take i (handed_of before)) (take i (outputs_so_far frees takens))) (piece_behind old.handed (output_so_far free.0 taken.0) ∷ [])
-          ∙ ap (λ (l : List (StreamPrefix Plain)). front ++ l) (sym (pieces_more (handed_of before) (outputs_so_far frees takens) i old.handed (output_so_far free.0 taken.0) n out))
+          ∙ append_assoc front (pieces_behind (take i (handed_of before)) (take i (outputs_so_far frees takens))) (piece_behind old.state.rest.handed (output_so_far free.0 taken.0) ∷ [])
+          ∙ ap (λ (l : List (StreamPrefix Plain)). front ++ l) (sym (pieces_more (handed_of before) (outputs_so_far frees takens) i old.state.rest.handed (output_so_far free.0 taken.0) n out))
           ∙ ap (λ (k : ℕ). front ++ pieces_behind (take k (handed_of before)) (take k (outputs_so_far frees takens))) up;
       have_taken = put_taken frees takens takers i old now at keeps h.have_taken;
       handed =
           ap (λ (k : ℕ). take k (handed_of (set takers i now))) (sym up)
-          ∙ take_more_at (handed_of (set takers i now)) i now.handed (map_at (λ (t : Taker). t.handed) (set takers i now) i now (put_there takers i now within))
+          ∙ take_more_at (handed_of (set takers i now)) i now.state.rest.handed (map_at (λ (t : Taker). t.state.rest.handed) (set takers i now) i now (put_there takers i now within))
           ∙ ap₂ (λ (l : List ℕ) (k : ℕ). l ++ k ∷ []) (take_set takers i now ∙ h.handed) (handed free.0 taken.0 has)
           ∙ sym (take_more_at (map (λ s. length s.packets) (outputs_so_far frees takens)) i (length (output_so_far free.0 taken.0).packets) (map_at (λ (s : StreamPrefix Plain). length s.packets) (outputs_so_far frees takens) i (output_so_far free.0 taken.0) out))
           ∙ ap (λ (k : ℕ). take k (map (λ s. length s.packets) (outputs_so_far frees takens))) up;
@@ -113,15 +113,15 @@ pub all_handed : (frees : List FreeNode) (takens : List Taken) (before now : Lis
 all_handed frees takens before now front pieces count was all h =
     let a = was.takers_long in let b = was.takens_long in let c = h.have_taken.takers_long in
     let outs = outs_long frees takens was.takens_long in
-    let before_long = length-map before (λ (t : Taker). t.handed) in
-    let now_long = length-map now (λ (t : Taker). t.handed) in
+    let before_long = length-map before (λ (t : Taker). t.state.rest.handed) in
+    let now_long = length-map now (λ (t : Taker). t.state.rest.handed) in
     let lens = length-map (outputs_so_far frees takens) (λ (s : StreamPrefix Plain). length s.packets) in (
       h.pieces_are ∙ ap₂ (λ (ns : List ℕ) (ss : List (StreamPrefix Plain)). front ++ pieces_behind ns ss) (take_all count (handed_of before) (omega (arith, before_long, a, c, all))) (take_all count (outputs_so_far frees takens) (omega (arith, outs, c, all))),
       sym (take_all count (handed_of now) (omega (arith, now_long, all))) ∙ h.handed ∙ take_all count (map (λ s. length s.packets) (outputs_so_far frees takens)) (omega (arith, lens, outs, c, all)),
     )
 
 -- A piece goes behind.
-drop_front : {X : Type 0} (xs ys : List X) → drop (length xs) (xs ++ ys) ≡ ys
+pub drop_front : {X : Type 0} (xs ys : List X) → drop (length xs) (xs ++ ys) ≡ ys
 drop_front [] ys = refl
 drop_front (x ∷ xs) ys = drop_front xs ys
 

@@ -210,13 +210,13 @@ none_more frees takers now count free taker is long at has each = λ place f t f
 ]
 
 -- A turn hands on nothing.
-pub handed_then : (before takers : List Taker) (place : ℕ) (now d : Taker) → place < length takers → now.handed ≡ (get_or takers place d).handed → handed_of takers ≡ handed_of before → handed_of (set takers place now) ≡ handed_of before
+pub handed_then : (before takers : List Taker) (place : ℕ) (now d : Taker) → place < length takers → now.state.rest.handed ≡ (get_or takers place d).state.rest.handed → handed_of takers ≡ handed_of before → handed_of (set takers place now) ≡ handed_of before
 handed_then before takers place now d within same h = unchanged takers place now d within same ∙ h
   where
-    unchanged : (xs : List Taker) (i : ℕ) (y d : Taker) → i < length xs → y.handed ≡ (get_or xs i d).handed → handed_of (set xs i y) ≡ handed_of xs
+    unchanged : (xs : List Taker) (i : ℕ) (y d : Taker) → i < length xs → y.state.rest.handed ≡ (get_or xs i d).state.rest.handed → handed_of (set xs i y) ≡ handed_of xs
     unchanged [] i y d less e = absurd (omega (arith, less))
     unchanged (x ∷ xs) zero y d less e = ap (λ (n : ℕ). n ∷ handed_of xs) e
-    unchanged (x ∷ xs) (suc i) y d less e = ap (λ (l : List ℕ). x.handed ∷ l) (unchanged xs i y d (omega (arith, less)) e)
+    unchanged (x ∷ xs) (suc i) y d less e = ap (λ (l : List ℕ). x.state.rest.handed ∷ l) (unchanged xs i y d (omega (arith, less)) e)
 
 -- The log of the node of a place.
 pub taken_log : (frees : List FreeNode) (takens : List Taken) (takers : List Taker) (place : ℕ) (taken : Taken) → HaveTaken frees takens takers → slice_get takens place ≡ Some taken
@@ -236,6 +236,6 @@ zeros_more : (n : ℕ) → zeros n ++ zero ∷ [] ≡ zeros (suc n)
 zeros_more zero = refl
 zeros_more (suc n) = ap (λ (l : List ℕ). zero ∷ l) (zeros_more n)
 
-pub handed_more : (takers now : List Taker) (taker : Taker) (n : ℕ) → now ≡ takers ++ taker ∷ [] → taker.handed ≡ zero → handed_of takers ≡ zeros n → handed_of now ≡ zeros (n + 1)
+pub handed_more : (takers now : List Taker) (taker : Taker) (n : ℕ) → now ≡ takers ++ taker ∷ [] → taker.state.rest.handed ≡ zero → handed_of takers ≡ zeros n → handed_of now ≡ zeros (n + 1)
 handed_more takers now taker n is none h =
-    ap handed_of is ∙ map-append (λ (t : Taker). t.handed) takers (taker ∷ []) ∙ ap₂ (λ (l : List ℕ) (k : ℕ). l ++ k ∷ []) h none ∙ zeros_more n ∙ ap zeros (let e : suc n ≡ n + 1 = omega arith in e)
+    ap handed_of is ∙ map-append (λ (t : Taker). t.state.rest.handed) takers (taker ∷ []) ∙ ap₂ (λ (l : List ℕ) (k : ℕ). l ++ k ∷ []) h none ∙ zeros_more n ∙ ap zeros (let e : suc n ≡ n + 1 = omega arith in e)

@@ -4,4 +4,5 @@ pub mod CoreReads
 pub mod Following
 pub mod InTurn
 pub mod HandedOn
+pub mod RestTaken
 pub mod Endings

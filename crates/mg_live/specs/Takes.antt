@@ -4,7 +4,7 @@ use Rattle.std.specs.List.{zip}
 use Rattle.mg_value.specs.Payload.{Plain}
 use Rattle.mg_settled.specs.Prefix.{StreamPrefix, IsPrefix}
 use Rattle.mg_free.specs.declared.node.FreeNode.{FreeNode}
-use Rattle.mg_free.specs.Free.{Arrival, ports_of}
+use Rattle.mg_free.specs.Free.{Arrival, ports_of, IsRestOf}
 use Rattle.mg_free.specs.Logs.{flow_of, arrived_at, IsLawfulSoFar}
 use Rattle.mg_free.specs.Rounds.{Taken, output_so_far, free_inputs, turn}
 use Rattle.mg_live.specs.declared.arrived.Arrived.{Arrived}
@@ -14,11 +14,11 @@ use Rattle.mg_live.specs.declared.taker.Taker.{Taker}
 abbrev pub told : Arrival Plain → Arrived
 told arrival = record { port = arrival.port; at = arrival.packet.at }
 
--- a taker stands for what its free node has taken: it has the node's state after the log, how many packets arrived at each port, the
--- log itself, and whether the output is closed
+-- A taker stands for what its free node has taken. What it keeps is of what the node has come to by the log. It has how many packets
+-- arrived at each port, the log itself, and whether the output is closed.
 pub record HasTaken (free : FreeNode) (taken : Taken) (taker : Taker) : Type 0 where
   pub law : taker.state.law ≡ free.law
-  pub flow : taker.state.flow ≡ flow_of free.law taken.log
+  pub flow : IsRestOf (flow_of free.law taken.log) taker.state.rest
   pub ports : length taker.counts.items ≡ length free.inputs
   pub counts : (port : ℕ) → port < length free.inputs → slice_index_or taker.counts.items port 0 ≡ length (arrived_at port taken.log)
   pub log : taker.log.items ≡ map told taken.log
@@ -26,7 +26,7 @@ pub record HasTaken (free : FreeNode) (taken : Taken) (taker : Taker) : Type 0 w
 
 -- a taker has handed on as many packets as the output of its free node has, by what the node has taken
 abbrev pub HasHanded : FreeNode → Taken → Taker → Type 0
-HasHanded free taken taker = taker.handed ≡ length (output_so_far free taken).packets
+HasHanded free taken taker = taker.state.rest.handed ≡ length (output_so_far free taken).packets
 
 -- a prefix without its first packets, by their number
 abbrev pub piece_behind : ℕ → StreamPrefix Plain → StreamPrefix Plain
@@ -69,7 +69,7 @@ pub record HaveTaken (frees : List FreeNode) (takens : List Taken) (takers : Lis
 
 -- for each taker how many packets of the output were handed on
 abbrev pub handed_of : List Taker → List ℕ
-handed_of takers = map (λ taker. taker.handed) takers
+handed_of takers = map (λ taker. taker.state.rest.handed) takers
 
 -- the outputs of free nodes, as far as they are known
 abbrev pub outputs_so_far : List FreeNode → List Taken → List (StreamPrefix Plain)

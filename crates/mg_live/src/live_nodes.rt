@@ -68,7 +68,7 @@ fn hand_on(alloc: Global, takers: &mut [Taker]) -> Result<Vec<Prefix>, AllocErro
 {
     let mut pieces = Vec::new(alloc);
     for place in 0..takers.len() {
-        pieces.push(takers[place].hand_on(alloc)?)?;
+        pieces.push(takers[place].hand_on()?)?;
     }
     Ok(pieces)
 }

@@ -1,31 +1,32 @@
-ghost use Rattle.std.specs.Prelude.{◌≡◌, ◌<◌, ◌==◌, ◌++◌, ◌∷◌, ℕ, List, [], Some, None, IfOk, OnOk, false, length, slice_get, option_map, option_copied, replicate, drop, map, OnErr, if◌then◌else◌};
-ghost use Rattle.mg_time.specs.Time.{done};
+ghost use Rattle.std.specs.Prelude.{◌≡◌, ◌<◌, ◌==◌, ◌++◌, ◌∷◌, ℕ, List, [], Some, None, IfOk, OnOk, false, length, slice_get, option_map, option_copied, replicate, map, OnErr, if◌then◌else◌};
+ghost use Rattle.mg_time.specs.Time.{done, IsAllowed};
 ghost use Rattle.mg_value.specs.Payload.{Plain};
 ghost use Rattle.mg_settled.specs.Prefix.{StreamPrefix};
 ghost use Rattle.mg_settled.specs.Settled.{port_of};
 ghost use Rattle.mg_calc.specs.Equations.{stream_of};
 ghost use Rattle.mg_free.specs.declared.node.FreeNode.{FreeNode as FreeNodeView};
-ghost use Rattle.mg_free.specs.Free.{MayArrive};
+ghost use Rattle.mg_free.specs.Free.{Flow, IsRestOf, nothing_laid, arrived};
+ghost use Rattle.mg_free.specs.Code.Room.{rest_handed};
 ghost use Rattle.mg_free.specs.Logs.{arrived_at, has_ended as have_ended, ending};
 ghost use Rattle.mg_free.specs.Rounds.{Taken, output_so_far, free_inputs, next_arrivals, last_of, turn};
 ghost use Rattle.mg_live.specs.Takes.{told, HasTaken, HasHanded, MayTurnIn, Did, piece_behind};
+ghost use Rattle.mg_live.specs.Code.Counted.{HasCounted};
 
 use crate::{Arrived, Streams};
 use mg_free::{FreeLaw, FreeNode, FreeState};
 use mg_settled::Prefix;
 use mg_time::Timestamp;
-use mg_value::{Packet, PacketList};
+use mg_value::Packet;
 use std::alloc::{AllocError, Global};
 
-/// What is kept of a free node while a graph runs: its state, how many packets have arrived at each port, its log, whether its output
-/// is closed, and how many packets of the output were handed on.
+/// What is kept of a free node while a graph runs: its state, how many packets have arrived at each port, its log, and whether its output
+/// is closed. The state has the packets that weren't handed on yet.
 #[derive(Drop)]
 pub struct Taker {
     state: FreeState,
     counts: Vec<u64>,
     log: Vec<Arrived>,
     closed: bool,
-    handed: usize,
 }
 
 // Returns `count` zeros.
@@ -33,17 +34,6 @@ fn zeros(alloc: Global, count: u32) -> Result<Vec<u64>, AllocError>
     ensures { IfOk result (λ zeros. zeros.items ≡ replicate count 0) }
 {
     vec![in alloc; 0u64; count as usize]
-}
-
-// Returns copies of the packets from a place on. Payloads are shared.
-fn packets_from(alloc: Global, packets: &[Packet], from: usize) -> Result<PacketList, AllocError>
-    ensures { IfOk result (λ rest. rest ≡ drop from packets.now) }
-{
-    let mut rest = Vec::new(alloc);
-    for place in from..packets.len() {
-        rest.push(packets[place].try_clone()?)?;
-    }
-    Ok(PacketList::from_vec(rest)?)
 }
 
 // Returns how many ports, the first ones of a node, have to end before its output ends.
@@ -84,6 +74,15 @@ impl Taker {
         ensures taken { IfOk result (λ taker. HasTaken free.now (record { log = []; closed = false }) taker) }
         ensures handed { IfOk result (λ taker. HasHanded free.now (record { log = []; closed = false }) taker) }
     {
+        let taker = Taker::fresh(alloc, free)?;
+        Ok(taker)
+    }
+
+    // Returns a taker that has counted nothing, with what is kept of a free node at first.
+    fn fresh(alloc: Global, free: &FreeNode) -> Result<Taker, AllocError>
+        ensures counted { IfOk result (λ taker. HasCounted free.now (record { log = []; closed = false }) taker) }
+        ensures rest { IfOk result (λ taker. taker.state.rest ≡ nothing_laid) }
+    {
         let state = FreeState::new(alloc, free)?;
         let counts = zeros(alloc, free.inputs.len())?;
         Ok(Taker {
@@ -91,7 +90,6 @@ impl Taker {
             counts,
             log: Vec::new(alloc),
             closed: false,
-            handed: 0,
         })
     }
 
@@ -103,7 +101,7 @@ impl Taker {
             → OnOk result (HasTaken free.now (turn ss free.now taken) self.new) }
         ensures did { (ss : List (StreamPrefix Plain)) (taken : Taken) → S.are streams.now ss → HasTaken free.now taken self.old
             → IfOk result (λ did. Did did taken (turn ss free.now taken)) }
-        ensures handed { self.new.handed ≡ self.old.handed }
+        ensures handed { self.new.state.rest.handed ≡ self.old.state.rest.handed }
     {
         let Some(port) = self.last_port(free, streams) else {
             return Ok(self.close_at_end(free, streams));
@@ -151,10 +149,25 @@ impl Taker {
     fn take(&mut self, free: &FreeNode, port: u32, packet: &Packet) -> Result<(), AllocError>
         requires port { port < length free.now.inputs }
         requires some { (taken : Taken) × HasTaken free.now taken self.old }
-        requires may { MayArrive self.old.state.law self.old.state.flow (record { port = port; packet = packet.now }) }
+        requires allowed { IsAllowed packet.now.at }
         ensures taken { (taken : Taken) → HasTaken free.now taken self.old
             → OnOk result (HasTaken free.now (record { log = taken.log ++ record { port = port; packet = packet.now } ∷ []; closed = taken.closed }) self.new) }
-        ensures handed { self.new.handed ≡ self.old.handed }
+        ensures handed { self.new.state.rest.handed ≡ self.old.state.rest.handed }
+    {
+        self.note(free, port, packet)?;
+        Ok(())
+    }
+
+    // Lets a packet arrive at a port, and notes that.
+    fn note(&mut self, free: &FreeNode, port: u32, packet: &Packet) -> Result<(), AllocError>
+        requires port { port < length free.now.inputs }
+        requires some { (taken : Taken) × HasCounted free.now taken self.old }
+        requires allowed { IsAllowed packet.now.at }
+        ensures counted { (taken : Taken) → HasCounted free.now taken self.old
+            → OnOk result (HasCounted free.now (record { log = taken.log ++ record { port = port; packet = packet.now } ∷ []; closed = taken.closed }) self.new) }
+        ensures arrived { (flow : Flow Plain) → IsRestOf flow self.old.state.rest
+            → OnOk result (IsRestOf (arrived self.old.state.law flow (record { port = port; packet = packet.now })) self.new.state.rest) }
+        ensures handed { self.new.state.rest.handed ≡ self.old.state.rest.handed }
     {
         let _ = free;
         let _ = self.state.arrive(port, packet)?;
@@ -173,7 +186,7 @@ impl Taker {
             → last_of (next_arrivals ss free.now taken) ≡ None → HasTaken free.now (turn ss free.now taken) self.new }
         ensures did { (ss : List (StreamPrefix Plain)) (taken : Taken) → S.are streams.now ss → HasTaken free.now taken self.old
             → last_of (next_arrivals ss free.now taken) ≡ None → Did result taken (turn ss free.now taken) }
-        ensures handed { self.new.handed ≡ self.old.handed }
+        ensures handed { self.new.state.rest.handed ≡ self.old.state.rest.handed }
     {
         if self.closed || !has_ended(free, streams) {
             return false;
@@ -190,30 +203,36 @@ impl Taker {
         &self.log
     }
 
-    /// Returns the packets that were laid on the output since the last call, with the bound as it is now. After an error the next call
-    /// returns these packets too.
-    pub fn hand_on(&mut self, alloc: Global) -> Result<Prefix, AllocError>
-        ensures piece { (free : FreeNodeView) (taken : Taken) → HasTaken free taken self.old → IfOk result (λ piece. piece ≡ piece_behind self.old.handed (output_so_far free taken)) }
+    /// Returns the packets that were laid on the output since the last call, with the bound as it is now, and keeps none of them. After an
+    /// error the next call returns these packets too.
+    pub fn hand_on(&mut self) -> Result<Prefix, AllocError>
+        ensures piece { (free : FreeNodeView) (taken : Taken) → HasTaken free taken self.old → IfOk result (λ piece. piece ≡ piece_behind self.old.state.rest.handed (output_so_far free taken)) }
         ensures handed { (free : FreeNodeView) (taken : Taken) → HasTaken free taken self.old → OnOk result (HasHanded free taken self.new) }
         ensures taken { (free : FreeNodeView) (taken : Taken) → HasTaken free taken self.old → HasTaken free taken self.new }
-        ensures unchanged { OnErr result (self.new.handed ≡ self.old.handed) }
+        ensures unchanged { OnErr result (self.new.state.rest.handed ≡ self.old.state.rest.handed) }
     {
-        let output = self.state.output();
-        let bound = bound_of(output, self.closed);
-        let count = output.packets.len() as usize;
-        let packets = packets_from(alloc, output.packets.as_slice(), self.handed)?;
-        self.handed = count;
-        Ok(Prefix { packets, bound })
+        let piece = self.hand_out()?;
+        Ok(piece)
+    }
+
+    // Returns what was laid since the last call, with the bound of the output.
+    fn hand_out(&mut self) -> Result<Prefix, AllocError>
+        ensures piece { IfOk result (λ piece. piece ≡ record { packets = self.old.state.rest.piece.packets; bound = (if self.old.closed then done else self.old.state.rest.piece.bound) }) }
+        ensures rest { IfOk result (λ _. self.new.state.rest ≡ rest_handed self.old.state.rest) }
+        ensures others { (self.new.state.law ≡ self.old.state.law) × (self.new.counts ≡ self.old.counts) × (self.new.log ≡ self.old.log) × (self.new.closed ≡ self.old.closed) }
+        ensures unchanged { OnErr result (self.new ≡ self.old) }
+    {
+        let piece = self.state.hand_on()?;
+        Ok(Prefix {
+            packets: piece.packets,
+            bound: bound_of(piece.bound, self.closed),
+        })
     }
 }
 
 // Returns the bound of an output, which is Done if it is closed.
-fn bound_of(output: &Prefix, closed: bool) -> Timestamp
-    ensures { result ≡ (if closed then done else output.now.bound) }
+fn bound_of(bound: Timestamp, closed: bool) -> Timestamp
+    ensures { result ≡ (if closed then done else bound) }
 {
-    if closed {
-        Timestamp::DONE
-    } else {
-        output.bound
-    }
+    if closed { Timestamp::DONE } else { bound }
 }

@@ -281,19 +281,19 @@ told_contents names contents told store loaded is = same_contents told contents 
 pub told_reading : (plan : Plan) (input : Device SourceTold) (read : Read) (bytes : List ℕ) → CameTo (inputs_of plan) input read → input.before.left ≡ Some bytes → Unrisen input.before.faults input.now.faults → read ≡ ended_input (inputs_of plan) bytes
 told_reading plan input read bytes came is un = whole-read (inputs_of plan) input read bytes came is un
 
-same_graphs : (main other : GraphView) (library others : List GraphView) → graphs (main ∷ library) ≡ graphs (other ∷ others) → (main ≡ other) × (library ≡ others)
+pub same_graphs : (main other : GraphView) (library others : List GraphView) → graphs (main ∷ library) ≡ graphs (other ∷ others) → (main ≡ other) × (library ≡ others)
 same_graphs main other library others e = ((let a : main ≡ other = cc in a), (let b : library ≡ others = cc in b))
 
 abbrev expands_to : GraphView → Result GraphView ExpandFault
 expands_to g = Ok g
 
-same_expansion : (g h : GraphView) → expands_to g ≡ expands_to h → g ≡ h
+pub same_expansion : (g h : GraphView) → expands_to g ≡ expands_to h → g ≡ h
 same_expansion g h e = cc
 
 abbrev checks_as : Plan → Result Plan CheckFault
 checks_as plan = Ok plan
 
-same_check : (p q : Plan) → checks_as p ≡ checks_as q → p ≡ q
+pub same_check : (p q : Plan) → checks_as p ≡ checks_as q → p ≡ q
 same_check p q e = cc
 
 -- of the same contents there is one graph, and one plan

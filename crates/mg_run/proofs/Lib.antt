@@ -15,3 +15,4 @@ pub mod Unlimited
 pub mod LiveUnlimited
 pub mod AnyLimit
 pub mod Headlines
+pub mod LiveHeadlines

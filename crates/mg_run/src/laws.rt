@@ -1,5 +1,5 @@
 //! Laws of the definitions: each function does nothing, and its contract is the law.
-ghost use Rattle.std.specs.Prelude.{◌≡◌, ℕ, ℤ, Bool, List, Option, None, Some};
+ghost use Rattle.std.specs.Prelude.{◌≡◌, ◌∷◌, ℕ, ℤ, Bool, List, Option, None, Some};
 ghost use Rattle.mg_calc.specs.declared.plan.Plan.{Plan};
 ghost use Rattle.mg_calc.specs.Told.{CalculatorTold};
 ghost use Rattle.mg_files.specs.Files.{Files};
@@ -11,7 +11,7 @@ ghost use Rattle.mg_answer.specs.declared.status.Status.{Status};
 ghost use Rattle.mg_run.specs.Invocation.{Invocation};
 ghost use Rattle.mg_run.specs.Devices.{Device, CallDevices, Unrisen};
 ghost use Rattle.mg_files.specs.Loads.{LoadedAll, loads_of};
-ghost use Rattle.mg_run.specs.Headline.{Headline};
+ghost use Rattle.mg_run.specs.Headline.{Headline, LiveHeadline};
 ghost use Rattle.mg_run.specs.Answer.{RunAnswer, Action, run_plan, solve, trace, action_of, with_limit, AnswersAction, Records, Replays};
 
 /// The program has at most one answer to the bytes of an input, but for the events of a run that it records: these are those of any run of
@@ -57,4 +57,15 @@ pub fn one_headline()
         → devices.input.before.left ≡ Some bytes → other.input.before.left ≡ Some bytes
         → Unrisen devices.input.before.faults devices.input.now.faults → Unrisen other.input.before.faults other.input.now.faults
         → (a.plan ≡ b.plan) × (a.from ≡ b.from) × (a.run.streams ≡ b.run.streams) }
+{}
+
+/// Two calls have the same headline where some node is free: with the same words and boxes, and with stores and inputs that tell the same
+/// and of which no read failed, they have the same plan, the same reading, the same batches, the same logs of the free nodes and the same
+/// solution of the core.
+pub fn one_live_headline()
+    ensures { (invocation : Invocation) (status other_status : Status) (devices other : CallDevices) (contents : List (List ℕ)) (bytes : List ℕ) (a : LiveHeadline invocation status devices) (b : LiveHeadline invocation other_status other)
+        → loads_of devices.store.before.content invocation.files ≡ Some contents → loads_of other.store.before.content invocation.files ≡ Some contents
+        → devices.input.before.left ≡ Some bytes → other.input.before.left ≡ Some bytes
+        → Unrisen devices.input.before.faults devices.input.now.faults → Unrisen other.input.before.faults other.input.now.faults
+        → (a.plan ≡ b.plan) × (a.from ≡ b.from) × (a.first ∷ a.later ≡ b.first ∷ b.later) × (a.run.comes.takens ≡ b.run.comes.takens) × (a.run.comes.streams ≡ b.run.comes.streams) }
 {}

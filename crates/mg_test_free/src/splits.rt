@@ -110,8 +110,8 @@ fn arrives(alloc: Global, state: &mut FreeState, at: i64) -> Result<bool, Fail> 
         at: Timestamp::of_range(at).ok_or("no time")?,
         payload: Arc::new(alloc, Payload::Int(1))?,
     };
-    if !state.may_arrive(0, &packet) {
-        return Err(Fail::from("an arrival that may not come"));
+    if !packet.at.is_allowed() {
+        return Err(Fail::from("a time that no packet may have"));
     }
     Ok(state.arrive(0, &packet)?)
 }

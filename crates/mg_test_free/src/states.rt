@@ -11,7 +11,7 @@ use std::sync::Arc;
 use std::test::Fail;
 
 // Rows of a law with its number, and arrivals, each as its port, `@` and its time; after `=` whether each is laid (`+`) or not (`-`),
-// and then the times of the output's packets and its bound.
+// and then the times of the packets that are handed on, and the output's bound. A bar hands on what was laid before it.
 fn arrivals() -> &'static str {
     r#"limiter 1 0@10 0@20=+- 10 bound 21
 limiter 1 0@10 0@20 0@30=+-- 10 bound 31
@@ -25,7 +25,10 @@ first 2 1@20 0@10=+- 20 bound 21
 first 2 0@10 1@20 0@20 0@21=++-+ 10 20 21 bound 22
 first 1 0@10 0@PostStream=+- 10 bound 11
 first 1 0@PostStream=+ PostStream bound OneOverPostStream
-first 3 2@PreStream 1@5 0@5=+-- PreStream bound OneOverPostStream"#
+first 3 2@PreStream 1@5 0@5=+-- PreStream bound OneOverPostStream
+limiter 1 0@10 | 0@20 1@10 0@30 | |=+ 10 bound 11--+ 30 bound 31 bound 31 bound 31
+first 1 0@10 | 0@9 0@10 0@11=+ 10 bound 11--+ 11 bound 12
+first 1 0@10 | 0@PostStream=+ 10 bound 11- bound 11"#
 }
 
 fn law_of(word: &str, number: u32) -> FreeLaw {
@@ -62,10 +65,31 @@ fn arrive(alloc: Global, state: &mut FreeState, word: &str) -> Result<bool, Fail
         at,
         payload: Arc::new(alloc, Payload::Int(1))?,
     };
-    if !state.may_arrive(port, &packet) {
-        return Err(Fail::from("an arrival that may not come"));
+    if !packet.at.is_allowed() {
+        return Err(Fail::from("a time that no packet may have"));
     }
     Ok(state.arrive(port, &packet)?)
+}
+
+// Shows what a node hands on.
+fn hand_on(text: &mut String, alloc: Global, state: &mut FreeState) -> Result<(), AllocError> {
+    let piece = state.hand_on()?;
+    show_output(text, alloc, &piece)
+}
+
+// Lets a packet arrive and shows whether it is laid, or hands on what was laid.
+fn step(text: &mut String, alloc: Global, state: &mut FreeState, word: &str) -> Result<(), Fail> {
+    if word == "|" {
+        hand_on(text, alloc, state)?;
+        return Ok(());
+    }
+    let mark = if arrive(alloc, state, word)? {
+        "+"
+    } else {
+        "-"
+    };
+    text.push_str(mark)?;
+    Ok(())
 }
 
 fn state_of(alloc: Global, law: FreeLaw) -> Result<FreeState, Fail> {
@@ -91,14 +115,9 @@ impl Calls for Arriving {
         let mut state = state_of(alloc, law_of(word, number))?;
         let mut text = String::new(alloc);
         for word in words {
-            let mark = if arrive(alloc, &mut state, word)? {
-                "+"
-            } else {
-                "-"
-            };
-            text.push_str(mark)?;
+            step(&mut text, alloc, &mut state, word)?;
         }
-        show_output(&mut text, alloc, state.output())?;
+        hand_on(&mut text, alloc, &mut state)?;
         Ok(text)
     }
 }
@@ -113,6 +132,7 @@ fn a_closed_output_has_ended(rt: HostRuntime) -> Result<(), Fail> {
     let alloc = rt.alloc();
     let mut state = state_of(alloc, FreeLaw::Limiter { most: 1 })?;
     state.close();
-    assert!(&rt; state.output().bound == Timestamp::DONE);
+    let piece = state.hand_on()?;
+    assert!(&rt; piece.bound == Timestamp::DONE);
     Ok(())
 }

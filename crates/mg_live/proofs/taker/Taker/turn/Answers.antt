@@ -30,10 +30,10 @@ take-requires-clause-port g c =
     let long = length-map c.args.free.now.inputs (stream_of r.streams) in
     omega (arith, less, long)
 
-pub take-requires-clause-may : goal.take-requires-clause-may
-take-requires-clause-may g c =
+pub take-requires-clause-allowed : goal.take-requires-clause-allowed
+take-requires-clause-allowed g c =
     let r = c.requires in
-    may_come r.streams c.args.free.now r.taken c.args.self.now c.in-Some.port c.in-Some-next_at.packet.now r.has_taken r.may (sym c.in-Some.is ∙ c.last_port.ensures r.streams r.taken r.are_they r.has_taken)
+    may_come r.streams c.args.free.now r.taken c.in-Some.port c.in-Some-next_at.packet.now r.may (sym c.in-Some.is ∙ c.last_port.ensures r.streams r.taken r.are_they r.has_taken)
     (sym (ap option_copied c.in-Some-next_at.is) ∙ c.next_at.ensures r.streams r.taken r.are_they r.has_taken)
 
 pub returns-clause-taken : goal.returns-clause-taken
