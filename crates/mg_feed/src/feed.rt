@@ -8,13 +8,27 @@ use mg_edge::{Got, Source};
 use std::alloc::{AllocError, Global};
 
 /// Reads the packet lines of an input, judges them, and keeps what they give a graph's inputs until it is taken.
-#[derive(Drop)]
 pub struct Feed {
     alloc: Global,
     input_buffer: InputBuffer,
     reader: Reader,
     // Room for reading the JSON of a line.
     scratch: Scratch,
+}
+
+// Written out, so that a proof about code that drops a feed needn't open it.
+impl Drop for Feed {
+    fn drop(self) {
+        let Feed {
+            alloc: _,
+            input_buffer,
+            reader,
+            scratch,
+        } = self;
+        drop(input_buffer);
+        drop(reader);
+        drop(scratch);
+    }
 }
 
 impl Feed {

@@ -1,7 +1,7 @@
 use crate::LineFault;
 
 /// How the reading of an input ended.
-#[derive(Clone, Copy, Debug, PartialEq, Eq)]
+#[derive(Clone, Copy)]
 pub enum FeedEnd {
     /// The source answered `End`, and all lines are good.
     Ended,
@@ -14,7 +14,7 @@ pub enum FeedEnd {
 }
 
 /// How a batch of lines ended.
-#[derive(Clone, Copy, Debug, PartialEq, Eq)]
+#[derive(Clone, Copy)]
 pub enum BatchEnd {
     /// The batch has as many lines that name a stream as it may. More may come behind it.
     More,

@@ -8,7 +8,6 @@ use mg_value::Kind;
 use std::alloc::{AllocError, Global};
 
 /// The inputs of a graph, found by their names.
-#[derive(Drop)]
 pub struct Graph {
     /// The input streams.
     pub streams: Places,
@@ -18,27 +17,27 @@ pub struct Graph {
     pub sides: Places,
 }
 
+// Written out, so that a proof about code that drops a graph needn't open it.
+impl Drop for Graph {
+    fn drop(self) {
+        let Graph {
+            streams,
+            kinds,
+            sides,
+        } = self;
+        drop(streams);
+        drop(kinds);
+        drop(sides);
+    }
+}
+
 /// Returns the inputs of a plan's graph.
 pub fn graph_of(alloc: Global, plan: &Plan) -> Result<Graph, AllocError>
     ensures { IfOk result (λ graph. graph_view graph ≡ inputs_of plan.now) }
 {
-    let placed = placed_streams(alloc, plan)?;
+    let streams = Places::of(alloc, placed_streams(alloc, plan)?)?;
     let kinds = kinds_of(alloc, plan)?;
-    let sides = placed_sides(alloc, &plan.sides)?;
-    finish(alloc, placed, kinds, sides)
-}
-
-// Puts a `Graph` together from names with places and from kinds.
-fn finish(
-    alloc: Global,
-    placed: Vec<Placed>,
-    kinds: Vec<Kind>,
-    sides: Vec<Placed>,
-) -> Result<Graph, AllocError>
-    ensures { IfOk result (λ graph. graph_view graph ≡ record { streams = placed.items; kinds = kinds.items; sides = sides.items }) }
-{
-    let streams = Places::of(alloc, placed)?;
-    let sides = Places::of(alloc, sides)?;
+    let sides = Places::of(alloc, placed_sides(alloc, &plan.sides)?)?;
     Ok(Graph {
         streams,
         kinds,

@@ -6,7 +6,7 @@ use mg_edge::{Got, Source};
 use std::alloc::{AllocError, Global};
 
 /// What a call of `Lines::next` came to.
-#[derive(Clone, Copy, Debug, PartialEq, Eq)]
+#[derive(Clone, Copy)]
 pub enum NextLine {
     /// A line, which is kept until the next one is asked for.
     Line,

@@ -9,14 +9,13 @@ use std::borrow::CowStr;
 use std::marker::Model;
 
 /// A name, and the place of what it names.
-#[derive(Debug, Drop)]
+#[derive(Drop)]
 pub struct Placed {
     pub name: MgText,
     pub place: u32,
 }
 
 /// A table of names with their places. Contracts see it as the list of them.
-#[derive(Drop)]
 pub struct Places {
     entries: Vec<Placed>,
     // Finds the number of the first entry that has a name. The table owns its names, since whoever makes a feed lends it a plan for
@@ -34,6 +33,15 @@ impl Model for Places {
     ghost view = { λ p. p.entries.items };
 
     ghost invariant = { λ p. Finds p.names p.entries.items };
+}
+
+// Written out, so that a proof about code that drops a table needn't open it.
+impl Drop for Places {
+    fn drop(self) {
+        let Places { entries, names } = self;
+        drop(entries);
+        drop(names);
+    }
 }
 
 impl Places {

@@ -1,4 +1,4 @@
-ghost use Rattle.std.specs.Prelude.{◌≡◌, ◌<◌, ◌^◌, IfOk, None, false, map, replicate, length, vec_len};
+ghost use Rattle.std.specs.Prelude.{◌≡◌, ◌<◌, ◌≤◌, ◌^◌, [], IfOk, None, false, map, replicate, length, vec_len, vec_capacity};
 ghost use Rattle.mg_settled.specs.Prefix.{empty_prefix};
 ghost use Rattle.mg_calc.specs.Given.{given};
 ghost use Rattle.mg_feed.specs.Code.Streams.{waiting, was_taken};
@@ -44,16 +44,14 @@ impl InputBuffer {
           lines = 0;
         }) }
     {
-        let streams = open_streams(alloc, graph.kinds.len())?;
-        let sides = no_sides(alloc, graph.sides.len())?;
-        let room = Vec::with_capacity(alloc, streams.len())?;
+        let empty = empty_inputs(alloc, graph.kinds.len(), graph.sides.len())?;
         Ok(InputBuffer {
             graph,
-            streams,
-            sides,
+            streams: empty.streams,
+            sides: empty.sides,
             named: false,
             lines: 0,
-            room,
+            room: empty.room,
         })
     }
 
@@ -91,6 +89,34 @@ impl InputBuffer {
         let prefixes = take_prefixes(alloc, &mut streams, ended, room);
         inputs_by(prefixes, given_list(sides), ended)
     }
+}
+
+// Inputs to which nothing came, and an empty list with room for a prefix of each stream.
+#[derive(Drop)]
+struct EmptyInputs {
+    streams: Vec<FeedStream>,
+    sides: Vec<Option<Arc<Payload>>>,
+    room: Vec<Prefix>,
+}
+
+// Returns the inputs of a graph with this many streams and side packets, to which nothing came.
+fn empty_inputs(alloc: Global, streams: usize, sides: usize) -> Result<EmptyInputs, AllocError>
+    ensures streams { IfOk result (λ e. map waiting e.streams.items ≡ replicate streams empty_prefix) }
+    ensures taken { IfOk result (λ e. map was_taken e.streams.items ≡ replicate streams false) }
+    ensures sides { IfOk result (λ e. map given e.sides.items ≡ replicate sides None) }
+    ensures few { IfOk result (λ e. vec_len e.streams < 2 ^ 32) }
+    ensures few_sides { IfOk result (λ e. vec_len e.sides < 2 ^ 32) }
+    ensures empty { IfOk result (λ e. e.room.items ≡ []) }
+    ensures enough { IfOk result (λ e. vec_len e.streams ≤ vec_capacity e.room) }
+{
+    let open = open_streams(alloc, streams)?;
+    let absent = no_sides(alloc, sides)?;
+    let room = Vec::with_capacity(alloc, open.len())?;
+    Ok(EmptyInputs {
+        streams: open,
+        sides: absent,
+        room,
+    })
 }
 
 // Returns `count` streams without packets, with the bound PreStream.
