@@ -1,7 +1,8 @@
 -- What a call came to.
-use Rattle.std.proofs.Common.{◌≡◌, ◌≢◌, ℕ, List, [], Bool, Option, None, Some, IfSome, ◌⊎◌, inl, inr, refl, sym, ap, ◌∙◌, subst, arith}
+use Rattle.std.proofs.Common.{◌≡◌, ◌≢◌, ℕ, List, [], All, Bool, Option, None, Some, IfSome, ◌⊎◌, inl, inr, refl, sym, ap, ◌∙◌, subst, arith}
 use Rattle.mg_edge.specs.Edge.{SourceTold, SinkTold, StoreTold, Rose, one_more}
 use Rattle.mg_calc.specs.Told.{CalculatorTold}
+use Rattle.mg_check.specs.Check.{IsOuterShape}
 use Rattle.mg_edge.proofs.Runs.{TookAll-start}
 use Rattle.mg_run.proofs.Readings.{no-status, lines-no-store, lines-no-usage, packets-no-store, packets-no-usage, lines-noted, packets-noted, lines-answered, packets-answered}
 use Rattle.mg_run.proofs.LiveReadings.{live-no-other, live-made-no-other, live-noted, live-made-noted, live-answered, live-made-answered}
@@ -98,19 +99,19 @@ did-noted (generate_live report number plan) all did = live-made-noted report pl
 did-noted (trace report plan) all did = did.ran.1
 did-noted (replay report plan) all did = did.replayed.1
 
-pub called-did : (action : Action) (status : Status) (invocation : Invocation) (contents : List (List ℕ)) (all : CallDevices)
+pub called-did : (action : Action) (status : Status) (invocation : Invocation) → All IsOuterShape invocation.outers → (contents : List (List ℕ)) (all : CallDevices)
     → LoadedAll invocation.files contents all.store → IsActionOf invocation contents action → DidAction action status all → Called status invocation all
-called-did action Good invocation contents all loaded due did = record { contents = contents; loaded = loaded; action = action; due = due; did = did }
-called-did action StoreFault invocation contents all loaded due did = absurd (did-store action all did)
-called-did action Usage invocation contents all loaded due did = absurd (did-usage action all did)
-called-did action GraphRefused invocation contents all loaded due did = record { contents = contents; loaded = loaded; action = action; due = due; did = did }
-called-did action LineRefused invocation contents all loaded due did = record { contents = contents; loaded = loaded; action = action; due = due; did = did }
-called-did action NodeFault invocation contents all loaded due did = record { contents = contents; loaded = loaded; action = action; due = due; did = did }
-called-did action Stalled invocation contents all loaded due did = record { contents = contents; loaded = loaded; action = action; due = due; did = did }
-called-did action ReadFault invocation contents all loaded due did = record { contents = contents; loaded = loaded; action = action; due = due; did = did }
-called-did action WriteFault invocation contents all loaded due did = record { contents = contents; loaded = loaded; action = action; due = due; did = did }
-called-did action OutOfMemory invocation contents all loaded due did =
-    record { noted = did-noted action all did; by = inr (record { contents = contents; loaded = loaded; action = action; due = due; did = did }) }
+called-did action Good invocation shaped contents all loaded due did = record { shaped = shaped; contents = contents; loaded = loaded; action = action; due = due; did = did }
+called-did action StoreFault invocation shaped contents all loaded due did = absurd (did-store action all did)
+called-did action Usage invocation shaped contents all loaded due did = absurd (did-usage action all did)
+called-did action GraphRefused invocation shaped contents all loaded due did = record { shaped = shaped; contents = contents; loaded = loaded; action = action; due = due; did = did }
+called-did action LineRefused invocation shaped contents all loaded due did = record { shaped = shaped; contents = contents; loaded = loaded; action = action; due = due; did = did }
+called-did action NodeFault invocation shaped contents all loaded due did = record { shaped = shaped; contents = contents; loaded = loaded; action = action; due = due; did = did }
+called-did action Stalled invocation shaped contents all loaded due did = record { shaped = shaped; contents = contents; loaded = loaded; action = action; due = due; did = did }
+called-did action ReadFault invocation shaped contents all loaded due did = record { shaped = shaped; contents = contents; loaded = loaded; action = action; due = due; did = did }
+called-did action WriteFault invocation shaped contents all loaded due did = record { shaped = shaped; contents = contents; loaded = loaded; action = action; due = due; did = did }
+called-did action OutOfMemory invocation shaped contents all loaded due did =
+    record { noted = did-noted action all did; by = inr (record { shaped = shaped; contents = contents; loaded = loaded; action = action; due = due; did = did }) }
 
 -- What follows --
 

@@ -33,7 +33,7 @@ use Rattle.mg_run.proofs.Readings.{lines-boxes, packets-boxes}
 use Rattle.mg_run.proofs.LiveReadings.{live-boxes, live-made-boxes}
 use Rattle.mg_run.proofs.Calling.{short-nothing, answered-from}
 use Rattle.mg_run.proofs.Planned.{planned}
-use Rattle.mg_run.proofs.Ending.{ended_statuses, called-ended}
+use Rattle.mg_run.proofs.Ending.{ended_statuses, called-unread, called-ended}
 use Rattle.mg_run.proofs.Risen.{store-risen, read-risen, write-risen, risen-steady}
 
 -- There was no memory to judge the words.
@@ -100,10 +100,11 @@ came-answered outers asks_usage status all came = tt
 came-answered outers (asks_text text) status all came = tt
 came-answered outers (asks_command command) status all came = answered-from status (invocation command outers) all came
 
-pub unread-nothing : (request : Request) (input : SourceTold) → IfSome (command_by request) (λ command. reads_input command.instruction.verb ≡ false → Untouched (device input input))
-unread-nothing asks_usage input = tt
-unread-nothing (asks_text text) input = tt
-unread-nothing (asks_command command) input = λ is. refl
+pub came-unread : (outers : List OuterShape) (request : Request) (status : Status) (all : CallDevices) → CallEnded outers request status all
+    → IfSome (command_by request) (λ command. reads_input command.instruction.verb ≡ false → Untouched all.input)
+came-unread outers asks_usage status all came = tt
+came-unread outers (asks_text text) status all came = tt
+came-unread outers (asks_command command) status all came = λ is. called-unread status (invocation command outers) all is came
 
 -- The input's end --
 
@@ -307,6 +308,3 @@ came_apart outers request status store ib ia ob oa nb na boxes i o n same_i same
     subst (λ (s : SourceTold). CallEnded outers request status (devices store (device ib s) (device ob o) (device nb n) boxes)) (sym same_i)
     (subst (λ (k : SinkTold). CallEnded outers request status (devices store (device ib ia) (device ob k) (device nb n) boxes)) (sym same_o)
     (subst (λ (e : SinkTold). CallEnded outers request status (devices store (device ib ia) (device ob oa) (device nb e) boxes)) (sym same_n) came))
-
-pub unread_apart : (command : Option Command) (ib ia i : SourceTold) → i ≡ ia → IfSome command (λ c. reads_input c.instruction.verb ≡ false → Untouched (device ib ia)) → IfSome command (λ c. reads_input c.instruction.verb ≡ false → Untouched (device ib i))
-unread_apart command ib ia i same unread = subst (λ (s : SourceTold). IfSome command (λ c. reads_input c.instruction.verb ≡ false → Untouched (device ib s))) (sym same) unread

@@ -1,8 +1,9 @@
 -- What there is to do with files that were loaded, by what is known of the calculators that are handed in.
-use Rattle.std.proofs.Common.{◌≡◌, ℕ, List, subst}
+use Rattle.std.proofs.Common.{◌≡◌, ℕ, List, All, subst}
 use Rattle.mg_edge.specs.Edge.{StoreTold}
 use Rattle.mg_calc.specs.declared.shape.OuterShape.{OuterShape}
 use Rattle.mg_calc.specs.Told.{CalculatorTold}
+use Rattle.mg_check.specs.Check.{IsOuterShape}
 use Rattle.mg_words.specs.Command.{Command}
 use Rattle.mg_files.specs.Loads.{LoadedAll}
 use Rattle.mg_run.specs.Invocation.{invocation}
@@ -12,10 +13,10 @@ use Rattle.mg_run.specs.Answer.{Action}
 use Rattle.mg_run.specs.Call.{IsActionOf}
 use Rattle.mg_run.specs.Code.Action.{IsDue}
 
-pub due_by : (request : Command) (known outers : List OuterShape) (contents : List (List ℕ)) (store : Device StoreTold) (action : Action) → known ≡ outers
+pub due_by : (request : Command) (known outers : List OuterShape) (contents : List (List ℕ)) (store : Device StoreTold) (action : Action) → known ≡ outers → All IsOuterShape known
     → LoadedAll request.files contents store → IsActionOf (invocation request known) contents action → IsDue (invocation request outers) store action
-due_by request known outers contents store action same loaded due =
-    record { contents = contents; loaded = loaded; due = subst (λ (o : List OuterShape). IsActionOf (invocation request o) contents action) same due }
+due_by request known outers contents store action same shaped loaded due =
+    record { shaped = subst (λ (o : List OuterShape). All IsOuterShape o) same shaped; contents = contents; loaded = loaded; due = subst (λ (o : List OuterShape). IsActionOf (invocation request o) contents action) same due }
 
 pub due_among : (request : Command) (handed boxes : List CalculatorTold) (store : Device StoreTold) (action : Action) → handed ≡ boxes → IsDue (invocation request (outers_told handed)) store action
     → IsDue (invocation request (outers_told boxes)) store action

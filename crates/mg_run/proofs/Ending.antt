@@ -20,8 +20,7 @@ use Rattle.mg_run.specs.Invocation.{Invocation}
 use Rattle.mg_files.specs.Files.{Files, graphs, no_graphs}
 use Rattle.mg_run.specs.Answer.{Action, refuse, show, run_plan, run_live, solve, generate, generate_live, trace, replay, check_action, way_action, live_action, verb_action, expanded_action, files_action}
 use Rattle.mg_run.specs.Devices.{Device, CallDevices, run_devices_of, Untouched, InputHasEnded}
-use Rattle.mg_run.specs.Call.{DidAction, IsActionOf, CallDid, Called, IsOneOf}
-use Rattle.mg_run.specs.Code.Action.{MayRead}
+use Rattle.mg_run.specs.Call.{DidAction, IsActionOf, DidNothing, CallDid, Called, IsOneOf}
 use Rattle.mg_run.proofs.Planned.{planned}
 use Rattle.mg_words.specs.declared.words.Instruction.{Instruction}
 use Rattle.mg_words.specs.declared.words.Verb.{Verb}
@@ -30,6 +29,18 @@ use Rattle.mg_words.specs.declared.words.Way.{Way}
 use Rattle.mg_words.specs.declared.words.Way.TheVariants.{Run, Solve, Generate, Trace, Replay}
 use Rattle.mg_answer.specs.declared.status.Status.{Status}
 use Rattle.mg_answer.specs.declared.status.Status.TheVariants.{Good, StoreFault, Usage, GraphRefused, LineRefused, NodeFault, Stalled, ReadFault, WriteFault, OutOfMemory}
+
+-- the input may be read where this action is done
+abbrev MayRead : Action → Type 0
+MayRead (refuse note) = ⊥
+MayRead (show text) = ⊥
+MayRead (run_plan report plan) = Unit {0}
+MayRead (run_live report plan) = Unit {0}
+MayRead (solve report plan) = Unit {0}
+MayRead (generate report number plan) = ⊥
+MayRead (generate_live report number plan) = ⊥
+MayRead (trace report plan) = Unit {0}
+MayRead (replay report plan) = Unit {0}
 
 -- A check, an expansion and a run over packets that are made don't read it.
 check-unread : (checked : Result Plan CheckFault) → MayRead (check_action checked) → ⊥
@@ -65,10 +76,38 @@ files-unread instruction outers (graphs []) is may = may
 files-unread instruction outers (graphs (main ∷ library)) is may = expanded-unread instruction outers (expansion_of main library) is may
 files-unread instruction outers (no_graphs note) is may = may
 
-pub unread-by : (invocation : Invocation) (contents : List (List ℕ)) (action : Action) (input : Device SourceTold) → IsActionOf invocation contents action → MayRead action ⊎ Untouched input → reads_input invocation.instruction.verb ≡ false
-    → Untouched input
-unread-by invocation contents action input due (inr untouched) is = untouched
-unread-by invocation contents action input (files, are, same) (inl may) is = absurd (files-unread invocation.instruction invocation.outers files is (subst MayRead same may))
+due-unread : (invocation : Invocation) (contents : List (List ℕ)) (action : Action) → IsActionOf invocation contents action → reads_input invocation.instruction.verb ≡ false → MayRead action → ⊥
+due-unread invocation contents action (files, are, same) is may = files-unread invocation.instruction invocation.outers files is (subst MayRead same may)
+
+did-unread : (action : Action) (status : Status) (all : CallDevices) → (MayRead action → ⊥) → DidAction action status all → Untouched all.input
+did-unread (refuse note) status all none did = did.unread
+did-unread (show text) status all none did = did.unread
+did-unread (run_plan report plan) status all none did = absurd (none tt)
+did-unread (run_live report plan) status all none did = absurd (none tt)
+did-unread (solve report plan) status all none did = absurd (none tt)
+did-unread (generate report number plan) status all none did = did.unread
+did-unread (generate_live report number plan) status all none did = did.unread
+did-unread (trace report plan) status all none did = absurd (none tt)
+did-unread (replay report plan) status all none did = absurd (none tt)
+
+call-unread : (status : Status) (invocation : Invocation) (all : CallDevices) → reads_input invocation.instruction.verb ≡ false → CallDid status invocation all → Untouched all.input
+call-unread status invocation all is called = did-unread called.action status all (due-unread invocation called.contents called.action called.due is) called.did
+
+short-unread : (invocation : Invocation) (all : CallDevices) → reads_input invocation.instruction.verb ≡ false → DidNothing all ⊎ CallDid OutOfMemory invocation all → Untouched all.input
+short-unread invocation all is (inl nothing) = nothing.unread
+short-unread invocation all is (inr called) = call-unread OutOfMemory invocation all is called
+
+pub called-unread : (status : Status) (invocation : Invocation) (all : CallDevices) → reads_input invocation.instruction.verb ≡ false → Called status invocation all → Untouched all.input
+called-unread StoreFault invocation all is called = called.unread
+called-unread Usage invocation all is called = elim called [ ]
+called-unread OutOfMemory invocation all is called = short-unread invocation all is called.by
+called-unread Good invocation all is called = call-unread Good invocation all is called
+called-unread GraphRefused invocation all is called = call-unread GraphRefused invocation all is called
+called-unread LineRefused invocation all is called = call-unread LineRefused invocation all is called
+called-unread NodeFault invocation all is called = call-unread NodeFault invocation all is called
+called-unread Stalled invocation all is called = call-unread Stalled invocation all is called
+called-unread ReadFault invocation all is called = call-unread ReadFault invocation all is called
+called-unread WriteFault invocation all is called = call-unread WriteFault invocation all is called
 
 -- What reads it is refused, or reads: it shows no text, and no packets are made.
 abbrev NeedsNone : Action → Type 0

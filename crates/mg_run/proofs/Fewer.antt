@@ -19,9 +19,15 @@ not-many : (many : Bool) → counted many ≡ None → many ≡ false
 not-many true none = cc
 not-many false none = refl
 
+pub few-views : (main : GraphView) (library : List GraphView) (graph : GraphView) → expansion_of main library ≡ Ok graph → length graph.nodes ≤ 4096
+few-views main library graph made =
+    let is = expansion_is main library graph made in
+    let few : nat_lt max_nodes (length (expanded library main.nodes)) ≡ false = not-many _ (refusals_none main library is.0).2 in
+    let same : length (expanded library main.nodes) ≡ length graph.nodes = ap (λ (g : GraphView). length g.nodes) is.1 in
+    omega (arith, ltb-false max_nodes (length (expanded library main.nodes)) few, same)
+
 pub few-nodes : (main : GraphView) (library : List GraphView) (graph : GraphConfig) → expansion_of main library ≡ Ok (graph_view graph) → length graph.nodes ≤ 4096
 few-nodes main library graph made =
-    let is = expansion_is main library (graph_view graph) made in
-    let few : nat_lt max_nodes (length (expanded library main.nodes)) ≡ false = not-many _ (refusals_none main library is.0).2 in
-    let same : length (expanded library main.nodes) ≡ length graph.nodes = ap (λ (g : GraphView). length g.nodes) is.1 ∙ length-map node_view graph.nodes in
-    omega (arith, ltb-false max_nodes (length (expanded library main.nodes)) few, same)
+    let few = few-views main library (graph_view graph) made in
+    let same : length (graph_view graph).nodes ≡ length graph.nodes = length-map node_view graph.nodes in
+    omega (arith, few, same)

@@ -1,5 +1,5 @@
 -- A run or a run over packets that are made, as one thing.
-use Rattle.std.proofs.Common.{◌≡◌, ◌≢◌, ◌⊎◌, inl, inr, ℕ, ℤ, List, [], ◌∷◌, Option, None, Some, IfSome, Result, Ok, Err, refl, sym, ap, ◌∙◌, subst}
+use Rattle.std.proofs.Common.{◌≡◌, ◌≢◌, ◌⊎◌, inl, inr, ℕ, ℤ, List, [], ◌∷◌, All, Option, None, Some, IfSome, Result, Ok, Err, refl, sym, ap, ◌∙◌, subst}
 use Rattle.mg_edge.specs.Edge.{SourceTold, SinkTold, StoreTold}
 use Rattle.mg_config.specs.Config.{GraphView}
 use Rattle.mg_calc.specs.declared.inputs.Inputs.{Inputs}
@@ -8,7 +8,7 @@ use Rattle.mg_calc.specs.declared.shape.OuterShape.{OuterShape}
 use Rattle.mg_calc.specs.Equations as equations
 use Rattle.mg_calc.specs.Told.{CalculatorTold}
 use Rattle.mg_calc.proofs.Solutions.{one_solution}
-use Rattle.mg_check.specs.Check.{check_of}
+use Rattle.mg_check.specs.Check.{check_of, IsOuterShape}
 use Rattle.mg_check.specs.declared.fault.CheckFault.{CheckFault}
 use Rattle.mg_subgraph.specs.Expansion.{expansion_of}
 use Rattle.mg_subgraph.specs.declared.fault.ExpandFault.{ExpandFault}
@@ -40,6 +40,7 @@ use Rattle.mg_words.specs.declared.words.Way.{Way}
 use Rattle.mg_words.specs.declared.words.Way.TheVariants.{Run, Generate}
 use Rattle.mg_files.proofs.Loading.{of-loads}
 use Rattle.mg_files.proofs.Together.{one-reading}
+use Rattle.mg_run.proofs.Valid.{valid_checked, valid_unfree}
 use Rattle.mg_run.proofs.Unlimited.{limited_plan, unlimited_run}
 use Rattle.mg_run.proofs.LiveUnlimited.{batches_same, unlimited_live}
 
@@ -76,23 +77,45 @@ by_check invocation contents way g (Ok plan) is found live = by_free invocation 
 by_check invocation contents way g (Err fault) is found live = inl (check_note fault, refl)
 
 -- by what the expansion answers
-by_expansion : (invocation : Invocation) (contents : List (List ℕ)) (way : Way) (main : GraphView) (library : List GraphView) (expanded : Result GraphView ExpandFault) → invocation.instruction.verb ≡ Use way → AreGraphs contents (main ∷ library) → expansion_of main library ≡ expanded
+by_expansion : (invocation : Invocation) → All IsOuterShape invocation.outers → (contents : List (List ℕ)) (way : Way) (main : GraphView) (library : List GraphView) (expanded : Result GraphView ExpandFault) → invocation.instruction.verb ≡ Use way → AreGraphs contents (main ∷ library) → expansion_of main library ≡ expanded
     → Due invocation contents way (expanded_action invocation.instruction invocation.outers expanded)
-by_expansion invocation contents way main library (Ok g) verb are is =
+by_expansion invocation shaped contents way main library (Ok g) verb are is =
     subst (λ (v : Verb). Due invocation contents way (verb_action v invocation.instruction invocation.outers g)) (sym verb)
     (by_check invocation contents way g (check_of invocation.outers g) refl
-    (λ plan checked bound. record { main = main; library = library; files = are; graph = g; expanded = is; checked = checked; bound = bound })
-    (λ plan checked first free. (record { main = main; library = library; files = are; graph = g; expanded = is; checked = checked; first = first; free = free }, refl)))
-by_expansion invocation contents way main library (Err fault) verb are is = inl (expand_note fault, refl)
+    (λ plan checked unfree. record {
+      main = main;
+      library = library;
+      files = are;
+      graph = g;
+      expanded = is;
+      checked = checked;
+      valid = valid_unfree plan (valid_checked invocation.outers main library g plan shaped is checked) unfree;
+      unfree = unfree;
+    })
+    (λ plan checked first free. (
+      record {
+        main = main;
+        library = library;
+        files = are;
+        graph = g;
+        expanded = is;
+        checked = checked;
+        valid = valid_checked invocation.outers main library g plan shaped is checked;
+        first = first;
+        free = free;
+      },
+      refl,
+    )))
+by_expansion invocation shaped contents way main library (Err fault) verb are is = inl (expand_note fault, refl)
 
 -- by what the files are
-by_files : (invocation : Invocation) (contents : List (List ℕ)) (way : Way) (files : Files) → invocation.instruction.verb ≡ Use way → AreFiles invocation.files contents files → Due invocation contents way (action_of invocation files)
-by_files invocation contents way (graphs []) verb are = inl ([], refl)
-by_files invocation contents way (graphs (main ∷ library)) verb are = by_expansion invocation contents way main library (expansion_of main library) verb are refl
-by_files invocation contents way (no_graphs note) verb are = inl (note, refl)
+by_files : (invocation : Invocation) → All IsOuterShape invocation.outers → (contents : List (List ℕ)) (way : Way) (files : Files) → invocation.instruction.verb ≡ Use way → AreFiles invocation.files contents files → Due invocation contents way (action_of invocation files)
+by_files invocation shaped contents way (graphs []) verb are = inl ([], refl)
+by_files invocation shaped contents way (graphs (main ∷ library)) verb are = by_expansion invocation shaped contents way main library (expansion_of main library) verb are refl
+by_files invocation shaped contents way (no_graphs note) verb are = inl (note, refl)
 
-due_by : (invocation : Invocation) (contents : List (List ℕ)) (way : Way) (job : Action) → invocation.instruction.verb ≡ Use way → IsActionOf invocation contents job → Due invocation contents way job
-due_by invocation contents way job verb (files, are, same) = subst (Due invocation contents way) (sym same) (by_files invocation contents way files verb are)
+due_by : (invocation : Invocation) → All IsOuterShape invocation.outers → (contents : List (List ℕ)) (way : Way) (job : Action) → invocation.instruction.verb ≡ Use way → IsActionOf invocation contents job → Due invocation contents way job
+due_by invocation shaped contents way job verb (files, are, same) = subst (Due invocation contents way) (sym same) (by_files invocation shaped contents way files verb are)
 
 -- The plan's limit and workers have no part in it --
 
@@ -217,9 +240,9 @@ did_headline invocation status all called way (inr is) verb good some (inr (inr 
 
 call_headline : (status : Status) (invocation : Invocation) (all : CallDevices) → CallDid status invocation all → RunsGraph invocation.instruction.verb → status ≢ GraphRefused → status ≢ OutOfMemory → RanGraph invocation status all
 call_headline status invocation all called (inl verb) good some =
-    did_headline invocation status all called Run (inl refl) verb good some (due_by invocation called.contents Run called.action verb called.due)
+    did_headline invocation status all called Run (inl refl) verb good some (due_by invocation called.shaped called.contents Run called.action verb called.due)
 call_headline status invocation all called (inr verb) good some =
-    did_headline invocation status all called Generate (inr refl) verb good some (due_by invocation called.contents Generate called.action verb called.due)
+    did_headline invocation status all called Generate (inr refl) verb good some (due_by invocation called.shaped called.contents Generate called.action verb called.due)
 
 -- no run ends so
 store_ran : IsOneOf StoreFault ran_statuses → ⊥

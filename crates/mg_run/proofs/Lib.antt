@@ -1,4 +1,5 @@
 pub mod Fewer
+pub mod Valid
 pub mod Told
 pub mod Readings
 pub mod LiveReadings

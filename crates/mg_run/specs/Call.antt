@@ -1,7 +1,8 @@
 -- What a call came to, by its status.
-use Rattle.std.specs.Prelude.{◌≡◌, ℕ, ◌⊎◌, Bool, List, IfSome}
+use Rattle.std.specs.Prelude.{◌≡◌, ℕ, ◌⊎◌, Bool, List, All, IfSome}
 use Rattle.mg_calc.specs.declared.plan.Plan.{Plan}
 use Rattle.mg_calc.specs.declared.shape.OuterShape.{OuterShape}
+use Rattle.mg_check.specs.Check.{IsOuterShape}
 use Rattle.mg_run.specs.Invocation.{Invocation, invocation}
 use Rattle.mg_words.specs.Words.{Request, asks_usage, asks_text, asks_command}
 use Rattle.mg_files.specs.Files.{Files, AreFiles}
@@ -116,8 +117,10 @@ DidAction (replay report plan) status devices = ReplayedGraph report plan status
 abbrev pub IsActionOf : Invocation → List (List ℕ) → Action → Type 0
 IsActionOf invocation contents action = (files : Files) × AreFiles invocation.files contents files × (action ≡ action_of invocation files)
 
--- All files were loaded, and what the command has to do with their contents was done.
+-- All files were loaded, and what the command has to do with their contents was done. The calculators that are handed in have the shapes of
+-- their laws.
 pub record CallDid (status : Status) (invocation : Invocation) (devices : CallDevices) : Type 0 where
+  pub shaped : All IsOuterShape invocation.outers
   pub contents : List (List ℕ)
   pub loaded : LoadedAll invocation.files contents devices.store
   pub action : Action

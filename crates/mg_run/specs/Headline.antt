@@ -5,6 +5,7 @@ use Rattle.mg_edge.specs.Edge.{SourceTold}
 use Rattle.mg_config.specs.Config.{GraphView}
 use Rattle.mg_calc.specs.declared.inputs.Inputs.{Inputs}
 use Rattle.mg_calc.specs.declared.plan.Plan.{Plan}
+use Rattle.mg_calc.specs.Plan.{IsValid, IsValidWithFree}
 use Rattle.mg_calc.specs.Equations as equations
 use Rattle.mg_check.specs.Check.{check_of}
 use Rattle.mg_subgraph.specs.Expansion.{expansion_of}
@@ -36,8 +37,8 @@ RunsGraph verb = (verb ≡ Use Run) ⊎ (verb ≡ Use Generate)
 abbrev pub ran_statuses : List Status
 ran_statuses = Good ∷ LineRefused ∷ NodeFault ∷ Stalled ∷ ReadFault ∷ WriteFault ∷ []
 
--- The contents are graphs. The first expands with the others as its library to a valid graph with this plan, where the calculators that are
--- handed in have these shapes and laws, and no node of it is free.
+-- The contents are graphs. The first expands with the others as its library to a graph that is checked and has this valid plan, where the
+-- calculators that are handed in have these shapes and laws, and no node of it is free.
 pub record IsGraph (invocation : Invocation) (contents : List (List ℕ)) (plan : Plan) : Type 0 where
   pub main : GraphView
   pub library : List GraphView
@@ -45,7 +46,8 @@ pub record IsGraph (invocation : Invocation) (contents : List (List ℕ)) (plan 
   pub graph : GraphView
   pub expanded : expansion_of main library ≡ Ok graph
   pub checked : check_of invocation.outers graph ≡ Ok plan
-  pub bound : first_free plan ≡ None
+  pub valid : IsValid plan
+  pub unfree : first_free plan ≡ None
 
 -- What a graph was run over: what the input came to, or a number of packets that are made.
 pub data Origin : Type 0 where
@@ -90,8 +92,8 @@ pub record Headline (invocation : Invocation) (status : Status) (devices : CallD
 
 -- Graphs with free nodes --
 
--- The contents are graphs. The first expands with the others as its library to a valid graph with this plan, where the calculators that are
--- handed in have these shapes and laws, and some node of it is free, of which this is the first.
+-- The contents are graphs. The first expands with the others as its library to a graph that is checked and has this valid plan, where the
+-- calculators that are handed in have these shapes and laws, and some node of it is free, of which this is the first.
 pub record IsLiveGraph (invocation : Invocation) (contents : List (List ℕ)) (plan : Plan) : Type 0 where
   pub main : GraphView
   pub library : List GraphView
@@ -99,6 +101,7 @@ pub record IsLiveGraph (invocation : Invocation) (contents : List (List ℕ)) (p
   pub graph : GraphView
   pub expanded : expansion_of main library ≡ Ok graph
   pub checked : check_of invocation.outers graph ≡ Ok plan
+  pub valid : IsValidWithFree plan
   pub first : ℕ
   pub free : first_free plan ≡ Some first
 

@@ -1,15 +1,15 @@
-ghost use Rattle.std.specs.Prelude.{◌≡◌, ◌≢◌, ◌↔◌, true, false, All, ◌⊎◌, ℕ, List, ◌∷◌, [], IfSome, IfOk, IfErr, length, map};
-ghost use Rattle.mg_words.specs.Command.{command, reads_input, calls_boxes};
+ghost use Rattle.std.specs.Prelude.{◌≡◌, ◌≢◌, All, ◌⊎◌, IfSome, IfOk, IfErr, length, map};
+ghost use Rattle.mg_words.specs.Command.{command};
 ghost use Rattle.mg_run.specs.Boxes.{outers_told, MayBeHandedIn};
 ghost use Rattle.mg_run.specs.Invocation.{invocation};
-ghost use Rattle.mg_words.specs.Words.{asks_usage, asks_text, request_of, command_by, command_of};
-ghost use Rattle.mg_run.specs.Devices.{Device, device, with_run, told_at, told_apart, told_by, SameDevices, Untouched, InputHasEnded, HasRisen, NoneFailed, TookText, TookPart, TookNotes};
+ghost use Rattle.mg_words.specs.Words.{request_of, command_of};
+ghost use Rattle.mg_run.specs.Devices.{Device, device, with_run, told_at, told_apart, told_by, SameDevices, Untouched, NoneFailed, TookText, TookPart, TookNotes};
 ghost use Rattle.mg_run.specs.Headline.{RunsGraph, ran_statuses, RanGraph};
-ghost use Rattle.mg_run.specs.Call.{WasUsage, WasTold, CallEnded, Called, DidAction, IsAnswered, IsOneOf};
-ghost use Rattle.mg_answer.specs.Notes.{write_note, memory_note};
+ghost use Rattle.mg_run.specs.Call.{CallEnded, Called, DidAction, IsAnswered, IsOneOf};
+ghost use Rattle.mg_answer.specs.Notes.{write_note};
 ghost use Rattle.mg_words.specs.Request.{request_view};
 ghost use Rattle.mg_files.specs.Reads.{HasFailed};
-ghost use Rattle.mg_run.specs.Code.Action.{action_view, use_action, MayRead, CanBeDone, IsDue};
+ghost use Rattle.mg_run.specs.Code.Action.{action_view, use_action, CanBeDone, IsDue};
 ghost use Rattle.mg_edge.specs.Edge.{StoreTold};
 
 use crate::action::{Action, Use, action_of};
@@ -41,59 +41,27 @@ pub fn run_words<R: Threads + Wait + Sync, S: Source, K: Sink, E: Sink, T: Store
     boxes: &mut Vec<Box<dyn Calculator + Send>>,
     gate: &G,
 ) -> Status
-    // Whether the words are a command is judged first, and depends on no device.
-    ensures usage { result ≢ Status.OutOfMemory → (result ≡ Status.Usage) ↔ (request_of words.now ≡ asks_usage) }
-    ensures usage_note { request_of words.now ≡ asks_usage → WasUsage result (told_apart T.told S.told K.told E.told (λ b. (Calculator-box b).told b.value)
-        store.old store.new input.old input.new output.old output.new notes.old notes.new boxes.old boxes.new) }
-
-    // The help and the version are texts that are only written.
-    ensures told { (text : List ℕ) → request_of words.now ≡ asks_text text → WasTold text result (told_apart T.told S.told K.told E.told (λ b. (Calculator-box b).told b.value)
-        store.old store.new input.old input.new output.old output.new notes.old notes.new boxes.old boxes.new) }
+    // What the call came to, by what its words ask for. `what_a_call_came_to` tells what follows from it: of each status its cause, of the
+    // devices what was done to them, and of the calculators which had a call.
+    ensures came { CallEnded (outers_told (map (λ b. (Calculator-box b).told b.value) boxes.old.items)) (request_of words.now) result
+        (told_apart T.told S.told K.told E.told (λ b. (Calculator-box b).told b.value) store.old store.new input.old input.new output.old output.new notes.old notes.new boxes.old boxes.new) }
 
     // A `run` or a `generate` that reached its graph is one thing: there is one content of each file, one graph and its plan, one reading
     // of the input and one solution, and the output, the notes, the status and the calls of every box are theirs. Where a node is free
     // there are also the logs to which the free nodes' rounds come over the batches of the input, and the notes tell these. Neither the
     // limit of queues nor the number of workers has a part in it.
     ensures headline { IfSome (command_of words.now) (λ command. RunsGraph command.instruction.verb → IsOneOf result ran_statuses
-        → RanGraph (invocation command (outers_told (map (λ b. (Calculator-box b).told b.value) boxes.old.items))) result (told_apart T.told S.told K.told E.told (λ b. (Calculator-box b).told b.value)
-        store.old store.new input.old input.new output.old output.new notes.old notes.new boxes.old boxes.new)) }
-
-    // What a call with a command came to, by its status.
-    ensures called { IfSome (command_of words.now) (λ command. Called result (invocation command (outers_told (map (λ b. (Calculator-box b).told b.value) boxes.old.items))) (told_apart T.told S.told K.told E.told (λ b. (Calculator-box b).told b.value)
-        store.old store.new input.old input.new output.old output.new notes.old notes.new boxes.old boxes.new)) }
+        → RanGraph (invocation command (outers_told (map (λ b. (Calculator-box b).told b.value) boxes.old.items))) result
+        (told_apart T.told S.told K.told E.told (λ b. (Calculator-box b).told b.value) store.old store.new input.old input.new output.old output.new notes.old notes.new boxes.old boxes.new)) }
 
     // Where no device failed and memory didn't run out, the output's text, the notes and the status are those of the answer to the files'
     // bytes and the input's.
     ensures answered { IfSome (command_of words.now) (λ command.
-        NoneFailed (told_apart T.told S.told K.told E.told (λ b. (Calculator-box b).told b.value)
-        store.old store.new input.old input.new output.old output.new notes.old notes.new boxes.old boxes.new)
+        NoneFailed (told_apart T.told S.told K.told E.told (λ b. (Calculator-box b).told b.value) store.old store.new input.old input.new output.old output.new notes.old notes.new boxes.old boxes.new)
         → result ≢ Status.OutOfMemory
-        → IsAnswered result (invocation command (outers_told (map (λ b. (Calculator-box b).told b.value) boxes.old.items))) (told_apart T.told S.told K.told E.told (λ b. (Calculator-box b).told b.value)
-        store.old store.new input.old input.new output.old output.new notes.old notes.new boxes.old boxes.new)) }
-
-    // Where memory ran out the notes say that alone.
-    ensures memory_noted { result ≡ Status.OutOfMemory → TookNotes (device (E.told notes.old) (E.told notes.new)) memory_note }
-
-    // A `check`, an `expand` and a `generate` leave the input as it was.
-    ensures unread { IfSome (command_of words.now) (λ command. reads_input command.instruction.verb ≡ false
-        → Untouched (device (S.told input.old) (S.told input.new))) }
-
-    // A call that read the input and went well, or in which a node failed or a stream never closed, met the input's end.
-    ensures ended { IfSome (command_of words.now) (λ command. reads_input command.instruction.verb ≡ true
-        → IsOneOf result (Status.Good ∷ Status.NodeFault ∷ Status.Stalled ∷ []) → InputHasEnded (device (S.told input.old) (S.told input.new))) }
-
-    // No fault of a device hides behind another status.
-    ensures store_rose { HasRisen (T.told store.old).faults (T.told store.new).faults
-        → IsOneOf result (Status.StoreFault ∷ Status.OutOfMemory ∷ []) }
-    ensures read_rose { HasRisen (S.told input.old).faults (S.told input.new).faults
-        → IsOneOf result (Status.ReadFault ∷ Status.WriteFault ∷ Status.OutOfMemory ∷ []) }
-    ensures write_rose { HasRisen (K.told output.old).faults (K.told output.new).faults ⊎ HasRisen (E.told notes.old).faults (E.told notes.new).faults
-        → IsOneOf result (Status.Usage ∷ Status.StoreFault ∷ Status.GraphRefused ∷ Status.WriteFault ∷ Status.OutOfMemory ∷ []) }
-
-    // As many boxes come back as were handed in, and a command that doesn't run its graph calls none.
+        → IsAnswered result (invocation command (outers_told (map (λ b. (Calculator-box b).told b.value) boxes.old.items)))
+        (told_apart T.told S.told K.told E.told (λ b. (Calculator-box b).told b.value) store.old store.new input.old input.new output.old output.new notes.old notes.new boxes.old boxes.new)) }
     ensures boxes { length boxes.new.items ≡ length boxes.old.items }
-    ensures uncalled { IfSome (command_of words.now) (λ command. calls_boxes command.instruction.verb ≡ false
-        → map (λ b. (Calculator-box b).told b.value) boxes.new.items ≡ map (λ b. (Calculator-box b).told b.value) boxes.old.items) }
 {
     let mut devices = Devices {
         input,
@@ -122,7 +90,6 @@ fn do_words<
 ) -> Status
     ensures came { CallEnded (outers_told (map C.told boxes.old.items)) (request_of words.now) result
         (told_at T.told S.told K.told E.told C.told store.old store.new devices.old devices.new boxes.old boxes.new) }
-    ensures unread { IfSome (command_of words.now) (λ command. reads_input command.instruction.verb ≡ false → Untouched (told_by S.told K.told E.told devices.old devices.new).input) }
     ensures same { SameDevices devices.old devices.new }
 {
     match request_of(alloc, words) {
@@ -149,7 +116,6 @@ fn do_request<
 ) -> Status
     ensures came { CallEnded (outers_told (map C.told boxes.old.items)) (request_view request) result
         (told_at T.told S.told K.told E.told C.told store.old store.new devices.old devices.new boxes.old boxes.new) }
-    ensures unread { IfSome (command_by (request_view request)) (λ command. reads_input command.instruction.verb ≡ false → Untouched (told_by S.told K.told E.told devices.old devices.new).input) }
     ensures same { SameDevices devices.old devices.new }
 {
     match request {
@@ -207,7 +173,6 @@ fn do_command<
 ) -> Status
     ensures called { Called result (invocation (command ordered.now.instruction ordered.now.files.now) (outers_told (map C.told boxes.old.items)))
         (told_at T.told S.told K.told E.told C.told store.old store.new devices.old devices.new boxes.old boxes.new) }
-    ensures unread { reads_input ordered.now.instruction.verb ≡ false → Untouched (told_by S.told K.told E.told devices.old devices.new).input }
     ensures same { SameDevices devices.old devices.new }
 {
     match due_action(alloc, ordered, boxes.as_slice(), store) {
@@ -256,7 +221,6 @@ fn do_action<
     requires lawful { All MayBeHandedIn (outers_told (map C.told boxes.old.items)) }
     ensures did { (store : Device StoreTold) → DidAction (action_view action) result
         (with_run store (told_by S.told K.told E.told devices.old devices.new) (device (map C.told boxes.old.items) (map C.told boxes.new.items))) }
-    ensures unread { MayRead (action_view action) ⊎ Untouched (told_by S.told K.told E.told devices.old devices.new).input }
     ensures same { SameDevices devices.old devices.new }
 {
     match action {
@@ -298,7 +262,6 @@ fn use_plan<
     requires lawful { All MayBeHandedIn (outers_told (map C.told boxes.old.items)) }
     ensures did { (store : Device StoreTold) → DidAction (use_action used run.now.report run.now.plan.now) result
         (with_run store (told_by S.told K.told E.told devices.old devices.new) (device (map C.told boxes.old.items) (map C.told boxes.new.items))) }
-    ensures unread { MayRead (use_action used run.now.report run.now.plan.now) ⊎ Untouched (told_by S.told K.told E.told devices.old devices.new).input }
     ensures same { SameDevices devices.old devices.new }
 {
     match used {

@@ -4,6 +4,7 @@
 
 mod action;
 mod call;
+pub mod call_laws;
 pub mod laws;
 mod limited;
 mod outers;

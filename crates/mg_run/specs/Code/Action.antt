@@ -1,9 +1,10 @@
--- What an `Action` of the code stands for, whether it may read the input, and whether it can be done.
-use Rattle.std.specs.Prelude.{ℕ, Bool, List}
+-- What an `Action` of the code stands for, and whether it can be done.
+use Rattle.std.specs.Prelude.{ℕ, Bool, List, All}
 use Rattle.mg_calc.specs.declared.plan.Plan.{Plan}
 use Rattle.mg_calc.specs.declared.shape.OuterShape.{OuterShape}
 use Rattle.mg_calc.specs.Plan.{IsValid, IsValidWithFree, OutersFit}
 use Rattle.mg_run.specs.Answer.{Action, refuse, show, run_plan, run_live, solve, generate, generate_live, trace, replay}
+use Rattle.mg_check.specs.Check.{IsOuterShape}
 use Rattle.mg_edge.specs.Edge.{StoreTold}
 use Rattle.mg_files.specs.Loads.{LoadedAll}
 use Rattle.mg_run.specs.Invocation.{Invocation}
@@ -30,18 +31,6 @@ action_view (Refuse note) = refuse note.items
 action_view (Show text) = show text.items
 action_view (Graph used report plan) = use_action used report plan
 
--- the input may be read where this action is done
-abbrev pub MayRead : Action → Type 0
-MayRead (refuse note) = ⊥
-MayRead (show text) = ⊥
-MayRead (run_plan report plan) = Unit {0}
-MayRead (run_live report plan) = Unit {0}
-MayRead (solve report plan) = Unit {0}
-MayRead (generate report number plan) = ⊥
-MayRead (generate_live report number plan) = ⊥
-MayRead (trace report plan) = Unit {0}
-MayRead (replay report plan) = Unit {0}
-
 -- An action can be done: a plan that is used is valid, with free nodes where such are run, and the calculators that are handed in fit a plan
 -- that is run.
 abbrev pub CanBeDone : List OuterShape → Action → Type 0
@@ -55,8 +44,10 @@ CanBeDone outers (generate_live report number plan) = IsValidWithFree plan × Ou
 CanBeDone outers (trace report plan) = IsValid plan × OutersFit plan outers
 CanBeDone outers (replay report plan) = IsValid plan × OutersFit plan outers
 
--- All files of an invocation were loaded, and this action is what there is to do with them.
+-- All files of an invocation were loaded, and this action is what there is to do with them. The calculators that are handed in have the
+-- shapes of their laws.
 pub record IsDue (invocation : Invocation) (store : Device StoreTold) (action : Action) : Type 0 where
+  pub shaped : All IsOuterShape invocation.outers
   pub contents : List (List ℕ)
   pub loaded : LoadedAll invocation.files contents store
   pub due : IsActionOf invocation contents action

@@ -1,9 +1,9 @@
-use Rattle.std.proofs.Common.{◌⊎◌, map, sym, subst}
+use Rattle.std.proofs.Common.{map, sym, subst}
 use Rattle.mg_run.specs.Boxes.{outers_told}
-use Rattle.mg_run.specs.Code.Action.{action_view, MayRead, CanBeDone}
+use Rattle.mg_run.specs.Code.Action.{action_view, CanBeDone}
 use Rattle.mg_run.specs.declared.action.Action.{Action}
 use Rattle.mg_run.specs.Call.{DidAction}
-use Rattle.mg_run.specs.Devices.{device, with_run, told_by, Untouched}
+use Rattle.mg_run.specs.Devices.{device, with_run, told_by}
 use Rattle.mg_run.proofs.call.do_action.Goals as goal
 
 pub use_plan-requires-clause-can : goal.use_plan-requires-clause-can
@@ -13,8 +13,3 @@ pub returns-in-Graph-clause-did : goal.returns-in-Graph-clause-did
 returns-in-Graph-clause-did g c = λ store.
     subst (λ (action : Action). DidAction (action_view action) c.use_plan.result (with_run store (told_by g.S.Source.told g.K.Sink.told g.E.Sink.told c.args.devices.now c.use_plan.new.devices) (device (map g.C.Calculator.told c.args.boxes.now.items) (map g.C.Calculator.told c.use_plan.new.boxes.items)))) (sym c.in-Graph.is)
     (c.use_plan.ensures.did store)
-
-pub returns-in-Graph-clause-unread : goal.returns-in-Graph-clause-unread
-returns-in-Graph-clause-unread g c =
-    subst (λ (action : Action). MayRead (action_view action) ⊎ Untouched (told_by g.S.Source.told g.K.Sink.told g.E.Sink.told c.args.devices.now c.use_plan.new.devices).input) (sym c.in-Graph.is)
-    c.use_plan.ensures.unread

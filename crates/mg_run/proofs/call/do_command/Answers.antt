@@ -7,7 +7,6 @@ use Rattle.mg_run.specs.Code.Action.{action_view, CanBeDone, IsDue}
 use Rattle.mg_run.specs.Devices.{device}
 use Rattle.mg_run.proofs.Calling.{called-did, called-short}
 use Rattle.mg_run.proofs.Duty.{due_among}
-use Rattle.mg_run.proofs.Ending.{unread-by}
 use Rattle.mg_run.proofs.call.do_command.Goals as goal
 
 pub do_action-requires-clause-can : goal.do_action-requires-clause-can
@@ -25,12 +24,7 @@ returns-in-Ok-clause-called g c =
     let store = device (g.T.Store.told c.args.store.now) (g.T.Store.told c.due_action.new.store) in
     let due : IsDue (invocation done (outers_told boxes)) store (action_view c.in-Ok.action) =
     due_among done (map g.C.Calculator.told c.as_slice.result.now) boxes store (action_view c.in-Ok.action) (ap (map g.C.Calculator.told) c.as_slice.ensures.value) c.in-Ok.ensures.due in
-    called-did (action_view c.in-Ok.action) c.do_action.result (invocation done (outers_told boxes)) due.contents _ due.loaded due.due (c.do_action.ensures.did store)
-
-pub returns-in-Ok-clause-unread : goal.returns-in-Ok-clause-unread
-returns-in-Ok-clause-unread g c =
-    unread-by (invocation (command c.args.ordered.now.instruction c.args.ordered.now.files.now) (outers_told (map g.C.Calculator.told c.as_slice.result.now))) c.in-Ok.ensures.due.contents (action_view c.in-Ok.action)
-    (device (g.S.Source.told c.args.devices.now.input.now) (g.S.Source.told c.do_action.new.devices.input.now)) c.in-Ok.ensures.due.due c.do_action.ensures.unread
+    called-did (action_view c.in-Ok.action) c.do_action.result (invocation done (outers_told boxes)) due.shaped due.contents _ due.loaded due.due (c.do_action.ensures.did store)
 
 pub returns-in-Err-OutOfMemory-clause-called : goal.returns-in-Err-OutOfMemory-clause-called
 returns-in-Err-OutOfMemory-clause-called g c =

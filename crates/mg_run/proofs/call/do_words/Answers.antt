@@ -3,7 +3,7 @@ use Rattle.mg_run.specs.Boxes.{outers_told}
 use Rattle.mg_words.specs.Words.{Request, request_of}
 use Rattle.mg_run.specs.Devices.{told_at}
 use Rattle.mg_run.specs.Call.{CallEnded}
-use Rattle.mg_run.proofs.Coming.{came-nothing, unread-nothing}
+use Rattle.mg_run.proofs.Coming.{came-nothing}
 use Rattle.mg_run.proofs.call.do_words.Goals as goal
 
 pub returns-in-Ok-clause-came : goal.returns-in-Ok-clause-came
@@ -12,6 +12,3 @@ returns-in-Ok-clause-came g c = subst (λ (request : Request). CallEnded (outers
 
 pub returns-in-Err-clause-came : goal.returns-in-Err-clause-came
 returns-in-Err-clause-came g c = came-nothing (outers_told (map g.C.Calculator.told c.args.boxes.now.items)) (request_of c.args.words.now) _ _ _ _ _ _ c.note_out_of_memory.ensures.status c.note_out_of_memory.ensures.noted
-
-pub returns-in-Err-clause-unread : goal.returns-in-Err-clause-unread
-returns-in-Err-clause-unread g c = unread-nothing (request_of c.args.words.now) _

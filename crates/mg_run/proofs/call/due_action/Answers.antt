@@ -1,6 +1,7 @@
 use Rattle.std.proofs.Common.{◌∙◌, sym, map, List, All, subst}
 use Rattle.std.proofs.lemmas.Result.{err_from_is_err_and}
 use Rattle.mg_calc.specs.declared.shape.OuterShape.{OuterShape}
+use Rattle.mg_check.specs.Check.{IsOuterShape}
 use Rattle.mg_subgraph.proofs.Steps.{length-map}
 use Rattle.mg_words.specs.Command.{command}
 use Rattle.mg_run.specs.Boxes.{outers_told, MayBeHandedIn}
@@ -17,8 +18,8 @@ action_of-requires-clause-each g c =
 
 pub returns-clause-due : goal.returns-clause-due
 returns-clause-due g c =
-    due_by (command c.args.ordered.now.instruction c.args.ordered.now.files.now) _ (outers_told (map g.C.Calculator.told c.args.boxes.now)) (contents_of c.in_ok-contents.contents.items) _ (action_view c.in_ok-action.action)
-    (c.deref.ensures.value ∙ c.in_ok-outers.ensures.outers) c.in_ok-contents.ensures.all c.in_ok-action.ensures.due
+    due_by (command c.args.ordered.now.instruction c.args.ordered.now.files.now) c.deref.result.now (outers_told (map g.C.Calculator.told c.args.boxes.now)) (contents_of c.in_ok-contents.contents.items) _ (action_view c.in_ok-action.action)
+    (c.deref.ensures.value ∙ c.in_ok-outers.ensures.outers) (subst (λ (outers : List OuterShape). All IsOuterShape outers) (sym c.deref.ensures.value) c.in_ok-outers.ensures.shaped) c.in_ok-contents.ensures.all c.in_ok-action.ensures.due
 
 pub returns-clause-can : goal.returns-clause-can
 returns-clause-can g c = subst (λ (outers : List OuterShape). CanBeDone outers (action_view c.in_ok-action.action)) (c.deref.ensures.value ∙ c.in_ok-outers.ensures.outers) c.in_ok-action.ensures.valid
