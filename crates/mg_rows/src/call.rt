@@ -1,22 +1,23 @@
-//! A call of the program over devices in memory.
+//! Calls of the program over devices in memory.
 
-use crate::choice::{Choice, input_of};
-use crate::member::{list, number, numbers};
-use crate::text::{Texts, bytes_of};
-use crate::turn::{Turn, most_written};
+use crate::choice::Choice;
+use crate::devices::{InMemory, Outside, put_devices};
+use crate::log::put_logs;
+use crate::member::list;
+use crate::text::Texts;
+use crate::turn::Turn;
+use crate::watch::Watch;
 use anyhow::{Result, bail};
 use mg_batch::{BatchBox, begin_loop_box, end_loop_box};
 use mg_calc::Calculator;
-use mg_edge::{MemorySink, MemorySource, MemoryStore, Sink, Source, StillGate, Store};
+use mg_edge::{Gate, Sink, Source, Store};
 use mg_run::{run_words, tally_box};
 use mg_value::MgText;
 use serde_json::Value;
 use std::alloc::{AllocError, Global};
 use std::sync::Wait;
+use std::sync::atomic::AtomicBool;
 use std::thread::Threads;
-
-// How many bytes a sink takes where a case doesn't say: more than most texts have.
-const ROOM: u64 = 1 << 20;
 
 // How many TallyCalculator boxes a call is handed.
 const TALLIES: usize = 4;
@@ -24,8 +25,8 @@ const TALLIES: usize = 4;
 // How many boxes for loops over lists a call is handed: one for the begin of a loop, and the others for its end.
 const LOOP_ENDS: usize = 2;
 
-/// The names of what is counted, by the devices and by the boxes.
-pub const COUNTS: [&str; 11] = [
+/// The names of what is counted, by the devices, by the boxes, and by the gate.
+pub const COUNTS: [&str; 15] = [
     "loads",
     "load_faults",
     "reads",
@@ -37,70 +38,77 @@ pub const COUNTS: [&str; 11] = [
     "note_faults",
     "boxes",
     "box_calls",
+    "entered",
+    "left",
+    "out_of_turn",
+    "met",
 ];
+
+/// What is asked for: a call of a case that takes a choice, and in which a turn fails. The texts are those that the lines above have named.
+#[derive(Clone, Copy)]
+pub struct Asked<'a> {
+    pub texts: &'a Texts,
+    pub case: &'a Value,
+    pub choice: Choice,
+    pub turn: Turn,
+}
 
 /// What came of a call.
 #[derive(Drop)]
-pub struct Outcome {
-    pub output: Vec<u8>,
-    pub notes: Vec<u8>,
+pub struct Outcome<'a> {
+    pub output: &'a [u8],
+    pub notes: &'a [u8],
+    /// The status that the program exits with.
     pub status: u8,
     /// What was counted, in the order of `COUNTS`.
-    pub counts: [u64; 11],
+    pub counts: [u64; 15],
     /// The name of the file whose load failed last.
-    pub failed_name: Option<String>,
+    pub failed_name: Option<&'a str>,
+    /// What the boxes tell of their calls, where the case asks for it.
+    pub logs: &'a str,
 }
 
-#[derive(Drop)]
-struct Devices {
-    store: MemoryStore,
-    input: MemorySource,
-    output: MemorySink,
-    notes: MemorySink,
-}
-
-/// Makes the call of a case that takes a choice and in which a turn fails. The outcome's status is the one that the program exits with.
-pub fn make_call<R: Threads + Wait + Sync>(
+/// Makes the calls that are asked for, all with the same boxes and through the same gate, and appends their devices.
+pub fn make_calls<'a, R: Threads + Wait + Sync>(
     rt: &R,
     alloc: Global,
-    texts: &Texts,
-    case: &Value,
-    choice: Choice,
-    turn: Turn,
-) -> Result<Outcome> {
-    let words = words_of(alloc, case, choice)?;
-    let mut devices = devices_of(alloc, texts, case, choice, turn)?;
-    let came = call(
-        rt,
-        alloc,
-        &words,
-        &mut devices.store,
-        &mut devices.input,
-        &mut devices.output,
-        &mut devices.notes,
-    )?;
-    Ok(devices.outcome(alloc, came)?)
+    asked: Asked<'_>,
+    watch: &Watch,
+    has_taken: &'a AtomicBool,
+    outsides: &mut Vec<InMemory<'a>>,
+) -> Result<()> {
+    put_devices(alloc, asked, has_taken, outsides)?;
+    let mut words = Vec::new(alloc);
+    let made = make_by(rt, alloc, asked, watch, &mut words, outsides);
+    drop(words);
+    made
 }
 
-// What a call came to beside what its devices tell.
-#[derive(Clone, Copy)]
-struct Came {
-    status: u8,
-    boxes: u64,
-    box_calls: u64,
+// Reads the words of the calls, and makes them.
+fn make_by<R: Threads + Wait + Sync>(
+    rt: &R,
+    alloc: Global,
+    asked: Asked<'_>,
+    watch: &Watch,
+    words: &mut Vec<MgText>,
+    outsides: &mut [InMemory<'_>],
+) -> Result<()> {
+    put_words(alloc, asked.case, asked.choice, words)?;
+    let tells = !list(asked.case, "logs")?.is_empty();
+    call(rt, alloc, words.as_slice(), outsides, watch, tells)?;
+    Ok(())
 }
 
-// Makes the top call over any devices and boxes of its own, which keep logs. The devices' types are parameters for the time of the proof:
-// where they are known, each clause of the top call is written out over them.
-fn call<R: Threads + Wait + Sync, T: Store, S: Source, K: Sink, E: Sink>(
+// Makes the top call over each of some devices, with the same boxes of its own, which keep logs. The devices' types are parameters for the
+// time of the proof: where they are known, each clause of the top call is written out over them.
+fn call<R: Threads + Wait + Sync, T: Store, S: Source, K: Sink, E: Sink, G: Gate + Sync>(
     rt: &R,
     alloc: Global,
     words: &[MgText],
-    store: &mut T,
-    input: &mut S,
-    output: &mut K,
-    notes: &mut E,
-) -> Result<Came, AllocError> {
+    outsides: &mut [Outside<T, S, K, E>],
+    gate: &G,
+    tells: bool,
+) -> Result<(), AllocError> {
     let mut boxes = Vec::new(alloc);
     for _ in 0..TALLIES {
         let tally: Box<dyn Calculator + Send> = Box::new(alloc, tally_box(alloc, true)?)?;
@@ -110,42 +118,64 @@ fn call<R: Threads + Wait + Sync, T: Store, S: Source, K: Sink, E: Sink>(
         let end: Box<dyn Calculator + Send> = Box::new(alloc, loop_box(alloc, number)?)?;
         boxes.push(end)?;
     }
-    let status = run_words(
-        rt, alloc, words, store, input, output, notes, &mut boxes, &StillGate,
-    );
-    Ok(Came {
-        status: status.number(),
-        boxes: boxes.len() as u64,
-        box_calls: calls_of(&boxes),
-    })
+    for outside in outsides.iter_mut() {
+        let status = run_words(
+            rt,
+            alloc,
+            words,
+            &mut outside.store,
+            &mut outside.input,
+            &mut outside.output,
+            &mut outside.notes,
+            &mut boxes,
+            gate,
+        );
+        outside.status = status.number();
+        outside.boxes = boxes.len() as u64;
+        outside.box_calls = calls_of(&boxes);
+        if tells {
+            put_logs(alloc, &mut outside.logs, &mut boxes)?;
+        }
+    }
+    Ok(())
 }
 
-impl Devices {
-    fn outcome(&self, alloc: Global, came: Came) -> Result<Outcome, AllocError> {
-        let counts = [
-            self.store.loads(),
-            self.store.faults(),
-            self.input.reads(),
-            self.input.ends(),
-            self.input.faults(),
-            self.output.writes(),
-            self.output.faults(),
-            self.notes.writes(),
-            self.notes.faults(),
-            came.boxes,
-            came.box_calls,
-        ];
-        let failed_name = match self.store.failed_name() {
-            Some(name) => Some(String::from_str(alloc, name)?),
-            None => None,
-        };
-        Ok(Outcome {
-            output: self.output.taken().to_vec(alloc)?,
-            notes: self.notes.taken().to_vec(alloc)?,
-            status: came.status,
-            counts,
-            failed_name,
-        })
+/// Returns what came of the call over these devices and through this gate.
+pub fn outcome_of<'a>(outside: &'a InMemory<'_>, watch: &Watch) -> Outcome<'a> {
+    let Outside {
+        store,
+        input,
+        output,
+        notes,
+        status,
+        boxes,
+        box_calls,
+        logs,
+    } = outside;
+    let (entered, left, out_of_turn) = watch.counts();
+    Outcome {
+        output: output.bytes.taken(),
+        notes: notes.taken(),
+        status: *status,
+        counts: [
+            store.loads(),
+            store.faults(),
+            input.bytes.reads(),
+            input.ends,
+            input.faults,
+            output.bytes.writes(),
+            output.faults,
+            notes.writes(),
+            notes.faults(),
+            *boxes,
+            *box_calls,
+            entered,
+            left,
+            out_of_turn,
+            u64::from(watch.met()),
+        ],
+        failed_name: store.failed_name(),
+        logs: logs.as_str(),
     }
 }
 
@@ -167,9 +197,8 @@ fn calls_of(boxes: &[Box<dyn Calculator + Send>]) -> u64 {
     calls
 }
 
-// Returns the words of a choice, or `run` and `g.pbtxt` where the case has none.
-fn words_of(alloc: Global, case: &Value, choice: Choice) -> Result<Vec<MgText>> {
-    let mut words = Vec::new(alloc);
+// Appends the words of a choice, or `run` and `g.pbtxt` where the case has none.
+fn put_words(alloc: Global, case: &Value, choice: Choice, words: &mut Vec<MgText>) -> Result<()> {
     match list(case, "words")?.get(choice.words) {
         None => {
             words.push(MgText::new(alloc, "run")?)?;
@@ -185,75 +214,5 @@ fn words_of(alloc: Global, case: &Value, choice: Choice) -> Result<Vec<MgText>> 
         }
         Some(said) => bail!("no list of words: {said}"),
     }
-    Ok(words)
-}
-
-fn devices_of(
-    alloc: Global,
-    texts: &Texts,
-    case: &Value,
-    choice: Choice,
-    turn: Turn,
-) -> Result<Devices> {
-    Ok(Devices {
-        store: store_of(alloc, texts, case, choice)?,
-        input: source_of(alloc, texts, case, choice, turn)?,
-        output: output_of(alloc, case, turn)?,
-        notes: notes_of(alloc, case)?,
-    })
-}
-
-fn store_of(alloc: Global, texts: &Texts, case: &Value, choice: Choice) -> Result<MemoryStore> {
-    let mut store = MemoryStore::new(alloc);
-    if let Some(load) = number(case, "failing_load")? {
-        store.fail_at(load);
-    }
-    if let Some(graph) = list(case, "graphs")?.get(choice.graph) {
-        store.put("g.pbtxt", &bytes_of(alloc, texts, Some(graph))?)?;
-    }
-    match case.get("files") {
-        None => {}
-        Some(Value::Object(files)) => {
-            for (name, file) in files {
-                store.put(name, &bytes_of(alloc, texts, Some(file))?)?;
-            }
-        }
-        Some(files) => bail!("files: no object: {files}"),
-    }
-    Ok(store)
-}
-
-fn source_of(
-    alloc: Global,
-    texts: &Texts,
-    case: &Value,
-    choice: Choice,
-    turn: Turn,
-) -> Result<MemorySource> {
-    let input = input_of(alloc, texts, case, choice)?;
-    let mut failing = numbers(alloc, case, "failing_reads")?;
-    if let Turn::Read(read, _) = turn {
-        failing.push(read)?;
-    }
-    let piece = choice.piece.max(1) as usize;
-    Ok(MemorySource::new(alloc, &input, piece, &failing)?)
-}
-
-fn output_of(alloc: Global, case: &Value, turn: Turn) -> Result<MemorySink> {
-    let mut failing = numbers(alloc, case, "failing_writes")?;
-    if let Turn::Write(write, _) = turn {
-        failing.push(write)?;
-    }
-    sink_of(alloc, case, "room", &failing)
-}
-
-fn notes_of(alloc: Global, case: &Value) -> Result<MemorySink> {
-    let failing = numbers(alloc, case, "failing_notes")?;
-    sink_of(alloc, case, "notes_room", &failing)
-}
-
-fn sink_of(alloc: Global, case: &Value, room: &str, failing: &[u64]) -> Result<MemorySink> {
-    let room = number(case, room)?.unwrap_or(ROOM) as usize;
-    let most = most_written(case)?.max(1) as usize;
-    Ok(MemorySink::slow(alloc, room, most, failing)?)
+    Ok(())
 }

@@ -1,19 +1,22 @@
 //! The lines of a table, and what comes of each.
 
-use crate::call::make_call;
+use crate::call::{Asked, make_calls, outcome_of};
 use crate::choice::{Choice, choice_of};
+use crate::devices::InMemory;
 use crate::member::{knows, text};
-use crate::report::{difference, wanted_of};
+use crate::report::{Wanted, difference, wanted_of};
 use crate::text::{Texts, bytes_of};
 use crate::turn::turn_of;
+use crate::watch::{Watch, watch_of};
 use anyhow::{Result, ensure};
 use serde_json::Value;
 use std::alloc::Global;
 use std::sync::Wait;
+use std::sync::atomic::AtomicBool;
 use std::thread::Threads;
 
 // The keys that a case may have.
-const KEYS: [&str; 23] = [
+const KEYS: [&str; 26] = [
     "case",
     "words",
     "graphs",
@@ -30,12 +33,15 @@ const KEYS: [&str; 23] = [
     "failing_load",
     "room",
     "notes_room",
+    "meet",
+    "waits_at",
     "output",
     "output_at_least",
     "notes",
     "status",
     "counts",
     "failed_name",
+    "logs",
     "differs",
 ];
 
@@ -59,16 +65,36 @@ pub fn judge<R: Threads + Wait + Sync>(
     line: &str,
 ) -> Result<Verdict> {
     let said = read(alloc, line)?;
-    let Some(refused) = text(&said, "refused")? else {
-        return act(rt, alloc, texts, &said);
+    let verdict = judge_said(rt, alloc, texts, &said);
+    drop(said);
+    verdict
+}
+
+fn judge_said<R: Threads + Wait + Sync>(
+    rt: &R,
+    alloc: Global,
+    texts: &mut Texts,
+    said: &Value,
+) -> Result<Verdict> {
+    let Some(refused) = text(said, "refused")? else {
+        return act(rt, alloc, texts, said);
     };
-    knows(&said, &["refused"])?;
-    let is_refused = match read(alloc, refused) {
-        Ok(said) => act(rt, alloc, texts, &said).is_err(),
-        Err(_) => true,
-    };
-    ensure!(is_refused, "taken for a line of a table: {refused}");
+    knows(said, &["refused"])?;
+    ensure!(
+        !is_line(rt, alloc, texts, refused),
+        "taken for a line of a table: {refused}"
+    );
     Ok(Verdict::Passed)
+}
+
+// Whether a text is a line of a table. What such a line says is done.
+fn is_line<R: Threads + Wait + Sync>(rt: &R, alloc: Global, texts: &mut Texts, line: &str) -> bool {
+    let Ok(said) = read(alloc, line) else {
+        return false;
+    };
+    let acted = act(rt, alloc, texts, &said);
+    drop(said);
+    acted.is_ok()
 }
 
 // Does what a line says: makes the calls of a case, or keeps a text under its name.
@@ -98,12 +124,22 @@ fn act<R: Threads + Wait + Sync>(
 // Reads the JSON value of a line, which is in compact form and has no key twice: only then the value is written as long as the line.
 fn read(alloc: Global, line: &str) -> Result<Value> {
     let said = Value::from_str(alloc, line)?;
+    match expect_compact(alloc, &said, line) {
+        Ok(()) => Ok(said),
+        Err(why) => {
+            drop(said);
+            Err(why)
+        }
+    }
+}
+
+fn expect_compact(alloc: Global, said: &Value, line: &str) -> Result<()> {
     let compact = said.to_string(alloc)?;
     ensure!(
         compact.len() == line.len(),
         "not in compact form, or a key twice"
     );
-    Ok(said)
+    Ok(())
 }
 
 fn name_text(alloc: Global, texts: &mut Texts, name: &str, said: &Value) -> Result<()> {
@@ -146,10 +182,61 @@ fn judge_choice<R: Threads + Wait + Sync>(
         let Some(turn) = turn_of(alloc, texts, case, choice, number)? else {
             break;
         };
-        let wanted = wanted_of(alloc, texts, case, turn)?;
-        let came = make_call(rt, alloc, texts, case, choice, turn)?;
-        if let Some(how) = difference(alloc, case, &wanted, &came)? {
+        let asked = Asked {
+            texts,
+            case,
+            choice,
+            turn,
+        };
+        if let Some(how) = judge_turn(rt, alloc, asked)? {
             return Ok(Some(format!(in alloc; "{turn}{how}")?));
+        }
+    }
+    Ok(None)
+}
+
+// Makes the calls of a turn. Returns how the first one differs that isn't as wanted.
+fn judge_turn<R: Threads + Wait + Sync>(
+    rt: &R,
+    alloc: Global,
+    asked: Asked<'_>,
+) -> Result<Option<String>> {
+    let wanted = wanted_of(alloc, asked)?;
+    let how = judge_by(rt, alloc, asked, &wanted);
+    drop(wanted);
+    how
+}
+
+// Makes the calls of a turn. Returns how the first one differs from what is wanted.
+fn judge_by<R: Threads + Wait + Sync>(
+    rt: &R,
+    alloc: Global,
+    asked: Asked<'_>,
+    wanted: &Wanted,
+) -> Result<Option<String>> {
+    let watch = watch_of(alloc, asked.case)?;
+    let has_taken = AtomicBool::new(false);
+    let mut outsides = Vec::new(alloc);
+    let how = match make_calls(rt, alloc, asked, &watch, &has_taken, &mut outsides) {
+        Ok(()) => first_difference(alloc, asked.case, wanted, &outsides, &watch),
+        Err(why) => Err(why),
+    };
+    drop(outsides);
+    how
+}
+
+// Returns how the first of some calls with the same boxes differs that isn't as wanted.
+fn first_difference(
+    alloc: Global,
+    case: &Value,
+    wanted: &Wanted,
+    outsides: &[InMemory<'_>],
+    watch: &Watch,
+) -> Result<Option<String>> {
+    for (place, outside) in outsides.iter().enumerate() {
+        let came = outcome_of(outside, watch);
+        if let Some(how) = difference(alloc, case, wanted, place, &came)? {
+            return Ok(Some(how));
         }
     }
     Ok(None)

@@ -6,10 +6,13 @@
 mod call;
 mod case;
 mod choice;
+mod devices;
+mod log;
 mod member;
 mod report;
 mod text;
 mod turn;
+mod watch;
 
 use crate::case::{Verdict, judge};
 use std::collections::BTreeMap;

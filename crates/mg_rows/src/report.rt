@@ -3,9 +3,9 @@
 ghost use Rattle.std.specs.Prelude.{◌≢◌, ◌↔◌, IsTrue, IfOk};
 ghost use Rattle.mg_rows.specs.Wanted.{IsEnough};
 
-use crate::call::{COUNTS, Outcome};
+use crate::call::{Asked, COUNTS, Outcome};
 use crate::member::{knows, list, number, text, truth};
-use crate::text::{Texts, bytes_of};
+use crate::text::bytes_of;
 use crate::turn::Turn;
 use anyhow::{Result, bail};
 use serde_json::Value;
@@ -23,24 +23,33 @@ pub struct Wanted {
 }
 
 // The names of the parts in which what came of a call may differ.
-const PARTS: [&str; 5] = ["output", "notes", "status", "counts", "failed_name"];
+const PARTS: [&str; 6] = ["output", "notes", "status", "counts", "failed_name", "logs"];
 
-/// Reads what a case wants of the call of a turn, but for the counts.
-pub fn wanted_of(alloc: Global, texts: &Texts, case: &Value, turn: Turn) -> Result<Wanted> {
-    let Some(status) = number(case, "status")? else {
+/// Reads what the case wants of a call that is asked for, but for the counts and the logs.
+pub fn wanted_of(alloc: Global, asked: Asked<'_>) -> Result<Wanted> {
+    let Some(status) = number(asked.case, "status")? else {
         bail!("no status is wanted");
     };
+    let output_at_least = number(asked.case, "output_at_least")?;
+    let notes = wanted_notes(alloc, asked)?;
+    let output = wanted_output(alloc, asked)?;
     Ok(Wanted {
-        output: wanted_output(alloc, texts, case, turn)?,
-        output_at_least: number(case, "output_at_least")?,
-        notes: wanted_notes(alloc, texts, case, turn)?,
+        output,
+        output_at_least,
+        notes,
         status,
     })
 }
 
 // Returns the output that is wanted: where a read fails, what the case says of the whole lines before it; where a write fails, the bytes
 // before it.
-fn wanted_output(alloc: Global, texts: &Texts, case: &Value, turn: Turn) -> Result<Vec<u8>> {
+fn wanted_output(alloc: Global, asked: Asked<'_>) -> Result<Vec<u8>> {
+    let Asked {
+        texts,
+        case,
+        turn,
+        ..
+    } = asked;
     if let Turn::Read(_, lines) = turn {
         let Some(said) = list(case, "after_lines")?.get(lines) else {
             bail!("after_lines: nothing is said of {lines} lines");
@@ -55,45 +64,79 @@ fn wanted_output(alloc: Global, texts: &Texts, case: &Value, turn: Turn) -> Resu
 }
 
 // Returns the notes that are wanted. A read that fails is noted before all else.
-fn wanted_notes(alloc: Global, texts: &Texts, case: &Value, turn: Turn) -> Result<Vec<u8>> {
+fn wanted_notes(alloc: Global, asked: Asked<'_>) -> Result<Vec<u8>> {
     let mut notes = Vec::new(alloc);
-    if let Turn::Read(_, lines) = turn {
+    match put_notes(alloc, asked, &mut notes) {
+        Ok(()) => Ok(notes),
+        Err(why) => {
+            drop(notes);
+            Err(why)
+        }
+    }
+}
+
+fn put_notes(alloc: Global, asked: Asked<'_>, notes: &mut Vec<u8>) -> Result<()> {
+    if let Turn::Read(_, lines) = asked.turn {
         let fault = format!(in alloc; "read fault after line {lines}\n")?;
         notes.extend_from_slice(fault.as_bytes())?;
     }
-    notes.extend_from_slice(&bytes_of(alloc, texts, case.get("notes"))?)?;
-    Ok(notes)
+    let said = bytes_of(alloc, asked.texts, asked.case.get("notes"))?;
+    notes.extend_from_slice(&said)?;
+    Ok(())
 }
 
-/// Returns how what came of a call differs from what is wanted, or `None` where it doesn't. Where a case says that some parts differ,
-/// exactly these have to.
+/// Returns how what came of a call differs from what is wanted, or `None` where it doesn't. `place` is the call's place among those with the
+/// same boxes. Where a case says that some parts differ, exactly these have to.
 pub fn difference(
     alloc: Global,
     case: &Value,
     wanted: &Wanted,
-    came: &Outcome,
+    place: usize,
+    came: &Outcome<'_>,
 ) -> Result<Option<String>> {
     let mut told = String::new(alloc);
+    match compare(&mut told, case, wanted, place, came) {
+        Ok(false) => Ok(Some(told)),
+        Ok(true) => {
+            drop(told);
+            Ok(None)
+        }
+        Err(why) => {
+            drop(told);
+            Err(why)
+        }
+    }
+}
+
+// Compares each part, tells those that differ, and returns whether they are those that a case says.
+fn compare(
+    told: &mut String,
+    case: &Value,
+    wanted: &Wanted,
+    place: usize,
+    came: &Outcome<'_>,
+) -> Result<bool> {
     let found = [
-        output_differs(&mut told, wanted, came)?,
-        notes_differ(&mut told, wanted, came)?,
-        status_differs(&mut told, wanted, came)?,
-        counts_differ(&mut told, case, came)?,
-        failed_name_differs(&mut told, case, came)?,
+        output_differs(told, wanted, came)?,
+        notes_differ(told, wanted, came)?,
+        status_differs(told, wanted, came)?,
+        counts_differ(told, case, came)?,
+        failed_name_differs(told, case, came)?,
+        logs_differ(told, case, place, came)?,
     ];
     if are_as_said(case, found)? {
-        return Ok(None);
+        return Ok(true);
     }
     if let Some(said) = case.get("differs") {
         write!(told, "; these had to differ: {said}")?;
     }
-    Ok(Some(told))
+    Ok(false)
 }
 
 // Whether the parts that differ are those that a case says.
-fn are_as_said(case: &Value, found: [bool; 5]) -> Result<bool> {
+fn are_as_said(case: &Value, found: [bool; 6]) -> Result<bool> {
     let Some(said) = case.get("differs") else {
-        return Ok(found == [false; 5]);
+        return Ok(found == [false; 6]);
     };
     knows(said, &PARTS)?;
     for (part, differs) in PARTS.iter().zip(found) {
@@ -104,28 +147,36 @@ fn are_as_said(case: &Value, found: [bool; 5]) -> Result<bool> {
     Ok(true)
 }
 
-fn output_differs(told: &mut String, wanted: &Wanted, came: &Outcome) -> Result<bool, AllocError>
+fn output_differs(
+    told: &mut String,
+    wanted: &Wanted,
+    came: &Outcome<'_>,
+) -> Result<bool, AllocError>
     ensures { IfOk result (λ differs. IsTrue differs
-        ↔ ¬ (IsEnough wanted.now.output.items wanted.now.output_at_least came.now.output.items)) }
+        ↔ ¬ (IsEnough wanted.now.output.items wanted.now.output_at_least came.now.output.now)) }
 {
-    let differs = !is_enough(&wanted.output, wanted.output_at_least, &came.output);
+    let differs = !is_enough(&wanted.output, wanted.output_at_least, came.output);
     if differs {
-        tell(told, "output", &wanted.output, &came.output)?;
+        tell(told, "output", &wanted.output, came.output)?;
     }
     Ok(differs)
 }
 
-fn notes_differ(told: &mut String, wanted: &Wanted, came: &Outcome) -> Result<bool, AllocError>
-    ensures { IfOk result (λ differs. IsTrue differs ↔ (came.now.notes.items ≢ wanted.now.notes.items)) }
+fn notes_differ(told: &mut String, wanted: &Wanted, came: &Outcome<'_>) -> Result<bool, AllocError>
+    ensures { IfOk result (λ differs. IsTrue differs ↔ (came.now.notes.now ≢ wanted.now.notes.items)) }
 {
-    let differs = wanted.notes != came.notes;
+    let differs = wanted.notes.as_slice() != came.notes;
     if differs {
-        tell(told, "notes", &wanted.notes, &came.notes)?;
+        tell(told, "notes", &wanted.notes, came.notes)?;
     }
     Ok(differs)
 }
 
-fn status_differs(told: &mut String, wanted: &Wanted, came: &Outcome) -> Result<bool, AllocError>
+fn status_differs(
+    told: &mut String,
+    wanted: &Wanted,
+    came: &Outcome<'_>,
+) -> Result<bool, AllocError>
     ensures { IfOk result (λ differs. IsTrue differs ↔ (came.now.status ≢ wanted.now.status)) }
 {
     let (wanted, came) = (wanted.status, u64::from(came.status));
@@ -136,7 +187,7 @@ fn status_differs(told: &mut String, wanted: &Wanted, came: &Outcome) -> Result<
 }
 
 // Whether counts differ from those that a case names. What it doesn't name isn't compared.
-fn counts_differ(told: &mut String, case: &Value, came: &Outcome) -> Result<bool> {
+fn counts_differ(told: &mut String, case: &Value, came: &Outcome<'_>) -> Result<bool> {
     let Some(said) = case.get("counts") else {
         return Ok(false);
     };
@@ -153,15 +204,30 @@ fn counts_differ(told: &mut String, case: &Value, came: &Outcome) -> Result<bool
     Ok(differs)
 }
 
-fn failed_name_differs(told: &mut String, case: &Value, came: &Outcome) -> Result<bool> {
+fn failed_name_differs(told: &mut String, case: &Value, came: &Outcome<'_>) -> Result<bool> {
     let Some(wanted) = text(case, "failed_name")? else {
         return Ok(false);
     };
-    let came = came.failed_name.as_deref();
+    let came = came.failed_name;
     if came != Some(wanted) {
         write!(told, "; failed_name: wanted {wanted:?}, came {came:?}")?;
     }
     Ok(came != Some(wanted))
+}
+
+// Whether what the boxes tell of their calls differs from what a case says at the call's place.
+fn logs_differ(told: &mut String, case: &Value, place: usize, came: &Outcome<'_>) -> Result<bool> {
+    let Some(said) = list(case, "logs")?.get(place) else {
+        return Ok(false);
+    };
+    let Some(wanted) = said.as_str() else {
+        bail!("logs: no text: {said}");
+    };
+    let came = came.logs;
+    if came != wanted {
+        write!(told, "; logs: wanted {wanted:?}, came {came:?}")?;
+    }
+    Ok(came != wanted)
 }
 
 // Whether what came is the text, or, where a least number of bytes is said, a front of the text with at least so many.

@@ -12,16 +12,31 @@ pub type Texts = BTreeMap<String, Vec<u8>>;
 /// Returns the bytes of a text, none where no text is said.
 pub fn bytes_of(alloc: Global, texts: &Texts, said: Option<&Value>) -> Result<Vec<u8>> {
     let mut bytes = Vec::new(alloc);
+    match put_bytes(alloc, texts, said, &mut bytes) {
+        Ok(()) => Ok(bytes),
+        Err(why) => {
+            drop(bytes);
+            Err(why)
+        }
+    }
+}
+
+fn put_bytes(
+    alloc: Global,
+    texts: &Texts,
+    said: Option<&Value>,
+    bytes: &mut Vec<u8>,
+) -> Result<()> {
     match said {
         None => {}
         Some(Value::Array(parts)) => {
             for part in parts {
-                append(alloc, texts, part, &mut bytes)?;
+                append(alloc, texts, part, bytes)?;
             }
         }
-        Some(part) => append(alloc, texts, part, &mut bytes)?,
+        Some(part) => append(alloc, texts, part, bytes)?,
     }
-    Ok(bytes)
+    Ok(())
 }
 
 // Appends one part of a text: a string as it stands, or an object in one of five forms.
