@@ -19,7 +19,7 @@ OF_GRAPH: dict[str, Callable[[Note, Graph], list[str]]] = {
     "BadOptions": explain_graph.bad_options, "Unsupported": explain_graph.unsupported, "TwoProducers": explain_graph.two_producers,
     "NoProducer": explain_graph.no_producer, "SideMissing": lambda note, graph: explain_graph.no_producer(note, graph, "side_packet"),
     "KindClash": explain_graph.kind_clash, "BackEdgeMisplaced": explain_graph.back_edge_misplaced, "Cycle": explain_graph.cycle,
-    "TooMany": explain_graph.too_many, "FreeNode": explain_graph.free_node}
+    "TooMany": explain_graph.too_many, "FreeNode": explain_graph.free_node, "OwnLaw": explain_graph.own_law}
 
 
 class Explainer:

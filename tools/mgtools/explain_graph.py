@@ -271,3 +271,9 @@ def free_node(note: Note, graph: Graph) -> list[str]:
     node = node_of(note, graph)
     return [f"{node.place}: {node.describe()} is a free node: what it lays depends on the order in which packets arrive, and this command doesn't serve it: "
             "`run` the graph, or take the node away, as `tools/core` does (docs/guide/live.md#a-run-checked)"]
+
+
+def own_law(note: Note, graph: Graph) -> list[str]:
+    node = node_of(note, graph)
+    return [f"{node.place}: {node.describe()} is a calculator of its author's own: `solve` computes by the laws of mg, and has no code for this one: "
+            "`run` the graph"]

@@ -30,6 +30,7 @@ FORMS = [(name, re.compile(form)) for name, form in (
     ("Cycle", r"refused: check Cycle (?P<nodes>\d+(?: \d+)*)"),
     ("TooMany", r"refused: check TooMany (?P<what>Edges|Outputs)"),
     ("FreeNode", r"refused: (?P<command>run|solve|generate|trace|replay) FreeNode (?P<node>\d+)"),
+    ("OwnLaw", r"refused: solve OwnLaw (?P<node>\d+)"),
     ("line", r"line (?P<line>\d+): (?P<refusal>\w+)(?: (?P<cause>\w+))?"),
     ("read", r"read fault after line (?P<line>\d+)"),
     ("write", r"write fault"),

@@ -9,6 +9,7 @@ use Rattle.mg_calc.specs.declared.plan.Plan.{Plan}
 use Rattle.mg_calc.specs.declared.node_fault.NodeFault.{NodeFault as Fault}
 use Rattle.mg_calc.specs.Equations.{Job, IsSolution}
 use Rattle.mg_calc.specs.Meaning.{faults, stalled}
+use Rattle.mg_calc.specs.Rules.{Laws}
 use Rattle.mg_feed.specs.Graph.{GraphInputs, inputs_of}
 use Rattle.mg_feed.specs.Ran.{EndCame, MetEnd, FailedBy}
 use Rattle.mg_feed.specs.Sent.{Sent}
@@ -37,54 +38,54 @@ use Rattle.mg_answer.proofs.Telling.{open-stalled, bounds-told}
 
 -- The answer --
 
-abbrev plain_job : Plan → Inputs → Job
-plain_job plan inputs = record { plan = plan; inputs = inputs }
+abbrev plain_job : Laws → Plan → Inputs → Job
+plain_job laws plan inputs = record { plan = plan; inputs = inputs; laws = laws }
 
-abbrev told : Bool → Plan → Inputs → FeedEnd → List (StreamPrefix Plain) → RunAnswer
-told report plan inputs end streams = answer_of (by_lines report) (plain_job plan inputs) end streams
+abbrev told : Laws → Bool → Plan → Inputs → FeedEnd → List (StreamPrefix Plain) → RunAnswer
+told laws report plan inputs end streams = answer_of (by_lines report) (plain_job laws plan inputs) end streams
 
-abbrev failed : Bool → Plan → Inputs → FeedEnd → List (StreamPrefix Plain) → List ℕ
-failed report plan inputs end streams = failed_notes (by_lines report) (plain_job plan inputs) end streams
+abbrev failed : Laws → Bool → Plan → Inputs → FeedEnd → List (StreamPrefix Plain) → List ℕ
+failed laws report plan inputs end streams = failed_notes (by_lines report) (plain_job laws plan inputs) end streams
 
 -- an answer of the job is that of the plan over what was read
-abbrev is-answer : (report : Bool) (plan : Plan) (inputs : Inputs) (end : FeedEnd) (read : Read) (streams : List (StreamPrefix Plain)) → inputs ≡ inputs_by (inputs_of plan) read → end ≡ read.end
-    → IsSolution (plain_job plan inputs) streams → IsAnswer report plan read (told report plan inputs end streams)
-is-answer report plan inputs end read streams is ended solution = record {
+abbrev is-answer : (laws : Laws) (report : Bool) (plan : Plan) (inputs : Inputs) (end : FeedEnd) (read : Read) (streams : List (StreamPrefix Plain)) → inputs ≡ inputs_by (inputs_of plan) read → end ≡ read.end
+    → IsSolution (plain_job laws plan inputs) streams → IsAnswer laws report plan read (told laws report plan inputs end streams)
+is-answer laws report plan inputs end read streams is ended solution = record {
   streams = streams;
-  solution = subst (λ (i : Inputs). IsSolution (plain_job plan i) streams) is solution;
-  is = ap (λ (i : Inputs). answer_of (by_lines report) (plain_job plan i) end streams) is ∙ ap (λ (e : FeedEnd). answer_of (by_lines report) (job_of plan read) e streams) ended;
+  solution = subst (λ (i : Inputs). IsSolution (plain_job laws plan i) streams) is solution;
+  is = ap (λ (i : Inputs). answer_of (by_lines report) (plain_job laws plan i) end streams) is ∙ ap (λ (e : FeedEnd). answer_of (by_lines report) (job_of laws plan read) e streams) ended;
 }
 
-ran-all : (report : Bool) (plan : Plan) (input : Device SourceTold) (end : FeedEnd) (inputs : Inputs) (status : Status) (output notes : Device SinkTold) (streams : List (StreamPrefix Plain))
-    → GatheredInputs (inputs_of plan) input end inputs → IsSolution (plain_job plan inputs) streams
-    → Meets (told report plan inputs end streams) status output notes → RanAll report plan status (run_devices input output notes)
-ran-all report plan input end inputs status output notes streams gathered solution wrote = record {
+ran-all : (laws : Laws) (report : Bool) (plan : Plan) (input : Device SourceTold) (end : FeedEnd) (inputs : Inputs) (status : Status) (output notes : Device SinkTold) (streams : List (StreamPrefix Plain))
+    → GatheredInputs (inputs_of plan) input end inputs → IsSolution (plain_job laws plan inputs) streams
+    → Meets (told laws report plan inputs end streams) status output notes → RanAll laws report plan status (run_devices input output notes)
+ran-all laws report plan input end inputs status output notes streams gathered solution wrote = record {
   read = gathered.read;
   input = gathered.came;
-  answer = told report plan inputs end streams;
-  is = is-answer report plan inputs end gathered.read streams gathered.given gathered.ended solution;
+  answer = told laws report plan inputs end streams;
+  is = is-answer laws report plan inputs end gathered.read streams gathered.given gathered.ended solution;
   met = record { text = wrote.text; noted = wrote.noted; told = wrote.told };
 }
 
-ran-short : (report : Bool) (plan : Plan) (input : Device SourceTold) (end : FeedEnd) (inputs : Inputs) (output notes : Device SinkTold) (streams : List (StreamPrefix Plain))
-    → GatheredInputs (inputs_of plan) input end inputs → IsSolution (plain_job plan inputs) streams
-    → MetShort (told report plan inputs end streams) (failed report plan inputs end streams) output notes → RanShort report plan (run_devices input output notes)
-ran-short report plan input end inputs output notes streams gathered solution wrote = record {
+ran-short : (laws : Laws) (report : Bool) (plan : Plan) (input : Device SourceTold) (end : FeedEnd) (inputs : Inputs) (output notes : Device SinkTold) (streams : List (StreamPrefix Plain))
+    → GatheredInputs (inputs_of plan) input end inputs → IsSolution (plain_job laws plan inputs) streams
+    → MetShort (told laws report plan inputs end streams) (failed laws report plan inputs end streams) output notes → RanShort laws report plan (run_devices input output notes)
+ran-short laws report plan input end inputs output notes streams gathered solution wrote = record {
   read = gathered.read;
   input = gathered.came;
-  answer = told report plan inputs end streams;
-  is = is-answer report plan inputs end gathered.read streams gathered.given gathered.ended solution;
-  short = subst (λ (l : List ℕ). MetShort (told report plan inputs end streams) l output notes)
-      (ap (λ (i : Inputs). failed report plan i end streams) gathered.given ∙ ap (λ (e : FeedEnd). failed_notes (by_lines report) (job_of plan gathered.read) e streams) gathered.ended) wrote;
+  answer = told laws report plan inputs end streams;
+  is = is-answer laws report plan inputs end gathered.read streams gathered.given gathered.ended solution;
+  short = subst (λ (l : List ℕ). MetShort (told laws report plan inputs end streams) l output notes)
+      (ap (λ (i : Inputs). failed laws report plan i end streams) gathered.given ∙ ap (λ (e : FeedEnd). failed_notes (by_lines report) (job_of laws plan gathered.read) e streams) gathered.ended) wrote;
 }
 
-took-some : (plan : Plan) (input : Device SourceTold) (end : FeedEnd) (inputs : Inputs) (output : Device SinkTold) (streams : List (StreamPrefix Plain))
-    → GatheredInputs (inputs_of plan) input end inputs → IsSolution (plain_job plan inputs) streams → TookFront output (output_text_of plan streams) → TookSome plan input output
-took-some plan input end inputs output streams gathered solution front = record {
+took-some : (laws : Laws) (plan : Plan) (input : Device SourceTold) (end : FeedEnd) (inputs : Inputs) (output : Device SinkTold) (streams : List (StreamPrefix Plain))
+    → GatheredInputs (inputs_of plan) input end inputs → IsSolution (plain_job laws plan inputs) streams → TookFront output (output_text_of plan streams) → TookSome laws plan input output
+took-some laws plan input end inputs output streams gathered solution front = record {
   read = gathered.read;
   came = gathered.came;
   streams = streams;
-  solution = subst (λ (i : Inputs). IsSolution (plain_job plan i) streams) gathered.given solution;
+  solution = subst (λ (i : Inputs). IsSolution (plain_job laws plan i) streams) gathered.given solution;
   front = front;
 }
 
@@ -98,31 +99,31 @@ no-want plan input (Failed lines) fs ns came read by is = cc
 no-want plan input (Refused line cause) fs ns came read by is = cc
 no-want plan input no_lines fs ns came read by is = absurd by
 
-ran-by : (report : Bool) (plan : Plan) (input : Device SourceTold) (end : FeedEnd) (inputs : Inputs) (status : Status) (output notes : Device SinkTold) (streams : List (StreamPrefix Plain))
-    → GatheredInputs (inputs_of plan) input end inputs → IsSolution (plain_job plan inputs) streams
-    → WroteBy status (told report plan inputs end streams) (failed report plan inputs end streams) output notes → Ran report plan status (run_devices input output notes)
-ran-by report plan input end inputs Good output notes streams gathered solution by = ran-all report plan input end inputs Good output notes streams gathered solution by
-ran-by report plan input end inputs LineRefused output notes streams gathered solution by = ran-all report plan input end inputs LineRefused output notes streams gathered solution by
-ran-by report plan input end inputs StoreFault output notes streams gathered solution by = ran-all report plan input end inputs StoreFault output notes streams gathered solution by
-ran-by report plan input end inputs Usage output notes streams gathered solution by = ran-all report plan input end inputs Usage output notes streams gathered solution by
-ran-by report plan input end inputs GraphRefused output notes streams gathered solution by = ran-all report plan input end inputs GraphRefused output notes streams gathered solution by
-ran-by report plan input end inputs NodeFault output notes streams gathered solution by = ran-all report plan input end inputs NodeFault output notes streams gathered solution by
-ran-by report plan input end inputs Stalled output notes streams gathered solution by = ran-all report plan input end inputs Stalled output notes streams gathered solution by
-ran-by report plan input end inputs ReadFault output notes streams gathered solution by = ran-all report plan input end inputs ReadFault output notes streams gathered solution by
-ran-by report plan input end inputs WriteFault output notes streams gathered solution by = ran-short report plan input end inputs output notes streams gathered solution by
-ran-by report plan input end inputs OutOfMemory output notes streams gathered solution by =
-    let fs = faults (plain_job plan inputs) streams in
+ran-by : (laws : Laws) (report : Bool) (plan : Plan) (input : Device SourceTold) (end : FeedEnd) (inputs : Inputs) (status : Status) (output notes : Device SinkTold) (streams : List (StreamPrefix Plain))
+    → GatheredInputs (inputs_of plan) input end inputs → IsSolution (plain_job laws plan inputs) streams
+    → WroteBy status (told laws report plan inputs end streams) (failed laws report plan inputs end streams) output notes → Ran laws report plan status (run_devices input output notes)
+ran-by laws report plan input end inputs Good output notes streams gathered solution by = ran-all laws report plan input end inputs Good output notes streams gathered solution by
+ran-by laws report plan input end inputs LineRefused output notes streams gathered solution by = ran-all laws report plan input end inputs LineRefused output notes streams gathered solution by
+ran-by laws report plan input end inputs StoreFault output notes streams gathered solution by = ran-all laws report plan input end inputs StoreFault output notes streams gathered solution by
+ran-by laws report plan input end inputs Usage output notes streams gathered solution by = ran-all laws report plan input end inputs Usage output notes streams gathered solution by
+ran-by laws report plan input end inputs GraphRefused output notes streams gathered solution by = ran-all laws report plan input end inputs GraphRefused output notes streams gathered solution by
+ran-by laws report plan input end inputs NodeFault output notes streams gathered solution by = ran-all laws report plan input end inputs NodeFault output notes streams gathered solution by
+ran-by laws report plan input end inputs Stalled output notes streams gathered solution by = ran-all laws report plan input end inputs Stalled output notes streams gathered solution by
+ran-by laws report plan input end inputs ReadFault output notes streams gathered solution by = ran-all laws report plan input end inputs ReadFault output notes streams gathered solution by
+ran-by laws report plan input end inputs WriteFault output notes streams gathered solution by = ran-short laws report plan input end inputs output notes streams gathered solution by
+ran-by laws report plan input end inputs OutOfMemory output notes streams gathered solution by =
+    let fs = faults (plain_job laws plan inputs) streams in
     absurd (no-want plan input gathered.read.end fs (stalled streams) gathered.came.came gathered.read gathered.came.by
     (by.told ∙ ap (λ (e : FeedEnd). status_of e fs (stalled streams)) gathered.ended))
 
-pub ran-wrote : (report : Bool) (plan : Plan) (input : Device SourceTold) (end : FeedEnd) (inputs : Inputs) (status : Status) (output notes : Device SinkTold)
-    → GatheredInputs (inputs_of plan) input end inputs → Wrote (by_lines report) (plain_job plan inputs) end status output notes → Ran report plan status (run_devices input output notes)
-ran-wrote report plan input end inputs status output notes gathered wrote = ran-by report plan input end inputs status output notes wrote.streams gathered wrote.solution wrote.by
+pub ran-wrote : (laws : Laws) (report : Bool) (plan : Plan) (input : Device SourceTold) (end : FeedEnd) (inputs : Inputs) (status : Status) (output notes : Device SinkTold)
+    → GatheredInputs (inputs_of plan) input end inputs → Wrote (by_lines report) (plain_job laws plan inputs) end status output notes → Ran laws report plan status (run_devices input output notes)
+ran-wrote laws report plan input end inputs status output notes gathered wrote = ran-by laws report plan input end inputs status output notes wrote.streams gathered wrote.solution wrote.by
 
-pub ran-out : (report : Bool) (plan : Plan) (input : Device SourceTold) (end : FeedEnd) (inputs : Inputs) (output : Device SinkTold)
-    → GatheredInputs (inputs_of plan) input end inputs → WroteSome (plain_job plan inputs) output → Untouched output ⊎ TookSome plan input output
-ran-out report plan input end inputs output gathered (inl untouched) = inl untouched
-ran-out report plan input end inputs output gathered (inr wrote) = inr (took-some plan input end inputs output wrote.streams gathered wrote.solution wrote.front)
+pub ran-out : (laws : Laws) (report : Bool) (plan : Plan) (input : Device SourceTold) (end : FeedEnd) (inputs : Inputs) (output : Device SinkTold)
+    → GatheredInputs (inputs_of plan) input end inputs → WroteSome (plain_job laws plan inputs) output → Untouched output ⊎ TookSome laws plan input output
+ran-out laws report plan input end inputs output gathered (inl untouched) = inl untouched
+ran-out laws report plan input end inputs output gathered (inr wrote) = inr (took-some laws plan input end inputs output wrote.streams gathered wrote.solution wrote.front)
 
 -- the note that memory ran out was taken by notes that nothing else was written to
 pub noted-then : (before middle now : SinkTold) (text : List ℕ) → middle ≡ before → TookNotes (device middle now) text → TookNotes (device before now) text
@@ -272,36 +273,36 @@ wrote-so plan end outcomes ns report view view' status result written noted byte
 -- What follows --
 
 -- the status of an answer is told by how the input ended
-told-by : (report : Bool) (plan : Plan) (status : Status) (all : RunDevices) (ran : RanAll report plan status all)
+told-by : (laws : Laws) (report : Bool) (plan : Plan) (status : Status) (all : RunDevices) (ran : RanAll laws report plan status all)
     → (fs : List Fault) × (ns : List ℕ) × (status ≡ status_of ran.read.end fs ns)
-told-by report plan status all ran =
-    (faults (job_of plan ran.read) ran.is.streams, stalled ran.is.streams, ran.met.told ∙ ap (λ (a : RunAnswer). a.status) ran.is.is)
+told-by laws report plan status all ran =
+    (faults (job_of laws plan ran.read) ran.is.streams, stalled ran.is.streams, ran.met.told ∙ ap (λ (a : RunAnswer). a.status) ran.is.is)
 
 -- the input was read, unless memory ran out
-pub ran-read : (report : Bool) (plan : Plan) (status : Status) (all : RunDevices) → Ran report plan status all → status ≢ OutOfMemory → (read : Read) × CameTo (inputs_of plan) all.input read
-ran-read report plan Good all ran some = (ran.read, ran.input)
-ran-read report plan LineRefused all ran some = (ran.read, ran.input)
-ran-read report plan StoreFault all ran some = (ran.read, ran.input)
-ran-read report plan Usage all ran some = (ran.read, ran.input)
-ran-read report plan GraphRefused all ran some = (ran.read, ran.input)
-ran-read report plan NodeFault all ran some = (ran.read, ran.input)
-ran-read report plan Stalled all ran some = (ran.read, ran.input)
-ran-read report plan ReadFault all ran some = (ran.read, ran.input)
-ran-read report plan WriteFault all ran some = (ran.read, ran.input)
-ran-read report plan OutOfMemory all ran some = absurd (some refl)
+pub ran-read : (laws : Laws) (report : Bool) (plan : Plan) (status : Status) (all : RunDevices) → Ran laws report plan status all → status ≢ OutOfMemory → (read : Read) × CameTo (inputs_of plan) all.input read
+ran-read laws report plan Good all ran some = (ran.read, ran.input)
+ran-read laws report plan LineRefused all ran some = (ran.read, ran.input)
+ran-read laws report plan StoreFault all ran some = (ran.read, ran.input)
+ran-read laws report plan Usage all ran some = (ran.read, ran.input)
+ran-read laws report plan GraphRefused all ran some = (ran.read, ran.input)
+ran-read laws report plan NodeFault all ran some = (ran.read, ran.input)
+ran-read laws report plan Stalled all ran some = (ran.read, ran.input)
+ran-read laws report plan ReadFault all ran some = (ran.read, ran.input)
+ran-read laws report plan WriteFault all ran some = (ran.read, ran.input)
+ran-read laws report plan OutOfMemory all ran some = absurd (some refl)
 
 -- it was read once, also where memory ran out
-pub ran-once : (report : Bool) (plan : Plan) (status : Status) (all : RunDevices) → Ran report plan status all → ReadSome (inputs_of plan) all.input
-ran-once report plan Good all ran = read-came (inputs_of plan) all.input ran.read ran.input
-ran-once report plan LineRefused all ran = read-came (inputs_of plan) all.input ran.read ran.input
-ran-once report plan StoreFault all ran = read-came (inputs_of plan) all.input ran.read ran.input
-ran-once report plan Usage all ran = read-came (inputs_of plan) all.input ran.read ran.input
-ran-once report plan GraphRefused all ran = read-came (inputs_of plan) all.input ran.read ran.input
-ran-once report plan NodeFault all ran = read-came (inputs_of plan) all.input ran.read ran.input
-ran-once report plan Stalled all ran = read-came (inputs_of plan) all.input ran.read ran.input
-ran-once report plan ReadFault all ran = read-came (inputs_of plan) all.input ran.read ran.input
-ran-once report plan WriteFault all ran = read-came (inputs_of plan) all.input ran.read ran.input
-ran-once report plan OutOfMemory all ran = ran.2
+pub ran-once : (laws : Laws) (report : Bool) (plan : Plan) (status : Status) (all : RunDevices) → Ran laws report plan status all → ReadSome (inputs_of plan) all.input
+ran-once laws report plan Good all ran = read-came (inputs_of plan) all.input ran.read ran.input
+ran-once laws report plan LineRefused all ran = read-came (inputs_of plan) all.input ran.read ran.input
+ran-once laws report plan StoreFault all ran = read-came (inputs_of plan) all.input ran.read ran.input
+ran-once laws report plan Usage all ran = read-came (inputs_of plan) all.input ran.read ran.input
+ran-once laws report plan GraphRefused all ran = read-came (inputs_of plan) all.input ran.read ran.input
+ran-once laws report plan NodeFault all ran = read-came (inputs_of plan) all.input ran.read ran.input
+ran-once laws report plan Stalled all ran = read-came (inputs_of plan) all.input ran.read ran.input
+ran-once laws report plan ReadFault all ran = read-came (inputs_of plan) all.input ran.read ran.input
+ran-once laws report plan WriteFault all ran = read-came (inputs_of plan) all.input ran.read ran.input
+ran-once laws report plan OutOfMemory all ran = ran.2
 
 abbrev pub ended_statuses : List Status
 ended_statuses = Good ∷ NodeFault ∷ Stalled ∷ []
@@ -320,9 +321,9 @@ end-by (Refused line cause) status fs ns graph input came read is (inr (inr (inl
 end-by (Refused line cause) status fs ns graph input came read is (inr (inr (inr e))) by = absurd e
 end-by no_lines status fs ns graph input came read is one by = absurd by
 
-all-ended : (report : Bool) (plan : Plan) (status : Status) (all : RunDevices) → RanAll report plan status all → IsOneOf status ended_statuses → EndCame all.input.before all.input.now
-all-ended report plan status all ran one =
-    let told = told-by report plan status all ran in
+all-ended : (laws : Laws) (report : Bool) (plan : Plan) (status : Status) (all : RunDevices) → RanAll laws report plan status all → IsOneOf status ended_statuses → EndCame all.input.before all.input.now
+all-ended laws report plan status all ran one =
+    let told = told-by laws report plan status all ran in
     end-by ran.read.end status told.0 told.1 (inputs_of plan) all.input ran.input.came ran.read told.2 one ran.input.by
 
 pub no-one : (status : Status) → (status ≡ WriteFault) ⊎ (status ≡ OutOfMemory) → IsOneOf status ended_statuses → ⊥
@@ -335,17 +336,17 @@ no-one status (inr e) (inr (inl f)) = cc
 no-one status (inr e) (inr (inr (inl f))) = cc
 no-one status (inr e) (inr (inr (inr f))) = f
 
-pub ran-ended : (report : Bool) (plan : Plan) (status : Status) (all : RunDevices) → Ran report plan status all → IsOneOf status ended_statuses → EndCame all.input.before all.input.now
-ran-ended report plan Good all ran one = all-ended report plan Good all ran one
-ran-ended report plan LineRefused all ran one = all-ended report plan LineRefused all ran one
-ran-ended report plan StoreFault all ran one = all-ended report plan StoreFault all ran one
-ran-ended report plan Usage all ran one = all-ended report plan Usage all ran one
-ran-ended report plan GraphRefused all ran one = all-ended report plan GraphRefused all ran one
-ran-ended report plan NodeFault all ran one = all-ended report plan NodeFault all ran one
-ran-ended report plan Stalled all ran one = all-ended report plan Stalled all ran one
-ran-ended report plan ReadFault all ran one = all-ended report plan ReadFault all ran one
-ran-ended report plan WriteFault all ran one = absurd (no-one WriteFault (inl refl) one)
-ran-ended report plan OutOfMemory all ran one = absurd (no-one OutOfMemory (inr refl) one)
+pub ran-ended : (laws : Laws) (report : Bool) (plan : Plan) (status : Status) (all : RunDevices) → Ran laws report plan status all → IsOneOf status ended_statuses → EndCame all.input.before all.input.now
+ran-ended laws report plan Good all ran one = all-ended laws report plan Good all ran one
+ran-ended laws report plan LineRefused all ran one = all-ended laws report plan LineRefused all ran one
+ran-ended laws report plan StoreFault all ran one = all-ended laws report plan StoreFault all ran one
+ran-ended laws report plan Usage all ran one = all-ended laws report plan Usage all ran one
+ran-ended laws report plan GraphRefused all ran one = all-ended laws report plan GraphRefused all ran one
+ran-ended laws report plan NodeFault all ran one = all-ended laws report plan NodeFault all ran one
+ran-ended laws report plan Stalled all ran one = all-ended laws report plan Stalled all ran one
+ran-ended laws report plan ReadFault all ran one = all-ended laws report plan ReadFault all ran one
+ran-ended laws report plan WriteFault all ran one = absurd (no-one WriteFault (inl refl) one)
+ran-ended laws report plan OutOfMemory all ran one = absurd (no-one OutOfMemory (inr refl) one)
 
 -- Faults --
 
@@ -368,41 +369,41 @@ failed-by (Failed lines) status fs ns before now graph input came read is un by 
 failed-by (Refused line cause) status fs ns before now graph input came read is un by risen = absurd (steady-risen before.faults now.faults un.steady risen)
 failed-by no_lines status fs ns before now graph input came read is un by risen = absurd by
 
-all-risen : (report : Bool) (plan : Plan) (status : Status) (all : RunDevices) → RanAll report plan status all → HasRisen all.input.before.faults all.input.now.faults → IsOneOf status read_statuses
-all-risen report plan status all ran risen =
-    let told = told-by report plan status all ran in
+all-risen : (laws : Laws) (report : Bool) (plan : Plan) (status : Status) (all : RunDevices) → RanAll laws report plan status all → HasRisen all.input.before.faults all.input.now.faults → IsOneOf status read_statuses
+all-risen laws report plan status all ran risen =
+    let told = told-by laws report plan status all ran in
     failed-by ran.read.end status told.0 told.1 all.input.before all.input.now (inputs_of plan) all.input ran.input.came ran.read told.2 ran.input.faults ran.input.by risen
 
-pub read-risen : (report : Bool) (plan : Plan) (status : Status) (all : RunDevices) → Ran report plan status all → HasRisen all.input.before.faults all.input.now.faults → IsOneOf status read_statuses
-read-risen report plan Good all ran risen = all-risen report plan Good all ran risen
-read-risen report plan LineRefused all ran risen = all-risen report plan LineRefused all ran risen
-read-risen report plan StoreFault all ran risen = all-risen report plan StoreFault all ran risen
-read-risen report plan Usage all ran risen = all-risen report plan Usage all ran risen
-read-risen report plan GraphRefused all ran risen = all-risen report plan GraphRefused all ran risen
-read-risen report plan NodeFault all ran risen = all-risen report plan NodeFault all ran risen
-read-risen report plan Stalled all ran risen = all-risen report plan Stalled all ran risen
-read-risen report plan ReadFault all ran risen = all-risen report plan ReadFault all ran risen
-read-risen report plan WriteFault all ran risen = inr (inl refl)
-read-risen report plan OutOfMemory all ran risen = inr (inr (inl refl))
+pub read-risen : (laws : Laws) (report : Bool) (plan : Plan) (status : Status) (all : RunDevices) → Ran laws report plan status all → HasRisen all.input.before.faults all.input.now.faults → IsOneOf status read_statuses
+read-risen laws report plan Good all ran risen = all-risen laws report plan Good all ran risen
+read-risen laws report plan LineRefused all ran risen = all-risen laws report plan LineRefused all ran risen
+read-risen laws report plan StoreFault all ran risen = all-risen laws report plan StoreFault all ran risen
+read-risen laws report plan Usage all ran risen = all-risen laws report plan Usage all ran risen
+read-risen laws report plan GraphRefused all ran risen = all-risen laws report plan GraphRefused all ran risen
+read-risen laws report plan NodeFault all ran risen = all-risen laws report plan NodeFault all ran risen
+read-risen laws report plan Stalled all ran risen = all-risen laws report plan Stalled all ran risen
+read-risen laws report plan ReadFault all ran risen = all-risen laws report plan ReadFault all ran risen
+read-risen laws report plan WriteFault all ran risen = inr (inl refl)
+read-risen laws report plan OutOfMemory all ran risen = inr (inr (inl refl))
 
 abbrev pub WriteRisen : RunDevices → Type 0
 WriteRisen all = HasRisen all.output.before.faults all.output.now.faults ⊎ HasRisen all.notes.before.faults all.notes.now.faults
 
-write-steady : (report : Bool) (plan : Plan) (status : Status) (all : RunDevices) → RanAll report plan status all → WriteRisen all → ⊥
-write-steady report plan status all ran (inl risen) = steady-risen _ _ ran.met.text.steady risen
-write-steady report plan status all ran (inr risen) = steady-risen _ _ ran.met.noted.steady risen
+write-steady : (laws : Laws) (report : Bool) (plan : Plan) (status : Status) (all : RunDevices) → RanAll laws report plan status all → WriteRisen all → ⊥
+write-steady laws report plan status all ran (inl risen) = steady-risen _ _ ran.met.text.steady risen
+write-steady laws report plan status all ran (inr risen) = steady-risen _ _ ran.met.noted.steady risen
 
-pub write-risen : (report : Bool) (plan : Plan) (status : Status) (all : RunDevices) → Ran report plan status all → WriteRisen all → IsOneOf status (WriteFault ∷ OutOfMemory ∷ [])
-write-risen report plan Good all ran risen = absurd (write-steady report plan Good all ran risen)
-write-risen report plan LineRefused all ran risen = absurd (write-steady report plan LineRefused all ran risen)
-write-risen report plan StoreFault all ran risen = absurd (write-steady report plan StoreFault all ran risen)
-write-risen report plan Usage all ran risen = absurd (write-steady report plan Usage all ran risen)
-write-risen report plan GraphRefused all ran risen = absurd (write-steady report plan GraphRefused all ran risen)
-write-risen report plan NodeFault all ran risen = absurd (write-steady report plan NodeFault all ran risen)
-write-risen report plan Stalled all ran risen = absurd (write-steady report plan Stalled all ran risen)
-write-risen report plan ReadFault all ran risen = absurd (write-steady report plan ReadFault all ran risen)
-write-risen report plan WriteFault all ran risen = inl refl
-write-risen report plan OutOfMemory all ran risen = inr (inl refl)
+pub write-risen : (laws : Laws) (report : Bool) (plan : Plan) (status : Status) (all : RunDevices) → Ran laws report plan status all → WriteRisen all → IsOneOf status (WriteFault ∷ OutOfMemory ∷ [])
+write-risen laws report plan Good all ran risen = absurd (write-steady laws report plan Good all ran risen)
+write-risen laws report plan LineRefused all ran risen = absurd (write-steady laws report plan LineRefused all ran risen)
+write-risen laws report plan StoreFault all ran risen = absurd (write-steady laws report plan StoreFault all ran risen)
+write-risen laws report plan Usage all ran risen = absurd (write-steady laws report plan Usage all ran risen)
+write-risen laws report plan GraphRefused all ran risen = absurd (write-steady laws report plan GraphRefused all ran risen)
+write-risen laws report plan NodeFault all ran risen = absurd (write-steady laws report plan NodeFault all ran risen)
+write-risen laws report plan Stalled all ran risen = absurd (write-steady laws report plan Stalled all ran risen)
+write-risen laws report plan ReadFault all ran risen = absurd (write-steady laws report plan ReadFault all ran risen)
+write-risen laws report plan WriteFault all ran risen = inl refl
+write-risen laws report plan OutOfMemory all ran risen = inr (inl refl)
 
 -- The whole input --
 
@@ -428,32 +429,32 @@ whole-read graph input read bytes came is un =
     let gave : Gave (Some bytes) input.now.left came.came = subst (λ (o : Option (List ℕ)). Gave o input.now.left came.came) is came.gave in
     whole-by read.end graph input came.came bytes gave.0 read is gave.1 gave.2 came.by came.faults un
 
-all-answered : (report : Bool) (plan : Plan) (status : Status) (all : RunDevices) → RanAll report plan status all → NoneFailed all → IsAnswered report plan status all
-all-answered report plan status all ran none = by all.input.before.left refl
+all-answered : (laws : Laws) (report : Bool) (plan : Plan) (status : Status) (all : RunDevices) → RanAll laws report plan status all → NoneFailed all → IsAnswered laws report plan status all
+all-answered laws report plan status all ran none = by all.input.before.left refl
   where
-    by : (o : Option (List ℕ)) → all.input.before.left ≡ o → IfSome o (λ bytes. (answer : RunAnswer) × AnswersEnded report plan bytes answer × Meets answer status all.output all.notes)
+    by : (o : Option (List ℕ)) → all.input.before.left ≡ o → IfSome o (λ bytes. (answer : RunAnswer) × AnswersEnded laws report plan bytes answer × Meets answer status all.output all.notes)
     by None is = tt
     by (Some bytes) is = (
       ran.answer,
-      subst (λ (r : Read). IsAnswer report plan r ran.answer) (whole-read (inputs_of plan) all.input ran.read bytes ran.input is none.input) ran.is,
+      subst (λ (r : Read). IsAnswer laws report plan r ran.answer) (whole-read (inputs_of plan) all.input ran.read bytes ran.input is none.input) ran.is,
       ran.met,
     )
 
-short-failed : (report : Bool) (plan : Plan) (all : RunDevices) → RanShort report plan all → NoneFailed all → ⊥
-short-failed report plan all ran none = by ran.short.rose
+short-failed : (laws : Laws) (report : Bool) (plan : Plan) (all : RunDevices) → RanShort laws report plan all → NoneFailed all → ⊥
+short-failed laws report plan all ran none = by ran.short.rose
   where
     by : Rose all.output.before.faults all.output.now.faults ⊎ Rose all.notes.before.faults all.notes.now.faults → ⊥
     by (inl rose) = rose-unrisen _ _ rose none.output
     by (inr rose) = rose-unrisen _ _ rose none.notes
 
-pub ran-answered : (report : Bool) (plan : Plan) (status : Status) (all : RunDevices) → Ran report plan status all → NoneFailed all → status ≢ OutOfMemory → IsAnswered report plan status all
-ran-answered report plan Good all ran none some = all-answered report plan Good all ran none
-ran-answered report plan LineRefused all ran none some = all-answered report plan LineRefused all ran none
-ran-answered report plan StoreFault all ran none some = all-answered report plan StoreFault all ran none
-ran-answered report plan Usage all ran none some = all-answered report plan Usage all ran none
-ran-answered report plan GraphRefused all ran none some = all-answered report plan GraphRefused all ran none
-ran-answered report plan NodeFault all ran none some = all-answered report plan NodeFault all ran none
-ran-answered report plan Stalled all ran none some = all-answered report plan Stalled all ran none
-ran-answered report plan ReadFault all ran none some = all-answered report plan ReadFault all ran none
-ran-answered report plan WriteFault all ran none some = absurd (short-failed report plan all ran none)
-ran-answered report plan OutOfMemory all ran none some = absurd (some refl)
+pub ran-answered : (laws : Laws) (report : Bool) (plan : Plan) (status : Status) (all : RunDevices) → Ran laws report plan status all → NoneFailed all → status ≢ OutOfMemory → IsAnswered laws report plan status all
+ran-answered laws report plan Good all ran none some = all-answered laws report plan Good all ran none
+ran-answered laws report plan LineRefused all ran none some = all-answered laws report plan LineRefused all ran none
+ran-answered laws report plan StoreFault all ran none some = all-answered laws report plan StoreFault all ran none
+ran-answered laws report plan Usage all ran none some = all-answered laws report plan Usage all ran none
+ran-answered laws report plan GraphRefused all ran none some = all-answered laws report plan GraphRefused all ran none
+ran-answered laws report plan NodeFault all ran none some = all-answered laws report plan NodeFault all ran none
+ran-answered laws report plan Stalled all ran none some = all-answered laws report plan Stalled all ran none
+ran-answered laws report plan ReadFault all ran none some = all-answered laws report plan ReadFault all ran none
+ran-answered laws report plan WriteFault all ran none some = absurd (short-failed laws report plan all ran none)
+ran-answered laws report plan OutOfMemory all ran none some = absurd (some refl)

@@ -2,6 +2,7 @@
 use Rattle.std.proofs.Common.{◌≡◌, ℕ, Bool, List, [], ◌∷◌, ◌++◌, sym, ap, subst, ◌∙◌}
 use Rattle.mg_calc.specs.declared.plan.Plan.{Plan}
 use Rattle.mg_calc.specs.Equations.{Job}
+use Rattle.mg_calc.specs.Rules.{Laws}
 use Rattle.mg_feed.specs.Apart.{AreApart}
 use Rattle.mg_feed.specs.Graph.{GraphInputs, inputs_of}
 use Rattle.mg_feed.specs.Lines.{all_lines}
@@ -23,16 +24,16 @@ reads_all graph input good =
     λ i. record { lines = judged.0 i; end = end_by (judged.1 i) }
 
 -- the job of a state
-abbrev state_job : Plan → State → Job
-state_job plan given = record { plan = plan; inputs = record { streams = ended_streams (is_ended Ended) given.streams; sides = given.sides; ended = is_ended Ended } }
+abbrev state_job : Laws → Plan → State → Job
+state_job laws plan given = record { plan = plan; inputs = record { streams = ended_streams (is_ended Ended) given.streams; sides = given.sides; ended = is_ended Ended }; laws = laws }
 
-pub same_answer : (report : Bool) (plan : Plan) (input other : List ℕ) (front back : List (List ℕ)) (first second : List ℕ) (answer : RunAnswer)
+pub same_answer : (laws : Laws) (report : Bool) (plan : Plan) (input other : List ℕ) (front back : List (List ℕ)) (first second : List ℕ) (answer : RunAnswer)
     → all_lines input ≡ front ++ first ∷ second ∷ back → all_lines other ≡ front ++ second ∷ first ∷ back → AreApart first second
-    → AllGood (inputs_of plan) [] (all_lines input) → AllGood (inputs_of plan) [] (all_lines other) → AnswersEnded report plan input answer → AnswersEnded report plan other answer
-same_answer report plan input other front back first second answer is also apart good good_too answers =
+    → AllGood (inputs_of plan) [] (all_lines input) → AllGood (inputs_of plan) [] (all_lines other) → AnswersEnded laws report plan input answer → AnswersEnded laws report plan other answer
+same_answer laws report plan input other front back first second answer is also apart good good_too answers =
     let graph = inputs_of plan in
-    let here : IsAnswer report plan (all_read (all_lines input)) answer = subst (λ (r : Read). IsAnswer report plan r answer) (reads_all graph input good) answers in
+    let here : IsAnswer laws report plan (all_read (all_lines input)) answer = subst (λ (r : Read). IsAnswer laws report plan r answer) (reads_all graph input good) answers in
     let same : given_by graph (all_lines input) ≡ given_by graph (all_lines other) =
     ap (given_by graph) is ∙ (places_changed plan front back first second apart ∙ sym (ap (given_by graph) also)) in
-    let there : IsAnswer report plan (all_read (all_lines other)) answer = subst (λ (s : State). IsAnswerOf (by_lines report) (state_job plan s) Ended answer) same here in
-    subst (λ (r : Read). IsAnswer report plan r answer) (sym (reads_all graph other good_too)) there
+    let there : IsAnswer laws report plan (all_read (all_lines other)) answer = subst (λ (s : State). IsAnswerOf (by_lines report) (state_job laws plan s) Ended answer) same here in
+    subst (λ (r : Read). IsAnswer laws report plan r answer) (sym (reads_all graph other good_too)) there

@@ -10,6 +10,7 @@ use Rattle.mg_calc.specs.declared.plan.Plan.{Plan}
 use Rattle.mg_calc.specs.declared.node_fault.NodeFault.{NodeFault as Fault}
 use Rattle.mg_calc.specs.Equations.{Job, IsJob, IsSolution}
 use Rattle.mg_calc.specs.Meaning.{faults, stalled}
+use Rattle.mg_calc.specs.Rules.{Laws}
 use Rattle.mg_equations.proofs.NodeSteps.{few_sets}
 use Rattle.mg_feed.specs.declared.feed_end.FeedEnd.TheVariants.{Ended}
 use Rattle.mg_answer.specs.Told.{status_of}
@@ -25,26 +26,26 @@ use Rattle.mg_answer.proofs.OneAnswer.{answer-of}
 use Rattle.mg_answer.proofs.Telling.{solved-prefixes}
 
 -- there is an answer
-pub answer-generated : (report : Bool) (plan : Plan) (number : ℕ) → IsJob (generated_job plan number) → (answer : RunAnswer) × AnswersGenerated report plan number answer
-answer-generated report plan number is = answer-of (by_summary report) (generated_job plan number) Ended is
+pub answer-generated : (laws : Laws) (report : Bool) (plan : Plan) (number : ℕ) → IsJob (generated_job laws plan number) → (answer : RunAnswer) × AnswersGenerated laws report plan number answer
+answer-generated laws report plan number is = answer-of (by_summary report) (generated_job laws plan number) Ended is
 
 -- What was written --
 
-abbrev Written : Bool → Plan → ℕ → Status → RunDevices → Type 0
-Written report plan number status all = Wrote (by_summary report) (generated_job plan number) Ended status all.output all.notes
+abbrev Written : Laws → Bool → Plan → ℕ → Status → RunDevices → Type 0
+Written laws report plan number status all = Wrote (by_summary report) (generated_job laws plan number) Ended status all.output all.notes
 
-wrote-answer : (report : Bool) (plan : Plan) (number : ℕ) (status : Status) (all : RunDevices) → (wrote : Written report plan number status all)
-    → Meets (answer_of (by_summary report) (generated_job plan number) Ended wrote.streams) status all.output all.notes → GeneratedAll report plan number status all
-wrote-answer report plan number status all wrote by = record {
-  answer = answer_of (by_summary report) (generated_job plan number) Ended wrote.streams;
+wrote-answer : (laws : Laws) (report : Bool) (plan : Plan) (number : ℕ) (status : Status) (all : RunDevices) → (wrote : Written laws report plan number status all)
+    → Meets (answer_of (by_summary report) (generated_job laws plan number) Ended wrote.streams) status all.output all.notes → GeneratedAll laws report plan number status all
+wrote-answer laws report plan number status all wrote by = record {
+  answer = answer_of (by_summary report) (generated_job laws plan number) Ended wrote.streams;
   is = record { streams = wrote.streams; solution = wrote.solution; is = refl };
   met = record { text = by.text; noted = by.noted; told = by.told };
 }
 
-wrote-short : (report : Bool) (plan : Plan) (number : ℕ) (status : Status) (all : RunDevices) → (wrote : Written report plan number status all)
-    → MetShort (answer_of (by_summary report) (generated_job plan number) Ended wrote.streams) (failed_notes (by_summary report) (generated_job plan number) Ended wrote.streams) all.output all.notes → GeneratedShort report plan number all
-wrote-short report plan number status all wrote by = record {
-  answer = answer_of (by_summary report) (generated_job plan number) Ended wrote.streams;
+wrote-short : (laws : Laws) (report : Bool) (plan : Plan) (number : ℕ) (status : Status) (all : RunDevices) → (wrote : Written laws report plan number status all)
+    → MetShort (answer_of (by_summary report) (generated_job laws plan number) Ended wrote.streams) (failed_notes (by_summary report) (generated_job laws plan number) Ended wrote.streams) all.output all.notes → GeneratedShort laws report plan number all
+wrote-short laws report plan number status all wrote by = record {
+  answer = answer_of (by_summary report) (generated_job laws plan number) Ended wrote.streams;
   is = record { streams = wrote.streams; solution = wrote.solution; is = refl };
   short = by;
 }
@@ -55,67 +56,67 @@ no-want [] [] is = cc
 no-want [] (n ∷ ns) is = cc
 no-want (f ∷ fs) ns is = cc
 
-pub generated-ran : (report : Bool) (plan : Plan) (number : ℕ) (status : Status) (all : RunDevices) → Written report plan number status all → RanGenerated report plan number status all
-generated-ran report plan number Good all wrote = wrote-answer report plan number Good all wrote wrote.by
-generated-ran report plan number LineRefused all wrote = wrote-answer report plan number LineRefused all wrote wrote.by
-generated-ran report plan number StoreFault all wrote = wrote-answer report plan number StoreFault all wrote wrote.by
-generated-ran report plan number Usage all wrote = wrote-answer report plan number Usage all wrote wrote.by
-generated-ran report plan number GraphRefused all wrote = wrote-answer report plan number GraphRefused all wrote wrote.by
-generated-ran report plan number NodeFault all wrote = wrote-answer report plan number NodeFault all wrote wrote.by
-generated-ran report plan number Stalled all wrote = wrote-answer report plan number Stalled all wrote wrote.by
-generated-ran report plan number ReadFault all wrote = wrote-answer report plan number ReadFault all wrote wrote.by
-generated-ran report plan number WriteFault all wrote = wrote-short report plan number WriteFault all wrote wrote.by
-generated-ran report plan number OutOfMemory all wrote = absurd (no-want (faults (generated_job plan number) wrote.streams) (stalled wrote.streams) wrote.by.told)
+pub generated-ran : (laws : Laws) (report : Bool) (plan : Plan) (number : ℕ) (status : Status) (all : RunDevices) → Written laws report plan number status all → RanGenerated laws report plan number status all
+generated-ran laws report plan number Good all wrote = wrote-answer laws report plan number Good all wrote wrote.by
+generated-ran laws report plan number LineRefused all wrote = wrote-answer laws report plan number LineRefused all wrote wrote.by
+generated-ran laws report plan number StoreFault all wrote = wrote-answer laws report plan number StoreFault all wrote wrote.by
+generated-ran laws report plan number Usage all wrote = wrote-answer laws report plan number Usage all wrote wrote.by
+generated-ran laws report plan number GraphRefused all wrote = wrote-answer laws report plan number GraphRefused all wrote wrote.by
+generated-ran laws report plan number NodeFault all wrote = wrote-answer laws report plan number NodeFault all wrote wrote.by
+generated-ran laws report plan number Stalled all wrote = wrote-answer laws report plan number Stalled all wrote wrote.by
+generated-ran laws report plan number ReadFault all wrote = wrote-answer laws report plan number ReadFault all wrote wrote.by
+generated-ran laws report plan number WriteFault all wrote = wrote-short laws report plan number WriteFault all wrote wrote.by
+generated-ran laws report plan number OutOfMemory all wrote = absurd (no-want (faults (generated_job laws plan number) wrote.streams) (stalled wrote.streams) wrote.by.told)
 
 -- What follows --
 
-abbrev pub MetGenerated : Bool → Plan → ℕ → Status → RunDevices → Type 0
-MetGenerated report plan number status all = (answer : RunAnswer) × AnswersGenerated report plan number answer × Meets answer status all.output all.notes
+abbrev pub MetGenerated : Laws → Bool → Plan → ℕ → Status → RunDevices → Type 0
+MetGenerated laws report plan number status all = (answer : RunAnswer) × AnswersGenerated laws report plan number answer × Meets answer status all.output all.notes
 
-all-met : (report : Bool) (plan : Plan) (number : ℕ) (status : Status) (all : RunDevices) → GeneratedAll report plan number status all → MetGenerated report plan number status all
-all-met report plan number status all ran = (ran.answer, ran.is, ran.met)
+all-met : (laws : Laws) (report : Bool) (plan : Plan) (number : ℕ) (status : Status) (all : RunDevices) → GeneratedAll laws report plan number status all → MetGenerated laws report plan number status all
+all-met laws report plan number status all ran = (ran.answer, ran.is, ran.met)
 
-short-failed : (report : Bool) (plan : Plan) (number : ℕ) (all : RunDevices) → GeneratedShort report plan number all
+short-failed : (laws : Laws) (report : Bool) (plan : Plan) (number : ℕ) (all : RunDevices) → GeneratedShort laws report plan number all
     → Unrisen all.output.before.faults all.output.now.faults → Unrisen all.notes.before.faults all.notes.now.faults → ⊥
-short-failed report plan number all ran output notes = by ran.short.rose
+short-failed laws report plan number all ran output notes = by ran.short.rose
   where
     by : Rose all.output.before.faults all.output.now.faults ⊎ Rose all.notes.before.faults all.notes.now.faults → ⊥
     by (inl rose) = rose-unrisen _ _ rose output
     by (inr rose) = rose-unrisen _ _ rose notes
 
-pub generated-answered : (report : Bool) (plan : Plan) (number : ℕ) (status : Status) (all : RunDevices) → RanGenerated report plan number status all
-    → Unrisen all.output.before.faults all.output.now.faults → Unrisen all.notes.before.faults all.notes.now.faults → status ≢ OutOfMemory → MetGenerated report plan number status all
-generated-answered report plan number Good all ran output notes some = all-met report plan number Good all ran
-generated-answered report plan number LineRefused all ran output notes some = all-met report plan number LineRefused all ran
-generated-answered report plan number StoreFault all ran output notes some = all-met report plan number StoreFault all ran
-generated-answered report plan number Usage all ran output notes some = all-met report plan number Usage all ran
-generated-answered report plan number GraphRefused all ran output notes some = all-met report plan number GraphRefused all ran
-generated-answered report plan number NodeFault all ran output notes some = all-met report plan number NodeFault all ran
-generated-answered report plan number Stalled all ran output notes some = all-met report plan number Stalled all ran
-generated-answered report plan number ReadFault all ran output notes some = all-met report plan number ReadFault all ran
-generated-answered report plan number WriteFault all ran output notes some = absurd (short-failed report plan number all ran output notes)
-generated-answered report plan number OutOfMemory all ran output notes some = absurd (some refl)
+pub generated-answered : (laws : Laws) (report : Bool) (plan : Plan) (number : ℕ) (status : Status) (all : RunDevices) → RanGenerated laws report plan number status all
+    → Unrisen all.output.before.faults all.output.now.faults → Unrisen all.notes.before.faults all.notes.now.faults → status ≢ OutOfMemory → MetGenerated laws report plan number status all
+generated-answered laws report plan number Good all ran output notes some = all-met laws report plan number Good all ran
+generated-answered laws report plan number LineRefused all ran output notes some = all-met laws report plan number LineRefused all ran
+generated-answered laws report plan number StoreFault all ran output notes some = all-met laws report plan number StoreFault all ran
+generated-answered laws report plan number Usage all ran output notes some = all-met laws report plan number Usage all ran
+generated-answered laws report plan number GraphRefused all ran output notes some = all-met laws report plan number GraphRefused all ran
+generated-answered laws report plan number NodeFault all ran output notes some = all-met laws report plan number NodeFault all ran
+generated-answered laws report plan number Stalled all ran output notes some = all-met laws report plan number Stalled all ran
+generated-answered laws report plan number ReadFault all ran output notes some = all-met laws report plan number ReadFault all ran
+generated-answered laws report plan number WriteFault all ran output notes some = absurd (short-failed laws report plan number all ran output notes)
+generated-answered laws report plan number OutOfMemory all ran output notes some = absurd (some refl)
 
-write-steady : (report : Bool) (plan : Plan) (number : ℕ) (status : Status) (all : RunDevices) → GeneratedAll report plan number status all → WriteRisen all → ⊥
-write-steady report plan number status all ran (inl risen) = steady-risen _ _ ran.met.text.steady risen
-write-steady report plan number status all ran (inr risen) = steady-risen _ _ ran.met.noted.steady risen
+write-steady : (laws : Laws) (report : Bool) (plan : Plan) (number : ℕ) (status : Status) (all : RunDevices) → GeneratedAll laws report plan number status all → WriteRisen all → ⊥
+write-steady laws report plan number status all ran (inl risen) = steady-risen _ _ ran.met.text.steady risen
+write-steady laws report plan number status all ran (inr risen) = steady-risen _ _ ran.met.noted.steady risen
 
-pub generated-risen : (report : Bool) (plan : Plan) (number : ℕ) (status : Status) (all : RunDevices) → RanGenerated report plan number status all → WriteRisen all
+pub generated-risen : (laws : Laws) (report : Bool) (plan : Plan) (number : ℕ) (status : Status) (all : RunDevices) → RanGenerated laws report plan number status all → WriteRisen all
     → IsOneOf status (WriteFault ∷ OutOfMemory ∷ [])
-generated-risen report plan number Good all ran risen = absurd (write-steady report plan number Good all ran risen)
-generated-risen report plan number LineRefused all ran risen = absurd (write-steady report plan number LineRefused all ran risen)
-generated-risen report plan number StoreFault all ran risen = absurd (write-steady report plan number StoreFault all ran risen)
-generated-risen report plan number Usage all ran risen = absurd (write-steady report plan number Usage all ran risen)
-generated-risen report plan number GraphRefused all ran risen = absurd (write-steady report plan number GraphRefused all ran risen)
-generated-risen report plan number NodeFault all ran risen = absurd (write-steady report plan number NodeFault all ran risen)
-generated-risen report plan number Stalled all ran risen = absurd (write-steady report plan number Stalled all ran risen)
-generated-risen report plan number ReadFault all ran risen = absurd (write-steady report plan number ReadFault all ran risen)
-generated-risen report plan number WriteFault all ran risen = inl refl
-generated-risen report plan number OutOfMemory all ran risen = inr (inl refl)
+generated-risen laws report plan number Good all ran risen = absurd (write-steady laws report plan number Good all ran risen)
+generated-risen laws report plan number LineRefused all ran risen = absurd (write-steady laws report plan number LineRefused all ran risen)
+generated-risen laws report plan number StoreFault all ran risen = absurd (write-steady laws report plan number StoreFault all ran risen)
+generated-risen laws report plan number Usage all ran risen = absurd (write-steady laws report plan number Usage all ran risen)
+generated-risen laws report plan number GraphRefused all ran risen = absurd (write-steady laws report plan number GraphRefused all ran risen)
+generated-risen laws report plan number NodeFault all ran risen = absurd (write-steady laws report plan number NodeFault all ran risen)
+generated-risen laws report plan number Stalled all ran risen = absurd (write-steady laws report plan number Stalled all ran risen)
+generated-risen laws report plan number ReadFault all ran risen = absurd (write-steady laws report plan number ReadFault all ran risen)
+generated-risen laws report plan number WriteFault all ran risen = inl refl
+generated-risen laws report plan number OutOfMemory all ran risen = inr (inl refl)
 
 -- Sets --
 
 pub sets-few : (job : Job) (streams : List (StreamPrefix Plain)) → IsJob job → IsSolution job streams → length (settled_sets Default (ports_of streams job.plan.outputs)) < 2 ^ 64
 sets-few job streams is solution =
     few_sets Default (ports_of streams job.plan.outputs)
-    (all_inputs streams job.plan.outputs (solved-prefixes job.plan job.inputs streams is.plan is.inputs solution))
+    (all_inputs streams job.plan.outputs (solved-prefixes job.laws job.plan job.inputs streams is.plan is.inputs solution))

@@ -14,6 +14,7 @@ use Rattle.mg_calc.specs.declared.plan.Plan.{Plan}
 use Rattle.mg_calc.specs.Plan.{IsValid, InputsFit}
 use Rattle.mg_calc.specs.Equations.{IsJob, IsSolution}
 use Rattle.mg_calc.proofs.Jobs.{solution_grows}
+use Rattle.mg_calc.specs.Rules.{Laws}
 use Rattle.mg_feed.specs.Graph.{GraphInputs, inputs_of}
 use Rattle.mg_feed.specs.Lines.{all_lines}
 use Rattle.mg_feed.specs.Accepted.{given_by, accepted}
@@ -77,17 +78,17 @@ given-by-lines : (graph : GraphInputs) (read : Read) (lines : List (List ℕ)) (
     → AreExtendedBy streams (ended_streams (is_ended read.end) (given_by graph lines).streams) → AreExtendedBy streams (inputs_by graph read).streams
 given-by-lines graph read lines streams is e = subst (λ (l : List (List ℕ)). AreExtendedBy streams (ended_streams (is_ended read.end) (given_by graph l).streams)) (sym is) e
 
-pub texts-grow : (plan : Plan) (bytes : List ℕ) (lines more : List (List ℕ)) (streams longer : List (StreamPrefix Plain)) → IsValid plan
+pub texts-grow : (laws : Laws) (plan : Plan) (bytes : List ℕ) (lines more : List (List ℕ)) (streams longer : List (StreamPrefix Plain)) → IsValid plan
     → AllGood (inputs_of plan) [] (lines ++ more)
     → AreExtendedBy (given_by (inputs_of plan) lines).streams (ended_streams (is_ended (read_of plan bytes).end) (given_by (inputs_of plan) (lines ++ more)).streams)
     → accepted (inputs_of plan) (all_lines bytes) ≡ lines ++ more → (given_by (inputs_of plan) lines).sides ≡ (given_by (inputs_of plan) (lines ++ more)).sides
-    → IsSolution (record { plan = plan; inputs = given_so_far (inputs_of plan) lines }) streams
-    → IsSolution (job_of plan (read_of plan bytes)) longer → IsFront (output_text_of plan streams) (output_text_of plan longer)
-texts-grow plan bytes lines more streams longer valid good grows is sides solution whole =
+    → IsSolution (record { plan = plan; inputs = given_so_far (inputs_of plan) lines; laws = laws }) streams
+    → IsSolution (job_of laws plan (read_of plan bytes)) longer → IsFront (output_text_of plan streams) (output_text_of plan longer)
+texts-grow laws plan bytes lines more streams longer valid good grows is sides solution whole =
     let graph = inputs_of plan in
     let all = inputs_by graph (read_of plan bytes) in
-    let here : IsJob (record { plan = plan; inputs = given_so_far graph lines }) = record { plan = valid; inputs = so-far-fits plan lines valid (good-front graph [] lines more good) } in
-    let there : IsJob (record { plan = plan; inputs = all }) = record { plan = valid; inputs = accepted-fit plan (all_lines bytes) (read_of plan bytes).end valid } in
+    let here : IsJob (record { plan = plan; inputs = given_so_far graph lines; laws = laws }) = record { plan = valid; inputs = so-far-fits plan lines valid (good-front graph [] lines more good) } in
+    let there : IsJob (record { plan = plan; inputs = all; laws = laws }) = record { plan = valid; inputs = accepted-fit plan (all_lines bytes) (read_of plan bytes).end valid } in
     let same : (given_so_far graph lines).sides ≡ all.sides = sides ∙ ap (λ l. (given_by graph l).sides) (sym is) in
     let later : AreExtendedBy streams longer =
     solution_grows plan (given_so_far graph lines) all streams longer here there same (given-by-lines graph (read_of plan bytes) (lines ++ more) _ is grows) solution whole in

@@ -16,6 +16,7 @@ use Rattle.mg_answer.specs.declared.status.Status.TheVariants.{Good}
 use Rattle.mg_calc.proofs.FirstRound.{a_solution}
 use Rattle.mg_calc.proofs.Solutions.{one_solution}
 use Rattle.mg_calc.proofs.Jobs.{job_known}
+use Rattle.mg_calc.specs.Rules.{Laws}
 use Rattle.mg_feed.specs.Graph.{inputs_of}
 use Rattle.mg_feed.specs.Lines.{all_lines, whole_lines}
 use Rattle.mg_answer.specs.Answer.{Telling, by_lines, output_in, Read, RunAnswer, end_by, ended_input, cut_input, job_of, answer_of, IsAnswerOf, IsAnswer, AnswersEnded, AnswersCut}
@@ -27,23 +28,23 @@ answer-of telling job end is =
     let it = a_solution job (job_known job is) is.plan is.inputs.streams in
     (answer_of telling job end it.0, record { streams = it.0; solution = it.1; is = refl })
 
-pub answer-ended : (report : Bool) (plan : Plan) (bytes : List ℕ) → IsValid plan → (answer : RunAnswer) × AnswersEnded report plan bytes answer
-answer-ended report plan bytes valid =
+pub answer-ended : (laws : Laws) (report : Bool) (plan : Plan) (bytes : List ℕ) → IsValid plan → (answer : RunAnswer) × AnswersEnded laws report plan bytes answer
+answer-ended laws report plan bytes valid =
     let read : Read = ended_input (inputs_of plan) bytes in
-    answer-of (by_lines report) (job_of plan read) read.end (record { plan = valid; inputs = accepted-fit plan (all_lines bytes) read.end valid })
+    answer-of (by_lines report) (job_of laws plan read) read.end (record { plan = valid; inputs = accepted-fit plan (all_lines bytes) read.end valid })
 
-pub answer-cut : (report : Bool) (plan : Plan) (bytes : List ℕ) → IsValid plan → (answer : RunAnswer) × AnswersCut report plan bytes answer
-answer-cut report plan bytes valid =
+pub answer-cut : (laws : Laws) (report : Bool) (plan : Plan) (bytes : List ℕ) → IsValid plan → (answer : RunAnswer) × AnswersCut laws report plan bytes answer
+answer-cut laws report plan bytes valid =
     let read : Read = cut_input (inputs_of plan) bytes in
-    answer-of (by_lines report) (job_of plan read) read.end (record { plan = valid; inputs = accepted-fit plan (whole_lines bytes) read.end valid })
+    answer-of (by_lines report) (job_of laws plan read) read.end (record { plan = valid; inputs = accepted-fit plan (whole_lines bytes) read.end valid })
 
 -- and no second one
 pub one-of : (telling : Telling) (job : Job) (end : FeedEnd) (answer other : RunAnswer) → IsAnswerOf telling job end answer → IsAnswerOf telling job end other → answer ≡ other
 one-of telling job end answer other a b =
     a.is ∙ ap (answer_of telling job end) (one_solution job a.streams b.streams a.solution b.solution) ∙ sym b.is
 
-pub one-answer : (report : Bool) (plan : Plan) (read : Read) (answer other : RunAnswer) → IsAnswer report plan read answer → IsAnswer report plan read other → answer ≡ other
-one-answer report plan read answer other a b = one-of (by_lines report) (job_of plan read) read.end answer other a b
+pub one-answer : (laws : Laws) (report : Bool) (plan : Plan) (read : Read) (answer other : RunAnswer) → IsAnswer laws report plan read answer → IsAnswer laws report plan read other → answer ≡ other
+one-answer laws report plan read answer other a b = one-of (by_lines report) (job_of laws plan read) read.end answer other a b
 
 -- the answer of a run in which nothing is told
 good-by : (telling : Telling) (job : Job) (end : FeedEnd) (streams : List (StreamPrefix Plain)) (answer : RunAnswer) → IsSolution job streams
@@ -63,10 +64,10 @@ pub good-told : (telling : Telling) (job : Job) (streams : List (StreamPrefix Pl
     → answer ≡ record { output = output_in telling.form job.plan streams; notes = asked_report telling.report (report_of job streams); status = Good }
 good-told telling job streams answer solution no_fault no_stall is = good-by telling job Ended streams answer solution refl no_fault no_stall is
 
-pub good-answer : (report : Bool) (plan : Plan) (bytes : List ℕ) (streams : List (StreamPrefix Plain)) (answer : RunAnswer)
-    → IsSolution (job_of plan (ended_input (inputs_of plan) bytes)) streams → first_refused_after (inputs_of plan) [] (all_lines bytes) ≡ None
-    → faults (job_of plan (ended_input (inputs_of plan) bytes)) streams ≡ [] → stalled streams ≡ [] → AnswersEnded report plan bytes answer
-    → answer ≡ record { output = output_in (by_lines report).form plan streams; notes = asked_report report (report_of (job_of plan (ended_input (inputs_of plan) bytes)) streams); status = Good }
-good-answer report plan bytes streams answer solution none no_fault no_stall is =
+pub good-answer : (laws : Laws) (report : Bool) (plan : Plan) (bytes : List ℕ) (streams : List (StreamPrefix Plain)) (answer : RunAnswer)
+    → IsSolution (job_of laws plan (ended_input (inputs_of plan) bytes)) streams → first_refused_after (inputs_of plan) [] (all_lines bytes) ≡ None
+    → faults (job_of laws plan (ended_input (inputs_of plan) bytes)) streams ≡ [] → stalled streams ≡ [] → AnswersEnded laws report plan bytes answer
+    → answer ≡ record { output = output_in (by_lines report).form plan streams; notes = asked_report report (report_of (job_of laws plan (ended_input (inputs_of plan) bytes)) streams); status = Good }
+good-answer laws report plan bytes streams answer solution none no_fault no_stall is =
     let read : Read = ended_input (inputs_of plan) bytes in
-    good-by (by_lines report) (job_of plan read) read.end streams answer solution (ap end_by none) no_fault no_stall is
+    good-by (by_lines report) (job_of laws plan read) read.end streams answer solution (ap end_by none) no_fault no_stall is

@@ -14,6 +14,7 @@ use Rattle.mg_calc.specs.Outcome.{Failure}
 use Rattle.mg_calc.specs.Equations.{Job, IsJob, IsSolution, outcome_of}
 use Rattle.mg_calc.specs.Meaning.{stalled, faults, fault_of}
 use Rattle.mg_calc.specs.Plan.{IsValid, InputsFit}
+use Rattle.mg_calc.specs.Rules.{Laws}
 use Rattle.mg_calc.proofs.Solutions.{solution_keeps, solution_has_each}
 use Rattle.mg_calc.proofs.Jobs.{job_known}
 use Rattle.mg_answer.specs.Notes.{bounds_of}
@@ -78,15 +79,15 @@ pub faults-below : (job : Job) (ss : List (StreamPrefix Plain)) → All (λ faul
 faults-below job ss = All-from_recursion (λ (fault : NodeFault). fault.node < length job.plan.nodes) (faults job ss) (faults-from (length job.plan.nodes) 0 job ss job.plan.nodes (omega arith))
 
 -- the solution
-pub solved-prefixes : (plan : Plan) (inputs : Inputs) (ss : List (StreamPrefix Plain)) → IsValid plan → InputsFit plan inputs → IsSolution (record { plan = plan; inputs = inputs }) ss → All IsPrefix ss
-solved-prefixes plan inputs ss valid fit solution =
-    let job : Job = record { plan = plan; inputs = inputs } in
+pub solved-prefixes : (laws : Laws) (plan : Plan) (inputs : Inputs) (ss : List (StreamPrefix Plain)) → IsValid plan → InputsFit plan inputs → IsSolution (record { plan = plan; inputs = inputs; laws = laws }) ss → All IsPrefix ss
+solved-prefixes laws plan inputs ss valid fit solution =
+    let job : Job = record { plan = plan; inputs = inputs; laws = laws } in
     let is : IsJob job = record { plan = valid; inputs = fit } in
     All-from_recursion IsPrefix ss (solution_keeps job (job_known job is) ss solution)
 
-pub solved-each : (plan : Plan) (inputs : Inputs) (ss : List (StreamPrefix Plain)) → IsValid plan → InputsFit plan inputs → IsSolution (record { plan = plan; inputs = inputs }) ss
+pub solved-each : (laws : Laws) (plan : Plan) (inputs : Inputs) (ss : List (StreamPrefix Plain)) → IsValid plan → InputsFit plan inputs → IsSolution (record { plan = plan; inputs = inputs; laws = laws }) ss
     → length ss ≡ length plan.streams
-solved-each plan inputs ss valid fit solution =
-    let job : Job = record { plan = plan; inputs = inputs } in
+solved-each laws plan inputs ss valid fit solution =
+    let job : Job = record { plan = plan; inputs = inputs; laws = laws } in
     let is : IsJob job = record { plan = valid; inputs = fit } in
     solution_has_each job (job_known job is) ss solution

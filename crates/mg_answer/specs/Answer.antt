@@ -1,5 +1,6 @@
 -- What a run of a graph answers: its output, its notes and its status, as a function of the plan, of what is handed in and of
--- the solution. There is one solution (mg_calc), so the input's bytes, or the number of packets that are made, decide the answer.
+-- the solution. There is one solution (mg_calc), so the input's bytes, or the number of packets that are made, decide the answer, by the
+-- laws of the program: what its calculators of their authors' own compute.
 use Rattle.std.specs.Prelude.{◌≡◌, ℕ, List, [], ◌++◌, Bool, true, false, Option, None, Some, length}
 use Rattle.mg_value.specs.Payload.{Plain}
 use Rattle.mg_settled.specs.Prefix.{StreamPrefix}
@@ -7,6 +8,7 @@ use Rattle.mg_calc.specs.declared.inputs.Inputs.{Inputs}
 use Rattle.mg_calc.specs.declared.plan.Plan.{Plan}
 use Rattle.mg_calc.specs.Equations.{Job, IsSolution}
 use Rattle.mg_calc.specs.Meaning.{faults, stalled}
+use Rattle.mg_calc.specs.Rules.{Laws}
 use Rattle.mg_feed.specs.Graph.{GraphInputs, inputs_of}
 use Rattle.mg_feed.specs.Lines.{all_lines, whole_lines}
 use Rattle.mg_feed.specs.Accepted.{Refused as RefusedLine, given_by, accepted, first_refused_after}
@@ -59,9 +61,9 @@ inputs_by graph read = record {
   ended = is_ended read.end;
 }
 
--- the job of a plan over what an input came to
-abbrev pub job_of : Plan → Read → Job
-job_of plan read = record { plan = plan; inputs = inputs_by (inputs_of plan) read }
+-- the job of a plan over what an input came to, by what the program's own calculators compute
+abbrev pub job_of : Laws → Plan → Read → Job
+job_of laws plan read = record { plan = plan; inputs = inputs_by (inputs_of plan) read; laws = laws }
 
 -- What is made for a graph that is run without an input: `number` packets, behind which every stream closes.
 abbrev pub generated_inputs : GraphInputs → ℕ → Inputs
@@ -71,9 +73,9 @@ generated_inputs graph number = record {
   ended = true;
 }
 
--- the job of a plan over `number` packets that are made
-abbrev pub generated_job : Plan → ℕ → Job
-generated_job plan number = record { plan = plan; inputs = generated_inputs (inputs_of plan) number }
+-- the job of a plan over `number` packets that are made, by what the program's own calculators compute
+abbrev pub generated_job : Laws → Plan → ℕ → Job
+generated_job laws plan number = record { plan = plan; inputs = generated_inputs (inputs_of plan) number; laws = laws }
 
 -- The answer --
 
@@ -132,17 +134,17 @@ pub record IsAnswerOf (telling : Telling) (job : Job) (end : FeedEnd) (answer : 
   pub is : answer ≡ answer_of telling job end streams
 
 -- the answer of a graph over an input that came to this, with a report or without
-abbrev pub IsAnswer : Bool → Plan → Read → RunAnswer → Type 0
-IsAnswer report plan read answer = IsAnswerOf (by_lines report) (job_of plan read) read.end answer
+abbrev pub IsAnswer : Laws → Bool → Plan → Read → RunAnswer → Type 0
+IsAnswer laws report plan read answer = IsAnswerOf (by_lines report) (job_of laws plan read) read.end answer
 
 -- the answer of a graph over an input that ended after these bytes
-abbrev pub AnswersEnded : Bool → Plan → List ℕ → RunAnswer → Type 0
-AnswersEnded report plan bytes answer = IsAnswer report plan (ended_input (inputs_of plan) bytes) answer
+abbrev pub AnswersEnded : Laws → Bool → Plan → List ℕ → RunAnswer → Type 0
+AnswersEnded laws report plan bytes answer = IsAnswer laws report plan (ended_input (inputs_of plan) bytes) answer
 
 -- the answer of a graph over an input of which a read failed after these bytes
-abbrev pub AnswersCut : Bool → Plan → List ℕ → RunAnswer → Type 0
-AnswersCut report plan bytes answer = IsAnswer report plan (cut_input (inputs_of plan) bytes) answer
+abbrev pub AnswersCut : Laws → Bool → Plan → List ℕ → RunAnswer → Type 0
+AnswersCut laws report plan bytes answer = IsAnswer laws report plan (cut_input (inputs_of plan) bytes) answer
 
 -- the answer of a graph over a number of packets that are made: its output is a summary
-abbrev pub AnswersGenerated : Bool → Plan → ℕ → RunAnswer → Type 0
-AnswersGenerated report plan number answer = IsAnswerOf (by_summary report) (generated_job plan number) Ended answer
+abbrev pub AnswersGenerated : Laws → Bool → Plan → ℕ → RunAnswer → Type 0
+AnswersGenerated laws report plan number answer = IsAnswerOf (by_summary report) (generated_job laws plan number) Ended answer

@@ -13,6 +13,7 @@ use Rattle.mg_feed.specs.declared.feed_end.FeedEnd.TheVariants.{Ended, Failed, R
 use Rattle.mg_value.specs.Payload.{Plain}
 use Rattle.mg_settled.specs.Prefix.{StreamPrefix}
 use Rattle.mg_calc.specs.Equations.{IsSolution}
+use Rattle.mg_calc.specs.Rules.{Laws}
 use Rattle.mg_answer.specs.Text.{output_text_of}
 use Rattle.mg_answer.specs.Summary.{summary_of}
 use Rattle.mg_answer.specs.Notes.{memory_note}
@@ -55,79 +56,79 @@ pub record ReadSome (graph : GraphInputs) (input : Device SourceTold) : Type 0 w
 -- The run --
 
 -- The run wrote the answer over what its input came to, and ended with its status.
-pub record RanAll (report : Bool) (plan : Plan) (status : Status) (devices : RunDevices) : Type 0 where
+pub record RanAll (laws : Laws) (report : Bool) (plan : Plan) (status : Status) (devices : RunDevices) : Type 0 where
   pub read : Read
   pub input : CameTo (inputs_of plan) devices.input read
   pub answer : RunAnswer
-  pub is : IsAnswer report plan read answer
+  pub is : IsAnswer laws report plan read answer
   pub met : Meets answer status devices.output devices.notes
 
 -- A write failed, after the input was read; what was written is of the answer over what the input came to.
-pub record RanShort (report : Bool) (plan : Plan) (devices : RunDevices) : Type 0 where
+pub record RanShort (laws : Laws) (report : Bool) (plan : Plan) (devices : RunDevices) : Type 0 where
   pub read : Read
   pub input : CameTo (inputs_of plan) devices.input read
   pub answer : RunAnswer
-  pub is : IsAnswer report plan read answer
-  pub short : MetShort answer (failed_notes (by_lines report) (job_of plan read) read.end is.streams) devices.output devices.notes
+  pub is : IsAnswer laws report plan read answer
+  pub short : MetShort answer (failed_notes (by_lines report) (job_of laws plan read) read.end is.streams) devices.output devices.notes
 
 -- The output took a front of the answer's text over what the input came to.
-pub record TookSome (plan : Plan) (input : Device SourceTold) (output : Device SinkTold) : Type 0 where
+pub record TookSome (laws : Laws) (plan : Plan) (input : Device SourceTold) (output : Device SinkTold) : Type 0 where
   pub read : Read
   pub came : CameTo (inputs_of plan) input read
   pub streams : List (StreamPrefix Plain)
-  pub solution : IsSolution (job_of plan read) streams
+  pub solution : IsSolution (job_of laws plan read) streams
   pub front : TookFront output (output_text_of plan streams)
 
 -- Memory ran out, before anything was written or after the input was read.
-abbrev pub RanOut : Plan → RunDevices → Type 0
-RanOut plan devices = Untouched devices.output ⊎ TookSome plan devices.input devices.output
+abbrev pub RanOut : Laws → Plan → RunDevices → Type 0
+RanOut laws plan devices = Untouched devices.output ⊎ TookSome laws plan devices.input devices.output
 
 -- A run ended with this status. Where memory ran out the notes say that alone, and what was read of the input was read once.
-abbrev pub Ran : Bool → Plan → Status → RunDevices → Type 0
-Ran report plan WriteFault devices = RanShort report plan devices
-Ran report plan OutOfMemory devices = RanOut plan devices × TookNotes devices.notes memory_note × ReadSome (inputs_of plan) devices.input
-Ran report plan status devices = RanAll report plan status devices
+abbrev pub Ran : Laws → Bool → Plan → Status → RunDevices → Type 0
+Ran laws report plan WriteFault devices = RanShort laws report plan devices
+Ran laws report plan OutOfMemory devices = RanOut laws plan devices × TookNotes devices.notes memory_note × ReadSome (inputs_of plan) devices.input
+Ran laws report plan status devices = RanAll laws report plan status devices
 
 -- Memory ran out. Either the input was read, and the output took a front of the answer's text over what it came to; or it was still being
 -- read, and where the input tells its bytes the output took a front of the answer's text over an input that ends after them.
-abbrev pub RanShortOf : Plan → RunDevices → Type 0
-RanShortOf plan devices =
-    TookSome plan devices.input devices.output ⊎ IfSome devices.input.before.left (λ bytes. (streams : List (StreamPrefix Plain))
-    → IsSolution (job_of plan (ended_input (inputs_of plan) bytes)) streams → TookFront devices.output (output_text_of plan streams))
+abbrev pub RanShortOf : Laws → Plan → RunDevices → Type 0
+RanShortOf laws plan devices =
+    TookSome laws plan devices.input devices.output ⊎ IfSome devices.input.before.left (λ bytes. (streams : List (StreamPrefix Plain))
+    → IsSolution (job_of laws plan (ended_input (inputs_of plan) bytes)) streams → TookFront devices.output (output_text_of plan streams))
 
 -- A run that writes as it goes ended with this status.
-abbrev pub RanOn : Bool → Plan → Status → RunDevices → Type 0
-RanOn report plan WriteFault devices = RanShort report plan devices
-RanOn report plan OutOfMemory devices = RanShortOf plan devices × TookNotes devices.notes memory_note
-RanOn report plan status devices = RanAll report plan status devices
+abbrev pub RanOn : Laws → Bool → Plan → Status → RunDevices → Type 0
+RanOn laws report plan WriteFault devices = RanShort laws report plan devices
+RanOn laws report plan OutOfMemory devices = RanShortOf laws plan devices × TookNotes devices.notes memory_note
+RanOn laws report plan status devices = RanAll laws report plan status devices
 
 -- Where the input tells its bytes, the run wrote the answer over an input that ends after them.
-abbrev pub IsAnswered : Bool → Plan → Status → RunDevices → Type 0
-IsAnswered report plan status devices =
-    IfSome devices.input.before.left (λ bytes. (answer : RunAnswer) × AnswersEnded report plan bytes answer × Meets answer status devices.output devices.notes)
+abbrev pub IsAnswered : Laws → Bool → Plan → Status → RunDevices → Type 0
+IsAnswered laws report plan status devices =
+    IfSome devices.input.before.left (λ bytes. (answer : RunAnswer) × AnswersEnded laws report plan bytes answer × Meets answer status devices.output devices.notes)
 
 -- A run over packets that are made --
 
 -- The run wrote the answer over the packets that are made.
-pub record GeneratedAll (report : Bool) (plan : Plan) (number : ℕ) (status : Status) (devices : RunDevices) : Type 0 where
+pub record GeneratedAll (laws : Laws) (report : Bool) (plan : Plan) (number : ℕ) (status : Status) (devices : RunDevices) : Type 0 where
   pub answer : RunAnswer
-  pub is : AnswersGenerated report plan number answer
+  pub is : AnswersGenerated laws report plan number answer
   pub met : Meets answer status devices.output devices.notes
 
 -- A write failed in a run over packets that are made; what was written is of the answer over these.
-pub record GeneratedShort (report : Bool) (plan : Plan) (number : ℕ) (devices : RunDevices) : Type 0 where
+pub record GeneratedShort (laws : Laws) (report : Bool) (plan : Plan) (number : ℕ) (devices : RunDevices) : Type 0 where
   pub answer : RunAnswer
-  pub is : AnswersGenerated report plan number answer
-  pub short : MetShort answer (failed_notes (by_summary report) (generated_job plan number) Ended is.streams) devices.output devices.notes
+  pub is : AnswersGenerated laws report plan number answer
+  pub short : MetShort answer (failed_notes (by_summary report) (generated_job laws plan number) Ended is.streams) devices.output devices.notes
 
 -- Memory ran out in a run over packets that are made: the output took a front of the summary.
-pub record GeneratedSome (plan : Plan) (number : ℕ) (output : Device SinkTold) : Type 0 where
+pub record GeneratedSome (laws : Laws) (plan : Plan) (number : ℕ) (output : Device SinkTold) : Type 0 where
   pub streams : List (StreamPrefix Plain)
-  pub solution : IsSolution (generated_job plan number) streams
+  pub solution : IsSolution (generated_job laws plan number) streams
   pub front : TookFront output (summary_of plan streams)
 
 -- A run over a number of packets that are made ended with this status.
-abbrev pub RanGenerated : Bool → Plan → ℕ → Status → RunDevices → Type 0
-RanGenerated report plan number WriteFault devices = GeneratedShort report plan number devices
-RanGenerated report plan number OutOfMemory devices = GeneratedSome plan number devices.output × TookNotes devices.notes memory_note
-RanGenerated report plan number status devices = GeneratedAll report plan number status devices
+abbrev pub RanGenerated : Laws → Bool → Plan → ℕ → Status → RunDevices → Type 0
+RanGenerated laws report plan number WriteFault devices = GeneratedShort laws report plan number devices
+RanGenerated laws report plan number OutOfMemory devices = GeneratedSome laws plan number devices.output × TookNotes devices.notes memory_note
+RanGenerated laws report plan number status devices = GeneratedAll laws report plan number status devices

@@ -8,6 +8,7 @@ ghost use Rattle.mg_settled.specs.Prefix.{StreamPrefix};
 ghost use Rattle.mg_settled.specs.Settled.{settled_sets, inputs_of as ports_of};
 ghost use Rattle.mg_calc.specs.declared.plan.Plan.{Plan};
 ghost use Rattle.mg_calc.specs.Plan.{IsValid, IsValidWithFree, InputsFit};
+ghost use Rattle.mg_calc.specs.Rules.{Laws};
 ghost use Rattle.mg_calc.specs.Equations.{Job, IsJob, IsSolution};
 ghost use Rattle.mg_calc.specs.Meaning.{faults, stalled};
 ghost use Rattle.mg_feed.specs.declared.feed_end.FeedEnd.{FeedEnd};
@@ -47,22 +48,22 @@ pub fn generated_packets_fit()
 /// A valid plan's graph has one answer over any bytes, whether the input ended after them or a read failed, and one over any number of
 /// packets that are made.
 pub fn there_is_one_answer()
-    ensures ended { (report : Bool) (plan : Plan) (bytes : List ℕ) → IsValid plan → (answer : RunAnswer) × AnswersEnded report plan bytes answer }
-    ensures cut { (report : Bool) (plan : Plan) (bytes : List ℕ) → IsValid plan → (answer : RunAnswer) × AnswersCut report plan bytes answer }
-    ensures generated { (report : Bool) (plan : Plan) (number : ℕ) → IsValid plan → number < 2 ^ 32 → (answer : RunAnswer) × AnswersGenerated report plan number answer }
+    ensures ended { (laws : Laws) (report : Bool) (plan : Plan) (bytes : List ℕ) → IsValid plan → (answer : RunAnswer) × AnswersEnded laws report plan bytes answer }
+    ensures cut { (laws : Laws) (report : Bool) (plan : Plan) (bytes : List ℕ) → IsValid plan → (answer : RunAnswer) × AnswersCut laws report plan bytes answer }
+    ensures generated { (laws : Laws) (report : Bool) (plan : Plan) (number : ℕ) → IsValid plan → number < 2 ^ 32 → (answer : RunAnswer) × AnswersGenerated laws report plan number answer }
     ensures one { (telling : Telling) (job : Job) (end : FeedEnd) (answer other : RunAnswer) → IsAnswerOf telling job end answer → IsAnswerOf telling job end other → answer ≡ other }
 {}
 
 /// Where each line is good, no node fails and no stream stalls, the answer over an input that ends well is a good one: all of the output
 /// text, and no note but the report where it is asked for. Packets that are made have no line.
 pub fn what_has_no_fault_is_good()
-    ensures read { (report : Bool) (plan : Plan) (bytes : List ℕ) (streams : List (StreamPrefix Plain)) (answer : RunAnswer)
-        → let job = job_of plan (ended_input (inputs_of plan) bytes) in IsSolution job streams
+    ensures read { (laws : Laws) (report : Bool) (plan : Plan) (bytes : List ℕ) (streams : List (StreamPrefix Plain)) (answer : RunAnswer)
+        → let job = job_of laws plan (ended_input (inputs_of plan) bytes) in IsSolution job streams
         → first_refused_after (inputs_of plan) [] (all_lines bytes) ≡ None → faults job streams ≡ [] → stalled streams ≡ []
-        → AnswersEnded report plan bytes answer → answer ≡ record { output = output_text_of plan streams; notes = asked_report report (report_of job streams); status = Good } }
-    ensures generated { (report : Bool) (plan : Plan) (number : ℕ) (streams : List (StreamPrefix Plain)) (answer : RunAnswer)
-        → let job = generated_job plan number in IsSolution job streams → faults job streams ≡ [] → stalled streams ≡ []
-        → AnswersGenerated report plan number answer → answer ≡ record { output = summary_of plan streams; notes = asked_report report (report_of job streams); status = Good } }
+        → AnswersEnded laws report plan bytes answer → answer ≡ record { output = output_text_of plan streams; notes = asked_report report (report_of job streams); status = Good } }
+    ensures generated { (laws : Laws) (report : Bool) (plan : Plan) (number : ℕ) (streams : List (StreamPrefix Plain)) (answer : RunAnswer)
+        → let job = generated_job laws plan number in IsSolution job streams → faults job streams ≡ [] → stalled streams ≡ []
+        → AnswersGenerated laws report plan number answer → answer ≡ record { output = summary_of plan streams; notes = asked_report report (report_of job streams); status = Good } }
 {}
 
 /// Of a new text the empty text was put. Of whatever text was put so far the sink took a front, and nothing else.
@@ -80,15 +81,15 @@ pub fn the_front_of_the_text()
 /// end, its first line that isn't good, or its first fault, and where no device failed the run wrote the answer; where it went
 /// well, or a node failed or a stream never closed, the input's end was met. No fault of a device hides behind another status.
 pub fn runs_that_write_as_they_go()
-    ensures read { (report : Bool) (plan : Plan) (status : Status) (devices : RunDevices) → RanOn report plan status devices → status ≢ OutOfMemory
+    ensures read { (laws : Laws) (report : Bool) (plan : Plan) (status : Status) (devices : RunDevices) → RanOn laws report plan status devices → status ≢ OutOfMemory
         → (read : Read) × CameTo (inputs_of plan) devices.input read }
-    ensures ended { (report : Bool) (plan : Plan) (status : Status) (devices : RunDevices) → RanOn report plan status devices → IsOneOf status (Good ∷ NodeFault ∷ Stalled ∷ [])
+    ensures ended { (laws : Laws) (report : Bool) (plan : Plan) (status : Status) (devices : RunDevices) → RanOn laws report plan status devices → IsOneOf status (Good ∷ NodeFault ∷ Stalled ∷ [])
         → EndCame devices.input.before devices.input.now }
-    ensures answered { (report : Bool) (plan : Plan) (status : Status) (devices : RunDevices) → RanOn report plan status devices → NoneFailed devices → status ≢ OutOfMemory
-        → IsAnswered report plan status devices }
-    ensures read_rose { (report : Bool) (plan : Plan) (status : Status) (devices : RunDevices) → RanOn report plan status devices
+    ensures answered { (laws : Laws) (report : Bool) (plan : Plan) (status : Status) (devices : RunDevices) → RanOn laws report plan status devices → NoneFailed devices → status ≢ OutOfMemory
+        → IsAnswered laws report plan status devices }
+    ensures read_rose { (laws : Laws) (report : Bool) (plan : Plan) (status : Status) (devices : RunDevices) → RanOn laws report plan status devices
         → HasRisen devices.input.before.faults devices.input.now.faults → IsOneOf status (ReadFault ∷ WriteFault ∷ OutOfMemory ∷ []) }
-    ensures write_rose { (report : Bool) (plan : Plan) (status : Status) (devices : RunDevices) → RanOn report plan status devices
+    ensures write_rose { (laws : Laws) (report : Bool) (plan : Plan) (status : Status) (devices : RunDevices) → RanOn laws report plan status devices
         → HasRisen devices.output.before.faults devices.output.now.faults ⊎ HasRisen devices.notes.before.faults devices.notes.now.faults
         → IsOneOf status (WriteFault ∷ OutOfMemory ∷ []) }
 {}
@@ -96,10 +97,10 @@ pub fn runs_that_write_as_they_go()
 /// What follows where a run over packets that are made ended with a status: unless memory ran out, it wrote the answer where neither
 /// the output nor the notes failed, and no fault of them hides behind another status.
 pub fn runs_over_generated_packets()
-    ensures answered { (report : Bool) (plan : Plan) (number : ℕ) (status : Status) (devices : RunDevices) → RanGenerated report plan number status devices
+    ensures answered { (laws : Laws) (report : Bool) (plan : Plan) (number : ℕ) (status : Status) (devices : RunDevices) → RanGenerated laws report plan number status devices
         → Unrisen devices.output.before.faults devices.output.now.faults → Unrisen devices.notes.before.faults devices.notes.now.faults → status ≢ OutOfMemory
-        → (answer : RunAnswer) × AnswersGenerated report plan number answer × Meets answer status devices.output devices.notes }
-    ensures write_rose { (report : Bool) (plan : Plan) (number : ℕ) (status : Status) (devices : RunDevices) → RanGenerated report plan number status devices
+        → (answer : RunAnswer) × AnswersGenerated laws report plan number answer × Meets answer status devices.output devices.notes }
+    ensures write_rose { (laws : Laws) (report : Bool) (plan : Plan) (number : ℕ) (status : Status) (devices : RunDevices) → RanGenerated laws report plan number status devices
         → HasRisen devices.output.before.faults devices.output.now.faults ⊎ HasRisen devices.notes.before.faults devices.notes.now.faults
         → IsOneOf status (WriteFault ∷ OutOfMemory ∷ []) }
 {}
@@ -107,10 +108,10 @@ pub fn runs_over_generated_packets()
 /// Where an input came to some lines and an end, and the answer over these was written with a status, a run that writes as it goes has
 /// ended with that status; and so has a run over packets that are made, where the answer over them was written.
 pub fn what_is_written_ran()
-    ensures read { (report : Bool) (plan : Plan) (read : Read) (devices : RunDevices) (status : Status) → CameTo (inputs_of plan) devices.input read
-        → Wrote (by_lines report) (job_of plan read) read.end status devices.output devices.notes → RanOn report plan status devices }
-    ensures generated { (report : Bool) (plan : Plan) (number : ℕ) (devices : RunDevices) (status : Status)
-        → Wrote (by_summary report) (generated_job plan number) ends.Ended status devices.output devices.notes → RanGenerated report plan number status devices }
+    ensures read { (laws : Laws) (report : Bool) (plan : Plan) (read : Read) (devices : RunDevices) (status : Status) → CameTo (inputs_of plan) devices.input read
+        → Wrote (by_lines report) (job_of laws plan read) read.end status devices.output devices.notes → RanOn laws report plan status devices }
+    ensures generated { (laws : Laws) (report : Bool) (plan : Plan) (number : ℕ) (devices : RunDevices) (status : Status)
+        → Wrote (by_summary report) (generated_job laws plan number) ends.Ended status devices.output devices.notes → RanGenerated laws report plan number status devices }
 {}
 
 /// The outputs of a solution have fewer than 2^64 settled sets.
@@ -131,21 +132,22 @@ pub fn what_batches_came_to()
 /// The output text of lines so far is a front of the text of a whole input that begins with them, where no side packet comes behind
 /// them.
 pub fn texts_grow()
-    ensures { (plan : Plan) (bytes : List ℕ) (lines more : List (List ℕ)) (streams longer : List (StreamPrefix Plain)) → IsValid plan
+    ensures { (laws : Laws) (plan : Plan) (bytes : List ℕ) (lines more : List (List ℕ)) (streams longer : List (StreamPrefix Plain)) → IsValid plan
         → accepted (inputs_of plan) (all_lines bytes) ≡ lines ++ more
         → (given_by (inputs_of plan) lines).sides ≡ (given_by (inputs_of plan) (lines ++ more)).sides
         → IsSolution (record {
           plan = plan;
           inputs = record { streams = (given_by (inputs_of plan) lines).streams; sides = (given_by (inputs_of plan) lines).sides; ended = false };
+          laws = laws;
         }) streams
-        → IsSolution (job_of plan (ended_input (inputs_of plan) bytes)) longer → IsFront (output_text_of plan streams) (output_text_of plan longer) }
+        → IsSolution (job_of laws plan (ended_input (inputs_of plan) bytes)) longer → IsFront (output_text_of plan streams) (output_text_of plan longer) }
 {}
 
 /// Lines of different streams may change places: where two that stand one behind the other name different streams, and all lines are good
 /// in either order, the answer is the same.
 pub fn lines_of_different_streams_answer_the_same()
-    ensures { (report : Bool) (plan : Plan) (input other : List ℕ) (front back : List (List ℕ)) (first second : List ℕ) (answer : RunAnswer)
+    ensures { (laws : Laws) (report : Bool) (plan : Plan) (input other : List ℕ) (front back : List (List ℕ)) (first second : List ℕ) (answer : RunAnswer)
         → all_lines input ≡ front ++ first ∷ second ∷ back → all_lines other ≡ front ++ second ∷ first ∷ back → AreApart first second
         → AllGood (inputs_of plan) [] (all_lines input) → AllGood (inputs_of plan) [] (all_lines other)
-        → AnswersEnded report plan input answer → AnswersEnded report plan other answer }
+        → AnswersEnded laws report plan input answer → AnswersEnded laws report plan other answer }
 {}

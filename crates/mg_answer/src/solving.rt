@@ -3,6 +3,8 @@ ghost use Rattle.std.specs.Prelude.{◌≡◌, ◌≢◌, ◌<◌, ◌⊎◌, �
 ghost use Rattle.mg_settled.specs.Prefix.{IsPrefix};
 ghost use Rattle.mg_settled.specs.Ends.{end_of};
 ghost use Rattle.mg_calc.specs.Plan.{IsValid, InputsFit};
+ghost use Rattle.mg_calc.specs.Rules.{Laws};
+ghost use Rattle.mg_calc.specs.Shape.{IsStated};
 ghost use Rattle.mg_feed.specs.Ran.{EndCame};
 ghost use Rattle.mg_answer.specs.Text.{sets_text, output_text_of};
 ghost use Rattle.mg_answer.specs.Put.{nothing_put, HasPut};
@@ -36,9 +38,11 @@ pub fn solve_input<S: Source, K: Sink, E: Sink>(
     run: &Run<'_>,
     devices: &mut Devices<'_, '_, '_, S, K, E>,
 ) -> Status
-    requires { IsValid run.now.plan.now }
-    // What each status means: the answer was written, or a write failed, or memory ran out.
-    ensures ran { Ran run.now.report run.now.plan.now result (told_by S.told K.told E.told devices.old devices.new) }
+    requires plan { IsValid run.now.plan.now }
+    requires unstated { All (λ node. IsStated node.law → ⊥) run.now.plan.now.nodes }
+    // What each status means, whatever the stated laws are, of which the graph has none: the answer was written, or a write failed, or
+    // memory ran out.
+    ensures ran { (laws : Laws) → Ran laws run.now.report run.now.plan.now result (told_by S.told K.told E.told devices.old devices.new) }
 
     // Unless memory ran out, the input was read to its end, its first line that isn't good, or its first fault; and it was read
     // once, and no further.
@@ -51,7 +55,7 @@ pub fn solve_input<S: Source, K: Sink, E: Sink>(
     // No device failed and memory was had: the output's text, the notes and the status are those of the answer to the
     // input's bytes.
     ensures answered { NoneFailed (told_by S.told K.told E.told devices.old devices.new) → result ≢ Status.OutOfMemory
-        → IsAnswered run.now.report run.now.plan.now result (told_by S.told K.told E.told devices.old devices.new) }
+        → (laws : Laws) → IsAnswered laws run.now.report run.now.plan.now result (told_by S.told K.told E.told devices.old devices.new) }
 
     // No fault of a device hides behind another status.
     ensures read_rose { HasRisen (S.told devices.old.input.now).faults (S.told devices.new.input.now).faults
@@ -69,8 +73,9 @@ fn solve_whole<S: Source, K: Sink, E: Sink>(
     run: &Run<'_>,
     devices: &mut Devices<'_, '_, '_, S, K, E>,
 ) -> Status
-    requires { IsValid run.now.plan.now }
-    ensures ran { Ran run.now.report run.now.plan.now result (told_by S.told K.told E.told devices.old devices.new) }
+    requires plan { IsValid run.now.plan.now }
+    requires unstated { All (λ node. IsStated node.law → ⊥) run.now.plan.now.nodes }
+    ensures ran { (laws : Laws) → Ran laws run.now.report run.now.plan.now result (told_by S.told K.told E.told devices.old devices.new) }
     ensures same { SameDevices devices.old devices.new }
 {
     match solve_read(run, devices) {
@@ -84,10 +89,11 @@ fn solve_read<S: Source, K: Sink, E: Sink>(
     run: &Run<'_>,
     devices: &mut Devices<'_, '_, '_, S, K, E>,
 ) -> Result<Status, AllocError>
-    requires { IsValid run.now.plan.now }
-    ensures ran { IfOk result (λ status. Ran run.now.report run.now.plan.now status (told_by S.told K.told E.told devices.old devices.new)) }
+    requires plan { IsValid run.now.plan.now }
+    requires unstated { All (λ node. IsStated node.law → ⊥) run.now.plan.now.nodes }
+    ensures ran { IfOk result (λ status. (laws : Laws) → Ran laws run.now.report run.now.plan.now status (told_by S.told K.told E.told devices.old devices.new)) }
     ensures read { OnErr result (ReadSome (inputs_of run.now.plan.now) (told_by S.told K.told E.told devices.old devices.new).input) }
-    ensures short { OnErr result (RanOut run.now.plan.now (told_by S.told K.told E.told devices.old devices.new)) }
+    ensures short { OnErr result ((laws : Laws) → RanOut laws run.now.plan.now (told_by S.told K.told E.told devices.old devices.new)) }
     ensures unnoted { OnErr result (E.told devices.new.notes.now ≡ E.told devices.old.notes.now) }
     ensures same { SameDevices devices.old devices.new }
 {
@@ -106,9 +112,10 @@ fn answer<K: Sink, E: Sink>(
 ) -> Result<Status, AllocError>
     requires plan { IsValid run.now.plan.now }
     requires inputs { InputsFit run.now.plan.now inputs.now }
+    requires unstated { All (λ node. IsStated node.law → ⊥) run.now.plan.now.nodes }
     ensures wrote { MatchResult result
-        (λ status. Wrote (by_lines run.now.report) (record { plan = run.now.plan.now; inputs = inputs.now }) end status (device (K.told output.old) (K.told output.new)) (device (E.told notes.old) (E.told notes.new)))
-        (λ _. WroteSome (record { plan = run.now.plan.now; inputs = inputs.now }) (device (K.told output.old) (K.told output.new))) }
+        (λ status. (laws : Laws) → Wrote (by_lines run.now.report) (record { plan = run.now.plan.now; inputs = inputs.now; laws = laws }) end status (device (K.told output.old) (K.told output.new)) (device (E.told notes.old) (E.told notes.new)))
+        (λ _. (laws : Laws) → WroteSome (record { plan = run.now.plan.now; inputs = inputs.now; laws = laws }) (device (K.told output.old) (K.told output.new))) }
     ensures unnoted { OnErr result (E.told notes.new ≡ E.told notes.old) }
 {
     let solved = solve(run.alloc, run.plan, inputs)?;

@@ -16,11 +16,12 @@ use Rattle.mg_settled.proofs.SettledTimes.{settled_rises}
 use Rattle.mg_calc.specs.declared.law.Law.{Law}
 use Rattle.mg_calc.specs.declared.law.Law.TheVariants.{Pass, Map, Filter, BeginLoop, EndLoop}
 use Rattle.mg_calc.specs.declared.plan_node.PlanNode.{PlanNode}
-use Rattle.mg_calc.specs.Law.{opening, finish, rules_of}
+use Rattle.mg_calc.specs.Rules.{Rules, Laws}
+use Rattle.mg_calc.specs.Law.{opening, finish, table_rules, rules_of}
 use Rattle.mg_calc.specs.Plan.{MayHavePolicy}
 use Rattle.mg_calc.specs.Values.{iterable_port}
 use Rattle.mg_calc.specs.Outcome.{Outcome, node_outcome}
-use Rattle.mg_calc.specs.Equations.{Job, IsJob, IsSolution, stream_of, inputs_of, outcome_by, outcome_of, sides_of}
+use Rattle.mg_calc.specs.Equations.{Job, IsJob, IsSolution, stream_of, inputs_of, outcome_by, outcome_of, rules_at, sides_of}
 use Rattle.mg_calc.proofs.Earlier.{at_place, get_map}
 use Rattle.mg_calc.proofs.Jobs.{job_known}
 use Rattle.mg_calc.proofs.Solutions.{solution_keeps}
@@ -64,6 +65,14 @@ quiet_finish (BeginLoop clone) h state = refl
 quiet_finish EndLoop h state = refl
 quiet_finish law h state = absurd h
 
+quiet_rules : (laws : Laws) (law : Law) → Quiet law → rules_of laws law ≡ table_rules law
+quiet_rules laws Pass h = refl
+quiet_rules laws (Map op operand) h = refl
+quiet_rules laws (Filter keep raises) h = refl
+quiet_rules laws (BeginLoop clone) h = refl
+quiet_rules laws EndLoop h = refl
+quiet_rules laws law h = absurd h
+
 quiet_policy : (law : Law) (policy : Policy) → Quiet law → MayHavePolicy law policy → policy ≡ Default
 quiet_policy Pass policy h may = may
 quiet_policy (Map op operand) policy h may = may
@@ -73,7 +82,7 @@ quiet_policy EndLoop policy h may = may
 quiet_policy law policy h may = absurd h
 
 quiet_outcome : (law : Law) (job : Job) (streams : List (StreamPrefix Plain)) (node : PlanNode) → Quiet law
-    → outcome_by law job streams node ≡ node_outcome (rules_of node.law) node.shape.offset node.policy (length node.outputs) (sides_of job node) (inputs_of streams node)
+    → outcome_by law job streams node ≡ node_outcome (rules_at job node) node.shape.offset node.policy (length node.outputs) (sides_of job node) (inputs_of streams node)
 quiet_outcome Pass job streams node h = refl
 quiet_outcome (Map op operand) job streams node h = refl
 quiet_outcome (Filter keep raises) job streams node h = refl
@@ -113,10 +122,10 @@ module _ (job : Job) (streams : List (StreamPrefix Plain)) (is_job : IsJob job) 
       let own : Quiet node.law = subst Quiet (sym is) quiet in
       let default : node.policy ≡ Default =
       quiet_policy node.law node.policy own (at_place (λ (n : PlanNode). MayHavePolicy n.law n.policy) job.plan.nodes h.of_plan.0 node (recursion_from_All (λ (n : PlanNode). MayHavePolicy n.law n.policy) job.plan.nodes is_job.plan.policies) h.of_plan.1) in
-      let same : outcome_of job streams node ≡ node_outcome (rules_of law) node.shape.offset Default (length node.outputs) (sides_of job node) ss =
+      let same : outcome_of job streams node ≡ node_outcome (table_rules law) node.shape.offset Default (length node.outputs) (sides_of job node) ss =
       quiet_outcome node.law job streams node own
-      ∙ ap (λ (l : Law). node_outcome (rules_of l) node.shape.offset node.policy (length node.outputs) (sides_of job node) (inputs_of streams node)) is
-      ∙ ap₂ (λ (p : Policy) (xs : List (StreamPrefix Plain)). node_outcome (rules_of law) node.shape.offset p (length node.outputs) (sides_of job node) xs) default reads in
+      ∙ ap (λ (r : Rules). node_outcome r node.shape.offset node.policy (length node.outputs) (sides_of job node) (inputs_of streams node)) (ap (rules_of job.laws) is ∙ quiet_rules job.laws law quiet)
+      ∙ ap₂ (λ (p : Policy) (xs : List (StreamPrefix Plain)). node_outcome (table_rules law) node.shape.offset p (length node.outputs) (sides_of job node) xs) default reads in
       let runs = node_packets law node.shape.offset Default (length node.outputs) (sides_of job node) ss i (quiet_opening law (sides_of job node) quiet) (quiet_finish law quiet) (slice_get_within node.outputs i out there)
       (ap (λ (o : Outcome). o.fault) (sym same) ∙ h.faultless) in
       let put : runs.0 ≡ (stream_of streams out).packets =

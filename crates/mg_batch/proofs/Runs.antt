@@ -14,9 +14,9 @@ use Rattle.mg_calc.specs.declared.emission.Laid.{Laid}
 use Rattle.mg_calc.specs.declared.node_fault.Phase.{Phase}
 use Rattle.mg_calc.specs.declared.node_fault.Phase.TheVariants.{Open, Process, Close}
 use Rattle.mg_calc.specs.Answer.{Answer}
-use Rattle.mg_calc.specs.Law.{opening, step, finish, rules_of}
+use Rattle.mg_calc.specs.Law.{opening, step, finish, table_rules}
 use Rattle.mg_calc.specs.Laying.{laying_fault, unless, after, with_packets, raised_to, with_laid, laid_behind, all_raised}
-use Rattle.mg_calc.specs.Outcome.{Failure, Outcome, after_laying, after_call, unless_failed, unopened, opened, shown, after_close, finished, with_reach, ended, node_outcome}
+use Rattle.mg_calc.specs.Outcome.{Failure, Outcome, after_laying, after_call, unless_failed, unopened, opened, shown, after_close, closed_with, finished, with_reach, ended, node_outcome}
 use Rattle.mg_calc.proofs.Outcomes.{failed_stays}
 
 -- the packets of an output, and what an emission has there
@@ -135,7 +135,7 @@ laid_step law offset before set i below (Ok given) is none = by (laid_behind off
         }
         )
 
-pub one_step : (law : Law) (offset : Option ℤ) (before : Outcome) (set : TimedSet Plain) (i : ℕ) → i < length before.outputs → (shown (rules_of law) offset before set).fault ≡ None → Stepped law before set (shown (rules_of law) offset before set) i
+pub one_step : (law : Law) (offset : Option ℤ) (before : Outcome) (set : TimedSet Plain) (i : ℕ) → i < length before.outputs → (shown (table_rules law) offset before set).fault ≡ None → Stepped law before set (shown (table_rules law) offset before set) i
 one_step law offset before set i below none = by before.fault refl none
   where
     next : Outcome
@@ -145,18 +145,18 @@ one_step law offset before set i below none = by before.fault refl none
     by (Some failure) is none = absurd cc
     by None is none = laid_step law offset before set i below (step law before.state set.at set.set) refl none
 
-pub all_steps : (law : Law) (offset : Option ℤ) (before : Outcome) (sets : List (TimedSet Plain)) (i : ℕ) → i < length before.outputs → (fold (shown (rules_of law) offset) before sets).fault ≡ None
-    → (ps : List (Stamped Plain)) × Runs law before.state sets i ps × (packets_at i (fold (shown (rules_of law) offset) before sets).outputs ≡ packets_at i before.outputs ++ ps)
+pub all_steps : (law : Law) (offset : Option ℤ) (before : Outcome) (sets : List (TimedSet Plain)) (i : ℕ) → i < length before.outputs → (fold (shown (table_rules law) offset) before sets).fault ≡ None
+    → (ps : List (Stamped Plain)) × Runs law before.state sets i ps × (packets_at i (fold (shown (table_rules law) offset) before sets).outputs ≡ packets_at i before.outputs ++ ps)
 all_steps law offset before [] i below none = ([], refl, sym (append-nil (packets_at i before.outputs)))
-all_steps law offset before (set ∷ sets) i below none = by (shown (rules_of law) offset before set).fault refl (λ h. all_steps law offset (shown (rules_of law) offset before set) sets i (omega (arith, below, h)) none)
+all_steps law offset before (set ∷ sets) i below none = by (shown (table_rules law) offset before set).fault refl (λ h. all_steps law offset (shown (table_rules law) offset before set) sets i (omega (arith, below, h)) none)
   where
     next : Outcome
-    next = shown (rules_of law) offset before set
+    next = shown (table_rules law) offset before set
 
     by : (f : Option Failure) → next.fault ≡ f
-        → (length next.outputs ≡ length before.outputs → (ps : List (Stamped Plain)) × Runs law next.state sets i ps × (packets_at i (fold (shown (rules_of law) offset) next sets).outputs ≡ packets_at i next.outputs ++ ps))
-        → (ps : List (Stamped Plain)) × Runs law before.state (set ∷ sets) i ps × (packets_at i (fold (shown (rules_of law) offset) next sets).outputs ≡ packets_at i before.outputs ++ ps)
-    by (Some failure) is later = (let stays = ap (λ (o : Outcome). o.fault) (failed_stays (rules_of law) offset next failure sets is) in absurd cc)
+        → (length next.outputs ≡ length before.outputs → (ps : List (Stamped Plain)) × Runs law next.state sets i ps × (packets_at i (fold (shown (table_rules law) offset) next sets).outputs ≡ packets_at i next.outputs ++ ps))
+        → (ps : List (Stamped Plain)) × Runs law before.state (set ∷ sets) i ps × (packets_at i (fold (shown (table_rules law) offset) next sets).outputs ≡ packets_at i before.outputs ++ ps)
+    by (Some failure) is later = (let stays = ap (λ (o : Outcome). o.fault) (failed_stays (table_rules law) offset next failure sets is) in absurd cc)
     by None is later = (
         let h = one_step law offset before set i below is in
         let rest = later h.outputs in (
@@ -173,33 +173,33 @@ nothing_yet (suc n) (suc i) = nothing_yet n i
 
 -- what becomes of a node that emits nothing in Open and in Close
 pub node_packets : (law : Law) (offset : Option ℤ) (policy : Policy) (outputs : ℕ) (sides : List (Option Plain)) (inputs : List (StreamPrefix Plain)) (i : ℕ) → opening law sides ≡ Ok ([], [])
-    → ((state : List Plain) → finish law state ≡ Ok (state, [])) → i < outputs → (node_outcome (rules_of law) offset policy outputs sides inputs).fault ≡ None
-    → (ps : List (Stamped Plain)) × Runs law [] (settled_sets policy inputs) i ps × (packets_at i (node_outcome (rules_of law) offset policy outputs sides inputs).outputs ≡ ps)
+    → ((state : List Plain) → finish law state ≡ Ok (state, [])) → i < outputs → (node_outcome (table_rules law) offset policy outputs sides inputs).fault ≡ None
+    → (ps : List (Stamped Plain)) × Runs law [] (settled_sets policy inputs) i ps × (packets_at i (node_outcome (table_rules law) offset policy outputs sides inputs).outputs ≡ ps)
 node_packets law offset policy outputs sides inputs i opens closes below none =
-    let opened_as : opened (rules_of law) offset outputs sides ≡ unopened outputs = ap (after_call offset Open (unopened outputs)) opens in
-    subst (λ (o : Outcome). (ended (rules_of law) offset (reach policy inputs) (fold (shown (rules_of law) offset) o (settled_sets policy inputs))).fault ≡ None
-    → (ps : List (Stamped Plain)) × Runs law [] (settled_sets policy inputs) i ps × (packets_at i (ended (rules_of law) offset (reach policy inputs) (fold (shown (rules_of law) offset) o (settled_sets policy inputs))).outputs ≡ ps))
+    let opened_as : opened (table_rules law) offset outputs sides ≡ unopened outputs = ap (after_call offset Open (unopened outputs)) opens in
+    subst (λ (o : Outcome). (ended (table_rules law) offset (reach policy inputs) (fold (shown (table_rules law) offset) o (settled_sets policy inputs))).fault ≡ None
+    → (ps : List (Stamped Plain)) × Runs law [] (settled_sets policy inputs) i ps × (packets_at i (ended (table_rules law) offset (reach policy inputs) (fold (shown (table_rules law) offset) o (settled_sets policy inputs))).outputs ≡ ps))
     (sym opened_as) from_unopened none
   where
     folded : Outcome
-    folded = fold (shown (rules_of law) offset) (unopened outputs) (settled_sets policy inputs)
+    folded = fold (shown (table_rules law) offset) (unopened outputs) (settled_sets policy inputs)
 
-    closing : (o : Outcome) (b : Bool) → let last = (if b then finished (rules_of law) offset (record o { outputs = all_raised offset (reach policy inputs) o.outputs }) else record o { outputs = all_raised offset (reach policy inputs) o.outputs }) in
+    closing : (o : Outcome) (b : Bool) → let last = (if b then finished (table_rules law) offset (record o { outputs = all_raised offset (reach policy inputs) o.outputs }) else record o { outputs = all_raised offset (reach policy inputs) o.outputs }) in
         packets_at i last.outputs ≡ packets_at i o.outputs
     closing o false = (all_raised_packets offset (reach policy inputs) o.outputs i).0
     closing o true = (
         let outs = all_raised offset (reach policy inputs) o.outputs in
-        let same : finished (rules_of law) offset (record o { outputs = outs }) ≡ record o { outputs = map closed outs } =
-        ap (λ answer. after_close (record o { outputs = outs }) (after answer (λ given. laid_behind offset Close outs given.1))) (closes o.state) in
+        let same : finished (table_rules law) offset (record o { outputs = outs }) ≡ record o { outputs = map closed outs } =
+        ap (closed_with offset (record o { outputs = outs })) (closes o.state) in
         ap (λ (x : Outcome). packets_at i x.outputs) same ∙ map_packets closed (λ s. refl) outs i ∙ (all_raised_packets offset (reach policy inputs) o.outputs i).0
         )
 
-    from_unopened : (ended (rules_of law) offset (reach policy inputs) folded).fault ≡ None
-        → (ps : List (Stamped Plain)) × Runs law [] (settled_sets policy inputs) i ps × (packets_at i (ended (rules_of law) offset (reach policy inputs) folded).outputs ≡ ps)
+    from_unopened : (ended (table_rules law) offset (reach policy inputs) folded).fault ≡ None
+        → (ps : List (Stamped Plain)) × Runs law [] (settled_sets policy inputs) i ps × (packets_at i (ended (table_rules law) offset (reach policy inputs) folded).outputs ≡ ps)
     from_unopened none = by folded.fault refl none
       where
-        by : (f : Option Failure) → folded.fault ≡ f → (unless_failed f folded (with_reach (rules_of law) offset (reach policy inputs) folded)).fault ≡ None
-            → (ps : List (Stamped Plain)) × Runs law [] (settled_sets policy inputs) i ps × (packets_at i (unless_failed f folded (with_reach (rules_of law) offset (reach policy inputs) folded)).outputs ≡ ps)
+        by : (f : Option Failure) → folded.fault ≡ f → (unless_failed f folded (with_reach (table_rules law) offset (reach policy inputs) folded)).fault ≡ None
+            → (ps : List (Stamped Plain)) × Runs law [] (settled_sets policy inputs) i ps × (packets_at i (unless_failed f folded (with_reach (table_rules law) offset (reach policy inputs) folded)).outputs ≡ ps)
         by (Some failure) is none = absurd cc
         by None is none = (
             let steps = all_steps law offset (unopened outputs) (settled_sets policy inputs) i (omega (arith, below, length-replicate outputs (empty_prefix {X = Plain}))) is in

@@ -32,11 +32,14 @@ emission = search (laid, sendable, crosses) depth 40 fits 20000
 emissions : IsSend (BlockList.the_row (ShortList.the_row Laid.the_row))
 emissions = search (emission, sendable, crosses) depth 20
 
-pub law : IsSend (Law.the_field).row
-law = search (emission, emissions, timestamp, sendable) depth 60 fits 50000
+state_row : IsSend State.the_row
+state_row = search (sendable, crosses, knot) depth 40 fits 20000
 
 pub state : IsSend (State.the_field).row
 state = search (sendable, crosses, knot) depth 40 fits 20000
+
+pub law : IsSend (Law.the_field).row
+law = search (emission, emissions, timestamp, state, state_row, sendable) depth 60 fits 50000
 
 set : IsSend InputSet.the_row
 set = search (packet, sendable, crosses) depth 20 fits 20000

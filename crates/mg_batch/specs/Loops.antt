@@ -4,7 +4,7 @@ use Rattle.mg_value.specs.declared.kind.Kind.TheVariants.{Any, Int, Items}
 use Rattle.mg_calc.specs.declared.law.Law.TheVariants.{BeginLoop, EndLoop}
 use Rattle.mg_calc.specs.declared.shape.Shape.{Shape}
 use Rattle.mg_calc.specs.Shape.{tagged, clone_ports}
-use Rattle.mg_calc.specs.Told.{CalculatorTold}
+use Rattle.mg_calc.specs.Told.{BoxTold}
 use Rattle.mg_batch.specs.Logged.{told_log}
 
 -- the shape of a BeginLoopCalculator, or, with CLONE, of a BeginLoopCloneCalculator
@@ -30,9 +30,9 @@ end_shape = record {
 }
 
 -- what a new BeginLoop calculator tells of itself: it hasn't been opened, and its log is empty, if it is kept
-abbrev pub new_begin : Bool → Bool → CalculatorTold
+abbrev pub new_begin : Bool → Bool → BoxTold
 new_begin clone telling = record { law = BeginLoop clone; shape = begin_shape clone; state = []; log = told_log telling [] }
 
 -- what a new EndLoopCalculator tells of itself
-abbrev pub new_end : Bool → CalculatorTold
+abbrev pub new_end : Bool → BoxTold
 new_end telling = record { law = EndLoop; shape = end_shape; state = []; log = told_log telling [] }

@@ -1,6 +1,6 @@
 ghost use Rattle.std.specs.Prelude.{◌≡◌, [], IfOk};
 ghost use Rattle.mg_calc.specs.Shape.{IsBatch, IsShapeOf};
-ghost use Rattle.mg_calc.specs.Told.{CalculatorTold};
+ghost use Rattle.mg_calc.specs.Told.{of_table};
 ghost use Rattle.mg_batch.specs.Logged.{told_log};
 
 use crate::call_log::CallLog;
@@ -25,11 +25,11 @@ pub struct BatchBox {
 }
 
 impl Model for BatchBox {
-    ghost use Rattle.mg_calc.specs.Told.{CalculatorTold};
+    ghost use Rattle.mg_calc.specs.Told.{BoxTold};
     ghost use Rattle.mg_calc.specs.ToldCodes.{told_code};
     ghost use Rattle.mg_calc.specs.Shape.{IsBatch, IsShapeOf};
 
-    ghost Value = { CalculatorTold };
+    ghost Value = { BoxTold };
 
     ghost coded = { told_code };
 
@@ -56,14 +56,10 @@ impl BatchBox {
 }
 
 impl Calculator for BatchBox {
-    ghost told = { λ b. b };
+    ghost told = { λ b. of_table b };
 
     fn shape(&self) -> &Shape {
         &self.shape
-    }
-
-    fn law(&self) -> &Law {
-        &self.law
     }
 
     fn begin(&mut self, alloc: Global, sides: &GivenList) -> Result<Emission, CalcFault> {

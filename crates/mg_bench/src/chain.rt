@@ -1,6 +1,7 @@
 //! A source sends packets through a chain of nodes. Workers run the net, and each Process call is held up for a number of turns of a loop.
 //! Or a node reads the last stream of a chain at many ports, and the turns of workers that were in vain are counted.
 
+ghost use Rattle.mg_route.specs.TableLaws.{table_laws};
 ghost use Rattle.mg_nets.specs.Driven.{IsDriven};
 ghost use Rattle.std.specs.Prelude.{IfOk};
 
@@ -74,7 +75,7 @@ pub fn run_wide<R: Threads + Wait + Sync>(threads: &R, rt: &HostRuntime) -> Resu
 
 /// Returns the net of a chain whose queues have a limit.
 pub(crate) fn chain(alloc: Global, nodes: u32, packets: u32, limit: u32) -> Result<Driver, Fail>
-    ensures { IfOk result (λ d. IsDriven d.plan d.inputs d.net) }
+    ensures { IfOk result (λ d. IsDriven table_laws d.plan d.inputs d.net) }
 {
     let mut text = String::new(alloc);
     push_chain(&mut text, nodes, packets, limit)?;
@@ -83,7 +84,7 @@ pub(crate) fn chain(alloc: Global, nodes: u32, packets: u32, limit: u32) -> Resu
 
 // Returns the net of four nodes in a chain, and of a node that reads their last stream at many ports.
 fn wide(alloc: Global, ports: u32, packets: u32) -> Result<Driver, Fail>
-    ensures { IfOk result (λ d. IsDriven d.plan d.inputs d.net) }
+    ensures { IfOk result (λ d. IsDriven table_laws d.plan d.inputs d.net) }
 {
     let mut text = String::new(alloc);
     push_chain(&mut text, 4, packets, 100)?;
@@ -134,8 +135,8 @@ fn worked<R: Threads + Wait + Sync>(
     workers: u32,
     gate: &Delay,
 ) -> (Driver, u64)
-    requires { IsDriven driver.plan driver.inputs driver.net }
-    ensures { IsDriven result.0.plan result.0.inputs result.0.net }
+    requires { IsDriven table_laws driver.plan driver.inputs driver.net }
+    ensures { IsDriven table_laws result.0.plan result.0.inputs result.0.net }
 {
     let Driver { plan, inputs, net } = driver;
     let (net, vain) = run_workers(rt, alloc, net, workers, gate);
@@ -144,7 +145,7 @@ fn worked<R: Threads + Wait + Sync>(
 
 // Brings a net to rest, and returns how many sets its last node has taken.
 fn swept(alloc: Global, driver: Driver, gate: &Delay) -> Result<u64, Fail>
-    requires { IsDriven driver.plan driver.inputs driver.net }
+    requires { IsDriven table_laws driver.plan driver.inputs driver.net }
 {
     let mut driver = driver;
     let sets = last_sets(alloc, &mut driver, gate);
@@ -154,7 +155,7 @@ fn swept(alloc: Global, driver: Driver, gate: &Delay) -> Result<u64, Fail>
 
 // Brings a net to rest, and returns how many sets its last node has taken.
 fn last_sets(alloc: Global, driver: &mut Driver, gate: &Delay) -> Result<u64, Fail>
-    requires { IsDriven driver.old.plan driver.old.inputs driver.old.net }
+    requires { IsDriven table_laws driver.old.plan driver.old.inputs driver.old.net }
 {
     sweep(driver, gate, &mut Deaf)?;
     let report = driver.net.report(alloc)?;

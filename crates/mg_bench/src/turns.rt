@@ -2,6 +2,7 @@
 //! says what a round is made of, with a letter for each call: `s`, a number of sets of the source; `d`, a delivery to the node; `c`, a
 //! claim of the node that finds nothing; `w`, a set of the node, claimed, performed and committed by itself; `h`, a set that is claimed and
 //! put back; `r`, a number of sets of the node under one pair of turns; and `u`, the node's outputs are raised.
+ghost use Rattle.mg_route.specs.TableLaws.{table_laws};
 ghost use Rattle.std.specs.Prelude.{◌≡◌, OnSome};
 ghost use Rattle.mg_turns.specs.Parts.{nodes_in};
 ghost use Rattle.mg_turns.specs.Calls.{key_of};
@@ -68,7 +69,7 @@ fn served(rt: &HostRuntime, load: &Load) -> Result<u64, Fail> {
 
 // Shares the net, and makes all rounds by one seat. Returns how much was done.
 fn by_seat(alloc: Global, driver: Driver, load: &Load) -> Result<u64, Fail>
-    requires { IsDriven driver.plan driver.inputs driver.net }
+    requires { IsDriven table_laws driver.plan driver.inputs driver.net }
 {
     let Driver { plan, inputs, net } = driver;
     drop(plan);
@@ -89,7 +90,7 @@ fn rounds_by_seat(
     seat: &mut NetSeat<LawBox>,
     load: &Load,
 ) -> Option<u64>
-    requires { IsShared net.now seat.old }
+    requires { IsShared table_laws net.now seat.old }
 {
     if net.nodes() != 2 {
         return None;
@@ -109,9 +110,9 @@ fn round_by_seat(
     seat: &mut NetSeat<LawBox>,
     load: &Load,
 ) -> Option<u64>
-    requires shared { IsShared net.now seat.old }
+    requires shared { IsShared table_laws net.now seat.old }
     requires two { nodes_in (key_of net.now) ≡ 2 }
-    ensures shared { OnSome result (IsShared net.now seat.new) }
+    ensures shared { OnSome result (IsShared table_laws net.now seat.new) }
 {
     let mut done = 0_u64;
     for call in load.calls.as_bytes() {
@@ -129,9 +130,9 @@ fn call_by_seat(
     call: u8,
     sets: u32,
 ) -> Option<u64>
-    requires shared { IsShared net.now seat.old }
+    requires shared { IsShared table_laws net.now seat.old }
     requires two { nodes_in (key_of net.now) ≡ 2 }
-    ensures shared { OnSome result (IsShared net.now seat.new) }
+    ensures shared { OnSome result (IsShared table_laws net.now seat.new) }
 {
     match call {
         b's' => Some(u64::from(run_sets(alloc, net, seat, 0, sets))),
@@ -147,8 +148,8 @@ fn call_by_seat(
 
 // Delivers to the node.
 fn bring(net: &SharedNet<LawBox>, seat: &mut NetSeat<LawBox>) -> Option<u64>
-    requires shared { IsShared net.now seat.old }
-    ensures shared { IsShared net.now seat.new }
+    requires shared { IsShared table_laws net.now seat.old }
+    ensures shared { IsShared table_laws net.now seat.new }
 {
     match append(net, seat, 0) {
         Some((packets, _)) => Some(u64::from(packets > 0)),
@@ -158,9 +159,9 @@ fn bring(net: &SharedNet<LawBox>, seat: &mut NetSeat<LawBox>) -> Option<u64>
 
 // Raises the node's outputs.
 fn lift(net: &SharedNet<LawBox>, seat: &mut NetSeat<LawBox>) -> Option<u64>
-    requires shared { IsShared net.now seat.old }
+    requires shared { IsShared table_laws net.now seat.old }
     requires two { nodes_in (key_of net.now) ≡ 2 }
-    ensures shared { IsShared net.now seat.new }
+    ensures shared { IsShared table_laws net.now seat.new }
 {
     match raise(net, seat, 1) {
         Some(moved) => Some(u64::from(moved)),
@@ -170,9 +171,9 @@ fn lift(net: &SharedNet<LawBox>, seat: &mut NetSeat<LawBox>) -> Option<u64>
 
 // Claims a work of the node, which finds none.
 fn find_nothing(net: &SharedNet<LawBox>, seat: &mut NetSeat<LawBox>) -> Option<u64>
-    requires shared { IsShared net.now seat.old }
+    requires shared { IsShared table_laws net.now seat.old }
     requires two { nodes_in (key_of net.now) ≡ 2 }
-    ensures shared { OnSome result (IsShared net.now seat.new) }
+    ensures shared { OnSome result (IsShared table_laws net.now seat.new) }
 {
     match claim(net, seat, 1) {
         Ok(work) => {
@@ -185,9 +186,9 @@ fn find_nothing(net: &SharedNet<LawBox>, seat: &mut NetSeat<LawBox>) -> Option<u
 
 // Claims a set of the node, performs and commits it.
 fn work(alloc: Global, net: &SharedNet<LawBox>, seat: &mut NetSeat<LawBox>) -> Option<u64>
-    requires shared { IsShared net.now seat.old }
+    requires shared { IsShared table_laws net.now seat.old }
     requires two { nodes_in (key_of net.now) ≡ 2 }
-    ensures shared { OnSome result (IsShared net.now seat.new) }
+    ensures shared { OnSome result (IsShared table_laws net.now seat.new) }
 {
     let Ok(work) = claim(net, seat, 1) else {
         return None;
@@ -201,9 +202,9 @@ fn work(alloc: Global, net: &SharedNet<LawBox>, seat: &mut NetSeat<LawBox>) -> O
 
 // Claims a set of the node, and puts it back as it is.
 fn put_back(net: &SharedNet<LawBox>, seat: &mut NetSeat<LawBox>) -> Option<u64>
-    requires shared { IsShared net.now seat.old }
+    requires shared { IsShared table_laws net.now seat.old }
     requires two { nodes_in (key_of net.now) ≡ 2 }
-    ensures shared { OnSome result (IsShared net.now seat.new) }
+    ensures shared { OnSome result (IsShared table_laws net.now seat.new) }
 {
     let Ok(work) = claim(net, seat, 1) else {
         return None;
@@ -217,7 +218,7 @@ fn put_back(net: &SharedNet<LawBox>, seat: &mut NetSeat<LawBox>) -> Option<u64>
 
 // Makes all rounds by the net alone. Returns how much was done.
 fn by_net(driver: Driver, load: &Load) -> Result<u64, Fail>
-    requires { IsDriven driver.plan driver.inputs driver.net }
+    requires { IsDriven table_laws driver.plan driver.inputs driver.net }
 {
     let mut driver = driver;
     let done = rounds_by_net(&mut driver, load);
@@ -227,7 +228,7 @@ fn by_net(driver: Driver, load: &Load) -> Result<u64, Fail>
 
 // Makes all rounds by the events of the net.
 fn rounds_by_net(driver: &mut Driver, load: &Load) -> Result<u64, Fail>
-    requires { IsDriven driver.old.plan driver.old.inputs driver.old.net }
+    requires { IsDriven table_laws driver.old.plan driver.old.inputs driver.old.net }
 {
     let mut claims = Claims { source: 0, node: 0 };
     let mut done = 0_u64;
@@ -240,8 +241,8 @@ fn rounds_by_net(driver: &mut Driver, load: &Load) -> Result<u64, Fail>
 
 // Makes one round by the events of the net.
 fn round_by_net(driver: &mut Driver, claims: &mut Claims, load: &Load) -> Result<u64, Fail>
-    requires { IsDriven driver.old.plan driver.old.inputs driver.old.net }
-    ensures { IsDriven driver.new.plan driver.new.inputs driver.new.net }
+    requires { IsDriven table_laws driver.old.plan driver.old.inputs driver.old.net }
+    ensures { IsDriven table_laws driver.new.plan driver.new.inputs driver.new.net }
 {
     let mut done = 0_u64;
     for call in load.calls.as_bytes() {
@@ -253,8 +254,8 @@ fn round_by_net(driver: &mut Driver, claims: &mut Claims, load: &Load) -> Result
 
 // Makes the events of one call of a round. A set can't be put back by an event.
 fn call_by_net(driver: &mut Driver, claims: &mut Claims, call: u8, sets: u32) -> Result<u64, Fail>
-    requires { IsDriven driver.old.plan driver.old.inputs driver.old.net }
-    ensures { IsDriven driver.new.plan driver.new.inputs driver.new.net }
+    requires { IsDriven table_laws driver.old.plan driver.old.inputs driver.old.net }
+    ensures { IsDriven table_laws driver.new.plan driver.new.inputs driver.new.net }
 {
     match call {
         b's' => works(driver, 0, &mut claims.source, sets),
@@ -269,8 +270,8 @@ fn call_by_net(driver: &mut Driver, claims: &mut Claims, call: u8, sets: u32) ->
 
 // Claims, performs and commits a number of sets of a node.
 fn works(driver: &mut Driver, node: u32, number: &mut u64, sets: u32) -> Result<u64, Fail>
-    requires { IsDriven driver.old.plan driver.old.inputs driver.old.net }
-    ensures { IsDriven driver.new.plan driver.new.inputs driver.new.net }
+    requires { IsDriven table_laws driver.old.plan driver.old.inputs driver.old.net }
+    ensures { IsDriven table_laws driver.new.plan driver.new.inputs driver.new.net }
 {
     let mut done = 0_u64;
     for _ in 0..sets {
@@ -283,8 +284,8 @@ fn works(driver: &mut Driver, node: u32, number: &mut u64, sets: u32) -> Result<
 
 // Claims, performs and commits the set of a node with a number.
 fn work_by_net(driver: &mut Driver, node: u32, number: u64) -> Result<u64, Fail>
-    requires { IsDriven driver.old.plan driver.old.inputs driver.old.net }
-    ensures { IsDriven driver.new.plan driver.new.inputs driver.new.net }
+    requires { IsDriven table_laws driver.old.plan driver.old.inputs driver.old.net }
+    ensures { IsDriven table_laws driver.new.plan driver.new.inputs driver.new.net }
 {
     make(driver, Event::Claim { node })?;
     make(driver, Event::Perform { node, number })?;
@@ -293,8 +294,8 @@ fn work_by_net(driver: &mut Driver, node: u32, number: u64) -> Result<u64, Fail>
 
 // Makes an event, and returns 1 where it did anything, or else 0.
 fn make(driver: &mut Driver, event: Event) -> Result<u64, Fail>
-    requires { IsDriven driver.old.plan driver.old.inputs driver.old.net }
-    ensures { IsDriven driver.new.plan driver.new.inputs driver.new.net }
+    requires { IsDriven table_laws driver.old.plan driver.old.inputs driver.old.net }
+    ensures { IsDriven table_laws driver.new.plan driver.new.inputs driver.new.net }
 {
     match act(driver, event)? {
         Effect::Did => Ok(1),

@@ -24,11 +24,11 @@ use Rattle.mg_calc.specs.declared.node_fault.Phase.TheVariants.{Open, Process, C
 use Rattle.mg_calc.specs.declared.node_fault.NodeFault.{NodeFault}
 use Rattle.mg_calc.specs.declared.plan_node.PlanNode.{PlanNode}
 use Rattle.mg_calc.specs.Answer.{Answer}
-use Rattle.mg_calc.specs.Law.{opening, step, finish, rules_of}
-use Rattle.mg_calc.specs.Laying.{after, laid_behind, all_raised}
-use Rattle.mg_calc.specs.Outcome.{Failure, Outcome, after_laying, after_call, opened, unopened, unless_failed, shown, shown_all, after_close, finished, with_reach, ended, node_outcome}
+use Rattle.mg_calc.specs.Law.{opening, step, finish}
+use Rattle.mg_calc.specs.Laying.{laid_behind, all_raised}
+use Rattle.mg_calc.specs.Outcome.{Failure, Outcome, after_laying, after_call, opened, unopened, unless_failed, shown, shown_all, after_close, closed_with, finished, with_reach, ended, node_outcome}
 use Rattle.mg_calc.specs.Shape.{IsOuter}
-use Rattle.mg_calc.specs.Equations.{Job, inputs_of, sides_of, outcome_by, outcome_of}
+use Rattle.mg_calc.specs.Equations.{Job, rules_at, inputs_of, sides_of, outcome_by, outcome_of}
 use Rattle.mg_calc.proofs.Rounds.{streams_are_prefixes}
 use Rattle.mg_calc.specs.Meaning.{fault_of, faults, stalled, count_of, shown_sets, last_call, log_of, weight}
 use Rattle.mg_calc.specs.Rules.{Rules}
@@ -59,6 +59,10 @@ close_counts : (outcome : Outcome) (answer : Result (List (StreamPrefix Plain)) 
 close_counts outcome (Ok outputs) = refl
 close_counts outcome (Err cause) = refl
 
+closing_counts : (offset : Option ℤ) (outcome : Outcome) (answer : Answer) → (closed_with offset outcome answer).taken ≡ outcome.taken
+closing_counts offset outcome (Err cause) = refl
+closing_counts offset outcome (Ok given) = close_counts (record outcome { state = given.0 }) (laid_behind offset Close outcome.outputs given.1)
+
 if_counts : (test : Bool) (a b : Outcome) (n : ℕ) → a.taken ≡ n → b.taken ≡ n → (if test then a else b).taken ≡ n
 if_counts true a b n e f = e
 if_counts false a b n e f = f
@@ -71,7 +75,7 @@ pub end_counts : (rules : Rules) (offset : Option ℤ) (reached : ℕ) (outcome 
 end_counts rules offset reached outcome =
     let before : Outcome = record outcome { outputs = all_raised offset reached outcome.outputs } in
     end_counts_by outcome.fault outcome (with_reach rules offset reached outcome)
-    (if_counts (reached == done) (finished rules offset before) before outcome.taken (close_counts before (after (rules.finish outcome.state) (λ given. laid_behind offset Close before.outputs given.1))) refl)
+    (if_counts (reached == done) (finished rules offset before) before outcome.taken (closing_counts offset before (rules.finish outcome.state)) refl)
 
 node_counts : (rules : Rules) (offset : Option ℤ) (policy : Policy) (outputs : ℕ) (sides : List (Option Plain)) (inputs : List (StreamPrefix Plain)) → (node_outcome rules offset policy outputs sides inputs).taken ≤ length (settled_sets policy inputs)
 node_counts rules offset policy outputs sides inputs =
@@ -86,7 +90,7 @@ count_by_law (Count count start step) job streams node is = absurd is
 count_by_law (SideOnce at) job streams node is = absurd is
 count_by_law Constants job streams node is = absurd is
 count_by_law Loopback job streams node is = absurd is
-count_by_law law job streams node is = node_counts (rules_of node.law) node.shape.offset node.policy (length node.outputs) (sides_of job node) (inputs_of streams node)
+count_by_law law job streams node is = node_counts (rules_at job node) node.shape.offset node.policy (length node.outputs) (sides_of job node) (inputs_of streams node)
 
 pub shown_as_counted : (job : Job) (streams : List (StreamPrefix Plain)) (node : PlanNode) → IsOuter node.law → length (shown_sets job streams node) ≡ count_of job streams node
 shown_as_counted job streams node is =

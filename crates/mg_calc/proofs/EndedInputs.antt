@@ -19,10 +19,11 @@ use Rattle.mg_calc.specs.declared.law.Law.TheVariants.{Count, SideOnce, Constant
 use Rattle.mg_calc.specs.declared.node_fault.Phase.TheVariants.{Close}
 use Rattle.mg_calc.specs.declared.plan_node.PlanNode.{PlanNode}
 use Rattle.mg_calc.specs.Shape.{calls_of}
-use Rattle.mg_calc.specs.Laying.{after, laid_behind, all_raised}
-use Rattle.mg_calc.specs.Law.{finish, rules_of}
-use Rattle.mg_calc.specs.Outcome.{Failure, Outcome, unless_failed, with_last_call, called, opened, after_close, finished, with_reach, ended, shown_all}
-use Rattle.mg_calc.specs.Equations.{Job, stream_of, inputs_of, sides_of, outcome_by, outcome_of}
+use Rattle.mg_calc.specs.Laying.{laid_behind, all_raised}
+use Rattle.mg_calc.specs.Law.{finish}
+use Rattle.mg_calc.specs.Answer.{Answer}
+use Rattle.mg_calc.specs.Outcome.{Failure, Outcome, unless_failed, with_last_call, called, opened, after_close, closed_with, finished, with_reach, ended, shown_all}
+use Rattle.mg_calc.specs.Equations.{Job, rules_at, stream_of, inputs_of, sides_of, outcome_by, outcome_of}
 use Rattle.std.specs.List.{fold, range_with_len}
 use Rattle.mg_settled.specs.Settled.{settled_sets}
 use Rattle.mg_calc.specs.Rules.{Rules}
@@ -127,6 +128,10 @@ close_ends : (outcome : Outcome) (laid : Result (List (StreamPrefix Plain)) Caus
 close_ends outcome (Ok outputs) good = closed_twice outputs
 close_ends outcome (Err cause) good = absurd (some_none (record { phase = Close; cause = cause }) good)
 
+closing_ends : (offset : Option ℤ) (outcome : Outcome) (answer : Answer) → (closed_with offset outcome answer).fault ≡ None → AreEnded (closed_with offset outcome answer).outputs
+closing_ends offset outcome (Err cause) good = absurd (some_none (record { phase = Close; cause = cause }) good)
+closing_ends offset outcome (Ok given) good = close_ends (record outcome { state = given.0 }) (laid_behind offset Close outcome.outputs given.1) good
+
 reached_by : (P : Outcome → Type 0) (test : Bool) (there other : Outcome) → test ≡ true → P (cond test there other) → P there
 reached_by P test there other is holds = subst (λ (b : Bool). P (cond b there other)) is holds
 
@@ -140,7 +145,7 @@ node_ends rules offset reached outcome is good =
     let test : eqb reached done ≡ true = eq-eqb reached done is in
     let here : (finished rules offset raised).fault ≡ None = reached_by (λ (o : Outcome). o.fault ≡ None) (eqb reached done) (finished rules offset raised) raised test fine in
     from_reached (λ (o : Outcome). AreEnded o.outputs) (eqb reached done) (finished rules offset raised) raised test
-    (close_ends raised (after (rules.finish raised.state) (λ given. laid_behind offset Close raised.outputs given.1)) here))
+    (closing_ends offset raised (rules.finish raised.state) here))
 
 one_ended : (s : StreamPrefix Plain) → s.bound ≡ done → AreEnded (s ∷ [])
 one_ended s is = ap (λ (b : ℕ). (let t : StreamPrefix Plain = record { packets = s.packets; bound = b } in t ∷ [])) (sym is)
@@ -153,17 +158,17 @@ pub record LoopEnded (streams : List (StreamPrefix Plain)) (node : PlanNode) : T
 
 ends_by : (law : Law) (job : Job) (streams : List (StreamPrefix Plain)) (node : PlanNode) → (law ≡ Loopback → LoopEnded streams node) → (AllByRecursion (λ s. s.bound ≡ done) (inputs_of streams node)) → IsPrefix (select_of (inputs_of streams node))
     → (outcome_by law job streams node).fault ≡ None → AreEnded (outcome_by law job streams node).outputs
-ends_by (Count count start step) job streams node loop all select good = source_ends (fold (called node.law) (opened (rules_of node.law) None (length node.outputs) (sides_of job node)) (range_with_len 0 (calls_of node.law))) good
-ends_by (SideOnce at) job streams node loop all select good = source_ends (fold (called node.law) (opened (rules_of node.law) None (length node.outputs) (sides_of job node)) (range_with_len 0 (calls_of node.law))) good
-ends_by Constants job streams node loop all select good = source_ends (fold (called node.law) (opened (rules_of node.law) None (length node.outputs) (sides_of job node)) (range_with_len 0 (calls_of node.law))) good
+ends_by (Count count start step) job streams node loop all select good = source_ends (fold (called node.law) (opened (rules_at job node) None (length node.outputs) (sides_of job node)) (range_with_len 0 (calls_of node.law))) good
+ends_by (SideOnce at) job streams node loop all select good = source_ends (fold (called node.law) (opened (rules_at job node) None (length node.outputs) (sides_of job node)) (range_with_len 0 (calls_of node.law))) good
+ends_by Constants job streams node loop all select good = source_ends (fold (called node.law) (opened (rules_at job node) None (length node.outputs) (sides_of job node)) (range_with_len 0 (calls_of node.law))) good
 ends_by Loopback job streams node loop all select good =
     let r = loop refl in
     let main = stream_of (inputs_of streams node) 1 in
     let back = stream_of (inputs_of streams node) 0 in
     one_ended (loopback main back) (loopback_ended main back r.main r.at_main r.at_loop)
 ends_by law job streams node loop all select good =
-    node_ends (rules_of node.law) node.shape.offset (reach node.policy (inputs_of streams node))
-    (shown_all (rules_of node.law) node.shape.offset (length node.outputs) (sides_of job node) (settled_sets node.policy (inputs_of streams node)))
+    node_ends (rules_at job node) node.shape.offset (reach node.policy (inputs_of streams node))
+    (shown_all (rules_at job node) node.shape.offset (length node.outputs) (sides_of job node) (settled_sets node.policy (inputs_of streams node)))
     (reach_ended node.policy (inputs_of streams node) all select) good
 
 pub outcome_ends : (job : Job) (streams : List (StreamPrefix Plain)) (node : PlanNode) → (node.law ≡ Loopback → LoopEnded streams node) → (AllByRecursion (λ s. s.bound ≡ done) (inputs_of streams node)) → IsPrefix (select_of (inputs_of streams node))

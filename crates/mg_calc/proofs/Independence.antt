@@ -4,6 +4,7 @@ use Rattle.std.specs.List.{AllByRecursion, range_with_len}
 use Rattle.std.proofs.lemmas.List.{length-replicate}
 use Rattle.mg_value.specs.Payload.{Plain}
 use Rattle.mg_settled.specs.Prefix.{StreamPrefix, empty_prefix}
+use Rattle.mg_calc.specs.Rules.{Laws}
 use Rattle.mg_calc.specs.declared.inputs.Inputs.{Inputs}
 use Rattle.mg_calc.specs.declared.plan.Plan.{Plan}
 use Rattle.mg_calc.specs.declared.plan_node.PlanNode.{PlanNode}
@@ -75,18 +76,18 @@ contains_all : (xs : List ℕ) → AllByRecursion (Contains xs) xs
 contains_all [] = tt
 contains_all (x ∷ xs) = (contains_first x xs, all_rest x xs xs (contains_all xs))
 
-rounds_agree_safely : (plan : Plan) (inputs more : Inputs) → IsJob (record { plan = plan; inputs = inputs }) → IsJob (record { plan = plan; inputs = more }) → inputs.sides ≡ more.sides → (n : ℕ)
-    → Agree (Safe plan inputs more) (producers plan) (round (record { plan = plan; inputs = inputs }) n) (round (record { plan = plan; inputs = more }) n)
-rounds_agree_safely plan inputs more is other sides zero =
+rounds_agree_safely : {laws : Laws} (plan : Plan) (inputs more : Inputs) → IsJob (record { plan = plan; inputs = inputs; laws = laws }) → IsJob (record { plan = plan; inputs = more; laws = laws }) → inputs.sides ≡ more.sides → (n : ℕ)
+    → Agree (Safe plan inputs more) (producers plan) (round (record { plan = plan; inputs = inputs; laws = laws }) n) (round (record { plan = plan; inputs = more; laws = laws }) n)
+rounds_agree_safely {laws} plan inputs more is other sides zero =
     agree_same (Safe plan inputs more) (producers plan) (replicate (length plan.streams) empty_prefix)
     (length-replicate (length plan.streams) empty_prefix ∙ (sym (length-map_by (λ s. s.producer) plan.streams) ∙ ap length is.plan.producers))
   where
     length-map_by : (f : PlanStream → Producer) (ss : List PlanStream) → length (map f ss) ≡ length ss
     length-map_by f [] = refl
     length-map_by f (s ∷ ss) = ap suc (length-map_by f ss)
-rounds_agree_safely plan inputs more is other sides (suc n) =
-    let job : Job = record { plan = plan; inputs = inputs } in
-    let changed : Job = record { plan = plan; inputs = more } in
+rounds_agree_safely {laws} plan inputs more is other sides (suc n) =
+    let job : Job = record { plan = plan; inputs = inputs; laws = laws } in
+    let changed : Job = record { plan = plan; inputs = more; laws = laws } in
     let xs = round job n in
     let ys = round changed n in
     let before = rounds_agree_safely plan inputs more is other sides n in
@@ -102,7 +103,7 @@ rounds_agree_safely plan inputs more is other sides (suc n) =
     (from_zero plan.nodes (λ k node. (port : ℕ) → Safe plan inputs more (Node k port) → mine k node ≡ others k node)
     (λ k node at port safe. ap (λ (o : Outcome). o.outputs)
     (outcome_of_inputs_by node.law job node xs ys (streams_same plan inputs more k node node.inputs xs ys is.plan at (λ _. safe) (node_reads_below plan k node is.plan at) (contains_all node.inputs) before)
-    ∙ outcome_of_sides_by node.law plan inputs more node ys sides))) in
+    ∙ outcome_of_sides_by laws node.law plan inputs more node ys sides))) in
     let firsts : Agree (Safe plan inputs more) (map Input (numbers (length plan.inputs))) inputs.streams more.streams =
     subst (λ (m : ℕ). Agree (Safe plan inputs more) (map Input (numbers m)) inputs.streams more.streams) is.inputs.streams
     (agree_inputs (Safe plan inputs more) 0 inputs.streams more.streams (is.inputs.streams ∙ sym other.inputs.streams) (λ i safe. safe i (let e : 0 + i ≡ i = omega arith in e))) in
@@ -112,12 +113,12 @@ rounds_agree_safely plan inputs more is other sides (suc n) =
     subst (λ (rest : List (StreamPrefix Plain)). Agree (Safe plan inputs more) (producers plan) (inputs.streams ++ rest) (next_round changed ys)) (parts_flat (λ node. (outcome_of job xs node).outputs) 0 plan.nodes)
     (subst (λ (rest : List (StreamPrefix Plain)). Agree (Safe plan inputs more) (producers plan) (inputs.streams ++ parts mine 0 plan.nodes) (more.streams ++ rest)) (parts_flat (λ node. (outcome_of changed ys node).outputs) 0 plan.nodes) all)
 
-pub solution_independent : (plan : Plan) (inputs more : Inputs) (xs ys : List (StreamPrefix Plain)) (stream : ℕ) → IsJob (record { plan = plan; inputs = inputs }) → IsJob (record { plan = plan; inputs = more }) → inputs.sides ≡ more.sides
+pub solution_independent : {laws : Laws} (plan : Plan) (inputs more : Inputs) (xs ys : List (StreamPrefix Plain)) (stream : ℕ) → IsJob (record { plan = plan; inputs = inputs; laws = laws }) → IsJob (record { plan = plan; inputs = more; laws = laws }) → inputs.sides ≡ more.sides
     → stream < length plan.streams → ((input : ℕ) → MayDepend plan input stream → stream_of inputs.streams input ≡ stream_of more.streams input)
-    → IsSolution (record { plan = plan; inputs = inputs }) xs → IsSolution (record { plan = plan; inputs = more }) ys → stream_of xs stream ≡ stream_of ys stream
-solution_independent plan inputs more xs ys stream is other sides le same a b =
-    let job : Job = record { plan = plan; inputs = inputs } in
-    let changed : Job = record { plan = plan; inputs = more } in
+    → IsSolution (record { plan = plan; inputs = inputs; laws = laws }) xs → IsSolution (record { plan = plan; inputs = more; laws = laws }) ys → stream_of xs stream ≡ stream_of ys stream
+solution_independent {laws} plan inputs more xs ys stream is other sides le same a b =
+    let job : Job = record { plan = plan; inputs = inputs; laws = laws } in
+    let changed : Job = record { plan = plan; inputs = more; laws = laws } in
     let p = producer_at plan stream is.plan le in
     let safe : Safe plan inputs more p.0 = λ input d. same input (subst (λ (o : Option Producer). IsSomeAnd o (MayDependBy plan input)) (sym p.1) d) in
     let met : next_round job (round job a.number) ≡ round job a.number = subst (λ (zs : List (StreamPrefix Plain)). next_round job zs ≡ zs) a.reached a.meets in

@@ -16,6 +16,7 @@ use Rattle.mg_calc.specs.declared.plan.Plan.{Plan}
 use Rattle.mg_calc.specs.declared.plan_node.PlanNode.{PlanNode}
 use Rattle.mg_calc.specs.declared.port_kind.PortKind.{PortKind}
 use Rattle.mg_calc.specs.Plan.{HasNumbers, numbers, node_sides}
+use Rattle.mg_calc.specs.Rules.{Laws}
 use Rattle.mg_calc.specs.Law.{rules_of}
 use Rattle.mg_calc.specs.Shape.{IsShapeOf, HasOutputs, calls_of}
 use Rattle.mg_calc.specs.Outcome.{Outcome, source_outcome, node_outcome}
@@ -41,21 +42,21 @@ job_known job is = record {
 }
 
 -- a node's outcome depends on the side packets alone of what else is handed in
-pub outcome_of_sides_by : (law : Law) (plan : Plan) (inputs more : Inputs) (node : PlanNode) (xs : List (StreamPrefix Plain)) → inputs.sides ≡ more.sides
-    → outcome_by law (record { plan = plan; inputs = inputs }) xs node ≡ outcome_by law (record { plan = plan; inputs = more }) xs node
-outcome_of_sides_by (Count count start step) plan inputs more node xs same = ap (λ sides. source_outcome node.law (calls_of node.law) (length node.outputs) (node_sides plan sides node)) same
-outcome_of_sides_by (SideOnce at) plan inputs more node xs same = ap (λ sides. source_outcome node.law (calls_of node.law) (length node.outputs) (node_sides plan sides node)) same
-outcome_of_sides_by Constants plan inputs more node xs same = ap (λ sides. source_outcome node.law (calls_of node.law) (length node.outputs) (node_sides plan sides node)) same
-outcome_of_sides_by Loopback plan inputs more node xs same = refl
-outcome_of_sides_by law plan inputs more node xs same = ap (λ sides. node_outcome (rules_of node.law) node.shape.offset node.policy (length node.outputs) (node_sides plan sides node) (inputs_of xs node)) same
+pub outcome_of_sides_by : (laws : Laws) (law : Law) (plan : Plan) (inputs more : Inputs) (node : PlanNode) (xs : List (StreamPrefix Plain)) → inputs.sides ≡ more.sides
+    → outcome_by law (record { plan = plan; inputs = inputs; laws = laws }) xs node ≡ outcome_by law (record { plan = plan; inputs = more; laws = laws }) xs node
+outcome_of_sides_by laws (Count count start step) plan inputs more node xs same = ap (λ sides. source_outcome (rules_of laws node.law) node.law (calls_of node.law) (length node.outputs) (node_sides plan sides node)) same
+outcome_of_sides_by laws (SideOnce at) plan inputs more node xs same = ap (λ sides. source_outcome (rules_of laws node.law) node.law (calls_of node.law) (length node.outputs) (node_sides plan sides node)) same
+outcome_of_sides_by laws Constants plan inputs more node xs same = ap (λ sides. source_outcome (rules_of laws node.law) node.law (calls_of node.law) (length node.outputs) (node_sides plan sides node)) same
+outcome_of_sides_by laws Loopback plan inputs more node xs same = refl
+outcome_of_sides_by laws law plan inputs more node xs same = ap (λ sides. node_outcome (rules_of laws node.law) node.shape.offset node.policy (length node.outputs) (node_sides plan sides node) (inputs_of xs node)) same
 
-nodes_of_sides : (plan : Plan) (inputs more : Inputs) (nodes : List PlanNode) (xs : List (StreamPrefix Plain)) → inputs.sides ≡ more.sides
-    → flat_map (λ node. (outcome_of (record { plan = plan; inputs = inputs }) xs node).outputs) nodes ≡ flat_map (λ node. (outcome_of (record { plan = plan; inputs = more }) xs node).outputs) nodes
-nodes_of_sides plan inputs more [] xs same = refl
-nodes_of_sides plan inputs more (node ∷ nodes) xs same =
-    flat_map-cons (λ n. (outcome_of (record { plan = plan; inputs = inputs }) xs n).outputs) node nodes
-    ∙ (ap₂ (λ (a b : List (StreamPrefix Plain)). a ++ b) (ap (λ (o : Outcome). o.outputs) (outcome_of_sides_by node.law plan inputs more node xs same)) (nodes_of_sides plan inputs more nodes xs same)
-    ∙ sym (flat_map-cons (λ n. (outcome_of (record { plan = plan; inputs = more }) xs n).outputs) node nodes))
+nodes_of_sides : (laws : Laws) (plan : Plan) (inputs more : Inputs) (nodes : List PlanNode) (xs : List (StreamPrefix Plain)) → inputs.sides ≡ more.sides
+    → flat_map (λ node. (outcome_of (record { plan = plan; inputs = inputs; laws = laws }) xs node).outputs) nodes ≡ flat_map (λ node. (outcome_of (record { plan = plan; inputs = more; laws = laws }) xs node).outputs) nodes
+nodes_of_sides laws plan inputs more [] xs same = refl
+nodes_of_sides laws plan inputs more (node ∷ nodes) xs same =
+    flat_map-cons (λ n. (outcome_of (record { plan = plan; inputs = inputs; laws = laws }) xs n).outputs) node nodes
+    ∙ (ap₂ (λ (a b : List (StreamPrefix Plain)). a ++ b) (ap (λ (o : Outcome). o.outputs) (outcome_of_sides_by laws node.law plan inputs more node xs same)) (nodes_of_sides laws plan inputs more nodes xs same)
+    ∙ sym (flat_map-cons (λ n. (outcome_of (record { plan = plan; inputs = more; laws = laws }) xs n).outputs) node nodes))
 
 first_extend : (ps qs cs : List (StreamPrefix Plain)) → AreExtendedBy ps qs → AreExtendedBy (ps ++ cs) (qs ++ cs)
 first_extend [] [] cs e = all_by_themselves cs
@@ -64,13 +65,13 @@ first_extend (p ∷ ps) [] cs e = absurd e
 first_extend (p ∷ ps) (q ∷ qs) cs e = (e.0, first_extend ps qs cs e.1)
 
 -- where the inputs are extended, so is the solution
-pub solution_grows : (plan : Plan) (inputs more : Inputs) (xs ys : List (StreamPrefix Plain)) → IsJob (record { plan = plan; inputs = inputs }) → IsJob (record { plan = plan; inputs = more })
-    → inputs.sides ≡ more.sides → AreExtendedBy inputs.streams more.streams → IsSolution (record { plan = plan; inputs = inputs }) xs → IsSolution (record { plan = plan; inputs = more }) ys → AreExtendedBy xs ys
-solution_grows plan inputs more xs ys is other sides e a b =
-    let job : Job = record { plan = plan; inputs = inputs } in
-    let longer : Job = record { plan = plan; inputs = more } in
+pub solution_grows : {laws : Laws} (plan : Plan) (inputs more : Inputs) (xs ys : List (StreamPrefix Plain)) → IsJob (record { plan = plan; inputs = inputs; laws = laws }) → IsJob (record { plan = plan; inputs = more; laws = laws })
+    → inputs.sides ≡ more.sides → AreExtendedBy inputs.streams more.streams → IsSolution (record { plan = plan; inputs = inputs; laws = laws }) xs → IsSolution (record { plan = plan; inputs = more; laws = laws }) ys → AreExtendedBy xs ys
+solution_grows {laws} plan inputs more xs ys is other sides e a b =
+    let job : Job = record { plan = plan; inputs = inputs; laws = laws } in
+    let longer : Job = record { plan = plan; inputs = more; laws = laws } in
     let keeps = solution_keeps longer (job_known longer other) ys b in
     let follows : AreExtendedBy (next_round job ys) (next_round longer ys) =
-    subst (λ (rest : List (StreamPrefix Plain)). AreExtendedBy (inputs.streams ++ rest) (next_round longer ys)) (sym (nodes_of_sides plan inputs more plan.nodes ys sides))
+    subst (λ (rest : List (StreamPrefix Plain)). AreExtendedBy (inputs.streams ++ rest) (next_round longer ys)) (sym (nodes_of_sides laws plan inputs more plan.nodes ys sides))
     (first_extend inputs.streams more.streams (flat_map (λ node. (outcome_of longer ys node).outputs) plan.nodes) e) in
     solution_least job (job_known job is) xs ys a keeps (subst (λ (zs : List (StreamPrefix Plain)). AreExtendedBy (next_round job ys) zs) b.meets follows)

@@ -5,7 +5,7 @@ use Rattle.mg_value.specs.Packet.{Stamped}
 use Rattle.mg_settled.specs.Settled.{selected}
 use Rattle.mg_calc.specs.declared.emission.Laid.{Laid}
 use Rattle.mg_calc.specs.declared.law.Law.{Law}
-use Rattle.mg_calc.specs.declared.law.Law.TheVariants.{Pass, Gate, Mux, Cloner, Merge, Thin, Sum, Map, Filter, Running, Shift, Count, SideOnce, Constants, Loopback, Tally, Scripted, BeginLoop, EndLoop, FirstCome, Limiter}
+use Rattle.mg_calc.specs.declared.law.Law.TheVariants.{Pass, Gate, Mux, Cloner, Merge, Thin, Sum, Map, Filter, Running, Shift, Count, SideOnce, Constants, Loopback, Tally, Scripted, BeginLoop, EndLoop, FirstCome, Limiter, Stated}
 use Rattle.mg_calc.specs.declared.cause.Cause.TheVariants.{WrongKind}
 use Rattle.mg_calc.specs.Answer.{Answer, emission_of}
 use Rattle.mg_calc.specs.Values.{place_at, number_of, total, time_of, moved_time, items_in, iterable_port}
@@ -54,6 +54,7 @@ follows EndLoop shape state t set of_law places good =
     keeps_list (place_at set 0) (with_item (kept_list state) (place_at set 1)) (items_stay (kept_list state) (place_at set 1) good.1)
 follows (FirstCome lanes) shape state t set of_law places good = good
 follows (Limiter most) shape state t set of_law places good = good
+follows (Stated number parameters offset) shape state t set of_law places good = good
 follows (Scripted offset first steps last) shape state t set of_law places good = steps_on offset first steps last state _ refl good
 
 pub stepped : (law : Law) (shape : Shape) (state : List Plain) (t : ℕ) (set : List (Option (Stamped Plain))) → IsShapeOf law shape → FitsInputs shape set

@@ -25,3 +25,4 @@ pub mod FreeNodes
 pub mod ValidJob
 pub mod EndedInputs
 pub mod NoStall
+pub mod TableRules

@@ -15,10 +15,10 @@ use Rattle.mg_calc.specs.declared.node_fault.Phase.{Phase}
 use Rattle.mg_calc.specs.declared.node_fault.Phase.TheVariants.{Open, Call, Process, Close}
 use Rattle.mg_calc.specs.Answer.{Answer}
 use Rattle.mg_calc.specs.Rules.{Rules}
-use Rattle.mg_calc.specs.Law.{call, rules_of}
-use Rattle.mg_calc.specs.Laying.{after, laid_behind, all_raised}
-use Rattle.mg_calc.specs.Outcome.{Failure, Outcome, after_laying, after_call, unopened, opened, unless_failed, shown, shown_all, after_close, finished, with_reach, ended, called, source_outcome}
-use Rattle.mg_calc.proofs.LaidBehind.{after_good, emission_extends, emission_keeps, raise_extends, raise_higher, raise_keeps, close_extends, close_keeps}
+use Rattle.mg_calc.specs.Law.{call}
+use Rattle.mg_calc.specs.Laying.{laid_behind, all_raised}
+use Rattle.mg_calc.specs.Outcome.{Failure, Outcome, after_laying, after_call, unopened, opened, unless_failed, shown, shown_all, after_close, closed_with, finished, with_reach, ended, called, source_outcome}
+use Rattle.mg_calc.proofs.LaidBehind.{emission_extends, emission_keeps, raise_extends, raise_higher, raise_keeps, close_extends, close_keeps}
 
 -- a call extends the outputs
 laying_extends : (phase : Phase) (outcome : Outcome) (answer : Result (List (StreamPrefix Plain)) Cause)
@@ -131,6 +131,18 @@ close_answer_keeps : (outcome : Outcome) (answer : Result (List (StreamPrefix Pl
 close_answer_keeps outcome (Ok outputs) k e = close_keeps outputs (e outputs refl)
 close_answer_keeps outcome (Err cause) k e = k
 
+closing_extends : (offset : Option ℤ) (outcome : Outcome) (answer : Answer) → AllByRecursion IsPrefix outcome.outputs → AreExtendedBy outcome.outputs (closed_with offset outcome answer).outputs
+closing_extends offset outcome (Err cause) k = all_by_themselves outcome.outputs
+closing_extends offset outcome (Ok given) k =
+    close_answer_extends (record outcome { state = given.0 }) (laid_behind offset Close outcome.outputs given.1)
+    (λ outputs h. (emission_extends offset Close outcome.outputs outputs given.1 h, emission_keeps offset Close outcome.outputs outputs given.1 h k))
+
+closing_keeps : (offset : Option ℤ) (outcome : Outcome) (answer : Answer) → AllByRecursion IsPrefix outcome.outputs → AllByRecursion IsPrefix (closed_with offset outcome answer).outputs
+closing_keeps offset outcome (Err cause) k = k
+closing_keeps offset outcome (Ok given) k =
+    close_answer_keeps (record outcome { state = given.0 }) (laid_behind offset Close outcome.outputs given.1) k
+    (λ outputs h. emission_keeps offset Close outcome.outputs outputs given.1 h k)
+
 -- a node that is about to end
 abbrev before_end : Option ℤ → ℕ → Outcome → Outcome
 before_end offset reached outcome = record outcome { outputs = all_raised offset reached outcome.outputs }
@@ -150,11 +162,7 @@ reach_extends rules offset reached outcome le k h =
     let before = before_end offset reached outcome in
     let kept = raise_keeps offset reached outcome.outputs le k in
     if_extends (reached == done) before.outputs (finished rules offset before) before
-    (close_answer_extends before (after (rules.finish outcome.state) (λ given. laid_behind offset Close before.outputs given.1))
-    (λ outputs e. (let closed = after_good (rules.finish outcome.state) (λ given. laid_behind offset Close before.outputs given.1) outputs e in (
-      emission_extends offset Close before.outputs outputs closed.0.1 closed.2,
-      emission_keeps offset Close before.outputs outputs closed.0.1 closed.2 kept,
-    ))))
+    (closing_extends offset before (rules.finish outcome.state) kept)
     (all_by_themselves before.outputs)
 
 reach_keeps : (rules : Rules) (offset : Option ℤ) (reached : ℕ) (outcome : Outcome) → reached ≤ done → AllByRecursion IsPrefix outcome.outputs → outcome.fault ≡ None
@@ -163,9 +171,7 @@ reach_keeps rules offset reached outcome le k h =
     let before = before_end offset reached outcome in
     let kept = raise_keeps offset reached outcome.outputs le k in
     if_keeps (reached == done) (finished rules offset before) before
-    (close_answer_keeps before (after (rules.finish outcome.state) (λ given. laid_behind offset Close before.outputs given.1)) kept
-    (λ outputs e. (let closed = after_good (rules.finish outcome.state) (λ given. laid_behind offset Close before.outputs given.1) outputs e in
-    emission_keeps offset Close before.outputs outputs closed.0.1 closed.2 kept)))
+    (closing_keeps offset before (rules.finish outcome.state) kept)
     kept
 
 fault_cases : (fault : Option Failure) → (fault ≡ None) ⊎ ((failure : Failure) × (fault ≡ Some failure))
@@ -257,10 +263,10 @@ last_call_keeps : (fault : Option Failure) (outcome : Outcome) → AllByRecursio
 last_call_keeps (Some failure) outcome k = k
 last_call_keeps None outcome k = close_keeps outcome.outputs k
 
-pub source_keeps : (law : Law) (calls outputs : ℕ) (sides : List (Option Plain)) → AllByRecursion IsPrefix (source_outcome law calls outputs sides).outputs
-source_keeps law calls outputs sides =
-    let made = fold (called law) (opened (rules_of law) None outputs sides) (range_with_len 0 calls) in
-    last_call_keeps made.fault made (calls_keep law (opened (rules_of law) None outputs sides) (range_with_len 0 calls) (opened_keeps (rules_of law) None outputs sides))
+pub source_keeps : (rules : Rules) (law : Law) (calls outputs : ℕ) (sides : List (Option Plain)) → AllByRecursion IsPrefix (source_outcome rules law calls outputs sides).outputs
+source_keeps rules law calls outputs sides =
+    let made = fold (called law) (opened rules None outputs sides) (range_with_len 0 calls) in
+    last_call_keeps made.fault made (calls_keep law (opened rules None outputs sides) (range_with_len 0 calls) (opened_keeps rules None outputs sides))
 
 -- No outputs are lost: they extend so many empty ones.
 opened_extends : (rules : Rules) (offset : Option ℤ) (outputs : ℕ) (sides : List (Option Plain)) → AreExtendedBy (replicate outputs empty_prefix) (opened rules offset outputs sides).outputs
@@ -278,13 +284,13 @@ pub last_call_extends : (fault : Option Failure) (outcome : Outcome) → AllByRe
 last_call_extends (Some failure) outcome k = all_by_themselves outcome.outputs
 last_call_extends None outcome k = close_extends outcome.outputs k
 
-pub source_outputs : (law : Law) (calls outputs : ℕ) (sides : List (Option Plain)) → AreExtendedBy (replicate outputs empty_prefix) (source_outcome law calls outputs sides).outputs
-source_outputs law calls outputs sides =
-    let begun = opened (rules_of law) None outputs sides in
+pub source_outputs : (rules : Rules) (law : Law) (calls outputs : ℕ) (sides : List (Option Plain)) → AreExtendedBy (replicate outputs empty_prefix) (source_outcome rules law calls outputs sides).outputs
+source_outputs rules law calls outputs sides =
+    let begun = opened rules None outputs sides in
     let made = fold (called law) begun (range_with_len 0 calls) in
-    all_further (replicate outputs empty_prefix) begun.outputs _ (opened_extends (rules_of law) None outputs sides)
+    all_further (replicate outputs empty_prefix) begun.outputs _ (opened_extends rules None outputs sides)
     (all_further begun.outputs made.outputs _ (calls_extend law begun (range_with_len 0 calls))
-    (last_call_extends made.fault made (calls_keep law begun (range_with_len 0 calls) (opened_keeps (rules_of law) None outputs sides))))
+    (last_call_extends made.fault made (calls_keep law begun (range_with_len 0 calls) (opened_keeps rules None outputs sides))))
 
 pub node_outputs : (rules : Rules) (offset : Option ℤ) (reached outputs : ℕ) (sides : List (Option Plain)) (sets : List (TimedSet Plain)) → reached ≤ done
     → AllByRecursion IsPrefix (shown_all rules offset outputs sides sets).outputs → AreExtendedBy (replicate outputs empty_prefix) (ended rules offset reached (shown_all rules offset outputs sides sets)).outputs

@@ -15,8 +15,7 @@ use Rattle.mg_calc.specs.declared.law.Law.{Law}
 use Rattle.mg_calc.specs.declared.law.Law.TheVariants.{Count, SideOnce, Constants, Loopback}
 use Rattle.mg_calc.specs.declared.plan_node.PlanNode.{PlanNode}
 use Rattle.mg_calc.specs.Shape.{calls_of}
-use Rattle.mg_calc.specs.Equations.{Job, stream_of, inputs_of, sides_of, outcome_by, outcome_of, next_round}
-use Rattle.mg_calc.specs.Law.{rules_of}
+use Rattle.mg_calc.specs.Equations.{Job, rules_at, stream_of, inputs_of, sides_of, outcome_by, outcome_of, next_round}
 use Rattle.mg_calc.proofs.Outcomes.{source_keeps, source_outputs}
 use Rattle.mg_calc.proofs.NodeStreams.{node_keeps, node_follows, node_has_outputs}
 
@@ -62,20 +61,20 @@ outcome_follows_by Loopback job node xs ys kx ky e = (
   tt,
 )
 outcome_follows_by law job node xs ys kx ky e =
-    node_follows (rules_of node.law) node.shape.offset node.policy (length node.outputs) (sides_of job node) (inputs_of xs node) (inputs_of ys node)
+    node_follows (rules_at job node) node.shape.offset node.policy (length node.outputs) (sides_of job node) (inputs_of xs node) (inputs_of ys node)
     (All-from_recursion IsPrefix (inputs_of xs node) (streams_are_prefixes xs node.inputs kx))
     (All-from_recursion IsPrefix (inputs_of ys node) (streams_are_prefixes ys node.inputs ky))
     (streams_extend xs ys node.inputs e)
 
 outcome_keeps_by : (law : Law) (job : Job) (node : PlanNode) (xs : List (StreamPrefix Plain))
     → AllByRecursion IsPrefix xs → AllByRecursion IsPrefix (outcome_by law job xs node).outputs
-outcome_keeps_by (Count count start step) job node xs kx = source_keeps node.law (calls_of node.law) (length node.outputs) (sides_of job node)
-outcome_keeps_by (SideOnce at) job node xs kx = source_keeps node.law (calls_of node.law) (length node.outputs) (sides_of job node)
-outcome_keeps_by Constants job node xs kx = source_keeps node.law (calls_of node.law) (length node.outputs) (sides_of job node)
+outcome_keeps_by (Count count start step) job node xs kx = source_keeps (rules_at job node) node.law (calls_of node.law) (length node.outputs) (sides_of job node)
+outcome_keeps_by (SideOnce at) job node xs kx = source_keeps (rules_at job node) node.law (calls_of node.law) (length node.outputs) (sides_of job node)
+outcome_keeps_by Constants job node xs kx = source_keeps (rules_at job node) node.law (calls_of node.law) (length node.outputs) (sides_of job node)
 outcome_keeps_by Loopback job node xs kx =
     (loopback_is_prefix (stream_of (inputs_of xs node) 1) (stream_of (inputs_of xs node) 0) (stream_is_prefix (inputs_of xs node) 1 (streams_are_prefixes xs node.inputs kx)), tt)
 outcome_keeps_by law job node xs kx =
-    node_keeps (rules_of node.law) node.shape.offset node.policy (length node.outputs) (sides_of job node) (inputs_of xs node)
+    node_keeps (rules_at job node) node.shape.offset node.policy (length node.outputs) (sides_of job node) (inputs_of xs node)
     (All-from_recursion IsPrefix (inputs_of xs node) (streams_are_prefixes xs node.inputs kx))
 
 pub outcome_follows : (job : Job) (node : PlanNode) (xs ys : List (StreamPrefix Plain))
@@ -125,12 +124,12 @@ as_long n xs e = sym (length_all_zip IsExtendedBy (replicate n empty_prefix) xs 
 -- a node has all its outputs
 outcome_has_outputs_by : (law : Law) (job : Job) (node : PlanNode) (xs : List (StreamPrefix Plain)) → (law ≡ Loopback → length node.outputs ≡ 1)
     → AllByRecursion IsPrefix xs → length (outcome_by law job xs node).outputs ≡ length node.outputs
-outcome_has_outputs_by (Count count start step) job node xs one kx = as_long (length node.outputs) _ (source_outputs node.law (calls_of node.law) (length node.outputs) (sides_of job node))
-outcome_has_outputs_by (SideOnce at) job node xs one kx = as_long (length node.outputs) _ (source_outputs node.law (calls_of node.law) (length node.outputs) (sides_of job node))
-outcome_has_outputs_by Constants job node xs one kx = as_long (length node.outputs) _ (source_outputs node.law (calls_of node.law) (length node.outputs) (sides_of job node))
+outcome_has_outputs_by (Count count start step) job node xs one kx = as_long (length node.outputs) _ (source_outputs (rules_at job node) node.law (calls_of node.law) (length node.outputs) (sides_of job node))
+outcome_has_outputs_by (SideOnce at) job node xs one kx = as_long (length node.outputs) _ (source_outputs (rules_at job node) node.law (calls_of node.law) (length node.outputs) (sides_of job node))
+outcome_has_outputs_by Constants job node xs one kx = as_long (length node.outputs) _ (source_outputs (rules_at job node) node.law (calls_of node.law) (length node.outputs) (sides_of job node))
 outcome_has_outputs_by Loopback job node xs one kx = sym (one refl)
 outcome_has_outputs_by law job node xs one kx =
-    as_long (length node.outputs) _ (node_has_outputs (rules_of node.law) node.shape.offset node.policy (length node.outputs) (sides_of job node) (inputs_of xs node)
+    as_long (length node.outputs) _ (node_has_outputs (rules_at job node) node.shape.offset node.policy (length node.outputs) (sides_of job node) (inputs_of xs node)
     (All-from_recursion IsPrefix (inputs_of xs node) (streams_are_prefixes xs node.inputs kx)))
 
 pub outcome_has_outputs : (job : Job) (node : PlanNode) (xs : List (StreamPrefix Plain)) → (node.law ≡ Loopback → length node.outputs ≡ 1)

@@ -18,12 +18,11 @@ use Rattle.mg_calc.specs.declared.law.Law.TheVariants.{Count, SideOnce, Constant
 use Rattle.mg_calc.specs.declared.plan_node.PlanNode.{PlanNode}
 use Rattle.mg_calc.specs.Plan.{IsValid, producers}
 use Rattle.mg_calc.specs.Outcome.{Outcome, node_outcome, loopback_outcome}
-use Rattle.mg_calc.specs.Equations.{Job, stream_of, inputs_of, sides_of, outcome_by, outcome_of}
+use Rattle.mg_calc.specs.Equations.{Job, rules_at, stream_of, inputs_of, sides_of, outcome_by, outcome_of}
 use Rattle.mg_calc.proofs.Rounds.{IsKnown, stream_extends, streams_extend}
 use Rattle.mg_calc.proofs.Positions.{Agree}
 use Rattle.mg_calc.proofs.Earlier.{KnownBy, IsNext, known_inputs, known_main, at_place, there, behind, get_or_some}
 use Rattle.mg_calc.proofs.Holding.{Held, HeldFits, OfNodes, IsHeld, given, given_long, given_keeps, held_same, held_round, held_follow, held_keep, rounds_agree, with_held, with_held_same, with_held_fits, with_held_holds, with_held_more, parts_same}
-use Rattle.mg_calc.specs.Law.{rules_of}
 
 -- a node's outcome is a function of its inputs
 pub outcome_of_inputs_by : (law : Law) (job : Job) (node : PlanNode) (xs ys : List (StreamPrefix Plain)) → map (stream_of xs) node.inputs ≡ map (stream_of ys) node.inputs → outcome_by law job xs node ≡ outcome_by law job ys node
@@ -31,7 +30,7 @@ outcome_of_inputs_by (Count count start step) job node xs ys same = refl
 outcome_of_inputs_by (SideOnce at) job node xs ys same = refl
 outcome_of_inputs_by Constants job node xs ys same = refl
 outcome_of_inputs_by Loopback job node xs ys same = ap (λ inputs. loopback_outcome (stream_of inputs 1) (stream_of inputs 0)) same
-outcome_of_inputs_by law job node xs ys same = ap (λ inputs. node_outcome (rules_of node.law) node.shape.offset node.policy (length node.outputs) (sides_of job node) inputs) same
+outcome_of_inputs_by law job node xs ys same = ap (λ inputs. node_outcome (rules_at job node) node.shape.offset node.policy (length node.outputs) (sides_of job node) inputs) same
 
 loop_cases : (law : Law) → (law ≡ Loopback) ⊎ (¬ (law ≡ Loopback))
 loop_cases Loopback = inl refl

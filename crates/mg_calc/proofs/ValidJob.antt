@@ -1,5 +1,5 @@
 -- A valid plan, and inputs that fit it: the conditions of the laws can be met. The plan is the running sum by a loopback.
-use Rattle.std.proofs.Common.{◌≡◌, ◌≢◌, ℕ, zero, suc, pos, ◌<◌, Bool, true, false, List, [], ◌∷◌, ◌++◌, All, AllPairs, Contains, Some, None, refl, codes, arith}
+use Rattle.std.proofs.Common.{◌≡◌, ◌≢◌, ℕ, zero, suc, pos, ◌<◌, Bool, true, false, List, [], ◌∷◌, ◌++◌, All, AllPairs, Contains, Some, None, IsSome, refl, codes, arith}
 use Rattle.std.specs.List.{AllByRecursion}
 use Rattle.std.proofs.lemmas.List.Kept.{AllPairs-cons}
 use Rattle.std.proofs.lemmas.List.Elements.{All-from_recursion}
@@ -13,7 +13,8 @@ use Rattle.mg_calc.specs.declared.law.Law.TheVariants.{Sum, Loopback}
 use Rattle.mg_calc.specs.declared.plan.Plan.{Plan}
 use Rattle.mg_calc.specs.declared.plan_node.PlanNode.{PlanNode}
 use Rattle.mg_calc.specs.declared.plan_stream.Producer.TheVariants.{Input, Node}
-use Rattle.mg_calc.specs.Shape.{ParametersFit, IsServed, IsShapeOf, tagged, untagged}
+use Rattle.mg_calc.specs.Rules.{no_laws}
+use Rattle.mg_calc.specs.Shape.{ParametersFit, IsServed, IsStated, IsShapeOf, tagged, untagged}
 use Rattle.mg_calc.specs.Plan.{IsValid, AreInRange, HasNumbers, FlightFits, MayHavePolicy, HasEachOnce, StandsBefore, LeadsForward, EndsAtLoop}
 use Rattle.mg_calc.specs.Equations.{IsJob}
 
@@ -118,6 +119,7 @@ valid = record {
   flights = all FlightFits plan.nodes
       (record { some = omega arith; most = omega arith; boxed = (λ e. refl); stateful = (λ e. refl) }, (record { some = omega arith; most = omega arith; boxed = (λ e. refl); stateful = (λ e. refl) }, tt));
   policies = all (λ node. MayHavePolicy node.law node.policy) plan.nodes (refl, (refl, tt));
+  stated = all (λ node. IsStated node.law → IsSome node.box_number) plan.nodes ((λ is. absurd is), ((λ is. absurd is), tt));
   boxes = none_boxed;
   order = each_once;
   forward = all (λ e. e.back ≡ false → LeadsForward plan e) plan.edges ((λ e. absurd cc), ((λ e. tt), ((λ e. tt), ((λ e. in_order), ((λ e. past_order), tt)))));
@@ -125,7 +127,7 @@ valid = record {
   laws = all (λ node. IsServed node.law) plan.nodes (tt, (tt, tt));
 }
 
-pub a_job : IsJob (record { plan = plan; inputs = inputs })
+pub a_job : IsJob (record { plan = plan; inputs = inputs; laws = no_laws })
 a_job = record {
   plan = valid;
   inputs = record { streams = refl; prefixes = all IsPrefix inputs.streams (closed_is_prefix empty_prefix empty_is_prefix, tt); sides = refl };

@@ -23,6 +23,7 @@ use Rattle.mg_calc.specs.declared.plan_stream.PlanStream.{PlanStream}
 use Rattle.mg_calc.specs.declared.plan_stream.Producer.TheVariants.{Input}
 use Rattle.mg_calc.specs.Side.{PlainSide, given_at}
 use Rattle.mg_calc.specs.Shape.{offset_of, is_stateless}
+use Rattle.mg_calc.specs.Rules.{no_laws}
 use Rattle.mg_calc.specs.Equations.{Job, stream_of, next_round, round}
 use Rattle.mg_calc.specs.Meaning.{faults, stalled, counts, log_of, weight}
 
@@ -60,7 +61,7 @@ plan_of streams nodes sides = record {
 }
 
 abbrev pub job_of : ℕ → List PlanNode → List (StreamPrefix Plain) → Job
-job_of streams nodes inputs = record { plan = plan_of streams nodes []; inputs = record { streams = inputs; sides = []; ended = true } }
+job_of streams nodes inputs = record { plan = plan_of streams nodes []; inputs = record { streams = inputs; sides = []; ended = true }; laws = no_laws }
 
 abbrev pub at : ℕ → ℕ
 at n = place_of (pos n)
@@ -302,6 +303,7 @@ abbrev side_job : List (Option Plain) → Job
 side_job sides = record {
   plan = plan_of 1 (node_by Default (SideOnce (at 0)) [] (0 ∷ []) (0 ∷ []) ∷ []) (record { name = []; value = given_at 0 } ∷ []);
   inputs = record { streams = []; sides = sides; ended = true };
+  laws = no_laws;
 }
 
 side_shows : lines (0 ∷ []) (round (side_job (Some (int (pos 9)) ∷ [])) 1) ≡ out (pk 0 9 ∷ [])

@@ -14,13 +14,15 @@ use Rattle.mg_calc.specs.declared.plan_node.PlanNode.{PlanNode}
 use Rattle.mg_calc.specs.declared.inputs.Inputs.{Inputs}
 use Rattle.mg_calc.specs.Plan.{IsValid, InputsFit, node_sides}
 use Rattle.mg_calc.specs.Shape.{calls_of}
+use Rattle.mg_calc.specs.Rules.{Rules, Laws}
 use Rattle.mg_calc.specs.Law.{rules_of}
 use Rattle.mg_calc.specs.Outcome.{Outcome, node_outcome, source_outcome, loopback_outcome}
 
--- a job: a plan, and what is handed to it
+-- a job: a plan, what is handed to it, and what the program's calculators of their authors' own compute
 pub record Job : Type 0 where
   pub plan : Plan
   pub inputs : Inputs
+  pub laws : Laws
 
 -- a job of which the plan is valid and the inputs fit
 pub record IsJob (job : Job) : Type 0 where
@@ -30,6 +32,10 @@ pub record IsJob (job : Job) : Type 0 where
 -- the side packets of a node, by port
 abbrev pub sides_of : Job → PlanNode → List (Option Plain)
 sides_of job node = node_sides job.plan job.inputs.sides node
+
+-- the rules of a node: those of its law, which for a law that its author states are the program's
+abbrev pub rules_at : Job → PlanNode → Rules
+rules_at job node = rules_of job.laws node.law
 
 -- the stream of a number, among the prefixes of all streams
 abbrev pub stream_of : List (StreamPrefix Plain) → ℕ → StreamPrefix Plain
@@ -42,13 +48,13 @@ inputs_of streams node = map (stream_of streams) node.inputs
 -- what becomes of a node, by its own law: sources are called by number, a loopback answers MAIN, and every other node is shown
 -- the settled sets of its policy. A loopback's ports are LOOP and MAIN, in this order.
 abbrev pub outcome_by : Law → Job → List (StreamPrefix Plain) → PlanNode → Outcome
-outcome_by (Count count start step) job streams node = source_outcome node.law (calls_of node.law) (length node.outputs) (sides_of job node)
-outcome_by (SideOnce at) job streams node = source_outcome node.law (calls_of node.law) (length node.outputs) (sides_of job node)
-outcome_by Constants job streams node = source_outcome node.law (calls_of node.law) (length node.outputs) (sides_of job node)
+outcome_by (Count count start step) job streams node = source_outcome (rules_at job node) node.law (calls_of node.law) (length node.outputs) (sides_of job node)
+outcome_by (SideOnce at) job streams node = source_outcome (rules_at job node) node.law (calls_of node.law) (length node.outputs) (sides_of job node)
+outcome_by Constants job streams node = source_outcome (rules_at job node) node.law (calls_of node.law) (length node.outputs) (sides_of job node)
 outcome_by Loopback job streams node =
     loopback_outcome (slice_index_or (inputs_of streams node) 1 empty_prefix) (slice_index_or (inputs_of streams node) 0 empty_prefix)
 outcome_by law job streams node =
-    node_outcome (rules_of node.law) node.shape.offset node.policy (length node.outputs) (sides_of job node) (inputs_of streams node)
+    node_outcome (rules_at job node) node.shape.offset node.policy (length node.outputs) (sides_of job node) (inputs_of streams node)
 
 -- what becomes of a node of a job, from the streams
 abbrev pub outcome_of : Job → List (StreamPrefix Plain) → PlanNode → Outcome

@@ -6,14 +6,14 @@ use Rattle.mg_time.specs.Time.{next}
 use Rattle.mg_value.specs.Plain.{Plain, int}
 use Rattle.mg_value.specs.Packet.{Stamped}
 use Rattle.mg_calc.specs.declared.law.Law.{Law}
-use Rattle.mg_calc.specs.declared.law.Law.TheVariants.{Pass, Gate, Mux, Cloner, Merge, Thin, Sum, Map, Filter, Running, Shift, Count, SideOnce, Constants, Loopback, Tally, Scripted, BeginLoop, EndLoop, FirstCome, Limiter}
+use Rattle.mg_calc.specs.declared.law.Law.TheVariants.{Pass, Gate, Mux, Cloner, Merge, Thin, Sum, Map, Filter, Running, Shift, Count, SideOnce, Constants, Loopback, Tally, Scripted, BeginLoop, EndLoop, FirstCome, Limiter, Stated}
 use Rattle.mg_calc.specs.declared.int_map.MapOp.{MapOp}
 use Rattle.mg_calc.specs.declared.law.Keep.{Keep}
 use Rattle.mg_calc.specs.declared.law.Keep.TheVariants.{Even, Odd, Negative, NonNegative}
 use Rattle.mg_calc.specs.declared.emission.Laid.{Laid}
 use Rattle.mg_calc.specs.declared.cause.Cause.TheVariants.{WrongKind, NoSide, Overflow}
 use Rattle.mg_calc.specs.Answer.{Answer, emission_of}
-use Rattle.mg_calc.specs.Rules.{Rules}
+use Rattle.mg_calc.specs.Rules.{Rules, Laws}
 use Rattle.mg_calc.specs.Values.{place_at, fits, number_of, total, moved_time, time_of, stored}
 use Rattle.mg_calc.specs.State.{state_of, number_in, count_in, kept_at}
 use Rattle.mg_calc.specs.IntMap.{mapped}
@@ -126,6 +126,7 @@ rule (BeginLoop clone) state t set = begin_loop clone state t set
 rule EndLoop state t set = end_loop state set
 rule (FirstCome lanes) state t set = Ok (state, [])
 rule (Limiter most) state t set = Ok (state, [])
+rule (Stated number parameters offset) state t set = Ok (state, [])
 
 -- Process: WrongKind where a packet isn't of its port's kind, and otherwise the law's rule
 abbrev pub step : Law → List Plain → ℕ → List (Option (Stamped Plain)) → Answer
@@ -143,6 +144,11 @@ abbrev pub finish : Law → List Plain → Answer
 finish (Scripted offset first steps last) state = Ok (state, last)
 finish _ state = Ok (state, [])
 
--- the rules of a law
-abbrev pub rules_of : Law → Rules
-rules_of law = record { opening = opening law; step = step law; finish = finish law }
+-- the rules that the table has for a law
+abbrev pub table_rules : Law → Rules
+table_rules law = record { opening = opening law; step = step law; finish = finish law }
+
+-- the rules of a law: those of its author where it is stated, and otherwise those of the table
+abbrev pub rules_of : Laws → Law → Rules
+rules_of laws (Stated number parameters offset) = laws number parameters
+rules_of laws law = table_rules law

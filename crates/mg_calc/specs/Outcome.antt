@@ -13,10 +13,10 @@ use Rattle.mg_calc.specs.declared.cause.Cause.{Cause}
 use Rattle.mg_calc.specs.declared.law.Law.{Law}
 use Rattle.mg_calc.specs.declared.node_fault.Phase.{Phase}
 use Rattle.mg_calc.specs.declared.node_fault.Phase.TheVariants.{Open, Call, Process, Close}
-use Rattle.mg_calc.specs.Laying.{after, laid_behind, all_raised}
+use Rattle.mg_calc.specs.Laying.{laid_behind, all_raised}
 use Rattle.mg_calc.specs.Answer.{Answer}
 use Rattle.mg_calc.specs.Rules.{Rules}
-use Rattle.mg_calc.specs.Law.{call, rules_of}
+use Rattle.mg_calc.specs.Law.{call}
 
 -- a fault: what a node was doing, and why it failed
 pub record Failure : Type 0 where
@@ -76,10 +76,15 @@ abbrev pub after_close : Outcome → Result (List (StreamPrefix Plain)) Cause �
 after_close outcome (Ok outputs) = record outcome { outputs = map closed outputs }
 after_close outcome (Err cause) = failed Close cause outcome
 
+-- a node once the call of Close has answered: where the call fails, the calculator keeps what it kept; where the emission can't be
+-- laid, it keeps what the call gave
+abbrev pub closed_with : Option ℤ → Outcome → Answer → Outcome
+closed_with offset outcome (Err cause) = failed Close cause outcome
+closed_with offset outcome (Ok given) = after_close (record outcome { state = given.0 }) (laid_behind offset Close outcome.outputs given.1)
+
 -- a node to which no more sets come: it is closed
 abbrev pub finished : Rules → Option ℤ → Outcome → Outcome
-finished rules offset outcome =
-    after_close outcome (after (rules.finish outcome.state) (λ given. laid_behind offset Close outcome.outputs given.1))
+finished rules offset outcome = closed_with offset outcome (rules.finish outcome.state)
 
 -- a node that was shown its settled sets, by how far these reach: its outputs are raised to the reach plus its offset, and
 -- where the reach is the end of all times, it is closed
@@ -109,8 +114,8 @@ abbrev pub with_last_call : Outcome → Outcome
 with_last_call outcome = unless_failed outcome.fault outcome (record outcome { outputs = map closed outcome.outputs })
 
 -- what becomes of a source, which is called a number of times
-abbrev pub source_outcome : Law → ℕ → ℕ → List (Option Plain) → Outcome
-source_outcome law calls outputs sides = with_last_call (fold (called law) (opened (rules_of law) None outputs sides) (range_with_len 0 calls))
+abbrev pub source_outcome : Rules → Law → ℕ → ℕ → List (Option Plain) → Outcome
+source_outcome rules law calls outputs sides = with_last_call (fold (called law) (opened rules None outputs sides) (range_with_len 0 calls))
 
 -- what becomes of a loopback: it keeps nothing, and its one output answers the packets of MAIN
 abbrev pub loopback_outcome : StreamPrefix Plain → StreamPrefix Plain → Outcome

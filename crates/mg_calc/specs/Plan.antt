@@ -19,7 +19,7 @@ use Rattle.mg_calc.specs.declared.edge.Edge.{Edge}
 use Rattle.mg_calc.specs.declared.plan.Plan.{Plan}
 use Rattle.mg_calc.specs.declared.inputs.Inputs.{Inputs}
 use Rattle.mg_calc.specs.Side.{PlainSideValue, given_at, fixed}
-use Rattle.mg_calc.specs.Shape.{ParametersFit, IsShapeOf, IsServed, IsLimiter}
+use Rattle.mg_calc.specs.Shape.{ParametersFit, IsShapeOf, IsServed, IsStated, IsLimiter}
 
 -- the numbers from 0 to a count, without the count
 abbrev pub numbers : ℕ → List ℕ
@@ -162,6 +162,8 @@ pub record HoldsTogether (Allows : Law → Type 0) (MayBeBack : Plan → Edge �
   pub flights : All FlightFits plan.nodes
   -- only a node of the law Mux has the policy Mux
   pub policies : All (λ node. MayHavePolicy node.law node.policy) plan.nodes
+  -- a node whose law is stated has a calculator that is handed in
+  pub stated : All (λ node. IsStated node.law → IsSome node.box_number) plan.nodes
   -- no calculator that is handed in works at two nodes
   pub boxes : AllPairs ◌≢◌ (filter_map (λ node. node.box_number) plan.nodes)
   -- the order has each node once, and each edge that isn't back leads forward in it

@@ -10,7 +10,7 @@ use Rattle.mg_time.specs.Time.{pre_stream, post_stream, done, place_of}
 use Rattle.mg_value.specs.declared.kind.Kind.{Kind}
 use Rattle.mg_value.specs.declared.kind.Kind.TheVariants.{Any, Flag, Int, Items}
 use Rattle.mg_calc.specs.declared.law.Law.{Law}
-use Rattle.mg_calc.specs.declared.law.Law.TheVariants.{Pass, Gate, Mux, Cloner, Merge, Thin, Sum, Map, Filter, Running, Shift, Count, SideOnce, Constants, Loopback, Tally, Scripted, BeginLoop, EndLoop, FirstCome, Limiter}
+use Rattle.mg_calc.specs.declared.law.Law.TheVariants.{Pass, Gate, Mux, Cloner, Merge, Thin, Sum, Map, Filter, Running, Shift, Count, SideOnce, Constants, Loopback, Tally, Scripted, BeginLoop, EndLoop, FirstCome, Limiter, Stated}
 use Rattle.mg_calc.specs.declared.emission.Laid.{Laid}
 use Rattle.mg_calc.specs.declared.port_kind.PortKind.{PortKind}
 use Rattle.mg_calc.specs.declared.shape.Shape.{Shape}
@@ -52,6 +52,11 @@ abbrev pub IsServed : Law → Type 0
 IsServed (FirstCome lanes) = ⊥
 IsServed (Limiter most) = ⊥
 IsServed _ = ⊤
+
+-- the laws that authors state of calculators of their own
+abbrev pub IsStated : Law → Type 0
+IsStated (Stated number parameters offset) = ⊤
+IsStated _ = ⊥
 
 -- the law of a limiter
 abbrev pub IsLimiter : Law → Type 0
@@ -121,6 +126,11 @@ port_cmp a b = ordering_then (slice_cmp nat_cmp a.tag b.tag) (nat_cmp a.index b.
 abbrev pub ArePorts : List PortKind → Type 0
 ArePorts ps = IsStrictlySortedBy port_cmp ps
 
+-- inputs of any tags and kinds, at least one
+pub record AreInputs (ps : List PortKind) : Type 0 where
+  pub some : 1 ≤ length ps
+  pub ordered : ArePorts ps
+
 -- inputs of any tags: at least one, and each takes any kind
 pub record AreAnyInputs (ps : List PortKind) : Type 0 where
   pub some : 1 ≤ length ps
@@ -165,8 +175,9 @@ HasInputs (BeginLoop clone) ps = ps ≡ clone_ports clone ++ tagged (codes "ITER
 HasInputs EndLoop ps = ps ≡ tagged (codes "BATCH_END") Int ++ tagged (codes "ITEM") Any
 HasInputs (FirstCome lanes) ps = ps ≡ untagged lanes Any
 HasInputs (Limiter most) ps = ps ≡ untagged 1 Any ++ tagged (codes "FINISHED") Any
+HasInputs (Stated number parameters offset) ps = AreInputs ps
 
--- the kind of an input by its place: the laws of numbers take whole numbers, the last input of Gate is a truth value, that of
+-- the kind of an input by its place, for the laws of the table: those of numbers take whole numbers, the last input of Gate is a truth value, that of
 -- Mux a whole number, that of BeginLoop a list, the first of EndLoop a whole number, and all others are of any kind
 abbrev pub input_kind : Law → ℕ → Kind
 input_kind (Gate lanes disallow empty_as_allow) i = if i == lanes then Flag else Any
@@ -208,11 +219,13 @@ HasOutputs (BeginLoop clone) inputs ps = ps ≡ tagged (codes "BATCH_END") Int +
 HasOutputs EndLoop inputs ps = ps ≡ tagged (codes "ITERABLE") Items
 HasOutputs (FirstCome lanes) inputs ps = ps ≡ untagged 1 Any
 HasOutputs (Limiter most) inputs ps = ps ≡ untagged 1 Any
+HasOutputs (Stated number parameters offset) inputs ps = ArePorts ps
 
--- the side packets that a law takes; those of Scripted are of any tags
+-- the side packets that a law takes; those of Scripted and of stated laws are of any tags
 abbrev pub HasSides : Law → List PortKind → Type 0
 HasSides (SideOnce at) ps = ps ≡ untagged 1 Any
 HasSides (Scripted offset first steps last) ps = ArePorts ps
+HasSides (Stated number parameters offset) ps = ArePorts ps
 HasSides _ ps = ps ≡ []
 
 -- the offset of a law
@@ -229,6 +242,7 @@ offset_of EndLoop = None
 offset_of (FirstCome lanes) = None
 offset_of (Limiter most) = None
 offset_of (Scripted offset first steps last) = offset
+offset_of (Stated number parameters offset) = offset
 offset_of _ = Some (pos 0)
 
 -- whether a law keeps no state, so that several of its sets may be worked on at once

@@ -1,18 +1,51 @@
 -- What a calculator tells of itself, and what a call does to it.
-use Rattle.std.specs.Prelude.{◌≡◌, List, [], ◌∷◌, ◌++◌, Option, option_map, unwrap_or, Result, Ok, Err}
+use Rattle.std.specs.Prelude.{◌≡◌, List, [], ◌∷◌, ◌++◌, Option, option_map, unwrap_or, Result, Ok, Err, ⊤}
 use Rattle.mg_value.specs.Plain.{Plain}
 use Rattle.mg_calc.specs.declared.law.Law.{Law}
 use Rattle.mg_calc.specs.declared.shape.Shape.{Shape}
 use Rattle.mg_calc.specs.declared.call.Call.{Call}
+use Rattle.mg_calc.specs.Rules.{Rules, Laws}
+use Rattle.mg_calc.specs.Law.{table_rules, rules_of}
+use Rattle.mg_calc.specs.Shape.{ParametersFit, IsShapeOf, IsOuter, IsServed}
 use Rattle.mg_calc.specs.declared.cause.CalcFault.{CalcFault}
 use Rattle.mg_calc.specs.declared.cause.CalcFault.TheVariants.{Fault, OutOfMemory}
 
--- what a calculator tells of itself at a moment: its law, its shape, its state, and the calls that it has had, if it keeps a log
+-- what a calculator that is handed in tells of itself at a moment: its rules, its shape, its state, and the calls that it has had, if it
+-- keeps a log
 pub record CalculatorTold : Type 0 where
+  pub rules : Rules
+  pub shape : Shape
+  pub state : List Plain
+  pub log : Option (List Call)
+
+-- the same of a calculator in its box, which has the law of its rules
+pub record BoxTold : Type 0 where
   pub law : Law
   pub shape : Shape
   pub state : List Plain
   pub log : Option (List Call)
+
+-- what a calculator tells that computes what the table has for its law
+abbrev pub of_table : BoxTold → CalculatorTold
+of_table told = record { rules = table_rules told.law; shape = told.shape; state = told.state; log = told.log }
+
+-- what a calculator of a law tells in a box
+abbrev pub in_box : Law → CalculatorTold → BoxTold
+in_box law told = record { law = law; shape = told.shape; state = told.state; log = told.log }
+
+-- a calculator computes a law: it has the law's rules, and its shape is one of that law; and the law is one of those that are shown sets
+pub record IsOfLaw (laws : Laws) (law : Law) (told : CalculatorTold) : Type 0 where
+  pub rules : told.rules ≡ rules_of laws law
+  pub shape : IsShapeOf law told.shape
+  pub outer : IsOuter law
+  pub served : IsServed law
+  pub parameters : ParametersFit law
+
+-- what Open leaves of the state: where it fails nothing, and where it finds no memory the state as it was
+abbrev pub KeepsAtOpen : {X : Type 0} → Result X CalcFault → List Plain → List Plain → Type 0
+KeepsAtOpen (Ok emission) before now = ⊤
+KeepsAtOpen (Err (Fault cause)) before now = now ≡ []
+KeepsAtOpen (Err OutOfMemory) before now = now ≡ before
 
 -- a log with a further call behind the others, if there is a log
 abbrev pub with_call : Option (List Call) → Call → Option (List Call)

@@ -17,7 +17,7 @@ use Rattle.mg_calc.specs.contracts.emission.Laid as laid
 use Rattle.mg_calc.specs.contracts.plan_node.PlanNode as plan_node
 use Rattle.mg_calc.specs.contracts.plan.Plan as plan
 use Rattle.mg_calc.specs.contracts.inputs.Inputs as inputs
-use Rattle.mg_calc.specs.Told.{CalculatorTold}
+use Rattle.mg_calc.specs.Told.{BoxTold}
 
 abbrev pub law_code : Coded Law
 law_code = law.the_row.coded
@@ -34,7 +34,7 @@ emission_code = coded_list laid.the_row.coded
 abbrev pub plan_code : Coded Plan
 plan_code = plan.the_row.coded
 
-abbrev pub told_code : Coded CalculatorTold
+abbrev pub told_code : Coded BoxTold
 told_code =
     code_by ((Law × Shape) × (List Plain × Option (List Call)))
     (coded× (coded× law_code shape_code) (coded× (coded_list plain_code) (coded_option (coded_list call_code))))

@@ -1,40 +1,32 @@
 ghost use Rattle.std.specs.Prelude.{◌≡◌, OnErr};
 ghost use Rattle.mg_calc.specs.Answer.{GivesEmission};
-ghost use Rattle.mg_calc.specs.Law.{opening, step, finish as closing};
-ghost use Rattle.mg_calc.specs.Shape.{ParametersFit, IsOuter, IsServed, IsShapeOf, FitsInputs};
-ghost use Rattle.mg_calc.specs.Told.{CalculatorTold, Logs, shown_calls};
+ghost use Rattle.mg_calc.specs.Shape.{FitsInputs};
+ghost use Rattle.mg_calc.specs.Told.{CalculatorTold, KeepsAtOpen, Logs, shown_calls};
 
-use crate::{CalcFault, Call, CallList, Emission, GivenList, Law, Shape};
+use crate::{CalcFault, Call, CallList, Emission, GivenList, Shape};
 use mg_settled::InputSet;
 use mg_time::Timestamp;
 use std::alloc::Global;
 
 /// A calculator that is handed in (MediaPipe, Calculators: Open, Process and Close are `begin`, `process` and `finish`).
 ///
-/// Each call returns what the table of laws gives for the calculator's law and state, and the calculator then keeps the new state. A
-/// call that fails leaves the state; one that returns `OutOfMemory` leaves the log too, and may be made again.
+/// The author states what the calculator computes, as its rules: three functions of plain data. Each call returns what they give for the
+/// calculator's state, and the calculator then keeps the new state. A call that fails leaves the state, and where it opens the calculator
+/// it leaves none; one that returns `OutOfMemory` leaves state and log, and may be made again.
 pub trait Calculator: Drop {
-    /// What the calculator tells of itself: its law, its shape, its state, and its log, if it keeps one.
+    /// What the calculator tells of itself: its rules, its shape, its state, and its log, if it keeps one.
     ghost told: { Self → CalculatorTold };
 
     /// Returns the calculator's shape, which never changes.
     fn shape(&self) -> &Shape
-        ensures shape { result.now ≡ (told self.now).shape }
-        ensures of_law { IsShapeOf (told self.now).law result.now };
-
-    /// Returns the calculator's law, which never changes: one that is shown sets.
-    fn law(&self) -> &Law
-        ensures law { result.now ≡ (told self.now).law }
-        ensures outer { IsOuter result.now }
-        ensures served { IsServed result.now }
-        ensures ranges { ParametersFit result.now };
+        ensures { result.now ≡ (told self.now).shape };
 
     /// Opens the calculator with its side packets, one place for each side port. It comes before all sets.
     fn begin(&mut self, alloc: Global, sides: &GivenList) -> Result<Emission, CalcFault>
-        ensures answer { GivesEmission result (told self.new).state (opening (told self.old).law sides.now) }
-        ensures kept { OnErr result ((told self.new).state ≡ (told self.old).state) }
+        ensures answer { GivesEmission result (told self.new).state ((told self.old).rules.opening sides.now) }
+        ensures kept { KeepsAtOpen result (told self.old).state (told self.new).state }
         ensures log { Logs result (told self.old).log (told self.new).log Call.Begun }
-        ensures law { (told self.new).law ≡ (told self.old).law }
+        ensures rules { (told self.new).rules ≡ (told self.old).rules }
         ensures shape { (told self.new).shape ≡ (told self.old).shape };
 
     /// Shows the calculator the set at a time, which has a place for each of its inputs.
@@ -45,18 +37,18 @@ pub trait Calculator: Drop {
         set: &InputSet,
     ) -> Result<Emission, CalcFault>
         requires { FitsInputs (told self.old).shape set.now }
-        ensures answer { GivesEmission result (told self.new).state (step (told self.old).law (told self.old).state at set.now) }
+        ensures answer { GivesEmission result (told self.new).state ((told self.old).rules.step (told self.old).state at set.now) }
         ensures kept { OnErr result ((told self.new).state ≡ (told self.old).state) }
         ensures log { Logs result (told self.old).log (told self.new).log (Call.Shown at set.now) }
-        ensures law { (told self.new).law ≡ (told self.old).law }
+        ensures rules { (told self.new).rules ≡ (told self.old).rules }
         ensures shape { (told self.new).shape ≡ (told self.old).shape };
 
     /// Closes the calculator, after all sets.
     fn finish(&mut self, alloc: Global) -> Result<Emission, CalcFault>
-        ensures answer { GivesEmission result (told self.new).state (closing (told self.old).law (told self.old).state) }
+        ensures answer { GivesEmission result (told self.new).state ((told self.old).rules.finish (told self.old).state) }
         ensures kept { OnErr result ((told self.new).state ≡ (told self.old).state) }
         ensures log { Logs result (told self.old).log (told self.new).log Call.Finished }
-        ensures law { (told self.new).law ≡ (told self.old).law }
+        ensures rules { (told self.new).rules ≡ (told self.old).rules }
         ensures shape { (told self.new).shape ≡ (told self.old).shape };
 
     /// Returns the calls that the calculator has had, in order, or an empty list where it keeps no log.
@@ -69,10 +61,6 @@ impl Calculator for Box<dyn Calculator + Send> {
 
     fn shape(&self) -> &Shape {
         (**self).shape()
-    }
-
-    fn law(&self) -> &Law {
-        (**self).law()
     }
 
     fn begin(&mut self, alloc: Global, sides: &GivenList) -> Result<Emission, CalcFault> {

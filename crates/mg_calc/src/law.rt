@@ -1,7 +1,7 @@
 ghost use Rattle.std.specs.Prelude.{◌≡◌};
 ghost use Rattle.mg_calc.specs.Shape as shape;
 
-use crate::{Emission, EmissionList, MapOp, TryClone};
+use crate::{Emission, EmissionList, MapOp, State, TryClone};
 use mg_time::Timestamp;
 use mg_value::Kind;
 use std::alloc::{AllocError, Global};
@@ -117,6 +117,15 @@ pub enum Law {
         /// How many packets may be on their way, from 1 to 2147483647.
         most: u32,
     },
+    /// What an author states of a calculator of the author's own, which is handed in.
+    Stated {
+        /// The number of the calculator among those of its program.
+        number: u32,
+        /// What tells several of this calculator apart, as limits and lengths do.
+        parameters: State,
+        /// The offset that the law promises, in units of timestamps, if it promises one.
+        offset: Option<i64>,
+    },
 }
 
 impl TryClone for Law {
@@ -176,6 +185,18 @@ impl TryClone for Law {
             Law::EndLoop => Ok(Law::EndLoop),
             Law::FirstCome { lanes } => Ok(Law::FirstCome { lanes: *lanes }),
             Law::Limiter { most } => Ok(Law::Limiter { most: *most }),
+            Law::Stated {
+                number,
+                parameters,
+                offset,
+            } => {
+                let parameters = parameters.try_clone(alloc)?;
+                Ok(Law::Stated {
+                    number: *number,
+                    parameters,
+                    offset: *offset,
+                })
+            }
         }
     }
 }
@@ -229,7 +250,7 @@ pub fn offset_of(law: &Law) -> Option<i64>
 {
     match law {
         Law::Shift { offset } => Some(*offset),
-        Law::Scripted { offset, .. } => *offset,
+        Law::Scripted { offset, .. } | Law::Stated { offset, .. } => *offset,
         Law::Thin { .. }
         | Law::Filter { .. }
         | Law::Count { .. }

@@ -9,6 +9,7 @@ ghost use Rattle.mg_calc.specs.declared.inputs.Inputs.{Inputs};
 ghost use Rattle.mg_calc.specs.declared.plan.Plan.{Plan};
 ghost use Rattle.mg_settled.specs.Settled.{IsBelowBounds};
 ghost use Rattle.mg_calc.specs.declared.plan_node.PlanNode.{PlanNode};
+ghost use Rattle.mg_calc.specs.Rules.{Laws};
 ghost use Rattle.mg_calc.specs.Shape.{IsOuter};
 ghost use Rattle.mg_calc.specs.Plan.{IsValid, IsValidWithFree, HasNoFree};
 ghost use Rattle.mg_calc.specs.Equations.{Job, IsJob, stream_of, inputs_of, outcome_of, next_round, round, MeetsEquations, IsSolution};
@@ -37,10 +38,10 @@ pub fn the_solution_is_least()
 
 /// If the streams that are handed in are extended, and the side packets are the same, then the solution is extended.
 pub fn the_solution_grows()
-    ensures { (plan : Plan) (inputs more : Inputs) (solution later : List (StreamPrefix Plain))
-        → IsJob (record { plan = plan; inputs = inputs }) → IsJob (record { plan = plan; inputs = more })
+    ensures { (plan : Plan) (laws : Laws) (inputs more : Inputs) (solution later : List (StreamPrefix Plain))
+        → IsJob (record { plan = plan; inputs = inputs; laws = laws }) → IsJob (record { plan = plan; inputs = more; laws = laws })
         → inputs.sides ≡ more.sides → AreExtendedBy inputs.streams more.streams
-        → IsSolution (record { plan = plan; inputs = inputs }) solution → IsSolution (record { plan = plan; inputs = more }) later
+        → IsSolution (record { plan = plan; inputs = inputs; laws = laws }) solution → IsSolution (record { plan = plan; inputs = more; laws = laws }) later
         → AreExtendedBy solution later }
 {}
 
@@ -55,11 +56,11 @@ pub fn streams_are_prefixes()
 
 /// A stream of the solution depends only on the graph inputs from which it can be reached: whatever the others are, it is the same.
 pub fn streams_depend_on_what_reaches_them()
-    ensures { (plan : Plan) (inputs others : Inputs) (solution changed : List (StreamPrefix Plain)) (stream : ℕ)
-        → IsJob (record { plan = plan; inputs = inputs }) → IsJob (record { plan = plan; inputs = others }) → inputs.sides ≡ others.sides
+    ensures { (plan : Plan) (laws : Laws) (inputs others : Inputs) (solution changed : List (StreamPrefix Plain)) (stream : ℕ)
+        → IsJob (record { plan = plan; inputs = inputs; laws = laws }) → IsJob (record { plan = plan; inputs = others; laws = laws }) → inputs.sides ≡ others.sides
         → stream < length plan.streams
         → ((input : ℕ) → MayDepend plan input stream → stream_of inputs.streams input ≡ stream_of others.streams input)
-        → IsSolution (record { plan = plan; inputs = inputs }) solution → IsSolution (record { plan = plan; inputs = others }) changed
+        → IsSolution (record { plan = plan; inputs = inputs; laws = laws }) solution → IsSolution (record { plan = plan; inputs = others; laws = laws }) changed
         → stream_of solution stream ≡ stream_of changed stream }
 {}
 

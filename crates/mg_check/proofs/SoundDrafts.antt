@@ -167,6 +167,7 @@ draft_holds outers c d all e =
       flight = flight;
       policy = may_have m.settings.law m.policy (bytes_eq c.node.handler []) (bytes_eq c.node.handler (codes "DefaultInputStreamHandler")) (bytes_eq c.node.handler (codes "MuxInputStreamHandler"))
           (bytes_eq c.node.handler (codes "ImmediateInputStreamHandler")) m.asked;
+      stated = h.stated;
       back = back_sound m.settings.law c.node.back_marks;
     } in
     let holds : HoldsOf outers made = record { sound = sound; fits = fits_draft outers made (box_of c.kind) h.outer } in

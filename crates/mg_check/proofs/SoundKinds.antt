@@ -1,5 +1,5 @@
 -- Whoever does the work of a node, its law has parameters in their ranges and that law's shape, which has the ports of the node.
-use Rattle.std.proofs.Common.{◌≡◌, ℕ, List, [], length, ◌&&◌, Option, None, Some, option_map, slice_get, All, IfSome, IsSomeAnd, refl, sym, ap, subst, ◌∙◌, eqb-true}
+use Rattle.std.proofs.Common.{◌≡◌, ℕ, List, [], length, ◌&&◌, Option, None, Some, option_map, slice_get, All, IfSome, IsSome, IsSomeAnd, refl, sym, ap, subst, ◌∙◌, eqb-true}
 use Rattle.std.specs.Prelude.{option_and_then}
 use Rattle.std.proofs.lemmas.Bool.{and_parts}
 use Rattle.std.proofs.lemmas.Option.{cond_some, none-some, same_Some, slice_get_within, get_or_from_slice_get}
@@ -7,14 +7,14 @@ use Rattle.mg_config.specs.Config.{NodeView}
 use Rattle.mg_calc.specs.declared.law.Law.{Law}
 use Rattle.mg_calc.specs.declared.shape.Shape.{Shape}
 use Rattle.mg_calc.specs.declared.shape.OuterShape.{OuterShape}
-use Rattle.mg_calc.specs.Shape.{ParametersFit, IsShapeOf}
+use Rattle.mg_calc.specs.Shape.{ParametersFit, IsStated, IsShapeOf}
 use Rattle.mg_kinds.specs.Ports.{has_just}
 use Rattle.mg_kinds.specs.PortOrder.{in_order}
 use Rattle.mg_kinds.specs.Kinds.{kind_ports, is_empty, SettingsView, kind_settings, shape_with, has_no_options}
 use Rattle.mg_kinds.specs.declared.kind.CalculatorKind.{CalculatorKind}
 use Rattle.mg_kinds.specs.declared.ports.Ports.{Ports}
 use Rattle.mg_kinds.proofs.InOrder.{in_order-none}
-use Rattle.mg_kinds.proofs.FitLaws.{kind-suits, kind-constants}
+use Rattle.mg_kinds.proofs.FitLaws.{kind-suits, kind-constants, kind-unstated}
 use Rattle.mg_check.specs.Check.{IsOuterShape}
 use Rattle.mg_check.specs.Drafts.{box_of}
 use Rattle.mg_check.specs.Fitting.{may_be_outer, fits_outer, outer_ports, outer_settings, node_ports, node_settings, node_shape}
@@ -34,6 +34,7 @@ pub record Suits (outers : List OuterShape) (node : NodeView) (kind : NodeKind) 
   pub parameters : ParametersFit settings.law
   pub shape_of : IsShapeOf settings.law shape
   pub constants : length (in_order node.output_sides) ≡ length settings.constants
+  pub stated : IsStated settings.law → IsSome (box_of kind)
   pub outer : IfSome (box_of kind) (λ number. IsSomeAnd (slice_get outers number) (LooksSo settings.law shape))
 
 suits_built_in : (outers : List OuterShape) (node : NodeView) (kind : CalculatorKind) (ps : Ports) (settings : SettingsView) (shape : Shape)
@@ -47,6 +48,7 @@ suits_built_in outers node kind ps settings shape fit set looks =
       parameters = law.0;
       shape_of = subst (IsShapeOf settings.law) looks law.1;
       constants = kind-constants kind node ps settings fit set;
+      stated = λ is. absurd (kind-unstated kind node settings set is);
       outer = tt;
     }
 
@@ -74,6 +76,7 @@ suits_outer outers node number outer ps settings shape is at fit set looks =
       parameters = subst ParametersFit law so.0;
       shape_of = subst (λ l. IsShapeOf l shape) law (subst (IsShapeOf outer.law) looks so.1);
       constants = in_order-none node.output_sides (eqb-true (length node.output_sides) 0 last.1) ∙ ap (λ s. length s.constants) options.1;
+      stated = λ is. refl;
       outer = subst (λ o. IsSomeAnd o (LooksSo settings.law shape)) (sym at) (record { same_law = law; same_shape = looks });
     }
 

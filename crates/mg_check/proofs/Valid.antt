@@ -20,7 +20,7 @@ use Rattle.mg_check.proofs.SoundNodes.{drafts-are-sound}
 use Rattle.mg_check.proofs.ValidLists.{all_so}
 use Rattle.mg_check.proofs.ValidStreams.{valid_streams, valid_inputs, valid_producers}
 use Rattle.mg_check.proofs.ValidEdges.{valid_edges, valid_back}
-use Rattle.mg_check.proofs.ValidNodes.{HasOuter, valid_ports, valid_parameters, valid_shapes, valid_flights, valid_policies, valid_boxes, outers_fit}
+use Rattle.mg_check.proofs.ValidNodes.{HasOuter, valid_ports, valid_parameters, valid_shapes, valid_flights, valid_policies, valid_stated, valid_boxes, outers_fit}
 use Rattle.mg_check.proofs.ValidRanges.{are_joined, valid_ranges}
 use Rattle.mg_check.proofs.ValidOrder.{valid_order, valid_forward}
 
@@ -44,6 +44,7 @@ joined_is_valid outers graph ds known short none =
       shapes = valid_shapes graph ds sound;
       flights = valid_flights graph ds sound;
       policies = valid_policies graph ds sound;
+      stated = valid_stated graph ds sound;
       boxes = valid_boxes graph ds known.once;
       order = valid_order graph ds together.none_wait;
       forward = valid_forward graph ds named;

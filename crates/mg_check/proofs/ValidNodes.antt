@@ -1,6 +1,6 @@
 -- The nodes of a plan: what holds of each draft holds of its node.
 use Rattle.std.proofs.Common.{ℕ, ◌+◌, ◌≡◌, ◌≢◌, List, [], ◌∷◌, All, AllPairs, Option, None, Some, length, refl, sym, ap, ◌∙◌, subst}
-use Rattle.std.specs.Prelude.{IfSome, IsSomeAnd, slice_get}
+use Rattle.std.specs.Prelude.{IfSome, IsSome, IsSomeAnd, slice_get}
 use Rattle.std.specs.List.{AllByRecursion, filter_map, cons_option}
 use Rattle.std.proofs.lemmas.List.{length-map}
 use Rattle.std.proofs.lemmas.List.Elements.{All-from_recursion}
@@ -9,7 +9,7 @@ use Rattle.std.proofs.lemmas.Option.{IfSome_then}
 use Rattle.mg_config.specs.Config.{GraphView}
 use Rattle.mg_calc.specs.declared.plan_node.PlanNode.{PlanNode}
 use Rattle.mg_calc.specs.declared.shape.OuterShape.{OuterShape}
-use Rattle.mg_calc.specs.Shape.{ParametersFit, IsShapeOf}
+use Rattle.mg_calc.specs.Shape.{ParametersFit, IsStated, IsShapeOf}
 use Rattle.mg_calc.specs.Plan.{HasNumbers, FlightFits, MayHavePolicy, OutersFit, FitsNode}
 use Rattle.mg_check.specs.Drafts.{DraftView}
 use Rattle.mg_check.specs.Names.{number_among}
@@ -54,6 +54,9 @@ valid_flights graph ds sound = nodes_all FlightFits IsSound graph ds (in_flight 
 
 pub valid_policies : (graph : GraphView) (ds : List DraftView) → AllByRecursion IsSound ds → All (λ node. MayHavePolicy node.law node.policy) (plan_of graph ds).nodes
 valid_policies graph ds sound = nodes_all (λ node. MayHavePolicy node.law node.policy) IsSound graph ds (λ from d known. known.policy) sound
+
+pub valid_stated : (graph : GraphView) (ds : List DraftView) → AllByRecursion IsSound ds → All (λ node. IsStated node.law → IsSome node.box_number) (plan_of graph ds).nodes
+valid_stated graph ds sound = nodes_all (λ node. IsStated node.law → IsSome node.box_number) IsSound graph ds (λ from d known. known.stated) sound
 
 -- the calculators that are handed in are those of the drafts
 boxes_same : (streams sides : List (List ℕ)) (first : ℕ) (ds : List DraftView) → filter_map (λ node. node.box_number) (plan_nodes streams sides first ds) ≡ filter_map (λ d. d.box_number) ds

@@ -2,10 +2,9 @@
 //! What the program does is what the contract of `mg_run::run_words` says.
 #![tactic(auto)]
 
-use mg_batch::{BatchBox, begin_loop_box, end_loop_box};
-use mg_calc::Calculator;
 use mg_edge::{FolderStore, ReaderSource, Sink, Source, StillGate, Store, WriterSink};
-use mg_run::{Status, note_out_of_memory, run_words, tally_box};
+use mg_route::LawBox;
+use mg_run::{Status, begin_loop, end_loop, note_out_of_memory, run_words, tally_box};
 use mg_value::MgText;
 use std::alloc::{AllocError, Global};
 use std::env;
@@ -71,15 +70,6 @@ fn words(rt: &HostRuntime) -> Result<Vec<MgText>, AllocError> {
     }
 }
 
-// Returns the box of a number among those of loops over lists: those for the begin come before those for the end.
-fn loop_box(alloc: Global, number: usize) -> Result<BatchBox, AllocError> {
-    if number < BEGIN_LOOPS + BEGIN_CLONE_LOOPS {
-        begin_loop_box(alloc, number >= BEGIN_LOOPS, false)
-    } else {
-        end_loop_box(alloc, false)
-    }
-}
-
 // Makes the top call over any devices and boxes of its own. The devices' types are parameters for the time of the proof: where they are
 // known, each clause of the top call is written out over them.
 fn call<R: Threads + Wait + Sync, T: Store, S: Source, K: Sink, E: Sink>(
@@ -91,14 +81,15 @@ fn call<R: Threads + Wait + Sync, T: Store, S: Source, K: Sink, E: Sink>(
     output: &mut K,
     notes: &mut E,
 ) -> Result<Status, AllocError> {
-    let mut boxes = Vec::new(alloc);
+    let mut boxes: Vec<LawBox> = Vec::new(alloc);
     for _ in 0..TALLIES {
-        let tally: Box<dyn Calculator + Send> = Box::new(alloc, tally_box(alloc, false)?)?;
-        boxes.push(tally)?;
+        boxes.push(tally_box(alloc, false)?)?;
     }
-    for number in 0..BEGIN_LOOPS + BEGIN_CLONE_LOOPS + END_LOOPS {
-        let one: Box<dyn Calculator + Send> = Box::new(alloc, loop_box(alloc, number)?)?;
-        boxes.push(one)?;
+    for number in 0..BEGIN_LOOPS + BEGIN_CLONE_LOOPS {
+        boxes.push(begin_loop(alloc, number >= BEGIN_LOOPS, false)?)?;
+    }
+    for _ in 0..END_LOOPS {
+        boxes.push(end_loop(alloc, false)?)?;
     }
     Ok(run_words(
         threads, alloc, words, store, input, output, notes, &mut boxes, &StillGate,

@@ -1,7 +1,8 @@
 -- What a worker's seats are after several calls, and what it works with.
 use Rattle.std.proofs.Common.{◌≡◌, ℕ, ◌<◌, ◌+◌, ◌∙◌, Option, Some, None, IfSome, All, Contains, length, ap, sym, subst, arith}
 use Rattle.std.proofs.lemmas.List.Elements.{All-weaker}
-use Rattle.mg_calc.specs.declared.calculator.Calculator.{Ghosts}
+use Rattle.mg_calc.specs.Rules.{Laws}
+use Rattle.mg_calc.specs.declared.node_calculator.NodeCalculator.{Ghosts}
 use Rattle.mg_calc.specs.declared.plan.Plan.{Plan}
 use Rattle.mg_calc.specs.Plan.{IsValid, HasEachOnce, sources}
 use Rattle.mg_throttle.proofs.Sources.{sources_below}
@@ -27,11 +28,11 @@ use Rattle.mg_crew.specs.Code.Seats.{AreToolsOf, IsWithoutWork, StaysAtWork}
 use Rattle.mg_crew.proofs.Sharing.{stays_itself, stays_on}
 
 -- the plan that is kept aside is the net's, and is valid
-pub kept_plan : (before : NetView) (key : LayoutView) (kept : KeptView) → IsSharedOf before key kept → kept.plan ≡ key.plan
-kept_plan before key kept of = ap (λ (k : KeptView). k.plan) of.stays ∙ sym (ap (λ (f : LayoutView). f.plan) of.shared)
+pub kept_plan : {laws : Laws} (before : NetView) (key : LayoutView) (kept : KeptView) → IsSharedOf laws before key kept → kept.plan ≡ key.plan
+kept_plan {laws} before key kept of = ap (λ (k : KeptView). k.plan) of.stays ∙ sym (ap (λ (f : LayoutView). f.plan) of.shared)
 
-pub kept_valid : (before : NetView) (key : LayoutView) (kept : KeptView) → StandsForSome before → IsSharedOf before key kept → IsValid kept.plan
-kept_valid before key kept some of =
+pub kept_valid : {laws : Laws} (before : NetView) (key : LayoutView) (kept : KeptView) → StandsForSome laws before → IsSharedOf laws before key kept → IsValid kept.plan
+kept_valid {laws} before key kept some of =
     let parts = of.of some.job some.stands in
     let is : kept.plan ≡ some.job.job.plan = ap (λ (k : KeptView). k.plan) of.stays ∙ parts.plan in
     subst IsValid (sym is) parts.is_job.plan
@@ -58,27 +59,27 @@ first_place levels place seat has none of = record {
   kept = subst (λ (o : Option ℕ). IfSome o (λ node. Contains (order_of levels) node)) (sym none) tt;
 }
 
-module _ {X : Type 0} {g : Ghosts X} (net : SharedNet X) (tools : Tools) where
+module _ {laws : Laws} {X : Type 0} {g : Ghosts X} (net : SharedNet X) (tools : Tools) where
   -- a worker that goes on after some calls
-  pub at_work_still : (before now : NetSeat X g) (place later : Place) → IsWithoutWork net tools before place → StaysAtWork net tools before now later → IsWithoutWork net tools now later
+  pub at_work_still : (before now : NetSeat X g) (place later : Place) → IsWithoutWork laws net tools before place → StaysAtWork laws net tools before now later → IsWithoutWork laws net tools now later
   at_work_still before now place later h k = record { shared = k.stays.shared; fits = h.fits; placed = k.placed }
 
-  pub stays_at_work : (seat : NetSeat X g) (place : Place) → IsWithoutWork net tools seat place → StaysAtWork net tools seat seat place
+  pub stays_at_work : (seat : NetSeat X g) (place : Place) → IsWithoutWork laws net tools seat place → StaysAtWork laws net tools seat seat place
   stays_at_work seat place h = record { stays = stays_itself net seat h.shared; placed = h.placed }
 
   -- several calls one after the other
-  pub works_on : (first second third : NetSeat X g) (place later : Place) → StaysAtWork net tools first second place → StaysAtWork net tools second third later → StaysAtWork net tools first third later
+  pub works_on : (first second third : NetSeat X g) (place later : Place) → StaysAtWork laws net tools first second place → StaysAtWork laws net tools second third later → StaysAtWork laws net tools first third later
   works_on first second third place later h k = record { stays = stays_on net first second third h.stays k.stays; placed = k.placed }
 
   -- a call on the seat at the net alone, and on the place alone
-  pub seat_stays : (first second third : NetSeat X g) (place : Place) → StaysAtWork net tools first second place → StaysShared net second third → StaysAtWork net tools first third place
+  pub seat_stays : (first second third : NetSeat X g) (place : Place) → StaysAtWork laws net tools first second place → StaysShared laws net second third → StaysAtWork laws net tools first third place
   seat_stays first second third place h k = record { stays = stays_on net first second third h.stays k; placed = h.placed }
 
 -- a net that is put together of the parts that were shared
-pub goes_on : (before now : NetView) (key : LayoutView) (kept : KeptView) (v : View) → IsSharedOf before key kept → Unshared key v (layout_of (parts_in now)).parts → NetGoesOn before now
-goes_on before now key kept v of u = record {
+pub goes_on : {laws : Laws} (before now : NetView) (key : LayoutView) (kept : KeptView) (v : View) → IsSharedOf laws before key kept → Unshared laws key v (layout_of (parts_in now)).parts → NetGoesOn laws before now
+goes_on {laws} before now key kept v of u = record {
   parts = of.parts;
   apart = of.apart;
   count = u.count ∙ ap (λ (f : LayoutView). length f.parts) of.shared;
-  follows = subst (λ (f : LayoutView). (word : ℕ) → word < length f.parts → Follows f word (at (layout_of (parts_in now)) word)) of.shared u.follows;
+  follows = subst (λ (f : LayoutView). (word : ℕ) → word < length f.parts → Follows laws f word (at (layout_of (parts_in now)) word)) of.shared u.follows;
 }

@@ -12,7 +12,7 @@ use Rattle.atomic_table.proofs.shared.Seat.TheSendSync as Seat
 use Rattle.crossbeam_queue.proofs.array_queue.Slotted.TheSendSync as Slotted
 use Rattle.crossbeam_utils.proofs.cache_padded.CachePadded.TheSendSync as Padded
 use Rattle.std.specs.contracts.option.Option as Maybe
-use Rattle.mg_calc.specs.declared.calculator.Calculator.{Ghosts}
+use Rattle.mg_calc.specs.declared.node_calculator.NodeCalculator.{Ghosts}
 use Rattle.mg_node.proofs.Sent.{maybe_field}
 use Rattle.mg_ready.specs.contracts.order.Order as Order
 use Rattle.mg_ready.specs.contracts.order.Order.TheInside as OrderInside

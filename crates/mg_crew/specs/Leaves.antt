@@ -1,4 +1,5 @@
 -- What workers leave of a net.
+use Rattle.mg_calc.specs.Rules.{Laws}
 use Rattle.std.specs.Prelude.{◌≡◌, ℕ, ◌<◌, ◌⊎◌, length}
 use Rattle.mg_sched.specs.Views.{NetView}
 use Rattle.mg_sched.specs.ComesApart.{PartsView, parts_in, HasComeApart}
@@ -8,13 +9,13 @@ use Rattle.mg_workers.specs.Became.{CameBack}
 
 -- a net came apart, and each of its parts has become the part of the net that is there now: that is lawful for the same jobs, its standing
 -- only grew, and it gave up no packet
-pub record NetGoesOn (before now : NetView) : Type 0 where
+pub record NetGoesOn (laws : Laws) (before now : NetView) : Type 0 where
   pub parts : PartsView
   pub apart : HasComeApart before parts
   pub count : length (layout_of (parts_in now)).parts ≡ length (layout_of parts).parts
-  pub follows : (word : ℕ) → word < length (layout_of parts).parts → Follows (layout_of parts) word (at (layout_of (parts_in now)) word)
+  pub follows : (word : ℕ) → word < length (layout_of parts).parts → Follows laws (layout_of parts) word (at (layout_of (parts_in now)) word)
 
 -- what workers leave of a net: the net as it was; the net as it was but that the works in its work queues stand in their windows again;
 -- or a net whose parts have gone on
-abbrev pub Leaves : NetView → NetView → Type 0
-Leaves before now = (now ≡ before) ⊎ (CameBack before now ⊎ NetGoesOn before now)
+abbrev pub Leaves : Laws → NetView → NetView → Type 0
+Leaves laws before now = (now ≡ before) ⊎ (CameBack before now ⊎ NetGoesOn laws before now)

@@ -8,7 +8,7 @@ use crate::putting::{Place, note_turns, put};
 use crate::shop::{Came, Shop, Tools};
 use crate::throttling::note;
 use crate::working::bring;
-use mg_calc::Calculator;
+use mg_calc::NodeCalculator;
 use mg_edge::Gate;
 use mg_turns::NetSeat;
 use std::sync::Wait;
@@ -44,7 +44,7 @@ impl Stop {
 
 // Brings packets along an edge, unless another worker was found to have the turn of its consumer. If that did anything at a node, notes how
 // many packets wait there. The number is noted anew when the node is served.
-fn wake<C: Calculator, R: Wait, G: Gate>(
+fn wake<C: NodeCalculator, R: Wait, G: Gate>(
     rt: &R,
     shop: &Shop<'_, C, G>,
     seat: &mut NetSeat<C>,
@@ -52,9 +52,9 @@ fn wake<C: Calculator, R: Wait, G: Gate>(
     edge: u32,
     stop: &mut Stop,
 ) -> Came
-    requires at_work { IsWithoutWork shop.now.net.now shop.now.tools.now seat.old place.old }
+    requires at_work { IsWithoutWork C.laws shop.now.net.now shop.now.tools.now seat.old place.old }
     requires edge { edge < shop.now.tools.now.chart.from.edges }
-    ensures { StaysAtWork shop.now.net.now shop.now.tools.now seat.old seat.new place.new }
+    ensures { StaysAtWork C.laws shop.now.net.now shop.now.tools.now seat.old seat.new place.new }
 {
     if stop.out {
         return Came::nothing();
@@ -81,7 +81,7 @@ fn is_last(tools: &Tools, edge: u32, next: Option<u32>) -> bool
 }
 
 // After the last edge to a consumer, puts the consumer into the levels if something came to it. Then calls who waits for its turn.
-fn go_past<C: Calculator, R: Wait, G: Gate>(
+fn go_past<C: NodeCalculator, R: Wait, G: Gate>(
     rt: &R,
     shop: &Shop<'_, C, G>,
     place: &mut Place,
@@ -118,16 +118,16 @@ fn list_of(nodes: u32, source: usize) -> usize {
 }
 
 /// Brings packets along the edges that lead from a node, or from a graph input, by its place in the chart.
-pub(crate) fn wake_all<C: Calculator, R: Wait, G: Gate>(
+pub(crate) fn wake_all<C: NodeCalculator, R: Wait, G: Gate>(
     rt: &R,
     shop: &Shop<'_, C, G>,
     seat: &mut NetSeat<C>,
     place: &mut Place,
     source: usize,
 ) -> Came
-    requires at_work { IsWithoutWork shop.now.net.now shop.now.tools.now seat.old place.old }
+    requires at_work { IsWithoutWork C.laws shop.now.net.now shop.now.tools.now seat.old place.old }
     requires source { source < shop.now.tools.now.chart.from.places }
-    ensures { StaysAtWork shop.now.net.now shop.now.tools.now seat.old seat.new place.new }
+    ensures { StaysAtWork C.laws shop.now.net.now shop.now.tools.now seat.old seat.new place.new }
 {
     let mut came = Came::nothing();
     let mut stop = Stop::new();

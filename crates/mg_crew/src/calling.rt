@@ -4,13 +4,13 @@ ghost use Rattle.mg_crew.specs.Code.Seats.{AreToolsOf};
 
 use crate::putting::{Place, put};
 use crate::shop::Shop;
-use mg_calc::Calculator;
+use mg_calc::NodeCalculator;
 use mg_edge::Gate;
 use std::sync::Wait;
 
 // Calls an edge or a node that waited: puts the node into the levels, or the node from which the edge leads. For an edge from a graph input
 // it tells workers to bring packets from the graph inputs.
-fn call<C: Calculator, R: Wait, G: Gate>(
+fn call<C: NodeCalculator, R: Wait, G: Gate>(
     rt: &R,
     shop: &Shop<'_, C, G>,
     place: &mut Place,
@@ -30,7 +30,7 @@ fn call<C: Calculator, R: Wait, G: Gate>(
 }
 
 /// Calls all edges and nodes of a list, once the worker has given the turns back for which they wait.
-pub(crate) fn call_waiting<C: Calculator, R: Wait, G: Gate>(
+pub(crate) fn call_waiting<C: NodeCalculator, R: Wait, G: Gate>(
     rt: &R,
     shop: &Shop<'_, C, G>,
     place: &mut Place,

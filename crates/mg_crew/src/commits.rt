@@ -4,7 +4,7 @@ ghost use Rattle.mg_workers.specs.Shared.{IsSharedWith, StaysShared};
 ghost use Rattle.mg_crew.specs.Code.Seats.{FitsWork, FitsOutcome};
 
 use crate::shop::Shop;
-use mg_calc::Calculator;
+use mg_calc::NodeCalculator;
 use mg_edge::Gate;
 use mg_node::{Outcome, Work, perform};
 use mg_turns::{NetSeat, SharedNet, TriedCommit, TriedShelf};
@@ -12,15 +12,15 @@ use std::sync::Wait;
 use std::thread;
 
 // Puts a work back into its window as it is, once the seat gets the turn of the node.
-fn shelve<C: Calculator, R: Wait>(
+fn shelve<C: NodeCalculator, R: Wait>(
     rt: &R,
     net: &SharedNet<C>,
     seat: &mut NetSeat<C>,
     outcome: Outcome<C>,
 )
-    requires has { IsSharedWith net.now seat.old outcome.work }
-    requires lawful { FitsOutcome (key_of net.now) outcome }
-    ensures { StaysShared net.now seat.old seat.new }
+    requires has { IsSharedWith C.laws net.now seat.old outcome.work }
+    requires lawful { FitsOutcome C.laws (key_of net.now) outcome }
+    ensures { StaysShared C.laws net.now seat.old seat.new }
 {
     let mut outcome = outcome;
     for _ in rt.forever() {
@@ -36,15 +36,15 @@ fn shelve<C: Calculator, R: Wait>(
 }
 
 // Commits a work, or puts it back into its window where there is no memory. Returns whether it is committed.
-fn commit<C: Calculator, R: Wait>(
+fn commit<C: NodeCalculator, R: Wait>(
     rt: &R,
     net: &SharedNet<C>,
     seat: &mut NetSeat<C>,
     outcome: Outcome<C>,
 ) -> bool
-    requires has { IsSharedWith net.now seat.old outcome.work }
-    requires lawful { FitsOutcome (key_of net.now) outcome }
-    ensures { StaysShared net.now seat.old seat.new }
+    requires has { IsSharedWith C.laws net.now seat.old outcome.work }
+    requires lawful { FitsOutcome C.laws (key_of net.now) outcome }
+    ensures { StaysShared C.laws net.now seat.old seat.new }
 {
     let mut outcome = outcome;
     for _ in rt.forever() {
@@ -65,15 +65,15 @@ fn commit<C: Calculator, R: Wait>(
 
 /// Performs a work while the seat has no turn, and commits it, or puts it back into its window where there is no memory. Returns whether it
 /// is committed.
-pub(crate) fn finish<C: Calculator, R: Wait, G: Gate>(
+pub(crate) fn finish<C: NodeCalculator, R: Wait, G: Gate>(
     rt: &R,
     shop: &Shop<'_, C, G>,
     seat: &mut NetSeat<C>,
     work: Work<C>,
 ) -> bool
-    requires has { IsSharedWith shop.now.net.now seat.old work }
-    requires lawful { FitsWork (key_of shop.now.net.now) work }
-    ensures { StaysShared shop.now.net.now seat.old seat.new }
+    requires has { IsSharedWith C.laws shop.now.net.now seat.old work }
+    requires lawful { FitsWork C.laws (key_of shop.now.net.now) work }
+    ensures { StaysShared C.laws shop.now.net.now seat.old seat.new }
 {
     match perform(shop.alloc, work, shop.gate) {
         Ok(performed) => commit(rt, shop.net, seat, Outcome::ran(performed)),

@@ -10,7 +10,7 @@ use crate::putting::{Place, split};
 use crate::rounds::{go_on, look_over};
 use crate::shop::Shop;
 use crate::throttling::{begin, relax};
-use mg_calc::Calculator;
+use mg_calc::NodeCalculator;
 use mg_edge::Gate;
 use mg_turns::NetSeat;
 use std::sync::Wait;
@@ -18,15 +18,15 @@ use std::thread::{Threads, join};
 
 // Waits, as a worker that found nothing to do, until there is something new, and returns whether there is. The last worker to find nothing
 // relaxes the limits of full queues instead, or else looks over everything; where it finds nothing then, all workers end.
-fn rest<C: Calculator, R: Wait, G: Gate>(
+fn rest<C: NodeCalculator, R: Wait, G: Gate>(
     rt: &R,
     shop: &Shop<'_, C, G>,
     seat: &mut NetSeat<C>,
     place: &mut Place,
     seen: u64,
 ) -> bool
-    requires at_work { IsWithoutWork shop.now.net.now shop.now.tools.now seat.old place.old }
-    ensures { StaysAtWork shop.now.net.now shop.now.tools.now seat.old seat.new place.new }
+    requires at_work { IsWithoutWork C.laws shop.now.net.now shop.now.tools.now seat.old place.old }
+    ensures { StaysAtWork C.laws shop.now.net.now shop.now.tools.now seat.old seat.new place.new }
 {
     if !shop.tools.board.rest() {
         return shop.tools.board.wait(rt, seen);
@@ -42,14 +42,14 @@ fn rest<C: Calculator, R: Wait, G: Gate>(
 }
 
 // Works until no worker that has begun has anything to do. Returns the worker's seat.
-fn work<C: Calculator, R: Wait, G: Gate>(
+fn work<C: NodeCalculator, R: Wait, G: Gate>(
     rt: &R,
     shop: &Shop<'_, C, G>,
     seat: NetSeat<C>,
     place: Place,
 ) -> NetSeat<C>
-    requires at_work { IsWithoutWork shop.now.net.now shop.now.tools.now seat place }
-    ensures { StaysShared shop.now.net.now seat result }
+    requires at_work { IsWithoutWork C.laws shop.now.net.now shop.now.tools.now seat place }
+    ensures { StaysShared C.laws shop.now.net.now seat result }
 {
     let mut seat = seat;
     let mut place = place;
@@ -70,7 +70,7 @@ fn work<C: Calculator, R: Wait, G: Gate>(
 
 /// Runs a net by `workers` workers, at least one, each with a seat of its own. Returns a seat that has the portions of all of them.
 #[cycle(crew)]
-pub(crate) fn crew<C: Calculator + Send, R: Threads + Wait + Sync, G: Gate + Sync>(
+pub(crate) fn crew<C: NodeCalculator + Send, R: Threads + Wait + Sync, G: Gate + Sync>(
     rt: &R,
     shop: &Shop<'_, C, G>,
     seat: NetSeat<C>,
@@ -78,10 +78,10 @@ pub(crate) fn crew<C: Calculator + Send, R: Threads + Wait + Sync, G: Gate + Syn
     workers: u32,
 ) -> NetSeat<C>
     requires bounds { IsSend C.row × IsSync R.row × IsSync G.row }
-    requires at_work { IsWithoutWork shop.now.net.now shop.now.tools.now seat place }
+    requires at_work { IsWithoutWork C.laws shop.now.net.now shop.now.tools.now seat place }
     requires portion { (workers ≤ (view_of seat).portion) × ((view_of seat).portion ≤ 2 ^ 32) }
     requires place { HasPortion workers place }
-    ensures { StaysShared shop.now.net.now seat result }
+    ensures { StaysShared C.laws shop.now.net.now seat result }
 {
     if workers <= 1 {
         return work(rt, shop, seat, place);
@@ -93,9 +93,9 @@ pub(crate) fn crew<C: Calculator + Send, R: Threads + Wait + Sync, G: Gate + Syn
     let their_place = split(alloc, &tools.levels, &mut place);
     let others = workers - 1;
     let many = move || -> NetSeat<C>
-        requires { IsSend C.row × IsSync R.row × IsSync G.row × IsWithoutWork net.now tools.now mine place
+        requires { IsSend C.row × IsSync R.row × IsSync G.row × IsWithoutWork C.laws net.now tools.now mine place
             × (others ≤ (view_of mine).portion) × ((view_of mine).portion ≤ 2 ^ 32) × HasPortion others place }
-        ensures { StaysShared net.entry.now mine result }
+        ensures { StaysShared C.laws net.entry.now mine result }
     {
         let shop = Shop {
             alloc,
@@ -106,8 +106,8 @@ pub(crate) fn crew<C: Calculator + Send, R: Threads + Wait + Sync, G: Gate + Syn
         crew(rt, &shop, mine, place, others)
     };
     let one = move || -> NetSeat<C>
-        requires { IsWithoutWork net.now tools.now theirs their_place }
-        ensures { StaysShared net.entry.now theirs result }
+        requires { IsWithoutWork C.laws net.now tools.now theirs their_place }
+        ensures { StaysShared C.laws net.entry.now theirs result }
     {
         let shop = Shop {
             alloc,

@@ -6,20 +6,20 @@ use crate::putting::{Place, take};
 use crate::serving::serve;
 use crate::shop::{Came, Shop};
 use crate::throttling::is_throttled;
-use mg_calc::Calculator;
+use mg_calc::NodeCalculator;
 use mg_edge::Gate;
 use mg_turns::NetSeat;
 use std::sync::Wait;
 
 // Serves all nodes, from the one with the highest number down.
-fn serve_all<C: Calculator, R: Wait, G: Gate>(
+fn serve_all<C: NodeCalculator, R: Wait, G: Gate>(
     rt: &R,
     shop: &Shop<'_, C, G>,
     seat: &mut NetSeat<C>,
     place: &mut Place,
 ) -> Came
-    requires at_work { IsWithoutWork shop.now.net.now shop.now.tools.now seat.old place.old }
-    ensures { StaysAtWork shop.now.net.now shop.now.tools.now seat.old seat.new place.new }
+    requires at_work { IsWithoutWork C.laws shop.now.net.now shop.now.tools.now seat.old place.old }
+    ensures { StaysAtWork C.laws shop.now.net.now shop.now.tools.now seat.old seat.new place.new }
 {
     let mut came = Came::nothing();
     for node in (0..shop.net.nodes()).rev() {
@@ -31,14 +31,14 @@ fn serve_all<C: Calculator, R: Wait, G: Gate>(
 }
 
 // Brings packets from all graph inputs that aren't throttled, and notes that there may be more unless nothing came of it.
-fn feed_all<C: Calculator, R: Wait, G: Gate>(
+fn feed_all<C: NodeCalculator, R: Wait, G: Gate>(
     rt: &R,
     shop: &Shop<'_, C, G>,
     seat: &mut NetSeat<C>,
     place: &mut Place,
 ) -> Came
-    requires at_work { IsWithoutWork shop.now.net.now shop.now.tools.now seat.old place.old }
-    ensures { StaysAtWork shop.now.net.now shop.now.tools.now seat.old seat.new place.new }
+    requires at_work { IsWithoutWork C.laws shop.now.net.now shop.now.tools.now seat.old place.old }
+    ensures { StaysAtWork C.laws shop.now.net.now shop.now.tools.now seat.old seat.new place.new }
 {
     let mut came = Came::nothing();
     for input in shop.net.nodes() as usize..shop.tools.chart.from.places() {
@@ -53,14 +53,14 @@ fn feed_all<C: Calculator, R: Wait, G: Gate>(
 }
 
 // Brings packets from the graph inputs, unless another worker does or none were left.
-fn feed<C: Calculator, R: Wait, G: Gate>(
+fn feed<C: NodeCalculator, R: Wait, G: Gate>(
     rt: &R,
     shop: &Shop<'_, C, G>,
     seat: &mut NetSeat<C>,
     place: &mut Place,
 ) -> Came
-    requires at_work { IsWithoutWork shop.now.net.now shop.now.tools.now seat.old place.old }
-    ensures { StaysAtWork shop.now.net.now shop.now.tools.now seat.old seat.new place.new }
+    requires at_work { IsWithoutWork C.laws shop.now.net.now shop.now.tools.now seat.old place.old }
+    ensures { StaysAtWork C.laws shop.now.net.now shop.now.tools.now seat.old seat.new place.new }
 {
     if !shop.tools.board.takes_inputs() {
         return Came::nothing();
@@ -70,14 +70,14 @@ fn feed<C: Calculator, R: Wait, G: Gate>(
 
 /// Brings packets from all graph inputs that aren't throttled, and serves all nodes. Where nothing came of it, and no other worker did
 /// anything meanwhile, nothing is left to do.
-pub(crate) fn look_over<C: Calculator, R: Wait, G: Gate>(
+pub(crate) fn look_over<C: NodeCalculator, R: Wait, G: Gate>(
     rt: &R,
     shop: &Shop<'_, C, G>,
     seat: &mut NetSeat<C>,
     place: &mut Place,
 ) -> Came
-    requires at_work { IsWithoutWork shop.now.net.now shop.now.tools.now seat.old place.old }
-    ensures { StaysAtWork shop.now.net.now shop.now.tools.now seat.old seat.new place.new }
+    requires at_work { IsWithoutWork C.laws shop.now.net.now shop.now.tools.now seat.old place.old }
+    ensures { StaysAtWork C.laws shop.now.net.now shop.now.tools.now seat.old seat.new place.new }
 {
     let fed = feed_all(rt, shop, seat, place);
     let served = serve_all(rt, shop, seat, place);
@@ -86,14 +86,14 @@ pub(crate) fn look_over<C: Calculator, R: Wait, G: Gate>(
 
 // Does what a worker does that has no node to serve: it brings packets from the graph inputs. A worker without a seat at the levels serves
 // all nodes, too.
-fn go_round<C: Calculator, R: Wait, G: Gate>(
+fn go_round<C: NodeCalculator, R: Wait, G: Gate>(
     rt: &R,
     shop: &Shop<'_, C, G>,
     seat: &mut NetSeat<C>,
     place: &mut Place,
 ) -> Came
-    requires at_work { IsWithoutWork shop.now.net.now shop.now.tools.now seat.old place.old }
-    ensures { StaysAtWork shop.now.net.now shop.now.tools.now seat.old seat.new place.new }
+    requires at_work { IsWithoutWork C.laws shop.now.net.now shop.now.tools.now seat.old place.old }
+    ensures { StaysAtWork C.laws shop.now.net.now shop.now.tools.now seat.old seat.new place.new }
 {
     if place.seat.is_some() {
         feed(rt, shop, seat, place)
@@ -103,14 +103,14 @@ fn go_round<C: Calculator, R: Wait, G: Gate>(
 }
 
 /// Serves the next node, or brings packets from the graph inputs where there is none. Returns whether there was anything to do.
-pub(crate) fn go_on<C: Calculator, R: Wait, G: Gate>(
+pub(crate) fn go_on<C: NodeCalculator, R: Wait, G: Gate>(
     rt: &R,
     shop: &Shop<'_, C, G>,
     seat: &mut NetSeat<C>,
     place: &mut Place,
 ) -> bool
-    requires at_work { IsWithoutWork shop.now.net.now shop.now.tools.now seat.old place.old }
-    ensures { StaysAtWork shop.now.net.now shop.now.tools.now seat.old seat.new place.new }
+    requires at_work { IsWithoutWork C.laws shop.now.net.now shop.now.tools.now seat.old place.old }
+    ensures { StaysAtWork C.laws shop.now.net.now shop.now.tools.now seat.old seat.new place.new }
 {
     match take(rt, shop.tools, place) {
         Some(node) => {

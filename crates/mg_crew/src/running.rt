@@ -10,7 +10,7 @@ ghost use Rattle.mg_crew.specs.Leaves.{Leaves};
 use crate::crew::crew;
 use crate::putting::Place;
 use crate::shop::{Shop, tools_of};
-use mg_calc::{Calculator, Plan};
+use mg_calc::{NodeCalculator, Plan};
 use mg_edge::Gate;
 use mg_sched::Net;
 use mg_turns::{NetSeat, SharedNet};
@@ -29,18 +29,18 @@ struct Executor<'a, G: Gate> {
 
 // Runs a shared net by at least one worker. Returns a seat with all portions, and how many turns were in vain. Where there is no memory for
 // what workers need, nothing is done.
-fn run_shared<C: Calculator + Send, R: Threads + Wait + Sync, G: Gate + Sync>(
+fn run_shared<C: NodeCalculator + Send, R: Threads + Wait + Sync, G: Gate + Sync>(
     rt: &R,
     executor: &Executor<'_, G>,
     net: &SharedNet<C>,
     seat: NetSeat<C>,
     plan: &Plan,
 ) -> (NetSeat<C>, u64)
-    requires shared { IsShared net.now seat }
+    requires shared { IsShared C.laws net.now seat }
     requires whole { (view_of seat).portion ≡ 2 ^ 32 }
     requires valid { IsValid plan.now }
     requires plan { plan.now ≡ (key_of net.now).plan }
-    ensures { StaysShared net.now seat result.0 }
+    ensures { StaysShared C.laws net.now seat result.0 }
 {
     match tools_of(executor.alloc, plan) {
         Ok((tools, place)) => {
@@ -62,7 +62,7 @@ fn run_shared<C: Calculator + Send, R: Threads + Wait + Sync, G: Gate + Sync>(
 /// undone, as for want of memory, is left to a sweep. Nothing says how far they come: without memory for sharing the net, or with no
 /// workers, nothing is done. Beside the net it returns how many turns were in vain: a worker found them with another one, or took
 /// them and did nothing. Tests and measurements read that count, and no answer depends on it.
-pub fn run_workers<C: Calculator + Send, R: Threads + Wait + Sync, G: Gate + Sync>(
+pub fn run_workers<C: NodeCalculator + Send, R: Threads + Wait + Sync, G: Gate + Sync>(
     rt: &R,
     alloc: Global,
     net: Net<C>,
@@ -70,12 +70,12 @@ pub fn run_workers<C: Calculator + Send, R: Threads + Wait + Sync, G: Gate + Syn
     gate: &G,
 ) -> (Net<C>, u64)
     requires running { IsRunning net }
-    requires stands { StandsForSome net }
+    requires stands { StandsForSome C.laws net }
     ensures running { IsRunning result.0 }
-    ensures became { Became net result.0 }
+    ensures became { Became C.laws net result.0 }
 
     // The net is as it was; or its claimed works stand in their windows again; or each of its parts only grew.
-    ensures left { Leaves net result.0 }
+    ensures left { Leaves C.laws net result.0 }
 {
     if workers == 0 {
         return (net, 0);

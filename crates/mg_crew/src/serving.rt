@@ -10,22 +10,22 @@ use crate::putting::{Place, leave, note_turns, take_up, tell_others};
 use crate::shop::{Came, Shop};
 use crate::throttling::{is_held, note_worked};
 use crate::working::{raise, work_at};
-use mg_calc::Calculator;
+use mg_calc::NodeCalculator;
 use mg_edge::Gate;
 use mg_turns::NetSeat;
 use std::sync::Wait;
 
 // Brings what a node laid along the edges that lead from it, and marks the node where not all of that could be brought.
-fn bring_laid<C: Calculator, R: Wait, G: Gate>(
+fn bring_laid<C: NodeCalculator, R: Wait, G: Gate>(
     rt: &R,
     shop: &Shop<'_, C, G>,
     seat: &mut NetSeat<C>,
     place: &mut Place,
     node: u32,
 ) -> Came
-    requires at_work { IsWithoutWork shop.now.net.now shop.now.tools.now seat.old place.old }
+    requires at_work { IsWithoutWork C.laws shop.now.net.now shop.now.tools.now seat.old place.old }
     requires node { node < nodes_in (key_of shop.now.net.now) }
-    ensures { StaysAtWork shop.now.net.now shop.now.tools.now seat.old seat.new place.new }
+    ensures { StaysAtWork C.laws shop.now.net.now shop.now.tools.now seat.old seat.new place.new }
 {
     let came = wake_all(rt, shop, seat, place, node as usize);
     shop.tools.marks.behind.put(node, !came.is_all());
@@ -34,16 +34,16 @@ fn bring_laid<C: Calculator, R: Wait, G: Gate>(
 
 // Does works of a node, unless it is a source that is throttled, and notes how many packets wait there then. As a work may take long, idle
 // workers are first told of a node that was put into the levels.
-fn work<C: Calculator, R: Wait, G: Gate>(
+fn work<C: NodeCalculator, R: Wait, G: Gate>(
     rt: &R,
     shop: &Shop<'_, C, G>,
     seat: &mut NetSeat<C>,
     place: &mut Place,
     node: u32,
 ) -> Came
-    requires at_work { IsWithoutWork shop.now.net.now shop.now.tools.now seat.old place.old }
+    requires at_work { IsWithoutWork C.laws shop.now.net.now shop.now.tools.now seat.old place.old }
     requires node { node < nodes_in (key_of shop.now.net.now) }
-    ensures { StaysAtWork shop.now.net.now shop.now.tools.now seat.old seat.new place.new }
+    ensures { StaysAtWork C.laws shop.now.net.now shop.now.tools.now seat.old seat.new place.new }
 {
     if is_held(rt, shop.tools, node) {
         return Came::nothing();
@@ -60,16 +60,16 @@ fn work<C: Calculator, R: Wait, G: Gate>(
 
 // Does works of a node, raises the bounds of its outputs, and calls who waits for its turns. Then brings what was laid along the edges that
 // lead from it. If another worker has a turn of the node, nothing is done.
-fn go_through<C: Calculator, R: Wait, G: Gate>(
+fn go_through<C: NodeCalculator, R: Wait, G: Gate>(
     rt: &R,
     shop: &Shop<'_, C, G>,
     seat: &mut NetSeat<C>,
     place: &mut Place,
     node: u32,
 ) -> Came
-    requires at_work { IsWithoutWork shop.now.net.now shop.now.tools.now seat.old place.old }
+    requires at_work { IsWithoutWork C.laws shop.now.net.now shop.now.tools.now seat.old place.old }
     requires node { node < nodes_in (key_of shop.now.net.now) }
-    ensures { StaysAtWork shop.now.net.now shop.now.tools.now seat.old seat.new place.new }
+    ensures { StaysAtWork C.laws shop.now.net.now shop.now.tools.now seat.old seat.new place.new }
 {
     let worked = work(rt, shop, seat, place, node);
     if worked.left.is_some() {
@@ -83,16 +83,16 @@ fn go_through<C: Calculator, R: Wait, G: Gate>(
 }
 
 // Brings what a node laid in an earlier visit, where not all of that could be brought then.
-fn catch_up<C: Calculator, R: Wait, G: Gate>(
+fn catch_up<C: NodeCalculator, R: Wait, G: Gate>(
     rt: &R,
     shop: &Shop<'_, C, G>,
     seat: &mut NetSeat<C>,
     place: &mut Place,
     node: u32,
 ) -> Came
-    requires at_work { IsWithoutWork shop.now.net.now shop.now.tools.now seat.old place.old }
+    requires at_work { IsWithoutWork C.laws shop.now.net.now shop.now.tools.now seat.old place.old }
     requires node { node < nodes_in (key_of shop.now.net.now) }
-    ensures { StaysAtWork shop.now.net.now shop.now.tools.now seat.old seat.new place.new }
+    ensures { StaysAtWork C.laws shop.now.net.now shop.now.tools.now seat.old seat.new place.new }
 {
     if shop.tools.marks.behind.is_set(node) {
         bring_laid(rt, shop, seat, place, node)
@@ -103,16 +103,16 @@ fn catch_up<C: Calculator, R: Wait, G: Gate>(
 
 // Serves a node once all is brought that it laid before. So while another worker has a consumer's turn, however long that takes, no more
 // waits to be brought than a node lays in one visit.
-fn visit<C: Calculator, R: Wait, G: Gate>(
+fn visit<C: NodeCalculator, R: Wait, G: Gate>(
     rt: &R,
     shop: &Shop<'_, C, G>,
     seat: &mut NetSeat<C>,
     place: &mut Place,
     node: u32,
 ) -> Came
-    requires at_work { IsWithoutWork shop.now.net.now shop.now.tools.now seat.old place.old }
+    requires at_work { IsWithoutWork C.laws shop.now.net.now shop.now.tools.now seat.old place.old }
     requires node { node < nodes_in (key_of shop.now.net.now) }
-    ensures { StaysAtWork shop.now.net.now shop.now.tools.now seat.old seat.new place.new }
+    ensures { StaysAtWork C.laws shop.now.net.now shop.now.tools.now seat.old seat.new place.new }
 {
     let late = catch_up(rt, shop, seat, place, node);
     if !late.is_all() {
@@ -124,16 +124,16 @@ fn visit<C: Calculator, R: Wait, G: Gate>(
 
 /// Serves a node, and keeps it to come back to where there may be more to do. If another worker has a turn that this takes, the node or the
 /// edge waits until that worker calls it.
-pub(crate) fn serve<C: Calculator, R: Wait, G: Gate>(
+pub(crate) fn serve<C: NodeCalculator, R: Wait, G: Gate>(
     rt: &R,
     shop: &Shop<'_, C, G>,
     seat: &mut NetSeat<C>,
     place: &mut Place,
     node: u32,
 ) -> Came
-    requires at_work { IsWithoutWork shop.now.net.now shop.now.tools.now seat.old place.old }
+    requires at_work { IsWithoutWork C.laws shop.now.net.now shop.now.tools.now seat.old place.old }
     requires node { node < nodes_in (key_of shop.now.net.now) }
-    ensures { StaysAtWork shop.now.net.now shop.now.tools.now seat.old seat.new place.new }
+    ensures { StaysAtWork C.laws shop.now.net.now shop.now.tools.now seat.old seat.new place.new }
 {
     take_up(shop.tools, node);
     let came = visit(rt, shop, seat, place, node);

@@ -8,7 +8,7 @@ use crate::gauge::Gauge;
 use crate::marks::Marks;
 use crate::throttle::Throttle;
 use crate::waiting::Waiting;
-use mg_calc::{Calculator, Plan};
+use mg_calc::{NodeCalculator, Plan};
 use mg_edge::Gate;
 use mg_levels::{LevelSeat, Levels};
 use mg_turns::SharedNet;
@@ -43,7 +43,7 @@ pub(crate) struct NodeMarks {
 
 /// What all workers that run a net have in common.
 #[derive(Drop)]
-pub(crate) struct Shop<'a, C: Calculator, G: Gate> {
+pub(crate) struct Shop<'a, C: NodeCalculator, G: Gate> {
     pub alloc: Global,
     pub net: &'a SharedNet<C>,
     pub tools: &'a Tools,

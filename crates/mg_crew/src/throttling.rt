@@ -10,7 +10,7 @@ ghost use Rattle.mg_crew.specs.Code.Seats.{HasSources, IsWithoutWork, StaysAtWor
 use crate::putting::{Place, put};
 use crate::shop::{Shop, Tools};
 use crate::throttle::Throttle;
-use mg_calc::Calculator;
+use mg_calc::NodeCalculator;
 use mg_edge::Gate;
 use mg_turns::{NetSeat, Tried};
 use std::sync::Wait;
@@ -94,14 +94,14 @@ pub(crate) fn begin<R: Wait>(rt: &R, tools: &Tools, place: &mut Place)
 }
 
 // Returns how many packets wait at the end of an edge, or `None` if another worker has the turn there. That one notes it.
-fn waiting<C: Calculator, G: Gate>(
+fn waiting<C: NodeCalculator, G: Gate>(
     shop: &Shop<'_, C, G>,
     seat: &mut NetSeat<C>,
     edge: u32,
 ) -> Option<u64>
-    requires shared { IsShared shop.now.net.now seat.old }
+    requires shared { IsShared C.laws shop.now.net.now seat.old }
     requires edge { edge < length (key_of shop.now.net.now).plan.edges }
-    ensures { StaysShared shop.now.net.now seat.old seat.new }
+    ensures { StaysShared C.laws shop.now.net.now seat.old seat.new }
 {
     let tried = shop.net.try_waiting(seat, edge);
     match tried {
@@ -111,15 +111,15 @@ fn waiting<C: Calculator, G: Gate>(
 }
 
 // Notes how many packets wait at the end of an edge, and returns whether its queue was full and isn't any more.
-fn eases<C: Calculator, R: Wait, G: Gate>(
+fn eases<C: NodeCalculator, R: Wait, G: Gate>(
     rt: &R,
     shop: &Shop<'_, C, G>,
     seat: &mut NetSeat<C>,
     edge: u32,
 ) -> bool
-    requires shared { IsShared shop.now.net.now seat.old }
+    requires shared { IsShared C.laws shop.now.net.now seat.old }
     requires edge { edge < length (key_of shop.now.net.now).plan.edges }
-    ensures { StaysShared shop.now.net.now seat.old seat.new }
+    ensures { StaysShared C.laws shop.now.net.now seat.old seat.new }
 {
     let Some(throttle) = &shop.tools.throttle else {
         return false;
@@ -145,16 +145,16 @@ fn ease<R: Wait>(rt: &R, tools: &Tools, place: &mut Place, node: u32, eased: boo
 }
 
 /// Notes how many packets wait at the end of an edge. If its queue was full and isn't any more, feeders go on that were held by it.
-pub(crate) fn note<C: Calculator, R: Wait, G: Gate>(
+pub(crate) fn note<C: NodeCalculator, R: Wait, G: Gate>(
     rt: &R,
     shop: &Shop<'_, C, G>,
     seat: &mut NetSeat<C>,
     place: &mut Place,
     edge: u32,
 )
-    requires at_work { IsWithoutWork shop.now.net.now shop.now.tools.now seat.old place.old }
+    requires at_work { IsWithoutWork C.laws shop.now.net.now shop.now.tools.now seat.old place.old }
     requires edge { edge < shop.now.tools.now.chart.from.edges }
-    ensures { StaysAtWork shop.now.net.now shop.now.tools.now seat.old seat.new place.new }
+    ensures { StaysAtWork C.laws shop.now.net.now shop.now.tools.now seat.old seat.new place.new }
 {
     let eased = eases(rt, shop, seat, edge);
     let node = shop.tools.chart.consumer(edge);
@@ -162,15 +162,15 @@ pub(crate) fn note<C: Calculator, R: Wait, G: Gate>(
 }
 
 // Notes anew how many packets wait at the end of an edge whose queue was full, and returns whether it isn't any more.
-fn eases_if_full<C: Calculator, R: Wait, G: Gate>(
+fn eases_if_full<C: NodeCalculator, R: Wait, G: Gate>(
     rt: &R,
     shop: &Shop<'_, C, G>,
     seat: &mut NetSeat<C>,
     edge: u32,
 ) -> bool
-    requires shared { IsShared shop.now.net.now seat.old }
+    requires shared { IsShared C.laws shop.now.net.now seat.old }
     requires edge { edge < length (key_of shop.now.net.now).plan.edges }
-    ensures { StaysShared shop.now.net.now seat.old seat.new }
+    ensures { StaysShared C.laws shop.now.net.now seat.old seat.new }
 {
     let Some(throttle) = &shop.tools.throttle else {
         return false;
@@ -179,16 +179,16 @@ fn eases_if_full<C: Calculator, R: Wait, G: Gate>(
 }
 
 /// Notes how many packets wait at a node that worked, where its queues were full. If one isn't any more, feeders go on that were held by it.
-pub(crate) fn note_worked<C: Calculator, R: Wait, G: Gate>(
+pub(crate) fn note_worked<C: NodeCalculator, R: Wait, G: Gate>(
     rt: &R,
     shop: &Shop<'_, C, G>,
     seat: &mut NetSeat<C>,
     place: &mut Place,
     node: u32,
 )
-    requires at_work { IsWithoutWork shop.now.net.now shop.now.tools.now seat.old place.old }
+    requires at_work { IsWithoutWork C.laws shop.now.net.now shop.now.tools.now seat.old place.old }
     requires node { node < nodes_in (key_of shop.now.net.now) }
-    ensures { StaysAtWork shop.now.net.now shop.now.tools.now seat.old seat.new place.new }
+    ensures { StaysAtWork C.laws shop.now.net.now shop.now.tools.now seat.old seat.new place.new }
 {
     let mut eased = false;
     let mut cursor = shop.tools.chart.into.first(node as usize);

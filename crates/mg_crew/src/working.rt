@@ -11,7 +11,7 @@ use crate::calling::call_waiting;
 use crate::commits::finish;
 use crate::putting::{Place, put, tell_others};
 use crate::shop::{Came, Shop, Tools};
-use mg_calc::Calculator;
+use mg_calc::NodeCalculator;
 use mg_edge::Gate;
 use mg_node::{Claimed, Delivered, Work};
 use mg_turns::{NetSeat, SharedNet, Tried};
@@ -24,10 +24,10 @@ const WORKS: u32 = 64;
 const PACKETS: u32 = 256;
 
 // Does works of a node under one pair of turns, and returns what came of it.
-fn run<C: Calculator, G: Gate>(shop: &Shop<'_, C, G>, seat: &mut NetSeat<C>, node: u32) -> Came
-    requires shared { IsShared shop.now.net.now seat.old }
+fn run<C: NodeCalculator, G: Gate>(shop: &Shop<'_, C, G>, seat: &mut NetSeat<C>, node: u32) -> Came
+    requires shared { IsShared C.laws shop.now.net.now seat.old }
     requires node { node < nodes_in (key_of shop.now.net.now) }
-    ensures { StaysShared shop.now.net.now seat.old seat.new }
+    ensures { StaysShared C.laws shop.now.net.now seat.old seat.new }
 {
     let tried = shop.net.try_run(shop.alloc, seat, node, WORKS, shop.gate);
     match tried {
@@ -41,17 +41,17 @@ fn run<C: Calculator, G: Gate>(shop: &Shop<'_, C, G>, seat: &mut NetSeat<C>, nod
 }
 
 // Claims the next work of a node. If none is claimed the error says what came of the try.
-fn claim<C: Calculator>(
+fn claim<C: NodeCalculator>(
     net: &SharedNet<C>,
     seat: &mut NetSeat<C>,
     node: u32,
 ) -> Result<Work<C>, Came>
-    requires shared { IsShared net.now seat.old }
+    requires shared { IsShared C.laws net.now seat.old }
     requires node { node < nodes_in (key_of net.now) }
     ensures portion { (view_of seat.new).portion ≡ (view_of seat.old).portion }
-    ensures work { IfOk result (λ w. IsSharedWith net.now seat.new w) }
-    ensures lawful { IfOk result (λ w. FitsWork (key_of net.now) w) }
-    ensures none { OnErr result (StaysShared net.now seat.old seat.new) }
+    ensures work { IfOk result (λ w. IsSharedWith C.laws net.now seat.new w) }
+    ensures lawful { IfOk result (λ w. FitsWork C.laws (key_of net.now) w) }
+    ensures none { OnErr result (StaysShared C.laws net.now seat.old seat.new) }
 {
     match net.try_claim(seat, node) {
         Tried::Done(Claimed::Work(work)) => Ok(work),
@@ -78,16 +78,16 @@ fn share_node<R: Wait>(rt: &R, tools: &Tools, place: &mut Place, node: u32)
 }
 
 // Does one work of a node, and lets other workers do further ones meanwhile. Returns what came of it.
-fn fly<C: Calculator, R: Wait, G: Gate>(
+fn fly<C: NodeCalculator, R: Wait, G: Gate>(
     rt: &R,
     shop: &Shop<'_, C, G>,
     seat: &mut NetSeat<C>,
     place: &mut Place,
     node: u32,
 ) -> Came
-    requires at_work { IsWithoutWork shop.now.net.now shop.now.tools.now seat.old place.old }
+    requires at_work { IsWithoutWork C.laws shop.now.net.now shop.now.tools.now seat.old place.old }
     requires node { node < nodes_in (key_of shop.now.net.now) }
-    ensures { StaysAtWork shop.now.net.now shop.now.tools.now seat.old seat.new place.new }
+    ensures { StaysAtWork C.laws shop.now.net.now shop.now.tools.now seat.old seat.new place.new }
 {
     match claim(shop.net, seat, node) {
         Ok(work) => {
@@ -102,16 +102,16 @@ fn fly<C: Calculator, R: Wait, G: Gate>(
 }
 
 // Does works of a node, unless another worker has one of its turns, and returns what came of it.
-fn try_work<C: Calculator, R: Wait, G: Gate>(
+fn try_work<C: NodeCalculator, R: Wait, G: Gate>(
     rt: &R,
     shop: &Shop<'_, C, G>,
     seat: &mut NetSeat<C>,
     place: &mut Place,
     node: u32,
 ) -> Came
-    requires at_work { IsWithoutWork shop.now.net.now shop.now.tools.now seat.old place.old }
+    requires at_work { IsWithoutWork C.laws shop.now.net.now shop.now.tools.now seat.old place.old }
     requires node { node < nodes_in (key_of shop.now.net.now) }
-    ensures { StaysAtWork shop.now.net.now shop.now.tools.now seat.old seat.new place.new }
+    ensures { StaysAtWork C.laws shop.now.net.now shop.now.tools.now seat.old seat.new place.new }
 {
     if shop.tools.chart.flies(node) {
         fly(rt, shop, seat, place, node)
@@ -134,16 +134,16 @@ fn waits<R: Wait>(rt: &R, tools: &Tools, came: &Came, node: u32) -> bool {
 
 /// Does works of a node, and returns what came of it. If another worker has one of its turns, the node waits for that turn. It is tried once
 /// more then, as the worker may have given the turn back before it could see who waits.
-pub(crate) fn work_at<C: Calculator, R: Wait, G: Gate>(
+pub(crate) fn work_at<C: NodeCalculator, R: Wait, G: Gate>(
     rt: &R,
     shop: &Shop<'_, C, G>,
     seat: &mut NetSeat<C>,
     place: &mut Place,
     node: u32,
 ) -> Came
-    requires at_work { IsWithoutWork shop.now.net.now shop.now.tools.now seat.old place.old }
+    requires at_work { IsWithoutWork C.laws shop.now.net.now shop.now.tools.now seat.old place.old }
     requires node { node < nodes_in (key_of shop.now.net.now) }
-    ensures { StaysAtWork shop.now.net.now shop.now.tools.now seat.old seat.new place.new }
+    ensures { StaysAtWork C.laws shop.now.net.now shop.now.tools.now seat.old seat.new place.new }
 {
     let came = try_work(rt, shop, seat, place, node);
     if !waits(rt, shop.tools, &came, node) {
@@ -153,14 +153,14 @@ pub(crate) fn work_at<C: Calculator, R: Wait, G: Gate>(
 }
 
 // Raises the bounds of a node's outputs, unless another worker has one of its turns, and returns what came of it.
-fn try_raise<C: Calculator, G: Gate>(
+fn try_raise<C: NodeCalculator, G: Gate>(
     shop: &Shop<'_, C, G>,
     seat: &mut NetSeat<C>,
     node: u32,
 ) -> Came
-    requires shared { IsShared shop.now.net.now seat.old }
+    requires shared { IsShared C.laws shop.now.net.now seat.old }
     requires node { node < nodes_in (key_of shop.now.net.now) }
-    ensures { StaysShared shop.now.net.now seat.old seat.new }
+    ensures { StaysShared C.laws shop.now.net.now seat.old seat.new }
 {
     let tried = shop.net.try_raise(seat, node);
     match tried {
@@ -171,15 +171,15 @@ fn try_raise<C: Calculator, G: Gate>(
 
 /// Raises the bounds of a node's outputs, and returns what came of it. If another worker has one of its turns, the node waits for that turn,
 /// and is tried once more.
-pub(crate) fn raise<C: Calculator, R: Wait, G: Gate>(
+pub(crate) fn raise<C: NodeCalculator, R: Wait, G: Gate>(
     rt: &R,
     shop: &Shop<'_, C, G>,
     seat: &mut NetSeat<C>,
     node: u32,
 ) -> Came
-    requires shared { IsShared shop.now.net.now seat.old }
+    requires shared { IsShared C.laws shop.now.net.now seat.old }
     requires node { node < nodes_in (key_of shop.now.net.now) }
-    ensures { StaysShared shop.now.net.now seat.old seat.new }
+    ensures { StaysShared C.laws shop.now.net.now seat.old seat.new }
 {
     let came = try_raise(shop, seat, node);
     if !waits(rt, shop.tools, &came, node) {
@@ -189,14 +189,14 @@ pub(crate) fn raise<C: Calculator, R: Wait, G: Gate>(
 }
 
 // Brings packets along an edge, unless another worker has one of the two turns, and returns what came of it.
-fn try_bring<C: Calculator, G: Gate>(
+fn try_bring<C: NodeCalculator, G: Gate>(
     shop: &Shop<'_, C, G>,
     seat: &mut NetSeat<C>,
     edge: u32,
 ) -> Came
-    requires shared { IsShared shop.now.net.now seat.old }
+    requires shared { IsShared C.laws shop.now.net.now seat.old }
     requires edge { edge < length (key_of shop.now.net.now).plan.edges }
-    ensures { StaysShared shop.now.net.now seat.old seat.new }
+    ensures { StaysShared C.laws shop.now.net.now seat.old seat.new }
 {
     let tried = shop.net.try_append(seat, edge);
     match tried {
@@ -212,15 +212,15 @@ fn try_bring<C: Calculator, G: Gate>(
 
 /// Brings packets along an edge, and returns what came of it. If another worker has one of the two turns, the edge waits for that turn, and
 /// is tried once more.
-pub(crate) fn bring<C: Calculator, R: Wait, G: Gate>(
+pub(crate) fn bring<C: NodeCalculator, R: Wait, G: Gate>(
     rt: &R,
     shop: &Shop<'_, C, G>,
     seat: &mut NetSeat<C>,
     edge: u32,
 ) -> Came
-    requires shared { IsShared shop.now.net.now seat.old }
+    requires shared { IsShared C.laws shop.now.net.now seat.old }
     requires edge { edge < length (key_of shop.now.net.now).plan.edges }
-    ensures { StaysShared shop.now.net.now seat.old seat.new }
+    ensures { StaysShared C.laws shop.now.net.now seat.old seat.new }
 {
     let came = try_bring(shop, seat, edge);
     let Some(word) = came.left else {

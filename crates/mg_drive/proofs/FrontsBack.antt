@@ -3,6 +3,7 @@ use Rattle.std.proofs.Common.{◌≡◌, ◌⊎◌, inl, ℕ, suc, List, [], ◌
 use Rattle.std.proofs.Math.Seq.{take-length}
 use Rattle.mg_value.specs.Payload.{Plain}
 use Rattle.mg_settled.specs.Prefix.{StreamPrefix}
+use Rattle.mg_calc.specs.Rules.{Laws}
 use Rattle.mg_calc.specs.declared.call.Call.{Call}
 use Rattle.mg_calc.specs.declared.call.Call.TheVariants.{Begun, Shown, Finished}
 use Rattle.mg_calc.specs.declared.cause.Cause.{Cause}
@@ -11,14 +12,15 @@ use Rattle.mg_calc.specs.declared.node_fault.Phase.TheVariants.{Open, Call as So
 use Rattle.mg_calc.specs.declared.plan.Plan.{Plan}
 use Rattle.mg_calc.specs.declared.plan_node.PlanNode.{PlanNode}
 use Rattle.mg_calc.specs.Shape.{IsOuter}
-use Rattle.mg_calc.specs.Told.{CalculatorTold}
+use Rattle.mg_calc.specs.Told.{BoxTold}
 use Rattle.mg_calc.specs.Outcome.{Failure, Outcome}
-use Rattle.mg_calc.specs.Equations.{Job, IsJob, IsSolution, outcome_of}
+use Rattle.mg_calc.specs.Equations.{Job, IsJob, IsSolution, outcome_of, rules_at}
 use Rattle.mg_calc.specs.Meaning.{shown_sets, last_call, log_of}
 use Rattle.mg_answer.specs.Devices.{Device, device}
 use Rattle.mg_node.specs.Job.{LoggedJob, Solves}
 use Rattle.mg_node.specs.Batches.{Grows}
 use Rattle.mg_node.proofs.Stages.{outer_stage}
+use Rattle.mg_node.specs.Lawful.{kept_after}
 use Rattle.mg_sched.specs.Views.{NetView}
 use Rattle.mg_sched.specs.Made.{BoxesFit}
 use Rattle.mg_sched.specs.GivesBack.{given_back, StoodFor}
@@ -31,9 +33,9 @@ use Rattle.mg_drive.proofs.BoxesBack.{box_at, log_was}
 -- Calculators of a net --
 
 -- one comes back with a front of its calls
-kept_front : (boxes : List CalculatorTold) (job later : LoggedJob) (net : NetView) (streams : List (StreamPrefix Plain)) (number place : ℕ) (node : PlanNode) → BoxesFit later.job.plan boxes → later.boxes ≡ boxes → StoodFor job net
+kept_front : {laws : Laws} (boxes : List BoxTold) (job later : LoggedJob laws) (net : NetView) (streams : List (StreamPrefix Plain)) (number place : ℕ) (node : PlanNode) → BoxesFit later.job.plan boxes → later.boxes ≡ boxes → StoodFor job net
     → (later ≡ job) ⊎ Grows job later → net.plan ≡ later.job.plan → Solves later streams → slice_get later.job.plan.nodes number ≡ Some node → node.box_number ≡ Some place → IsRelatedAt place (KeepsAFront later.job streams node) (device boxes (given_back net))
-kept_front boxes job later net streams number place node fit same stood more plan_is solves there has =
+kept_front {laws} boxes job later net streams number place node fit same stood more plan_is solves there has =
     let box = box_at later.job.plan boxes number place node fit there has in
     let outer : IsOuter node.law = subst IsOuter box.2.fits.same_law box.2.outer in
     let back = front_back job later net streams number place node stood more solves (ap (λ (p : Plan). slice_get p.nodes number) plan_is ∙ there) has outer in
@@ -51,21 +53,21 @@ kept_front boxes job later net streams number place node fit same stood more pla
           law = back.2.fits.same_law ∙ sym box.2.fits.same_law;
           shape = back.2.fits.same_shape ∙ sym box.2.fits.same_shape;
         };
-        unopened = λ none. back.2.unopened none place box.0 has (ap (λ (bs : List CalculatorTold). slice_get bs place) same ∙ box.1);
-        state = λ shown is. back.2.state shown is ∙ ap (λ (o : Outcome). o.state) (outer_stage node.law later.job streams node shown outer);
+        unopened = λ none. back.2.unopened none place box.0 has (ap (λ (bs : List BoxTold). slice_get bs place) same ∙ box.1);
+        state = λ shown is. back.2.state shown is ∙ ap (λ (o : Outcome). if back.2.close then kept_after ((rules_at later.job node).finish o.state) o.state else o.state) (outer_stage node.law later.job streams node shown outer);
       };
     }
 
 -- and so does each, in the solution of a job that the net's is or that goes on from it
-pub record KeptFronts (job : Job) (boxes : Device (List CalculatorTold)) : Type 0 where
+pub record KeptFronts (job : Job) (boxes : Device (List BoxTold)) : Type 0 where
   pub streams : List (StreamPrefix Plain)
   pub solution : IsSolution job streams
   pub each : (number place : ℕ) (node : PlanNode) → slice_get job.plan.nodes number ≡ Some node → node.box_number ≡ Some place
       → IsRelatedAt place (KeepsAFront job streams node) boxes
 
-pub kept_fronts : (boxes : List CalculatorTold) (job later : LoggedJob) (net : NetView) → BoxesFit later.job.plan boxes → later.boxes ≡ boxes → StoodFor job net → job.job.plan ≡ later.job.plan → (later ≡ job) ⊎ Grows job later
+pub kept_fronts : {laws : Laws} (boxes : List BoxTold) (job later : LoggedJob laws) (net : NetView) → BoxesFit later.job.plan boxes → later.boxes ≡ boxes → StoodFor job net → job.job.plan ≡ later.job.plan → (later ≡ job) ⊎ Grows job later
     → IsJob later.job → KeptFronts later.job (device boxes (given_back net))
-kept_fronts boxes job later net fit handed stood same more is =
+kept_fronts {laws} boxes job later net fit handed stood same more is =
     let found = solved later is in
     record {
       streams = found.0;
@@ -73,13 +75,13 @@ kept_fronts boxes job later net fit handed stood same more is =
       each = λ number place node there has. kept_front boxes job later net found.0 number place node fit handed stood more ((knows_back job net stood).plan ∙ same) found.1 there has;
     }
 
-pub kept_now : (boxes now : List CalculatorTold) (job : LoggedJob) (net : NetView) → BoxesFit job.job.plan boxes → job.boxes ≡ boxes → StoodFor job net → IsJob job.job → now ≡ given_back net → KeptFronts job.job (device boxes now)
-kept_now boxes now job net fit handed stood is back =
-    subst (λ (bs : List CalculatorTold). KeptFronts job.job (device boxes bs)) (sym back) (kept_fronts boxes job job net fit handed stood refl (inl refl) is)
+pub kept_now : {laws : Laws} (boxes now : List BoxTold) (job : LoggedJob laws) (net : NetView) → BoxesFit job.job.plan boxes → job.boxes ≡ boxes → StoodFor job net → IsJob job.job → now ≡ given_back net → KeptFronts job.job (device boxes now)
+kept_now {laws} boxes now job net fit handed stood is back =
+    subst (λ (bs : List BoxTold). KeptFronts job.job (device boxes bs)) (sym back) (kept_fronts boxes job job net fit handed stood refl (inl refl) is)
 
 -- of what they keep nothing is said
-pub fronts_now : (boxes now : List CalculatorTold) (job : LoggedJob) (net : NetView) → BoxesFit job.job.plan boxes → job.boxes ≡ boxes → StoodFor job net → IsJob job.job → now ≡ given_back net → HadFronts job.job (device boxes now)
-fronts_now boxes now job net fit handed stood is back =
+pub fronts_now : {laws : Laws} (boxes now : List BoxTold) (job : LoggedJob laws) (net : NetView) → BoxesFit job.job.plan boxes → job.boxes ≡ boxes → StoodFor job net → IsJob job.job → now ≡ given_back net → HadFronts job.job (device boxes now)
+fronts_now {laws} boxes now job net fit handed stood is back =
     let kept = kept_now boxes now job net fit handed stood is back in
     record {
       streams = kept.streams;
@@ -96,9 +98,9 @@ none_more None = refl
 none_more (Some calls) = ap Some (sym (append-nil calls))
 
 -- they had a front of none in any job
-pub none_had : (job : Job) (boxes : List CalculatorTold) → IsJob job → BoxesFit job.plan boxes → HadFronts job (device boxes boxes)
+pub none_had : (job : Job) (boxes : List BoxTold) → IsJob job → BoxesFit job.plan boxes → HadFronts job (device boxes boxes)
 none_had job boxes is fit =
-    let found = solved (record { job = job; boxes = [] }) is in
+    let found = solved (record { job = job; boxes = []; same = refl }) is in
     record {
       streams = found.0;
       solution = found.1.solution;
@@ -145,7 +147,7 @@ all_first job streams node =
     ap (λ (last : List Call). (Begun ∷ shown) ++ last) (last_is fault) ∙ ap (λ (calls : List Call). calls ++ finish (closes fault)) (sym (take-length (Begun ∷ shown)))
 
 -- so those that had all had a front
-abbrev pub all_are_fronts : (job : Job) (boxes : Device (List CalculatorTold)) → HadCallsOf job boxes → HadFronts job boxes
+abbrev pub all_are_fronts : (job : Job) (boxes : Device (List BoxTold)) → HadCallsOf job boxes → HadFronts job boxes
 all_are_fronts job boxes had = record {
   streams = had.streams;
   solution = had.solution;

@@ -6,7 +6,8 @@ use Rattle.mg_value.specs.declared.policy.Policy.TheVariants.{Default}
 use Rattle.mg_settled.specs.Prefix.{StreamPrefix}
 use Rattle.mg_settled.specs.Settled.{TimedSet, settled_sets, inputs_of}
 use Rattle.mg_settled.proofs.Lemmas.{inputs-extended, sets-stay}
-use Rattle.mg_calc.specs.Told.{CalculatorTold}
+use Rattle.mg_calc.specs.Rules.{Laws}
+use Rattle.mg_calc.specs.Told.{BoxTold}
 use Rattle.mg_calc.specs.declared.inputs.Inputs.{Inputs}
 use Rattle.mg_calc.specs.declared.plan.Plan.{Plan}
 use Rattle.mg_calc.specs.Plan.{IsValid}
@@ -25,13 +26,13 @@ use Rattle.mg_drive.specs.Code.Running.{TellingSets, IsTold}
 
 -- What stands --
 
-pub valid_plan : (job : LoggedJob) (net : NetView) → StandsFor job net → IsJob job.job
+pub valid_plan : {laws : Laws} (job : LoggedJob laws) (net : NetView) → StandsFor job net → IsJob job.job
 unfolding StandsFor
-valid_plan job net stands = stands.is_job
+valid_plan {laws} job net stands = stands.is_job
 
-pub plan_stood : (job : LoggedJob) (net : NetView) → StandsFor job net → net.plan ≡ job.job.plan
+pub plan_stood : {laws : Laws} (job : LoggedJob laws) (net : NetView) → StandsFor job net → net.plan ≡ job.job.plan
 unfolding StandsFor
-plan_stood job net stands = stands.plan
+plan_stood {laws} job net stands = stands.plan
 
 -- Sets --
 
@@ -46,25 +47,25 @@ front_of (suc n) (x ∷ short) (y ∷ long) few is =
     ap (λ z. z ∷ take n short) (sym heads) ∙ ap (λ l. y ∷ l) (front_of n short long (omega arith) tails)
 
 -- the sets that a job's solution settles stand in front of those of a later job's
-sets_grow : (first later : LoggedJob) (xs ys : List (StreamPrefix Plain)) → Solves first xs → Grows first later → IsSolution later.job ys
+sets_grow : {laws : Laws} (first later : LoggedJob laws) (xs ys : List (StreamPrefix Plain)) → Solves first xs → Grows first later → IsSolution later.job ys
     → take (length (settled_outputs first.job.plan xs)) (settled_outputs first.job.plan ys) ≡ settled_outputs first.job.plan xs
-sets_grow first later xs ys solves grows b =
+sets_grow {laws} first later xs ys solves grows b =
     let plan = first.job.plan in
-    let next : Job = record { plan = plan; inputs = later.job.inputs } in
-    let same : later.job ≡ next = ap (λ (p : Plan). record { plan = p; inputs = later.job.inputs }) grows.plan in
+    let next : Job = record { plan = plan; inputs = later.job.inputs; laws = first.job.laws } in
+    let same : later.job ≡ next = ap (λ (p : Plan). record { plan = p; inputs = later.job.inputs; laws = later.job.laws }) grows.plan ∙ ap (λ (l : Laws). record { plan = plan; inputs = later.job.inputs; laws = l }) (later.same ∙ sym first.same) in
     let is_next : IsJob next = subst IsJob same grows.is_job in
     let solution : IsSolution next ys = subst (λ (j : Job). IsSolution j ys) same b in
     let extended = solution_grows plan first.job.inputs later.job.inputs xs ys solves.is_job is_next grows.sides grows.extended solves.solution solution in
     let one = outputs_by_default first xs solves in
-    let two = outputs_by_default (record { job = next; boxes = [] }) ys (record { is_job = is_next; solution = solution }) in
+    let two = outputs_by_default (record { job = next; boxes = []; same = first.same }) ys (record { is_job = is_next; solution = solution }) in
     let stay = sets-stay Default (inputs_of xs plan.outputs) (inputs_of ys plan.outputs) (inputs-extended xs ys plan.outputs extended) in
     subst (λ (l : List (TimedSet Plain)). take (length l) (settled_outputs plan ys) ≡ l) (sym one)
     (subst (λ (l : List (TimedSet Plain)). take (length (settled_sets Default (inputs_of xs plan.outputs))) l ≡ settled_sets Default (inputs_of xs plan.outputs)) (sym two) stay)
 
 -- what was told of a job's sets was told of a later job's
-pub told_of_later : {T : Type 0} (has_told : TellingSets T) (first later : LoggedJob) (began sink : SinkTold) (net now : NetView) (telling : T) → StandsFor first net → Grows first later → taken_out now ≡ taken_out net
+pub told_of_later : {laws : Laws} {T : Type 0} (has_told : TellingSets T) (first later : LoggedJob laws) (began sink : SinkTold) (net now : NetView) (telling : T) → StandsFor first net → Grows first later → taken_out now ≡ taken_out net
     → IsTold has_told first.job began sink (taken_out net) telling → IsTold has_told later.job began sink (taken_out now) telling
-told_of_later {T} has_told first later began sink net now telling stands grows same told =
+told_of_later {laws} {T} has_told first later began sink net now telling stands grows same told =
     let is = valid_plan first net stands in
     let found = solved first is in
     let plan = first.job.plan in
@@ -80,8 +81,8 @@ told_of_later {T} has_told first later began sink net now telling stands grows s
 -- More input --
 
 -- a job goes on where its inputs do
-pub job_goes_on : (plan : Plan) (so_far more all : Inputs) (boxes : List CalculatorTold) → IsValid plan → InputsGoOn plan so_far more all → GoesOnWith more (logged plan so_far boxes) (logged plan all boxes)
-job_goes_on plan so_far more all boxes valid g = record {
+pub job_goes_on : {laws : Laws} (plan : Plan) (so_far more all : Inputs) (boxes : List BoxTold) → IsValid plan → InputsGoOn plan so_far more all → GoesOnWith more (logged laws plan so_far boxes) (logged laws plan all boxes)
+job_goes_on {laws} plan so_far more all boxes valid g = record {
   grows = record { plan = refl; sides = g.sides; boxes = refl; is_job = record { plan = valid; inputs = g.fits }; extended = g.extended };
   pieces = g.pieces;
   streams = g.streams;

@@ -6,10 +6,11 @@ use Rattle.mg_value.specs.Payload.{Plain}
 use Rattle.mg_settled.specs.Prefix.{StreamPrefix}
 use Rattle.mg_settled.specs.Settled.{TimedSet}
 use Rattle.mg_settled.specs.Extension.{AreExtendedBy}
+use Rattle.mg_calc.specs.Rules.{Laws}
 use Rattle.mg_calc.specs.declared.inputs.Inputs.{Inputs}
 use Rattle.mg_calc.specs.declared.plan.Plan.{Plan}
 use Rattle.mg_calc.specs.Plan.{IsValid}
-use Rattle.mg_calc.specs.Told.{CalculatorTold}
+use Rattle.mg_calc.specs.Told.{BoxTold}
 use Rattle.mg_calc.specs.Equations.{IsJob, IsSolution}
 use Rattle.mg_feed.specs.Graph.{GraphInputs, inputs_of}
 use Rattle.mg_feed.specs.Lines.{all_lines}
@@ -63,8 +64,8 @@ pub first_sets : (names : List (List ℕ)) (sets : List (TimedSet Plain)) (n : �
 first_sets names sets n = (sets_text names (drop n sets), ap (sets_text names) (sym (take-append-drop n sets)) ∙ flat_map-append (λ (t : TimedSet Plain). set_text names t.set) (take n sets) (drop n sets))
 
 -- all sets of a job's solution are the text that its streams make
-pub all_sets : (job : LoggedJob) (streams : List (StreamPrefix Plain)) → Solves job streams → sets_text (output_names job.job.plan) (settled_outputs job.job.plan streams) ≡ output_text_of job.job.plan streams
-all_sets job streams solves = ap (sets_text (output_names job.job.plan)) (outputs_by_default job streams solves)
+pub all_sets : {laws : Laws} (job : LoggedJob laws) (streams : List (StreamPrefix Plain)) → Solves job streams → sets_text (output_names job.job.plan) (settled_outputs job.job.plan streams) ≡ output_text_of job.job.plan streams
+all_sets {laws} job streams solves = ap (sets_text (output_names job.job.plan)) (outputs_by_default job streams solves)
 
 -- nothing is told yet
 pub none_told : (plan : Plan) (text : TextView) (sink : SinkTold) → text ≡ nothing_put (output_names plan) → HasLines text plan sink sink []
@@ -74,9 +75,9 @@ none_told plan text sink is = record {
 }
 
 -- a front of the lines that were told was taken
-pub front_lines : (job : LoggedJob) (first now : SinkTold) → IsJob job.job → IsToldSome HasLines job.job first now ⊎ FrontIn packet_lines first now job.job → FrontIn packet_lines first now job.job
-front_lines job first now is (inr front) = front
-front_lines job first now is (inl some) = λ streams solution.
+pub front_lines : {laws : Laws} (job : LoggedJob laws) (first now : SinkTold) → IsJob job.job → IsToldSome HasLines job.job first now ⊎ FrontIn packet_lines first now job.job → FrontIn packet_lines first now job.job
+front_lines {laws} job first now is (inr front) = front
+front_lines {laws} job first now is (inl some) = λ streams solution.
     let solves : Solves job streams = record { is_job = is; solution = solution } in
     let names = output_names job.job.plan in
     let sets = settled_outputs job.job.plan streams in
@@ -94,28 +95,28 @@ lines_in_front plan first at fed inputs u rest fits =
     let front = came-front u.past rest u.lines _ fed u.is_read.came fits in
     (front.0, ap (λ (g : GraphInputs). accepted g (all_lines (u.past ++ rest))) (sym u.is_read.graph) ∙ front.1)
 
-front_more : (plan : Plan) (first at : SourceTold) (fed : Fed) (inputs : Inputs) (output : Device SinkTold) (gave : LinesGave fed plan first at More inputs) (rest : List ℕ) → IsJob (record { plan = plan; inputs = inputs }) → (fed.read.ended ≡ true → rest ≡ [])
-    → FrontIn packet_lines output.before output.now (record { plan = plan; inputs = inputs }) → (streams : List (StreamPrefix Plain))
-    → IsSolution (job_of plan (ended_input (inputs_of plan) (gave.past ++ rest))) streams → TookFront output (output_text_of plan streams)
-front_more plan first at fed inputs output u rest is_job fits put streams is =
+front_more : (laws : Laws) (plan : Plan) (first at : SourceTold) (fed : Fed) (inputs : Inputs) (output : Device SinkTold) (gave : LinesGave fed plan first at More inputs) (rest : List ℕ) → IsJob (record { plan = plan; inputs = inputs; laws = laws }) → (fed.read.ended ≡ true → rest ≡ [])
+    → FrontIn packet_lines output.before output.now (record { plan = plan; inputs = inputs; laws = laws }) → (streams : List (StreamPrefix Plain))
+    → IsSolution (job_of laws plan (ended_input (inputs_of plan) (gave.past ++ rest))) streams → TookFront output (output_text_of plan streams)
+front_more laws plan first at fed inputs output u rest is_job fits put streams is =
     let bytes = u.past ++ rest in
     let graph = inputs_of plan in
-    let job = logged plan inputs [] in
+    let job = logged laws plan inputs [] in
     let found = solved job is_job in
     let front = lines_in_front plan first at fed inputs u rest fits in
     let good : AllGood graph [] (u.lines ++ front.0) = subst (λ (ls : List (List ℕ)). AllGood graph [] ls) front.1 (good-accepted graph [] (all_lines bytes)) in
     let same = sym (sides-stay graph u.lines front.0 good (u.named tt)) in
-    let read : IsSolution (record { plan = plan; inputs = inputs_at graph u.lines false }) found.0 = subst (λ (i : Inputs). IsSolution (record { plan = plan; inputs = i }) found.0) u.inputs_are found.1.solution in
-    let solution : IsSolution (record { plan = plan; inputs = record { streams = (given_by graph u.lines).streams; sides = (given_by graph u.lines).sides; ended = false } }) found.0 =
-    subst (λ (ss : List (StreamPrefix Plain)). IsSolution (record { plan = plan; inputs = record { streams = ss; sides = (given_by graph u.lines).sides; ended = false } }) found.0)
+    let read : IsSolution (record { plan = plan; inputs = inputs_at graph u.lines false; laws = laws }) found.0 = subst (λ (i : Inputs). IsSolution (record { plan = plan; inputs = i; laws = laws }) found.0) u.inputs_are found.1.solution in
+    let solution : IsSolution (record { plan = plan; inputs = record { streams = (given_by graph u.lines).streams; sides = (given_by graph u.lines).sides; ended = false }; laws = laws }) found.0 =
+    subst (λ (ss : List (StreamPrefix Plain)). IsSolution (record { plan = plan; inputs = record { streams = ss; sides = (given_by graph u.lines).sides; ended = false }; laws = laws }) found.0)
     (not_ended (given_by graph u.lines).streams) read in
     front-on output (output_text_of plan found.0) (output_text_of plan streams)
-    (texts-grow plan bytes u.lines front.0 found.0 streams is_job.plan good (streams-grow graph u.lines front.0 (is_ended (ended_input graph bytes).end) good) front.1 same solution is) (put found.0 found.1.solution)
+    (texts-grow laws plan bytes u.lines front.0 found.0 streams is_job.plan good (streams-grow graph u.lines front.0 (is_ended (ended_input graph bytes).end) good) front.1 same solution is) (put found.0 found.1.solution)
 
 -- the job of the lines so far goes on to that of the whole input
-goes_on_to : (plan : Plan) (handed : List CalculatorTold) (lines more : List (List ℕ)) (bytes : List ℕ) → IsValid plan → (given_by (inputs_of plan) lines).named ≡ true → accepted (inputs_of plan) (all_lines bytes) ≡ lines ++ more
-    → Grows (logged plan (inputs_at (inputs_of plan) lines false) handed) (record { job = job_of plan (ended_input (inputs_of plan) bytes); boxes = handed })
-goes_on_to plan handed lines more bytes valid named is =
+goes_on_to : {laws : Laws} (plan : Plan) (handed : List BoxTold) (lines more : List (List ℕ)) (bytes : List ℕ) → IsValid plan → (given_by (inputs_of plan) lines).named ≡ true → accepted (inputs_of plan) (all_lines bytes) ≡ lines ++ more
+    → Grows (logged laws plan (inputs_at (inputs_of plan) lines false) handed) (record { job = job_of laws plan (ended_input (inputs_of plan) bytes); boxes = handed; same = refl })
+goes_on_to {laws} plan handed lines more bytes valid named is =
     let graph = inputs_of plan in
     let end = (ended_input graph bytes).end in
     let good : AllGood graph [] (lines ++ more) = subst (λ (ls : List (List ℕ)). AllGood graph [] ls) is (good-accepted graph [] (all_lines bytes)) in
@@ -129,15 +130,15 @@ goes_on_to plan handed lines more bytes valid named is =
           (streams-grow graph lines more (is_ended end) good));
     }
 
-fronts_more : (plan : Plan) (first at : SourceTold) (fed : Fed) (inputs : Inputs) (boxes now : List CalculatorTold) (net : NetView) → BoxesFit plan boxes → (gave : LinesGave fed plan first at More inputs) (rest : List ℕ) → IsValid plan
-    → (fed.read.ended ≡ true → rest ≡ []) → StoodFor (logged plan inputs boxes) net → now ≡ given_back net → KeptFronts (job_of plan (ended_input (inputs_of plan) (gave.past ++ rest))) (device boxes now)
-fronts_more plan first at fed inputs boxes now net fit u rest valid fits stood back =
+fronts_more : {laws : Laws} (plan : Plan) (first at : SourceTold) (fed : Fed) (inputs : Inputs) (boxes now : List BoxTold) (net : NetView) → BoxesFit plan boxes → (gave : LinesGave fed plan first at More inputs) (rest : List ℕ) → IsValid plan
+    → (fed.read.ended ≡ true → rest ≡ []) → StoodFor (logged laws plan inputs boxes) net → now ≡ given_back net → KeptFronts (job_of laws plan (ended_input (inputs_of plan) (gave.past ++ rest))) (device boxes now)
+fronts_more {laws} plan first at fed inputs boxes now net fit u rest valid fits stood back =
     let bytes = u.past ++ rest in
     let front = lines_in_front plan first at fed inputs u rest fits in
     let grows = goes_on_to plan boxes u.lines front.0 bytes valid (u.named tt) front.1 in
-    let then : StoodFor (logged plan (inputs_at (inputs_of plan) u.lines false) boxes) net = subst (λ (i : Inputs). StoodFor (logged plan i boxes) net) u.inputs_are stood in
-    subst (λ (bs : List CalculatorTold). KeptFronts (job_of plan (ended_input (inputs_of plan) bytes)) (device boxes bs)) (sym back)
-    (kept_fronts boxes (logged plan (inputs_at (inputs_of plan) u.lines false) boxes) (record { job = job_of plan (ended_input (inputs_of plan) bytes); boxes = boxes }) net fit refl then refl (inr grows) grows.is_job)
+    let then : StoodFor (logged laws plan (inputs_at (inputs_of plan) u.lines false) boxes) net = subst (λ (i : Inputs). StoodFor (logged laws plan i boxes) net) u.inputs_are stood in
+    subst (λ (bs : List BoxTold). KeptFronts (job_of laws plan (ended_input (inputs_of plan) bytes)) (device boxes bs)) (sym back)
+    (kept_fronts boxes (logged laws plan (inputs_at (inputs_of plan) u.lines false) boxes) (record { job = job_of laws plan (ended_input (inputs_of plan) bytes); boxes = boxes; same = refl }) net fit refl then refl (inr grows) grows.is_job)
 
 -- The input came to its end --
 
@@ -151,14 +152,14 @@ came_at plan first at fed end inputs u =
     })
 
 -- the run was of that
-pub lines_ran : (report : Bool) (plan : Plan) (devices : RunDevices) (boxes : Device (List CalculatorTold)) (status : Status) (fed : Fed) (end : FeedEnd) (inputs : Inputs) → LinesGave fed plan devices.input.before devices.input.now (End end) inputs
-    → CalculatorsCameBack plan boxes.before boxes.now → Wrote (by_lines report) (record { plan = plan; inputs = inputs }) end status devices.output devices.notes → HadCallsOf (record { plan = plan; inputs = inputs }) boxes
-    → OneReading report plan status devices boxes
-lines_ran report plan devices boxes status fed end inputs u back wrote had = record {
+pub lines_ran : {laws : Laws} (report : Bool) (plan : Plan) (devices : RunDevices) (boxes : Device (List BoxTold)) (status : Status) (fed : Fed) (end : FeedEnd) (inputs : Inputs) → LinesGave fed plan devices.input.before devices.input.now (End end) inputs
+    → CalculatorsCameBack plan boxes.before boxes.now → Wrote (by_lines report) (record { plan = plan; inputs = inputs; laws = laws }) end status devices.output devices.notes → HadCallsOf (record { plan = plan; inputs = inputs; laws = laws }) boxes
+    → OneReading laws report plan status devices boxes
+lines_ran {laws} report plan devices boxes status fed end inputs u back wrote had = record {
   read = record { lines = u.lines; end = end };
   came = came_at plan devices.input.before devices.input.now fed end inputs u;
-  run = subst (λ (i : Inputs). OneRun (by_lines report) (record { plan = plan; inputs = i }) end status devices.output devices.notes boxes) u.inputs_are
-      (one_run (by_lines report) (record { plan = plan; inputs = inputs }) end status devices.output devices.notes boxes back wrote had);
+  run = subst (λ (i : Inputs). OneRun (by_lines report) (record { plan = plan; inputs = i; laws = laws }) end status devices.output devices.notes boxes) u.inputs_are
+      (one_run (by_lines report) (record { plan = plan; inputs = inputs; laws = laws }) end status devices.output devices.notes boxes back wrote had);
 }
 
 -- Memory ran out --
@@ -185,10 +186,10 @@ first_given plan input fed More inputs u = (none_further plan input.before input
 first_given plan input fed (End end) inputs u =
     read-came (inputs_of plan) input (record { lines = u.lines; end = end }) (came_at plan input.before input.now fed end inputs u)
 
-pub lines_short : (plan : Plan) (input : Device SourceTold) (output : Device SinkTold) (boxes now : List CalculatorTold) (net : NetView) (fed : Fed) (end : BatchEnd) (at : SourceTold) (inputs : Inputs) → BoxesFit plan boxes → LinesGave fed plan input.before at end inputs
-    → (at ≡ input.now) ⊎ (IsMore end × ReadsOn fed plan input.before at input.now) → IsJob (record { plan = plan; inputs = inputs }) → FrontIn packet_lines output.before output.now (record { plan = plan; inputs = inputs })
-    → StoodFor (logged plan inputs boxes) net → now ≡ given_back net → CalculatorsCameBack plan boxes now → ShortAtEnd plan input output (device boxes now) ⊎ ShortBefore plan input output (device boxes now)
-lines_short plan input output boxes now net fed More at inputs fit u last is_job put stood back came = inr (record {
+pub lines_short : {laws : Laws} (plan : Plan) (input : Device SourceTold) (output : Device SinkTold) (boxes now : List BoxTold) (net : NetView) (fed : Fed) (end : BatchEnd) (at : SourceTold) (inputs : Inputs) → BoxesFit plan boxes → LinesGave fed plan input.before at end inputs
+    → (at ≡ input.now) ⊎ (IsMore end × ReadsOn fed plan input.before at input.now) → IsJob (record { plan = plan; inputs = inputs; laws = laws }) → FrontIn packet_lines output.before output.now (record { plan = plan; inputs = inputs; laws = laws })
+    → StoodFor (logged laws plan inputs boxes) net → now ≡ given_back net → CalculatorsCameBack plan boxes now → ShortAtEnd laws plan input output (device boxes now) ⊎ ShortBefore laws plan input output (device boxes now)
+lines_short {laws} plan input output boxes now net fed More at inputs fit u last is_job put stood back came = inr (record {
   read = (read_on plan input fed at inputs u last).read;
   first = u.past;
   later = (read_on plan input fed at inputs u last).later;
@@ -198,22 +199,22 @@ lines_short plan input output boxes now net fed More at inputs fit u last is_job
     subst (λ (s : SourceTold). EndCame input.before s) (sym ((read_on plan input fed at inputs u last).none is).0) (end_came fed.read.ended input.before at u.is_read.met is),
     ((read_on plan input fed at inputs u last).none is).1,
   );
-  short = λ rest fits. one_short packet_lines (job_of plan (ended_input (inputs_of plan) (u.past ++ rest))) output (device boxes now) came
+  short = λ rest fits. one_short packet_lines (job_of laws plan (ended_input (inputs_of plan) (u.past ++ rest))) output (device boxes now) came
       (fronts_more plan input.before at fed inputs boxes now net fit u rest is_job.plan fits stood back)
-      (front_more plan input.before at fed inputs output u rest is_job fits put);
+      (front_more laws plan input.before at fed inputs output u rest is_job fits put);
 })
-lines_short plan input output boxes now net fed (End end) at inputs fit u (inr more) is_job put stood back came = absurd more.0
-lines_short plan input output boxes now net fed (End end) at inputs fit u (inl same) is_job put stood back came =
+lines_short {laws} plan input output boxes now net fed (End end) at inputs fit u (inr more) is_job put stood back came = absurd more.0
+lines_short {laws} plan input output boxes now net fed (End end) at inputs fit u (inl same) is_job put stood back came =
     let read : Read = record { lines = u.lines; end = end } in
     inl (record {
       read = read;
       came = subst (λ (s : SourceTold). CameTo (inputs_of plan) (device input.before s) read) same (came_at plan input.before at fed end inputs u);
-      short = subst (λ (i : Inputs). OneShort packet_lines (record { plan = plan; inputs = i }) output (device boxes now)) u.inputs_are
-          (one_short packet_lines (record { plan = plan; inputs = inputs }) output (device boxes now) came
-          (kept_now boxes now (logged plan inputs boxes) net fit refl stood is_job back) put);
+      short = subst (λ (i : Inputs). OneShort packet_lines (record { plan = plan; inputs = i; laws = laws }) output (device boxes now)) u.inputs_are
+          (one_short packet_lines (record { plan = plan; inputs = inputs; laws = laws }) output (device boxes now) came
+          (kept_now boxes now (logged laws plan inputs boxes) net fit refl stood is_job back) put);
     })
 
 -- A job that a net stood for --
 
-pub stood_is_job : (job : LoggedJob) (net : NetView) → StoodFor job net → IsJob job.job
-stood_is_job job net stood = valid_plan job stood.before stood.stands
+pub stood_is_job : {laws : Laws} (job : LoggedJob laws) (net : NetView) → StoodFor job net → IsJob job.job
+stood_is_job {laws} job net stood = valid_plan job stood.before stood.stands

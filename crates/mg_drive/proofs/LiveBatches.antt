@@ -6,6 +6,7 @@ use Rattle.mg_edge.specs.Edge.{SourceTold}
 use Rattle.mg_value.specs.Payload.{Plain}
 use Rattle.mg_settled.specs.Prefix.{StreamPrefix, IsPrefix, empty_prefix}
 use Rattle.mg_settled.specs.Extension.{AreExtendedBy}
+use Rattle.mg_calc.specs.Rules.{Laws}
 use Rattle.mg_calc.specs.declared.inputs.Inputs.{Inputs}
 use Rattle.mg_calc.specs.declared.plan.Plan.{Plan}
 use Rattle.mg_calc.specs.Plan.{InputsFit}
@@ -69,8 +70,8 @@ pub pieces_of : (plan : Plan) (so_far more all : Inputs) → InputsGoOn plan so_
 pieces_of plan so_far more all g = by_places so_far.streams more.streams all.streams g.pieces (sym (length_all_zip _ so_far.streams all.streams g.extended)) g.streams
 
 -- the core's inputs go on
-pub core_goes_on : (core : Plan) (so_far more all : Inputs) → IsJob (record { plan = core; inputs = all }) → so_far.sides ≡ all.sides → AreExtendedBy so_far.streams all.streams → Piecewise so_far.streams more.streams all.streams → InputsGoOn core so_far more all
-core_goes_on core so_far more all is sides extended pieces = record {
+pub core_goes_on : (laws : Laws) (core : Plan) (so_far more all : Inputs) → IsJob (record { plan = core; inputs = all; laws = laws }) → so_far.sides ≡ all.sides → AreExtendedBy so_far.streams all.streams → Piecewise so_far.streams more.streams all.streams → InputsGoOn core so_far more all
+core_goes_on laws core so_far more all is sides extended pieces = record {
   fits = is.inputs;
   sides = sides;
   extended = extended;
@@ -80,10 +81,10 @@ core_goes_on core so_far more all is sides extended pieces = record {
 
 -- The first batch --
 
-pub live_first : {B : Type 0} (gives : Giving B) (came : Coming B) (is_fresh : B → Plan → Type 0) (is_due : Due B) (core : Plan) (old : LiveView B) (batches : B) (before source : SourceTold) (end : BatchEnd) (ended : Option FeedEnd) (inputs more : Inputs) → ended ≡ ended_of end
+pub live_first : {laws : Laws} {B : Type 0} (gives : Giving B) (came : Coming B) (is_fresh : B → Plan → Type 0) (is_due : Due B) (core : Plan) (old : LiveView B) (batches : B) (before source : SourceTold) (end : BatchEnd) (ended : Option FeedEnd) (inputs more : Inputs) → ended ≡ ended_of end
     → IsFreshLive is_fresh is_due core old → IsFirst (λ e i. gives old.batches batches old.whole before source e i × came old.batches batches old.whole before source e (i ∷ [])) old.whole end inputs → IsWidened inputs more (length old.takers)
-    → IsFirst (LiveGives gives came is_due old.batches (record old { batches = batches; ended = ended; rested = false }) core before source) core More more
-live_first {B} gives came is_fresh is_due core old batches before source end ended inputs more ended_is f first opened =
+    → IsFirst (LiveGives laws gives came is_due old.batches (record old { batches = batches; ended = ended; rested = false }) core before source) core More more
+live_first {laws} {B} gives came is_fresh is_due core old batches before source end ended inputs more ended_is f first opened =
     let whole = old.whole in
     let split = split_of whole in
     let frees_long : length old.takers ≡ length split.free = f.taken.takers_long ∙ ap length f.of.frees_are in
@@ -109,28 +110,28 @@ live_first {B} gives came is_fresh is_due core old batches before source end end
         ends = tt;
       };
       fits = subst (InputsFit core) (sym are)
-          (subst (λ (p : Plan). InputsFit p (core_inputs split inputs (none_taken split))) (sym f.of.core_is) (is_job whole inputs [] (none_taken split) f.of.valid first.fits begins).inputs);
+          (subst (λ (p : Plan). InputsFit p (core_inputs split inputs (none_taken split))) (sym f.of.core_is) (is_job laws whole inputs [] (none_taken split) f.of.valid first.fits begins).inputs);
     }
 
 -- A batch more --
 
-pub live_more : {B : Type 0} (gives : Giving B) (came : Coming B) (is_due : Due B) (began : B) (core : Plan) (old : LiveView B) (batches : B) (first before source : SourceTold) (end : BatchEnd) (ended : Option FeedEnd) (so_far inputs more : Inputs) → ended ≡ ended_of end
-    → (l : LiveGives gives came is_due began old core first before More so_far) → IsLiveDue old → BatchesGoOn (λ all. gives began batches old.whole first source end all × came began batches old.whole first source end (all ∷ l.base ∷ l.earlier)) old.whole l.base inputs → IsWidened inputs more (length old.takers)
-    → BatchesGoOn (LiveGives gives came is_due began (record old { batches = batches; ended = ended; rested = false }) core first source More) core so_far more
-live_more {B} gives came is_due began core old batches first before source end ended so_far inputs more ended_is l due g opened =
+pub live_more : {laws : Laws} {B : Type 0} (gives : Giving B) (came : Coming B) (is_due : Due B) (began : B) (core : Plan) (old : LiveView B) (batches : B) (first before source : SourceTold) (end : BatchEnd) (ended : Option FeedEnd) (so_far inputs more : Inputs) → ended ≡ ended_of end
+    → (l : LiveGives laws gives came is_due began old core first before More so_far) → IsLiveDue old → BatchesGoOn (λ all. gives began batches old.whole first source end all × came began batches old.whole first source end (all ∷ l.base ∷ l.earlier)) old.whole l.base inputs → IsWidened inputs more (length old.takers)
+    → BatchesGoOn (LiveGives laws gives came is_due began (record old { batches = batches; ended = ended; rested = false }) core first source More) core so_far more
+live_more {laws} {B} gives came is_due began core old batches first before source end ended so_far inputs more ended_is l due g opened =
     let whole = old.whole in
     let split = split_of whole in
     let come : HaveCome whole (g.all ∷ l.base ∷ l.earlier) = (g.goes_on.fits, g.goes_on.sides, g.goes_on.extended, l.come) in
     let outs = outputs_so_far split.free l.takens in
-    let on = batch_goes_on whole l.base g.all l.earlier l.takens l.of.valid come l.so_far in
+    let on = batch_goes_on laws whole l.base g.all l.earlier l.takens l.of.valid come l.so_far in
     let many : length old.takers ≡ length outs = l.taken.takers_long ∙ ap length l.of.frees_are ∙ sym (outputs_long split.free l.takens (l.taken.takens_long ∙ ap length l.of.frees_are)) in
-    let was : InputsFit split.core (core_inputs split l.base l.takens) = (is_job whole l.base l.earlier l.takens l.of.valid l.come l.so_far).inputs in
+    let was : InputsFit split.core (core_inputs split l.base l.takens) = (is_job laws whole l.base l.earlier l.takens l.of.valid l.come l.so_far).inputs in
     let stay : Piecewise outs (replicate (length outs) empty_prefix) outs = outputs_stay split.core (core_inputs split l.base l.takens) l.base.streams outs refl was in
     let pieces : Piecewise (l.base.streams ++ outs) more.streams (g.all.streams ++ outs) =
     subst (λ (ms : List (StreamPrefix Plain)). Piecewise (l.base.streams ++ outs) ms (g.all.streams ++ outs)) (ap (λ (n : ℕ). inputs.streams ++ replicate n empty_prefix) (sym many) ∙ sym opened.streams)
     (both l.base.streams inputs.streams g.all.streams outs (replicate (length outs) empty_prefix) outs (pieces_of whole l.base inputs g.all g.goes_on) stay) in
     let all : InputsGoOn split.core (core_inputs split l.base l.takens) more (core_inputs split g.all l.takens) =
-    core_goes_on split.core (core_inputs split l.base l.takens) more (core_inputs split g.all l.takens) on.is_job on.sides on.extended pieces in
+    core_goes_on laws split.core (core_inputs split l.base l.takens) more (core_inputs split g.all l.takens) on.is_job on.sides on.extended pieces in
     record {
       all = core_inputs split g.all l.takens;
       given = record {
@@ -153,29 +154,29 @@ live_more {B} gives came is_due began core old batches first before source end e
     }
 
 -- what the batches of the plan gave, where the next one is due
-pub given_so_far : {B : Type 0} (gives : Giving B) (came : Coming B) (is_due : Due B) (began : B) (core : Plan) (live : LiveView B) (first source : SourceTold) (so_far : Inputs) (l : LiveGives gives came is_due began live core first source More so_far) → IsLiveDue live
+pub given_so_far : {laws : Laws} {B : Type 0} (gives : Giving B) (came : Coming B) (is_due : Due B) (began : B) (core : Plan) (live : LiveView B) (first source : SourceTold) (so_far : Inputs) (l : LiveGives laws gives came is_due began live core first source More so_far) → IsLiveDue live
     → gives began live.batches live.whole first source More l.base
-given_so_far {B} gives came is_due began core live first source so_far l due = subst (λ (e : Option FeedEnd). gives began live.batches live.whole first source (end_by e) l.base) due.0 l.given
+given_so_far {laws} {B} gives came is_due began core live first source so_far l due = subst (λ (e : Option FeedEnd). gives began live.batches live.whole first source (end_by e) l.base) due.0 l.given
 
-pub came_so_far : {B : Type 0} (gives : Giving B) (came : Coming B) (is_due : Due B) (began : B) (core : Plan) (live : LiveView B) (first source : SourceTold) (so_far : Inputs) (l : LiveGives gives came is_due began live core first source More so_far) → IsLiveDue live
+pub came_so_far : {laws : Laws} {B : Type 0} (gives : Giving B) (came : Coming B) (is_due : Due B) (began : B) (core : Plan) (live : LiveView B) (first source : SourceTold) (so_far : Inputs) (l : LiveGives laws gives came is_due began live core first source More so_far) → IsLiveDue live
     → came began live.batches live.whole first source More (l.base ∷ l.earlier)
-came_so_far {B} gives came is_due began core live first source so_far l due = subst (λ (e : Option FeedEnd). came began live.batches live.whole first source (end_by e) (l.base ∷ l.earlier)) due.0 l.in_turn
+came_so_far {laws} {B} gives came is_due began core live first source so_far l due = subst (λ (e : Option FeedEnd). came began live.batches live.whole first source (end_by e) (l.base ∷ l.earlier)) due.0 l.in_turn
 
 pub opened_as : (inputs more : Inputs) (count long : ℕ) → count ≡ long → IsWidened inputs more count → IsWidened inputs more long
 opened_as inputs more count long same opened = subst (λ (n : ℕ). IsWidened inputs more n) same opened
 
 -- In turn --
 
-pub live_first_came : {B : Type 0} (gives : Giving B) (came : Coming B) (is_due : Due B) (began : B) (live : LiveView B) (core : Plan) (first source : SourceTold) (more : Inputs) → IsFirst (LiveGives gives came is_due began live core first source) core More more
-    → IsFirst (λ e i. LiveGives gives came is_due began live core first source e i × LiveCame gives came is_due began live core first source e (i ∷ [])) core More more
-live_first_came {B} gives came is_due began live core first source more f = record {
+pub live_first_came : {laws : Laws} {B : Type 0} (gives : Giving B) (came : Coming B) (is_due : Due B) (began : B) (live : LiveView B) (core : Plan) (first source : SourceTold) (more : Inputs) → IsFirst (LiveGives laws gives came is_due began live core first source) core More more
+    → IsFirst (λ e i. LiveGives laws gives came is_due began live core first source e i × LiveCame laws gives came is_due began live core first source e (i ∷ [])) core More more
+live_first_came {laws} {B} gives came is_due began live core first source more f = record {
   given = (f.given, record { inputs = more; earlier = []; history_is = refl; given = f.given });
   fits = f.fits;
 }
 
-pub live_more_came : {B : Type 0} (gives : Giving B) (came : Coming B) (is_due : Due B) (began : B) (live : LiveView B) (core : Plan) (first source : SourceTold) (so_far more : Inputs) (earlier : List Inputs) → BatchesGoOn (LiveGives gives came is_due began live core first source More) core so_far more
-    → BatchesGoOn (λ all. LiveGives gives came is_due began live core first source More all × LiveCame gives came is_due began live core first source More (all ∷ so_far ∷ earlier)) core so_far more
-live_more_came {B} gives came is_due began live core first source so_far more earlier g = record {
+pub live_more_came : {laws : Laws} {B : Type 0} (gives : Giving B) (came : Coming B) (is_due : Due B) (began : B) (live : LiveView B) (core : Plan) (first source : SourceTold) (so_far more : Inputs) (earlier : List Inputs) → BatchesGoOn (LiveGives laws gives came is_due began live core first source More) core so_far more
+    → BatchesGoOn (λ all. LiveGives laws gives came is_due began live core first source More all × LiveCame laws gives came is_due began live core first source More (all ∷ so_far ∷ earlier)) core so_far more
+live_more_came {laws} {B} gives came is_due began live core first source so_far more earlier g = record {
   all = g.all;
   given = (g.given, record { inputs = g.all; earlier = so_far ∷ earlier; history_is = refl; given = g.given });
   goes_on = g.goes_on;
@@ -184,10 +185,10 @@ live_more_came {B} gives came is_due began live core first source so_far more ea
 heads : (a b : Inputs) (xs ys : List Inputs) → a ∷ xs ≡ b ∷ ys → a ≡ b
 heads a b xs ys same = ap (λ (l : List Inputs). slice_index_or l 0 a) same
 
-pub given_head : {B : Type 0} (gives : Giving B) (came : Coming B) (is_due : Due B) (began : B) (live : LiveView B) (core : Plan) (first source : SourceTold) (so_far : Inputs) (earlier : List Inputs) → LiveCame gives came is_due began live core first source More (so_far ∷ earlier)
-    → LiveGives gives came is_due began live core first source More so_far
-given_head {B} gives came is_due began live core first source so_far earlier c =
-    subst (LiveGives gives came is_due began live core first source More) (sym (heads so_far c.inputs earlier c.earlier c.history_is)) c.given
+pub given_head : {laws : Laws} {B : Type 0} (gives : Giving B) (came : Coming B) (is_due : Due B) (began : B) (live : LiveView B) (core : Plan) (first source : SourceTold) (so_far : Inputs) (earlier : List Inputs) → LiveCame laws gives came is_due began live core first source More (so_far ∷ earlier)
+    → LiveGives laws gives came is_due began live core first source More so_far
+given_head {laws} {B} gives came is_due began live core first source so_far earlier c =
+    subst (LiveGives laws gives came is_due began live core first source More) (sym (heads so_far c.inputs earlier c.earlier c.history_is)) c.given
 
 -- it leaves less to come
 pub live_fewer : (old_end : Option FeedEnd) (end : BatchEnd) (ended : Option FeedEnd) (left left_now rounds : ℕ) → old_end ≡ None → ended ≡ ended_of end → (IsMore end → left_now < left)

@@ -6,10 +6,11 @@ use Rattle.std.proofs.lemmas.List.Elements.{recursion_from_All}
 use Rattle.mg_edge.specs.Edge.{SourceTold, SinkTold}
 use Rattle.mg_value.specs.Payload.{Plain}
 use Rattle.mg_settled.specs.Prefix.{StreamPrefix}
+use Rattle.mg_calc.specs.Rules.{Laws}
 use Rattle.mg_calc.specs.declared.inputs.Inputs.{Inputs}
 use Rattle.mg_calc.specs.declared.plan.Plan.{Plan}
 use Rattle.mg_calc.specs.Equations.{IsJob, IsSolution}
-use Rattle.mg_calc.specs.Told.{CalculatorTold}
+use Rattle.mg_calc.specs.Told.{BoxTold}
 use Rattle.mg_feed.specs.Graph.{GraphInputs, inputs_of}
 use Rattle.mg_feed.specs.Batch.{Fills, naming}
 use Rattle.mg_feed.specs.Fed.{Fed}
@@ -70,10 +71,10 @@ abbrev gave_as : (whole : Plan) (first at : SourceTold) (fed : Fed) (end : Batch
     → LinesGave fed whole first at end (inputs_at (inputs_of whole) (lines_of came.earlier ++ came.newest) (has_ended end))
 gave_as whole first at fed end base earlier came = record { past = came.past; lines = lines_of came.earlier ++ came.newest; is_read = came.is_read; inputs_are = refl; named = came.named }
 
-pub live_lines : (report : Bool) (whole : Plan) (status : Status) (devices : RunDevices) (boxes : Device (List CalculatorTold)) (fed : Fed) (end : FeedEnd) (base : Inputs) (earlier : List Inputs) (first : Inputs) (later : List Inputs)
-    → LinesCame fed whole devices.input.before devices.input.now (End end) (base ∷ earlier) → reverse (base ∷ earlier) ≡ first ∷ later → OneLive packet_lines report whole first later end status devices.output devices.notes boxes
-    → OneLiveReading report whole status devices boxes
-live_lines report whole status devices boxes fed end base earlier first later came order run =
+pub live_lines : {laws : Laws} (report : Bool) (whole : Plan) (status : Status) (devices : RunDevices) (boxes : Device (List BoxTold)) (fed : Fed) (end : FeedEnd) (base : Inputs) (earlier : List Inputs) (first : Inputs) (later : List Inputs)
+    → LinesCame fed whole devices.input.before devices.input.now (End end) (base ∷ earlier) → reverse (base ∷ earlier) ≡ first ∷ later → OneLive laws packet_lines report whole first later end status devices.output devices.notes boxes
+    → OneLiveReading laws report whole status devices boxes
+live_lines {laws} report whole status devices boxes fed end base earlier first later came order run =
     let graph = inputs_of whole in
     record {
       read = record { lines = lines_of came.earlier ++ came.newest; end = end };
@@ -117,11 +118,11 @@ first_come graph end batches rest lines cut all same is =
 
 -- Memory ran out --
 
-short_of : (whole : Plan) (output : Device SinkTold) (boxes : Device (List CalculatorTold)) (base : Inputs) (earlier : List Inputs) (takens : List Taken) (streams : List (StreamPrefix Plain)) → SoFar (split_of whole) (base ∷ earlier) takens
-    → IsJob (core_job (split_of whole) base takens) → IsSolution (core_job (split_of whole) base takens) streams
-    → IsToldSome HasLines (core_job (split_of whole) base takens) output.before output.now ⊎ FrontIn packet_lines output.before output.now (core_job (split_of whole) base takens)
-    → AllHad (split_of whole).core (KeepsAFront (core_job (split_of whole) base takens) streams) boxes → (later batches : List Inputs) → batches ≡ reverse (base ∷ earlier) ++ later → LiveShort packet_lines whole batches output boxes
-short_of whole output boxes base earlier takens streams so_far is_job solution front had later batches first = record {
+short_of : {laws : Laws} (whole : Plan) (output : Device SinkTold) (boxes : Device (List BoxTold)) (base : Inputs) (earlier : List Inputs) (takens : List Taken) (streams : List (StreamPrefix Plain)) → SoFar laws (split_of whole) (base ∷ earlier) takens
+    → IsJob (core_job laws (split_of whole) base takens) → IsSolution (core_job laws (split_of whole) base takens) streams
+    → IsToldSome HasLines (core_job laws (split_of whole) base takens) output.before output.now ⊎ FrontIn packet_lines output.before output.now (core_job laws (split_of whole) base takens)
+    → AllHad (split_of whole).core (KeepsAFront (core_job laws (split_of whole) base takens) streams) boxes → (later batches : List Inputs) → batches ≡ reverse (base ∷ earlier) ++ later → LiveShort laws packet_lines whole batches output boxes
+short_of {laws} whole output boxes base earlier takens streams so_far is_job solution front had later batches first = record {
   base = base;
   earlier = earlier;
   later = later;
@@ -130,14 +131,14 @@ short_of whole output boxes base earlier takens streams so_far is_job solution f
   so_far = so_far;
   streams = streams;
   solution = solution;
-  front = front_lines (logged (split_of whole).core (core_inputs (split_of whole) base takens) []) output.before output.now is_job front streams solution;
+  front = front_lines (logged laws (split_of whole).core (core_inputs (split_of whole) base takens) []) output.before output.now is_job front streams solution;
   had = had;
 }
 
-short_lines : (whole : Plan) (input : Device SourceTold) (output : Device SinkTold) (boxes : Device (List CalculatorTold)) (fed : Fed) (ended : Option FeedEnd) (at : SourceTold) (base : Inputs) (earlier : List Inputs) → LinesCame fed whole input.before at (end_by ended) (base ∷ earlier)
-    → (at ≡ input.now) ⊎ (IsMore (end_by ended) × ReadsOn fed whole input.before at input.now) → ((later batches : List Inputs) → batches ≡ reverse (base ∷ earlier) ++ later → LiveShort packet_lines whole batches output boxes)
-    → LiveShortAtEnd whole input output boxes ⊎ LiveShortBefore whole input output boxes
-short_lines whole input output boxes fed None at base earlier came read_last short =
+short_lines : {laws : Laws} (whole : Plan) (input : Device SourceTold) (output : Device SinkTold) (boxes : Device (List BoxTold)) (fed : Fed) (ended : Option FeedEnd) (at : SourceTold) (base : Inputs) (earlier : List Inputs) → LinesCame fed whole input.before at (end_by ended) (base ∷ earlier)
+    → (at ≡ input.now) ⊎ (IsMore (end_by ended) × ReadsOn fed whole input.before at input.now) → ((later batches : List Inputs) → batches ≡ reverse (base ∷ earlier) ++ later → LiveShort laws packet_lines whole batches output boxes)
+    → LiveShortAtEnd laws whole input output boxes ⊎ LiveShortBefore laws whole input output boxes
+short_lines {laws} whole input output boxes fed None at base earlier came read_last short =
     let graph = inputs_of whole in
     let given = inputs_at graph (lines_of came.earlier ++ came.newest) false in
     let gave : LinesGave fed whole input.before at More given = gave_as whole input.before at fed More base earlier came in
@@ -157,8 +158,8 @@ short_lines whole input output boxes fed None at base earlier came read_last sho
           let some = first_come graph (ended_input graph (came.past ++ rest)).end (came.newest ∷ came.earlier) front.0 (ended_input graph (came.past ++ rest)).lines are.lines (came.filled, all_full came.earlier came.all_filled) front.1 are.in_batches in
           short some.0 batches (sym are.are ∙ some.1 ∙ ap (λ (l : List Inputs). reverse l ++ some.0) (sym came.history_is)));
     })
-short_lines whole input output boxes fed (Some end) at base earlier came (inr further) short = absurd further.0
-short_lines whole input output boxes fed (Some end) at base earlier came (inl same) short =
+short_lines {laws} whole input output boxes fed (Some end) at base earlier came (inr further) short = absurd further.0
+short_lines {laws} whole input output boxes fed (Some end) at base earlier came (inl same) short =
     let graph = inputs_of whole in
     let read : Read = record { lines = lines_of came.earlier ++ came.newest; end = end } in
     let cut = reverse came.earlier ++ came.newest ∷ [] in
@@ -175,12 +176,12 @@ short_lines whole input output boxes fed (Some end) at base earlier came (inl sa
       short = short [] (come_after graph end [] cut) (came_after_all graph end came.newest came.earlier (base ∷ earlier) came.history_is ∙ sym (append-nil (reverse (base ∷ earlier))));
     })
 
-pub live_lines_short : (whole : Plan) (input : Device SourceTold) (output : Device SinkTold) (boxes : Device (List CalculatorTold)) (fed : Fed) (ended : Option FeedEnd) (at : SourceTold) (base : Inputs) (earlier : List Inputs) (takens : List Taken) (streams : List (StreamPrefix Plain))
-    → LinesCame fed whole input.before at (end_by ended) (base ∷ earlier) → (at ≡ input.now) ⊎ (IsMore (end_by ended) × ReadsOn fed whole input.before at input.now) → SoFar (split_of whole) (base ∷ earlier) takens
-    → IsJob (core_job (split_of whole) base takens) → IsSolution (core_job (split_of whole) base takens) streams
-    → IsToldSome HasLines (core_job (split_of whole) base takens) output.before output.now ⊎ FrontIn packet_lines output.before output.now (core_job (split_of whole) base takens)
-    → AllHad (split_of whole).core (KeepsAFront (core_job (split_of whole) base takens) streams) boxes → LiveShortAtEnd whole input output boxes ⊎ LiveShortBefore whole input output boxes
-live_lines_short whole input output boxes fed ended at base earlier takens streams came read_last so_far is_job solution front had =
+pub live_lines_short : {laws : Laws} (whole : Plan) (input : Device SourceTold) (output : Device SinkTold) (boxes : Device (List BoxTold)) (fed : Fed) (ended : Option FeedEnd) (at : SourceTold) (base : Inputs) (earlier : List Inputs) (takens : List Taken) (streams : List (StreamPrefix Plain))
+    → LinesCame fed whole input.before at (end_by ended) (base ∷ earlier) → (at ≡ input.now) ⊎ (IsMore (end_by ended) × ReadsOn fed whole input.before at input.now) → SoFar laws (split_of whole) (base ∷ earlier) takens
+    → IsJob (core_job laws (split_of whole) base takens) → IsSolution (core_job laws (split_of whole) base takens) streams
+    → IsToldSome HasLines (core_job laws (split_of whole) base takens) output.before output.now ⊎ FrontIn packet_lines output.before output.now (core_job laws (split_of whole) base takens)
+    → AllHad (split_of whole).core (KeepsAFront (core_job laws (split_of whole) base takens) streams) boxes → LiveShortAtEnd laws whole input output boxes ⊎ LiveShortBefore laws whole input output boxes
+live_lines_short {laws} whole input output boxes fed ended at base earlier takens streams came read_last so_far is_job solution front had =
     short_lines whole input output boxes fed ended at base earlier came read_last (short_of whole output boxes base earlier takens streams so_far is_job solution front had)
 
 -- what a further call reads, where it may come

@@ -5,11 +5,12 @@ use Rattle.std.proofs.lemmas.List.{reverse-append}
 use Rattle.mg_edge.specs.Edge.{SourceTold}
 use Rattle.mg_value.specs.Payload.{Plain}
 use Rattle.mg_settled.specs.Prefix.{StreamPrefix}
+use Rattle.mg_calc.specs.Rules.{Laws}
 use Rattle.mg_calc.specs.declared.inputs.Inputs.{Inputs}
 use Rattle.mg_calc.specs.declared.plan.Plan.{Plan}
 use Rattle.mg_calc.specs.declared.plan_node.PlanNode.{PlanNode}
 use Rattle.mg_calc.specs.Equations.{Job, IsJob, IsSolution}
-use Rattle.mg_calc.specs.Told.{CalculatorTold}
+use Rattle.mg_calc.specs.Told.{BoxTold}
 use Rattle.mg_calc.proofs.Solutions.{one_solution}
 use Rattle.mg_feed.specs.declared.feed_end.FeedEnd.{FeedEnd}
 use Rattle.mg_feed.specs.declared.feed_end.BatchEnd.{BatchEnd}
@@ -62,17 +63,17 @@ turned base earlier =
     let some = begins_with (reverse earlier) base in
     (some.0, some.1, split ∙ some.2, last_behind (reverse earlier) base some.0 some.1 some.2)
 
-abbrev job_in : Plan → Inputs → Job
-job_in core inputs = record { plan = core; inputs = inputs }
+abbrev job_in : Laws → Plan → Inputs → Job
+job_in laws core inputs = record { plan = core; inputs = inputs; laws = laws }
 
-core_job_is : (whole core : Plan) (inputs base last : Inputs) (takens : List Taken) → core ≡ (split_of whole).core → inputs ≡ core_inputs (split_of whole) base takens → last ≡ base → job_in core inputs ≡ core_job (split_of whole) last takens
-core_job_is whole core inputs base last takens one two three =
-    ap (λ (p : Plan). job_in p inputs) one ∙ ap (job_in (split_of whole).core) two ∙ ap (λ (b : Inputs). core_job (split_of whole) b takens) (sym three)
+core_job_is : (laws : Laws) (whole core : Plan) (inputs base last : Inputs) (takens : List Taken) → core ≡ (split_of whole).core → inputs ≡ core_inputs (split_of whole) base takens → last ≡ base → job_in laws core inputs ≡ core_job laws (split_of whole) last takens
+core_job_is laws whole core inputs base last takens one two three =
+    ap (λ (p : Plan). job_in laws p inputs) one ∙ ap (job_in laws (split_of whole).core) two ∙ ap (λ (b : Inputs). core_job laws (split_of whole) b takens) (sym three)
 
-abbrev HadIn : Device (List CalculatorTold) → List (StreamPrefix Plain) → Job → Type 0
+abbrev HadIn : Device (List BoxTold) → List (StreamPrefix Plain) → Job → Type 0
 HadIn boxes streams job = AllHad job.plan (HadItsCalls job streams) boxes
 
-had_in : (job : Job) (streams : List (StreamPrefix Plain)) (boxes : Device (List CalculatorTold)) → IsSolution job streams → CalculatorsCameBack job.plan boxes.before boxes.now → HadCallsOf job boxes → HadIn boxes streams job
+had_in : (job : Job) (streams : List (StreamPrefix Plain)) (boxes : Device (List BoxTold)) → IsSolution job streams → CalculatorsCameBack job.plan boxes.before boxes.now → HadCallsOf job boxes → HadIn boxes streams job
 had_in job streams boxes solution back had = record {
   back = back;
   used = subst (λ (ss : List (StreamPrefix Plain)). (number place : ℕ) (node : PlanNode) → slice_get job.plan.nodes number ≡ Some node → node.box_number ≡ Some place → IsRelatedAt place (HadItsCalls job ss node) boxes)
@@ -82,20 +83,20 @@ had_in job streams boxes solution back had = record {
 abbrev OutputsAre : List FreeNode → List Taken → List (StreamPrefix Plain) → Type 0
 OutputsAre frees takens streams = AllZip (λ free taken. output_so_far free taken ≡ output_of free.law (free_inputs streams free) taken.log) frees takens
 
-pub live_ran : {B : Type 0} (gives : Giving B) (came : Coming B) (is_due : Due B) (form : OutputForm) (report : Bool) (began : B) (live : LiveView B) (core : Plan) (status : Status) (devices : RunDevices) (boxes : Device (List CalculatorTold)) (end : FeedEnd) (inputs : Inputs)
-    → (l : LiveGives gives came is_due began live core devices.input.before devices.input.now (End end) inputs) → LiveWrote live.whole live.frees live.takers form report (job_in core inputs) end status devices.output devices.notes
-    → HadCallsOf (job_in core inputs) boxes → CalculatorsCameBack core boxes.before boxes.now → HasRunLive gives came form report began live.whole status devices boxes
-live_ran {B} gives came is_due form report began live core status devices boxes end inputs l w had back =
+pub live_ran : {laws : Laws} {B : Type 0} (gives : Giving B) (came : Coming B) (is_due : Due B) (form : OutputForm) (report : Bool) (began : B) (live : LiveView B) (core : Plan) (status : Status) (devices : RunDevices) (boxes : Device (List BoxTold)) (end : FeedEnd) (inputs : Inputs)
+    → (l : LiveGives laws gives came is_due began live core devices.input.before devices.input.now (End end) inputs) → LiveWrote live.whole live.frees live.takers form report (job_in laws core inputs) end status devices.output devices.notes
+    → HadCallsOf (job_in laws core inputs) boxes → CalculatorsCameBack core boxes.before boxes.now → HasRunLive laws gives came form report began live.whole status devices boxes
+live_ran {laws} {B} gives came is_due form report began live core status devices boxes end inputs l w had back =
     let split = split_of live.whole in
     let order = turned l.base l.earlier in
     let first = order.0 in
     let later = order.1 in
     let round = l.rests l.ends.1 in
-    let same = core_job_is live.whole core inputs l.base (last_batch first later) l.takens l.of.core_is l.inputs_are order.3 in
-    let solution : IsSolution (core_job split (last_batch first later) l.takens) w.streams = subst (λ (j : Job). IsSolution j w.streams) same w.solution in
-    let come = all_come live.whole l.base l.earlier l.takens l.of.valid l.come l.so_far round in
-    let job = core_job split (last_batch first later) l.takens in
-    let streams_are = one_solution job come.streams w.streams (subst (λ (b : Inputs). IsSolution (core_job split b l.takens) come.streams) (sym order.3) come.solution) solution in
+    let same = core_job_is laws live.whole core inputs l.base (last_batch first later) l.takens l.of.core_is l.inputs_are order.3 in
+    let solution : IsSolution (core_job laws split (last_batch first later) l.takens) w.streams = subst (λ (j : Job). IsSolution j w.streams) same w.solution in
+    let come = all_come laws live.whole l.base l.earlier l.takens l.of.valid l.come l.so_far round in
+    let job = core_job laws split (last_batch first later) l.takens in
+    let streams_are = one_solution job come.streams w.streams (subst (λ (b : Inputs). IsSolution (core_job laws split b l.takens) come.streams) (sym order.3) come.solution) solution in
     record {
       batches = live.batches;
       end = end;
@@ -109,23 +110,23 @@ live_ran {B} gives came is_due form report began live core status devices boxes 
       run = record {
         comes = record {
           takens = l.takens;
-          rounds = subst (λ (bs : List Inputs). AllRounds split bs (none_taken split) l.takens) order.2 (all_rounds split l.base l.earlier l.takens l.so_far round);
+          rounds = subst (λ (bs : List Inputs). AllRounds laws split bs (none_taken split) l.takens) order.2 (all_rounds laws split l.base l.earlier l.takens l.so_far round);
           streams = w.streams;
           solution = solution;
           logs = subst (λ (ss : List (StreamPrefix Plain)). AreLawful ss split.free l.takens) streams_are come.logs;
           outputs = subst (OutputsAre split.free l.takens) streams_are come.outputs;
           live = w.live;
-          tells = subst (λ (fs : List FreeNode). LiveTells live.whole (core_job split (last_batch first later) l.takens) w.streams fs l.takens w.live) l.of.frees_are
+          tells = subst (λ (fs : List FreeNode). LiveTells live.whole (core_job laws split (last_batch first later) l.takens) w.streams fs l.takens w.live) l.of.frees_are
               (subst (λ (j : Job). LiveTells live.whole j w.streams live.frees l.takens w.live) same (w.tells l.takens l.taken));
         };
         wrote = subst (λ (p : Plan). WroteBy status (told_answer report live.whole end w.live (output_in form p w.streams)) (told_failed report live.whole end w.live) devices.output devices.notes) l.of.core_is w.by;
-        had = subst (HadIn boxes w.streams) same (had_in (job_in core inputs) w.streams boxes w.solution back had);
+        had = subst (HadIn boxes w.streams) same (had_in (job_in laws core inputs) w.streams boxes w.solution back had);
       };
     }
 
 -- Memory ran out --
 
-kept_in : (job : Job) (boxes : Device (List CalculatorTold)) → CalculatorsCameBack job.plan boxes.before boxes.now → (had : KeptFronts job boxes) → AllHad job.plan (KeepsAFront job had.streams) boxes
+kept_in : (job : Job) (boxes : Device (List BoxTold)) → CalculatorsCameBack job.plan boxes.before boxes.now → (had : KeptFronts job boxes) → AllHad job.plan (KeepsAFront job had.streams) boxes
 kept_in job boxes back had = record { back = back; used = had.each }
 
 more_none : (ended : Option FeedEnd) → ended ≡ None → IsMore (end_by ended)
@@ -136,16 +137,16 @@ read_last : {B : Type 0} (reads_on : ReadingOn B) (batches : B) (whole : Plan) (
 read_last {B} reads_on batches whole ended end first at now (inl same) = inl same
 read_last {B} reads_on batches whole ended end first at now (inr more) = inr (more_none ended more.1.0, more.1.1)
 
-pub live_short : {B T : Type 0} (gives : Giving B) (came : Coming B) (is_due : Due B) (reads_on : ReadingOn B) (has_told : TellingSets T) (form : OutputForm) (began : B) (live : LiveView B) (core : Plan) (devices : RunDevices) (boxes now : List CalculatorTold) (net : NetView) (at : SourceTold) (end : BatchEnd) (inputs : Inputs)
-    → BoxesFit core boxes → LiveGives gives came is_due began live core devices.input.before at end inputs
+pub live_short : {laws : Laws} {B T : Type 0} (gives : Giving B) (came : Coming B) (is_due : Due B) (reads_on : ReadingOn B) (has_told : TellingSets T) (form : OutputForm) (began : B) (live : LiveView B) (core : Plan) (devices : RunDevices) (boxes now : List BoxTold) (net : NetView) (at : SourceTold) (end : BatchEnd) (inputs : Inputs)
+    → BoxesFit core boxes → LiveGives laws gives came is_due began live core devices.input.before at end inputs
     → (at ≡ devices.input.now) ⊎ (IsMore end × ((live.ended ≡ None) × reads_on live.batches live.whole devices.input.before at devices.input.now))
-    → StoodFor (logged core inputs boxes) net → now ≡ given_back net → CalculatorsCameBack core boxes now
-    → IsToldSome has_told (job_in core inputs) devices.output.before devices.output.now ⊎ FrontIn form devices.output.before devices.output.now (job_in core inputs) → CoreShort came reads_on has_told form began live.whole devices (device boxes now)
-live_short {B} {T} gives came is_due reads_on has_told form began live core devices boxes now net at end inputs fit l last stood back came_back front =
-    let job = logged core inputs boxes in
+    → StoodFor (logged laws core inputs boxes) net → now ≡ given_back net → CalculatorsCameBack core boxes now
+    → IsToldSome has_told (job_in laws core inputs) devices.output.before devices.output.now ⊎ FrontIn form devices.output.before devices.output.now (job_in laws core inputs) → CoreShort laws came reads_on has_told form began live.whole devices (device boxes now)
+live_short {laws} {B} {T} gives came is_due reads_on has_told form began live core devices boxes now net at end inputs fit l last stood back came_back front =
+    let job = logged laws core inputs boxes in
     let is = stood_is_job job net stood in
     let kept = kept_now boxes now job net fit refl stood is back in
-    let same = core_job_is live.whole core inputs l.base l.base l.takens l.of.core_is l.inputs_are refl in
+    let same = core_job_is laws live.whole core inputs l.base l.base l.takens l.of.core_is l.inputs_are refl in
     record {
       batches = live.batches;
       ended = live.ended;
@@ -160,13 +161,13 @@ live_short {B} {T} gives came is_due reads_on has_told form began live core devi
       streams = kept.streams;
       solution = subst (λ (j : Job). IsSolution j kept.streams) same kept.solution;
       front = subst (λ (j : Job). IsToldSome has_told j devices.output.before devices.output.now ⊎ FrontIn form devices.output.before devices.output.now j) same front;
-      had = subst (λ (j : Job). AllHad j.plan (KeepsAFront j kept.streams) (device boxes now)) same (kept_in (job_in core inputs) (device boxes now) came_back kept);
+      had = subst (λ (j : Job). AllHad j.plan (KeepsAFront j kept.streams) (device boxes now)) same (kept_in (job_in laws core inputs) (device boxes now) came_back kept);
     }
 
 -- a first batch of the plan was given
-pub live_given : {B : Type 0} (gives : Giving B) (came : Coming B) (is_due : Due B) (began : B) (live : LiveView B) (core : Plan) (input : Device SourceTold) (end : BatchEnd) (inputs : Inputs)
-    → LiveGives gives came is_due began live core input.before input.now end inputs → HasGiven gives began live.plan input
-live_given {B} gives came is_due began live core input end inputs l = record {
+pub live_given : {laws : Laws} {B : Type 0} (gives : Giving B) (came : Coming B) (is_due : Due B) (began : B) (live : LiveView B) (core : Plan) (input : Device SourceTold) (end : BatchEnd) (inputs : Inputs)
+    → LiveGives laws gives came is_due began live core input.before input.now end inputs → HasGiven gives began live.plan input
+live_given {laws} {B} gives came is_due began live core input end inputs l = record {
   batches = live.batches;
   end = end_by live.ended;
   inputs = l.base;

@@ -11,7 +11,8 @@ use Rattle.mg_value.specs.Packet.{Stamped}
 use Rattle.mg_settled.specs.Prefix.{StreamPrefix, IsPrefix, empty_prefix}
 use Rattle.mg_settled.specs.Extension.{AreExtendedBy}
 use Rattle.mg_settled.specs.Settled.{port_of}
-use Rattle.mg_calc.specs.Told.{CalculatorTold}
+use Rattle.mg_calc.specs.Rules.{Laws}
+use Rattle.mg_calc.specs.Told.{BoxTold}
 use Rattle.mg_calc.specs.declared.inputs.Inputs.{Inputs}
 use Rattle.mg_calc.specs.declared.plan.Plan.{Plan}
 use Rattle.mg_calc.specs.Plan.{InputsFit}
@@ -103,46 +104,46 @@ rounds_stay streams frees takens takers now h after same =
 -- What has come to rest --
 
 -- the job of a core that stands as what was given
-abbrev live_job : Plan → Inputs → Job
-live_job core inputs = record { plan = core; inputs = inputs }
+abbrev live_job : Laws → Plan → Inputs → Job
+live_job laws core inputs = record { plan = core; inputs = inputs; laws = laws }
 
-pub record IsStill {B : Type 0} (gives : Giving B) (came : Coming B) (is_due : Due B) (began : B) (live : LiveView B) (core : Plan) (first source : SourceTold) (last : BatchEnd) (so_far : Inputs) (net : NetView) : Type 0 where
-  pub given : LiveGives gives came is_due began live core first source last so_far
+pub record IsStill (laws : Laws) {B : Type 0} (gives : Giving B) (came : Coming B) (is_due : Due B) (began : B) (live : LiveView B) (core : Plan) (first source : SourceTold) (last : BatchEnd) (so_far : Inputs) (net : NetView) : Type 0 where
+  pub given : LiveGives laws gives came is_due began live core first source last so_far
   pub streams : List (StreamPrefix Plain)
-  pub are : AreRested net streams
-  pub solution : IsSolution (core_job (split_of live.whole) given.base given.takens) streams
+  pub are : AreRested laws net streams
+  pub solution : IsSolution (core_job laws (split_of live.whole) given.base given.takens) streams
 
-pub is_still : {B : Type 0} (gives : Giving B) (came : Coming B) (is_due : Due B) (began : B) (live : LiveView B) (core : Plan) (first source : SourceTold) (last : BatchEnd) (so_far : Inputs) (net : NetView) (logs : LoggedJob) → logs.job ≡ live_job core so_far
-    → LiveGives gives came is_due began live core first source last so_far → (solves : (streams : List (StreamPrefix Plain)) × Solves logs streams) → AreRested net solves.0 → IsStill gives came is_due began live core first source last so_far net
-is_still {B} gives came is_due began live core first source last so_far net logs is l solves are = record {
+pub is_still : {laws : Laws} {B : Type 0} (gives : Giving B) (came : Coming B) (is_due : Due B) (began : B) (live : LiveView B) (core : Plan) (first source : SourceTold) (last : BatchEnd) (so_far : Inputs) (net : NetView) (logs : LoggedJob laws) → logs.job ≡ live_job laws core so_far
+    → LiveGives laws gives came is_due began live core first source last so_far → (solves : (streams : List (StreamPrefix Plain)) × Solves logs streams) → AreRested laws net solves.0 → IsStill laws gives came is_due began live core first source last so_far net
+is_still {laws} {B} gives came is_due began live core first source last so_far net logs is l solves are = record {
   given = l;
   streams = solves.0;
   are = are;
   solution =
-      subst (λ (i : Inputs). IsSolution (live_job (split_of live.whole).core i) solves.0) l.inputs_are
-      (subst (λ (p : Plan). IsSolution (live_job p so_far) solves.0) l.of.core_is (subst (λ (j : Job). IsSolution j solves.0) is solves.1.solution));
+      subst (λ (i : Inputs). IsSolution (live_job laws (split_of live.whole).core i) solves.0) l.inputs_are
+      (subst (λ (p : Plan). IsSolution (live_job laws p so_far) solves.0) l.of.core_is (subst (λ (j : Job). IsSolution j solves.0) is solves.1.solution));
 }
 
 -- a core has come to rest with what was given
-pub stands_still : {B : Type 0} (gives : Giving B) (came : Coming B) (is_due : Due B) (began : B) (live : LiveView B) (core : Plan) (first source : SourceTold) (last : BatchEnd) (so_far : Inputs) (net : NetView) (boxes : List CalculatorTold)
-    → StandsFor (logged core so_far boxes) net → HasRested (logged core so_far boxes) net → LiveGives gives came is_due began live core first source last so_far → IsStill gives came is_due began live core first source last so_far net
-stands_still {B} gives came is_due began live core first source last so_far net boxes stands rested l =
-    let job = logged core so_far boxes in
+pub stands_still : {laws : Laws} {B : Type 0} (gives : Giving B) (came : Coming B) (is_due : Due B) (began : B) (live : LiveView B) (core : Plan) (first source : SourceTold) (last : BatchEnd) (so_far : Inputs) (net : NetView) (boxes : List BoxTold)
+    → StandsFor (logged laws core so_far boxes) net → HasRested (logged laws core so_far boxes) net → LiveGives laws gives came is_due began live core first source last so_far → IsStill laws gives came is_due began live core first source last so_far net
+stands_still {laws} {B} gives came is_due began live core first source last so_far net boxes stands rested l =
+    let job = logged laws core so_far boxes in
     let found = solved job (valid_plan job net stands) in
     is_still gives came is_due began live core first source last so_far net job refl l found (record { job = job; stands = stands; has_rested = rested; solves = found.1 })
 
 -- the free nodes may have a round
-pub may_round : {B S : Type 0} (gives : Giving B) (came : Coming B) (is_due : Due B) (began : B) (live : LiveView B) (core : Plan) (first source : SourceTold) (last : BatchEnd) (so_far : Inputs) (net : NetView)
-    (are : S → List (StreamPrefix Plain) → Type 0) (has_from : S → ℕ → ℕ → Type 0) (read : S) → ((ss : List (StreamPrefix Plain)) → AreRested net ss → are read ss) → ((stream number : ℕ) → HasFrom net stream number → has_from read stream number)
-    → IsStill gives came is_due began live core first source last so_far net → AreThere (wanted_by live.frees live.takers) net → MayRound are has_from read live.frees live.takers
-may_round {B} {S} gives came is_due began live core first source last so_far net are has_from read seen reads still there =
+pub may_round : {laws : Laws} {B S : Type 0} (gives : Giving B) (came : Coming B) (is_due : Due B) (began : B) (live : LiveView B) (core : Plan) (first source : SourceTold) (last : BatchEnd) (so_far : Inputs) (net : NetView)
+    (are : S → List (StreamPrefix Plain) → Type 0) (has_from : S → ℕ → ℕ → Type 0) (read : S) → ((ss : List (StreamPrefix Plain)) → AreRested laws net ss → are read ss) → ((stream number : ℕ) → HasFrom net stream number → has_from read stream number)
+    → IsStill laws gives came is_due began live core first source last so_far net → AreThere (wanted_by live.frees live.takers) net → MayRound are has_from read live.frees live.takers
+may_round {laws} {B} {S} gives came is_due began live core first source last so_far net are has_from read seen reads still there =
     let l = still.given in
     record {
       streams = still.streams;
       takens = l.takens;
       are_they = seen still.streams still.are;
       have_taken = l.taken;
-      may = subst (λ (fs : List FreeNode). MayAllTurn still.streams fs l.takens) (sym l.of.frees_are) (may_all_turn live.whole l.base l.earlier l.takens still.streams l.of.valid l.come l.so_far still.solution);
+      may = subst (λ (fs : List FreeNode). MayAllTurn still.streams fs l.takens) (sym l.of.frees_are) (may_all_turn laws live.whole l.base l.earlier l.takens still.streams l.of.valid l.come l.so_far still.solution);
       can_read = λ place free taken a b port stream input. reads stream (length (arrived_at port taken.log)) (there_at_ports net live.frees l.takens live.takers l.taken there place port stream free taken a b input);
     }
 
@@ -186,19 +187,19 @@ all_arrived streams free taken port stream same input =
     subst (λ (s : StreamPrefix Plain). length s.packets ≤ length (arrived_at port taken.log)) (port_in streams free.inputs port stream input)
     (not_some (port_of (free_inputs streams free) port).packets (length (arrived_at port taken.log)) left)
 
-rests_by : {B : Type 0} (gives : Giving B) (came : Coming B) (is_due : Due B) (began : B) (live : LiveView B) (core : Plan) (first source : SourceTold) (last : BatchEnd) (so_far : Inputs) (net : NetView) (still : IsStill gives came is_due began live core first source last so_far net)
-    → turns_of still.streams live.frees still.given.takens ≡ still.given.takens → IsRound (split_of live.whole) still.given.base still.given.takens still.given.takens
-rests_by {B} gives came is_due began live core first source last so_far net still same = record {
+rests_by : {laws : Laws} {B : Type 0} (gives : Giving B) (came : Coming B) (is_due : Due B) (began : B) (live : LiveView B) (core : Plan) (first source : SourceTold) (last : BatchEnd) (so_far : Inputs) (net : NetView) (still : IsStill laws gives came is_due began live core first source last so_far net)
+    → turns_of still.streams live.frees still.given.takens ≡ still.given.takens → IsRound laws (split_of live.whole) still.given.base still.given.takens still.given.takens
+rests_by {laws} {B} gives came is_due began live core first source last so_far net still same = record {
   streams = still.streams;
   solution = still.solution;
   turns = sym same ∙ ap (λ (fs : List FreeNode). turns_of still.streams fs still.given.takens) still.given.of.frees_are;
 }
 
-pub live_rests : {B : Type 0} (gives : Giving B) (came : Coming B) (is_due : Due B) (began : B) (live : LiveView B) (core : Plan) (first source : SourceTold) (last : BatchEnd) (so_far : Inputs) (net : NetView) (takers : List Taker)
-    (still : IsStill gives came is_due began live core first source last so_far net) → turns_of still.streams live.frees still.given.takens ≡ still.given.takens → HaveTaken live.frees (turns_of still.streams live.frees still.given.takens) takers
+pub live_rests : {laws : Laws} {B : Type 0} (gives : Giving B) (came : Coming B) (is_due : Due B) (began : B) (live : LiveView B) (core : Plan) (first source : SourceTold) (last : BatchEnd) (so_far : Inputs) (net : NetView) (takers : List Taker)
+    (still : IsStill laws gives came is_due began live core first source last so_far net) → turns_of still.streams live.frees still.given.takens ≡ still.given.takens → HaveTaken live.frees (turns_of still.streams live.frees still.given.takens) takers
     → handed_of takers ≡ handed_of live.takers → last ≡ More
-    → (end : BatchEnd) → EndsLive end (record live { rested = true; takers = takers }) → LiveGives gives came is_due began (record live { rested = true; takers = takers }) core first source end so_far
-live_rests {B} gives came is_due began live core first source last so_far net takers still same taken handed more end ends =
+    → (end : BatchEnd) → EndsLive end (record live { rested = true; takers = takers }) → LiveGives laws gives came is_due began (record live { rested = true; takers = takers }) core first source end so_far
+live_rests {laws} {B} gives came is_due began live core first source last so_far net takers still same taken handed more end ends =
     let l = still.given in
     record {
       of = record { whole_is = l.of.whole_is; valid = l.of.valid; core_is = l.of.core_is; numbers_are = l.of.numbers_are; frees_are = l.of.frees_are; due = l.of.due };
@@ -217,10 +218,10 @@ live_rests {B} gives came is_due began live core first source last so_far net ta
     }
 
 -- all that is in the net was read
-pub live_read : {B : Type 0} (gives : Giving B) (came : Coming B) (is_due : Due B) (began : B) (live : LiveView B) (core : Plan) (first source : SourceTold) (last : BatchEnd) (so_far : Inputs) (net : NetView) (takers : List Taker)
-    (still : IsStill gives came is_due began live core first source last so_far net) → turns_of still.streams live.frees still.given.takens ≡ still.given.takens → HaveTaken live.frees (turns_of still.streams live.frees still.given.takens) takers
+pub live_read : {laws : Laws} {B : Type 0} (gives : Giving B) (came : Coming B) (is_due : Due B) (began : B) (live : LiveView B) (core : Plan) (first source : SourceTold) (last : BatchEnd) (so_far : Inputs) (net : NetView) (takers : List Taker)
+    (still : IsStill laws gives came is_due began live core first source last so_far net) → turns_of still.streams live.frees still.given.takens ≡ still.given.takens → HaveTaken live.frees (turns_of still.streams live.frees still.given.takens) takers
     → AreThere (wanted_by live.frees live.takers) net → AreRead (wanted_by live.frees takers) net
-live_read {B} gives came is_due began live core first source last so_far net takers still same taken there =
+live_read {laws} {B} gives came is_due began live core first source last so_far net takers still same taken there =
     let l = still.given in
     all_are_read net live.frees l.takens takers (subst (λ (ts : List Taken). HaveTaken live.frees ts takers) same taken)
     (λ place port stream free t a b input.
@@ -266,18 +267,18 @@ newest_fits : (plan : Plan) (inputs : Inputs) (earlier : List Inputs) → HaveCo
 newest_fits plan inputs [] h = h
 newest_fits plan inputs (before ∷ earlier) h = h.0
 
-pub live_round : {B : Type 0} (gives : Giving B) (came : Coming B) (is_due : Due B) (began : B) (live : LiveView B) (core : Plan) (first source : SourceTold) (last : BatchEnd) (so_far : Inputs) (pieces : List (StreamPrefix Plain)) (net : NetView) (takers : List Taker) (boxes : List CalculatorTold) → StandsFor (logged core so_far boxes) net
-    → (still : IsStill gives came is_due began live core first source last so_far net) → Did true still.given.takens (turns_of still.streams live.frees still.given.takens) → HaveTaken live.frees (turns_of still.streams live.frees still.given.takens) takers
+pub live_round : {laws : Laws} {B : Type 0} (gives : Giving B) (came : Coming B) (is_due : Due B) (began : B) (live : LiveView B) (core : Plan) (first source : SourceTold) (last : BatchEnd) (so_far : Inputs) (pieces : List (StreamPrefix Plain)) (net : NetView) (takers : List Taker) (boxes : List BoxTold) → StandsFor (logged laws core so_far boxes) net
+    → (still : IsStill laws gives came is_due began live core first source last so_far net) → Did true still.given.takens (turns_of still.streams live.frees still.given.takens) → HaveTaken live.frees (turns_of still.streams live.frees still.given.takens) takers
     → handed_of takers ≡ map (λ s. length s.packets) (outputs_so_far live.frees (turns_of still.streams live.frees still.given.takens))
     → pieces ≡ pieces_behind (handed_of live.takers) (outputs_so_far live.frees (turns_of still.streams live.frees still.given.takens))
-    → BatchesGoOn (LiveGives gives came is_due began (record live { rested = false; takers = takers }) core first source More) core so_far (for_last (length net.plan.inputs) pieces)
-live_round {B} gives came is_due began live core first source last so_far pieces net takers boxes stands still did taken handed is =
+    → BatchesGoOn (LiveGives laws gives came is_due began (record live { rested = false; takers = takers }) core first source More) core so_far (for_last (length net.plan.inputs) pieces)
+live_round {laws} {B} gives came is_due began live core first source last so_far pieces net takers boxes stands still did taken handed is =
     let l = still.given in
     let split = split_of live.whole in
     let frees_are = l.of.frees_are in
     let after = turns_of still.streams live.frees l.takens in
-    let round : IsRound split l.base l.takens after = record { streams = still.streams; solution = still.solution; turns = ap (λ (fs : List FreeNode). turns_of still.streams fs l.takens) frees_are } in
-    let on = round_goes_on live.whole l.base l.earlier l.takens after l.of.valid l.come l.so_far round in
+    let round : IsRound laws split l.base l.takens after = record { streams = still.streams; solution = still.solution; turns = ap (λ (fs : List FreeNode). turns_of still.streams fs l.takens) frees_are } in
+    let on = round_goes_on laws live.whole l.base l.earlier l.takens after l.of.valid l.come l.so_far round in
     let outs = outputs_so_far split.free l.takens in
     let outs_now = outputs_so_far split.free after in
     let fits = newest_fits live.whole l.base l.earlier l.come in
@@ -287,7 +288,7 @@ live_round {B} gives came is_due began live core first source last so_far pieces
     let pieces_are : pieces ≡ pieces_behind (map (λ (s : StreamPrefix Plain). length s.packets) outs) outs_now =
     is ∙ ap (λ (ns : List ℕ). pieces_behind ns (outputs_so_far live.frees after)) l.handed
     ∙ ap (λ (fs : List FreeNode). pieces_behind (map (λ (s : StreamPrefix Plain). length s.packets) (outputs_so_far fs l.takens)) (outputs_so_far fs after)) frees_are in
-    let job = logged core so_far boxes in
+    let job = logged laws core so_far boxes in
     let many : length so_far.streams ≡ length core.inputs = (valid_plan job net stands).inputs.streams in
     let there : length net.plan.inputs ≡ length core.inputs = ap (λ (p : Plan). length p.inputs) (plan_stood job net stands) in
     let sum : length so_far.streams ≡ length l.base.streams + length outs = ap (λ (i : Inputs). length i.streams) l.inputs_are ∙ length-append l.base.streams outs in
@@ -298,7 +299,7 @@ live_round {B} gives came is_due began live core first source last so_far pieces
     let are : more.streams ≡ replicate (length live.whole.inputs) empty_prefix ++ pieces_behind (map (λ (s : StreamPrefix Plain). length s.packets) outs) outs_now =
     ap (λ (n : ℕ). replicate n empty_prefix ++ pieces) left ∙ ap (λ (ps : List (StreamPrefix Plain)). replicate (length live.whole.inputs) empty_prefix ++ ps) pieces_are in
     let all : InputsGoOn split.core (core_inputs split l.base l.takens) more (core_inputs split l.base after) =
-    core_goes_on split.core (core_inputs split l.base l.takens) more (core_inputs split l.base after) on.is_job on.sides on.extended
+    core_goes_on laws split.core (core_inputs split l.base l.takens) more (core_inputs split l.base after) on.is_job on.sides on.extended
     (subst (λ (ms : List (StreamPrefix Plain)). Piecewise (l.base.streams ++ outs) ms (l.base.streams ++ outs_now)) (sym are)
     (both l.base.streams (replicate (length live.whole.inputs) empty_prefix) l.base.streams outs (pieces_behind (map (λ (s : StreamPrefix Plain). length s.packets) outs) outs_now) outs_now own free_pieces)) in
     record {
@@ -324,16 +325,16 @@ live_round {B} gives came is_due began live core first source last so_far pieces
 
 -- The free nodes are the same --
 
-pub same_frees_went : {B : Type 0} (gives : Giving B) (came : Coming B) (is_due : Due B) (began : B) (live : LiveView B) (core : Plan) (first source : SourceTold) (so_far more : Inputs) (takers : List Taker) (frees : List FreeNode) → frees ≡ live.frees
-    → BatchesGoOn (LiveGives gives came is_due began (record live { rested = false; takers = takers }) core first source More) core so_far more
-    → BatchesGoOn (LiveGives gives came is_due began (record live { rested = false; frees = frees; takers = takers }) core first source More) core so_far more
-same_frees_went {B} gives came is_due began live core first source so_far more takers frees same g =
-    subst (λ (fs : List FreeNode). BatchesGoOn (LiveGives gives came is_due began (record live { rested = false; frees = fs; takers = takers }) core first source More) core so_far more) (sym same) g
+pub same_frees_went : {laws : Laws} {B : Type 0} (gives : Giving B) (came : Coming B) (is_due : Due B) (began : B) (live : LiveView B) (core : Plan) (first source : SourceTold) (so_far more : Inputs) (takers : List Taker) (frees : List FreeNode) → frees ≡ live.frees
+    → BatchesGoOn (LiveGives laws gives came is_due began (record live { rested = false; takers = takers }) core first source More) core so_far more
+    → BatchesGoOn (LiveGives laws gives came is_due began (record live { rested = false; frees = frees; takers = takers }) core first source More) core so_far more
+same_frees_went {laws} {B} gives came is_due began live core first source so_far more takers frees same g =
+    subst (λ (fs : List FreeNode). BatchesGoOn (LiveGives laws gives came is_due began (record live { rested = false; frees = fs; takers = takers }) core first source More) core so_far more) (sym same) g
 
-pub same_frees_rest : {B : Type 0} (gives : Giving B) (came : Coming B) (is_due : Due B) (began : B) (live : LiveView B) (core : Plan) (first source : SourceTold) (end : BatchEnd) (so_far : Inputs) (takers : List Taker) (frees : List FreeNode) → frees ≡ live.frees
-    → LiveGives gives came is_due began (record live { rested = true; takers = takers }) core first source end so_far → LiveGives gives came is_due began (record live { rested = true; frees = frees; takers = takers }) core first source end so_far
-same_frees_rest {B} gives came is_due began live core first source end so_far takers frees same g =
-    subst (λ (fs : List FreeNode). LiveGives gives came is_due began (record live { rested = true; frees = fs; takers = takers }) core first source end so_far) (sym same) g
+pub same_frees_rest : {laws : Laws} {B : Type 0} (gives : Giving B) (came : Coming B) (is_due : Due B) (began : B) (live : LiveView B) (core : Plan) (first source : SourceTold) (end : BatchEnd) (so_far : Inputs) (takers : List Taker) (frees : List FreeNode) → frees ≡ live.frees
+    → LiveGives laws gives came is_due began (record live { rested = true; takers = takers }) core first source end so_far → LiveGives laws gives came is_due began (record live { rested = true; frees = frees; takers = takers }) core first source end so_far
+same_frees_rest {laws} {B} gives came is_due began live core first source end so_far takers frees same g =
+    subst (λ (fs : List FreeNode). LiveGives laws gives came is_due began (record live { rested = true; frees = fs; takers = takers }) core first source end so_far) (sym same) g
 
 pub same_frees_there : (net : NetView) (frees now : List FreeNode) (takers : List Taker) → now ≡ frees → AreThere (wanted_by frees takers) net → AreThere (wanted_by now takers) net
 same_frees_there net frees now takers same there = subst (λ (fs : List FreeNode). AreThere (wanted_by fs takers) net) (sym same) there

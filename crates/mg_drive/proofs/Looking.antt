@@ -7,6 +7,7 @@ use Rattle.mg_value.specs.Payload.{Plain}
 use Rattle.mg_value.specs.Packet.{Stamped}
 use Rattle.mg_settled.specs.Prefix.{StreamPrefix, empty_prefix}
 use Rattle.mg_stream.specs.Pool.{Backlog}
+use Rattle.mg_calc.specs.Rules.{Laws}
 use Rattle.mg_calc.specs.declared.plan.Plan.{Plan}
 use Rattle.mg_calc.specs.declared.plan_stream.PlanStream.{PlanStream}
 use Rattle.mg_calc.specs.Equations.{stream_of}
@@ -29,20 +30,20 @@ use Rattle.mg_drive.specs.Nets.{HasAtMost}
 use Rattle.mg_drive.specs.Code.Live.{AreRested}
 use Rattle.mg_drive.proofs.Jobs.{plan_stood}
 
-pub some_stands : (net : NetView) (streams : List (StreamPrefix Plain)) → AreRested net streams → StandsForSome net
-some_stands net streams are = record { job = are.job; stands = are.stands }
+pub some_stands : {laws : Laws} (net : NetView) (streams : List (StreamPrefix Plain)) → AreRested laws net streams → StandsForSome laws net
+some_stands {laws} net streams are = record { job = are.job; stands = are.stands }
 
 -- there are as many streams as the plan has
-pub as_many_streams : (net : NetView) (streams : List (StreamPrefix Plain)) → AreRested net streams → length streams ≡ length net.plan.streams
-as_many_streams net streams are =
+pub as_many_streams : {laws : Laws} (net : NetView) (streams : List (StreamPrefix Plain)) → AreRested laws net streams → length streams ≡ length net.plan.streams
+as_many_streams {laws} net streams are =
     solution_has_each are.job.job (job_known are.job.job are.solves.is_job) streams are.solves.solution ∙ ap (λ (p : Plan). length p.streams) (sym (plan_stood are.job net are.stands))
 
 -- each has its output
 written_by : (streams : List PlanStream) (stream : ℕ) (s : PlanStream) → slice_get streams stream ≡ Some s → option_map (λ (x : PlanStream). x.producer) (slice_get streams stream) ≡ Some s.producer
 written_by streams stream s at = ap (option_map (λ (x : PlanStream). x.producer)) at
 
-pub has_output : (job : LoggedJob) (net : NetView) (stream : ℕ) → StandsFor job net → stream < length net.plan.streams → (output : Backlog Plain) × IsOutputOf net stream output
-has_output job net stream stands less =
+pub has_output : {laws : Laws} (job : LoggedJob laws) (net : NetView) (stream : ℕ) → StandsFor job net → stream < length net.plan.streams → (output : Backlog Plain) × IsOutputOf net stream output
+has_output {laws} job net stream stands less =
     let s = found net.plan.streams stream less in
     let written : writer_at net.plan stream ≡ Some s.0.producer = written_by net.plan.streams stream s.0 s.1 in
     let have = have_outputs job net stands in
@@ -53,18 +54,18 @@ has_output job net stream stands less =
     (output.0, is)
 
 -- sets alone were taken since the net came to rest
-at_rest : (net : NetView) (streams : List (StreamPrefix Plain)) (are : AreRested net streams) (stream : ℕ) (output : Backlog Plain) → IsOutputOf net stream output → IsOutputOf are.has_rested.rested stream output
-at_rest net streams are stream output is =
+at_rest : {laws : Laws} (net : NetView) (streams : List (StreamPrefix Plain)) (are : AreRested laws net streams) (stream : ℕ) (output : Backlog Plain) → IsOutputOf net stream output → IsOutputOf are.has_rested.rested stream output
+at_rest {laws} net streams are stream output is =
     subst (λ (es : List EngineView). IsOutputAmong are.has_rested.rested.plan es stream output) (ap (λ (v : NetView). v.engines) are.has_rested.since)
     (subst (λ (p : Plan). IsOutputAmong p net.engines stream output) (ap (λ (v : NetView). v.plan) are.has_rested.since) is)
 
-there_at_rest : (net : NetView) (streams : List (StreamPrefix Plain)) (are : AreRested net streams) (stream number : ℕ) → HasFrom net stream number → HasFrom are.has_rested.rested stream number
-there_at_rest net streams are stream number has =
+there_at_rest : {laws : Laws} (net : NetView) (streams : List (StreamPrefix Plain)) (are : AreRested laws net streams) (stream number : ℕ) → HasFrom net stream number → HasFrom are.has_rested.rested stream number
+there_at_rest {laws} net streams are stream number has =
     leaves_keep net are.has_rested.rested stream number (sym (ap (λ (v : NetView). v.plan) are.has_rested.since)) (sym (ap (λ (v : NetView). v.engines) are.has_rested.since)) has
 
-pub packet_seen : (net : NetView) (streams : List (StreamPrefix Plain)) (stream number : ℕ) (result : Option (Stamped Plain)) → AreRested net streams → HasFrom net stream number
+pub packet_seen : {laws : Laws} (net : NetView) (streams : List (StreamPrefix Plain)) (stream number : ℕ) (result : Option (Stamped Plain)) → AreRested laws net streams → HasFrom net stream number
     → ((output : Backlog Plain) → IsOutputOf net stream output → result ≡ kept_packet output number) → (length net.plan.streams ≤ stream → result ≡ None) → result ≡ slice_get (stream_of streams stream).packets number
-packet_seen net streams stream number result are has seen past = elim (cases_lt stream (length net.plan.streams)) [
+packet_seen {laws} net streams stream number result are has seen past = elim (cases_lt stream (length net.plan.streams)) [
   | inl less ↦
       (let output = has_output are.job net stream are.stands less in
       seen output.0 output.1
@@ -75,9 +76,9 @@ packet_seen net streams stream number result are has seen past = elim (cases_lt 
       past more ∙ ap (λ (s : StreamPrefix Plain). slice_get s.packets number) (sym (get_or_past streams stream empty_prefix (omega (arith, many, more)))))
 ]
 
-pub bound_seen : (net : NetView) (streams : List (StreamPrefix Plain)) (stream bound : ℕ) → AreRested net streams → stream < length streams → ((output : Backlog Plain) → IsOutputOf net stream output → bound ≡ output.bound)
+pub bound_seen : {laws : Laws} (net : NetView) (streams : List (StreamPrefix Plain)) (stream bound : ℕ) → AreRested laws net streams → stream < length streams → ((output : Backlog Plain) → IsOutputOf net stream output → bound ≡ output.bound)
     → bound ≡ (stream_of streams stream).bound
-bound_seen net streams stream bound are less seen =
+bound_seen {laws} net streams stream bound are less seen =
     let many = as_many_streams net streams are in
     let output = has_output are.job net stream are.stands (omega (arith, many, less)) in
     seen output.0 output.1
@@ -87,8 +88,8 @@ bound_seen net streams stream bound are less seen =
 kept_there : (output : Backlog Plain) (k : ℕ) (x : Stamped Plain) → output.gone ≤ k → slice_get output.packets (k - output.gone) ≡ Some x → kept_packet output k ≡ Some x
 kept_there output k x le there = ap (λ (b : Bool). if b then None else slice_get output.packets (k - output.gone)) (le-ltb k output.gone le) ∙ there
 
-pub at_most_laid : (net : NetView) (streams : List (StreamPrefix Plain)) (stream number : ℕ) → AreRested net streams → HasFrom net stream number → length (stream_of streams stream).packets ≤ number → HasAtMost net stream number
-at_most_laid net streams stream number are has few output is =
+pub at_most_laid : {laws : Laws} (net : NetView) (streams : List (StreamPrefix Plain)) (stream number : ℕ) → AreRested laws net streams → HasFrom net stream number → length (stream_of streams stream).packets ≤ number → HasAtMost net stream number
+at_most_laid {laws} net streams stream number are has few output is =
     let low = has output is in
     elim (cases_lt number (output.gone + length output.packets)) [
       | inl less ↦

@@ -4,6 +4,7 @@ use Rattle.mg_edge.specs.Edge.{SourceTold, SinkTold}
 use Rattle.mg_value.specs.Payload.{Plain}
 use Rattle.mg_settled.specs.Prefix.{StreamPrefix}
 use Rattle.mg_settled.specs.Settled.{TimedSet}
+use Rattle.mg_calc.specs.Rules.{Laws}
 use Rattle.mg_calc.specs.declared.inputs.Inputs.{Inputs}
 use Rattle.mg_calc.specs.declared.plan.Plan.{Plan}
 use Rattle.mg_feed.specs.declared.feed_end.FeedEnd.{FeedEnd}
@@ -59,8 +60,8 @@ begins_keep before now b = record { plan = ap (λ (v : NetView). v.plan) b.parts
 pub begins_taken : (before now : NetView) → BeginsNet before now → taken_out now ≡ taken_out before
 begins_taken before now b = ap taken_out b.parts
 
-pub becomes_keeps : (before now : NetView) → Becomes before now → Keeps before now
-becomes_keeps before now b = record { plan = becomes_plan before now b; spare = becomes_spare before now b }
+pub becomes_keeps : {laws : Laws} (before now : NetView) → Becomes laws before now → Keeps before now
+becomes_keeps {laws} before now b = record { plan = becomes_plan before now b; spare = becomes_spare before now b }
 
 pub takings_keep : (before now : NetView) → LeavesNodes before now → Keeps before now
 takings_keep before now l = record { plan = ap (λ (v : NetView). v.plan) l; spare = ap (λ (v : NetView). v.spare) l }
@@ -95,51 +96,51 @@ same_runs before now same running = subst IsRunning (sym same) running
 -- Sets --
 
 -- a net that came to rest, from which sets were taken then until there was none
-pub rested_at : (job : LoggedJob) (before rested now : NetView) → ((j : LoggedJob) → StandsFor j before → StandsFor j rested) → StandsFor job before → IsRunning rested → IsAtRest rested
-    → LeavesNodes rested now → ((j : LoggedJob) (streams : List (StreamPrefix Plain)) → StandsFor j rested → Solves j streams → HasAllOutputs streams rested
+pub rested_at : {laws : Laws} (job : LoggedJob laws) (before rested now : NetView) → ((j : LoggedJob laws) → StandsFor j before → StandsFor j rested) → StandsFor job before → IsRunning rested → IsAtRest laws rested
+    → LeavesNodes rested now → ((j : LoggedJob laws) (streams : List (StreamPrefix Plain)) → StandsFor j rested → Solves j streams → HasAllOutputs streams rested
     → taken_out now ≡ length (settled_outputs now.plan streams)) → HasRested job now × IsAllTaken job now
-rested_at job before rested now keeps stands running rests since all = (
+rested_at {laws} job before rested now keeps stands running rests since all = (
   record { rested = rested; stands = keeps job stands; running = running; rests = rests; since = since },
   λ streams solves. all job streams (keeps job stands) solves (all_come_at_rest job streams rested (keeps job stands) running rests solves),
 )
 
 -- Runs --
 
-pub stands_still : (job : LoggedJob) (net : NetView) → StandsFor job net → StoodFor job net
-stands_still job net stands = record { before = net; stands = stands; since = inl refl }
+pub stands_still : {laws : Laws} (job : LoggedJob laws) (net : NetView) → StandsFor job net → StoodFor job net
+stands_still {laws} job net stands = record { before = net; stands = stands; since = inl refl }
 
 -- what a run has told
-pub run_told : {B T : Type 0} (gives : Giving B) (has_told : TellingSets T) (start : Start B) (end : BatchEnd) (source : SourceTold) (sink : SinkTold) (batches : B) (telling : T) (net : NetView)
-    → IsUnderWay gives has_told start end source sink batches telling net → IsSomeTold has_told sink net telling
-run_told {B} {T} gives has_told start end source sink batches telling net u = record { job = job_with start u.inputs; first = start.sink; stands = u.stands; is_told = u.is_told }
+pub run_told : {laws : Laws} {B T : Type 0} (gives : Giving B) (has_told : TellingSets T) (start : Start B) (end : BatchEnd) (source : SourceTold) (sink : SinkTold) (batches : B) (telling : T) (net : NetView)
+    → IsUnderWay laws gives has_told start end source sink batches telling net → IsSomeTold laws has_told sink net telling
+run_told {laws} {B} {T} gives has_told start end source sink batches telling net u = record { job = job_with laws start u.inputs; first = start.sink; stands = u.stands; is_told = u.is_told }
 
 -- a run is under way still where its net stands still for each job, and as many sets are taken
-pub still_under_way : {B T : Type 0} (gives : Giving B) (has_told : TellingSets T) (start : Start B) (end : BatchEnd) (source : SourceTold) (sink : SinkTold) (batches : B) (telling : T) (net now : NetView)
-    → ((job : LoggedJob) → StandsFor job net → StandsFor job now) → taken_out now ≡ taken_out net
-    → IsUnderWay gives has_told start end source sink batches telling net → IsUnderWay gives has_told start end source sink batches telling now
-still_under_way {B} {T} gives has_told start end source sink batches telling net now keeps same u = record {
+pub still_under_way : {laws : Laws} {B T : Type 0} (gives : Giving B) (has_told : TellingSets T) (start : Start B) (end : BatchEnd) (source : SourceTold) (sink : SinkTold) (batches : B) (telling : T) (net now : NetView)
+    → ((job : LoggedJob laws) → StandsFor job net → StandsFor job now) → taken_out now ≡ taken_out net
+    → IsUnderWay laws gives has_told start end source sink batches telling net → IsUnderWay laws gives has_told start end source sink batches telling now
+still_under_way {laws} {B} {T} gives has_told start end source sink batches telling net now keeps same u = record {
   inputs = u.inputs;
   given = u.given;
-  stands = keeps (job_with start u.inputs) u.stands;
-  is_told = told_same has_told (job_with start u.inputs) start.sink sink (taken_out net) (taken_out now) telling same u.is_told;
+  stands = keeps (job_with laws start u.inputs) u.stands;
+  is_told = told_same has_told (job_with laws start u.inputs) start.sink sink (taken_out net) (taken_out now) telling same u.is_told;
 }
 
 -- a run whose net has come to rest, with all that was given
-abbrev pub as_given : {B T : Type 0} (gives : Giving B) (has_told : TellingSets T) (start : Start B) (last : BatchEnd) (source : SourceTold) (sink : SinkTold) (batches : B) (telling : T) (net now : NetView)
-    → ((job : LoggedJob) → StandsFor job net → StandsFor job now) → ((job : LoggedJob) → StandsFor job net → HasRested job now × IsAllTaken job now) → (u : IsUnderWay gives has_told start last source sink batches telling net)
-    → IsAsGiven gives start.batches start.plan start.source source last u.inputs now batches
-as_given {B} {T} gives has_told start last source sink batches telling net now keeps rests u = record {
-  valid = (valid_plan (job_with start u.inputs) net u.stands).plan;
+abbrev pub as_given : {laws : Laws} {B T : Type 0} (gives : Giving B) (has_told : TellingSets T) (start : Start B) (last : BatchEnd) (source : SourceTold) (sink : SinkTold) (batches : B) (telling : T) (net now : NetView)
+    → ((job : LoggedJob laws) → StandsFor job net → StandsFor job now) → ((job : LoggedJob laws) → StandsFor job net → HasRested job now × IsAllTaken job now) → (u : IsUnderWay laws gives has_told start last source sink batches telling net)
+    → IsAsGiven laws gives start.batches start.plan start.source source last u.inputs now batches
+as_given {laws} {B} {T} gives has_told start last source sink batches telling net now keeps rests u = record {
+  valid = (valid_plan (job_with laws start u.inputs) net u.stands).plan;
   given = u.given;
   boxes = start.boxes;
-  stands = keeps (job_with start u.inputs) u.stands;
-  has_rested = (rests (job_with start u.inputs) u.stands).0;
+  stands = keeps (job_with laws start u.inputs) u.stands;
+  has_rested = (rests (job_with laws start u.inputs) u.stands).0;
 }
 
-pub some_given : {B T : Type 0} (gives : Giving B) (has_told : TellingSets T) (start : Start B) (last : BatchEnd) (source : SourceTold) (sink : SinkTold) (batches : B) (telling : T) (net now : NetView)
-    → ((job : LoggedJob) → StandsFor job net → StandsFor job now) → ((job : LoggedJob) → StandsFor job net → HasRested job now × IsAllTaken job now) → IsUnderWay gives has_told start last source sink batches telling net
-    → SomeGiven gives last now batches
-some_given {B} {T} gives has_told start last source sink batches telling net now keeps rests u = record {
+pub some_given : {laws : Laws} {B T : Type 0} (gives : Giving B) (has_told : TellingSets T) (start : Start B) (last : BatchEnd) (source : SourceTold) (sink : SinkTold) (batches : B) (telling : T) (net now : NetView)
+    → ((job : LoggedJob laws) → StandsFor job net → StandsFor job now) → ((job : LoggedJob laws) → StandsFor job net → HasRested job now × IsAllTaken job now) → IsUnderWay laws gives has_told start last source sink batches telling net
+    → SomeGiven laws gives last now batches
+some_given {laws} {B} {T} gives has_told start last source sink batches telling net now keeps rests u = record {
   began = start.batches;
   plan = start.plan;
   first = start.source;
@@ -149,81 +150,81 @@ some_given {B} {T} gives has_told start last source sink batches telling net now
 }
 
 -- how it goes on
-abbrev pub Onwards : {B : Type 0} → Giving B → Due B → (B → List Wanted) → BatchEnd → SourceTold → B → B → NetView → Onward → Type 0
-Onwards {B} gives is_due wants last source batches batches_now now onward =
-    (began : B) (plan : Plan) (first source_is : SourceTold) (so_far : Inputs) → IsAsGiven gives began plan first source_is last so_far now batches → GoesOnward gives is_due wants began plan first source_is last so_far now batches_now onward
+abbrev pub Onwards : (laws : Laws) {B : Type 0} → Giving B → Due B → (B → List Wanted) → BatchEnd → SourceTold → B → B → NetView → Onward → Type 0
+Onwards laws {B} gives is_due wants last source batches batches_now now onward =
+    (began : B) (plan : Plan) (first source_is : SourceTold) (so_far : Inputs) → IsAsGiven laws gives began plan first source_is last so_far now batches → GoesOnward gives is_due wants began plan first source_is last so_far now batches_now onward
 
 -- by further input that comes before the next batch
-pub round_may : {B T : Type 0} (gives : Giving B) (is_due : Due B) (wants : B → List Wanted) (has_told : TellingSets T) (start : Start B) (last : BatchEnd) (source : SourceTold) (sink : SinkTold) (batches batches_now : B) (telling : T) (net now : NetView) (onward : Onward) (pieces : List (StreamPrefix Plain)) → onward ≡ Round pieces
-    → ((job : LoggedJob) → StandsFor job net → StandsFor job now) → ((job : LoggedJob) → StandsFor job net → HasRested job now × IsAllTaken job now)
-    → Onwards gives is_due wants last source batches batches_now now onward → IsUnderWay gives has_told start last source sink batches telling net → MayGoOnWith (for_last (length now.plan.inputs) pieces) now
-round_may {B} {T} gives is_due wants has_told start last source sink batches batches_now telling net now onward pieces is keeps rests on u =
+pub round_may : {laws : Laws} {B T : Type 0} (gives : Giving B) (is_due : Due B) (wants : B → List Wanted) (has_told : TellingSets T) (start : Start B) (last : BatchEnd) (source : SourceTold) (sink : SinkTold) (batches batches_now : B) (telling : T) (net now : NetView) (onward : Onward) (pieces : List (StreamPrefix Plain)) → onward ≡ Round pieces
+    → ((job : LoggedJob laws) → StandsFor job net → StandsFor job now) → ((job : LoggedJob laws) → StandsFor job net → HasRested job now × IsAllTaken job now)
+    → Onwards laws gives is_due wants last source batches batches_now now onward → IsUnderWay laws gives has_told start last source sink batches telling net → MayGoOnWith laws (for_last (length now.plan.inputs) pieces) now
+round_may {laws} {B} {T} gives is_due wants has_told start last source sink batches batches_now telling net now onward pieces is keeps rests on u =
     let given = as_given gives has_told start last source sink batches telling net now keeps rests u in
     let g = subst (λ (o : Onward). GoesOnward gives is_due wants start.batches start.plan start.source source last u.inputs now batches_now o) is (on start.batches start.plan start.source source u.inputs given) in
     record {
-      first = job_with start u.inputs;
-      later = job_with start g.1.all;
+      first = job_with laws start u.inputs;
+      later = job_with laws start g.1.all;
       stands = given.stands;
       goes_on = job_goes_on start.plan u.inputs (for_last (length now.plan.inputs) pieces) g.1.all start.boxes given.valid g.1.goes_on;
     }
 
-pub round_is_more : {B T : Type 0} (gives : Giving B) (is_due : Due B) (wants : B → List Wanted) (has_told : TellingSets T) (start : Start B) (last : BatchEnd) (source : SourceTold) (sink : SinkTold) (batches batches_now : B) (telling : T) (net now : NetView) (onward : Onward) (pieces : List (StreamPrefix Plain)) → onward ≡ Round pieces
-    → ((job : LoggedJob) → StandsFor job net → StandsFor job now) → ((job : LoggedJob) → StandsFor job net → HasRested job now × IsAllTaken job now)
-    → Onwards gives is_due wants last source batches batches_now now onward → IsUnderWay gives has_told start last source sink batches telling net → last ≡ More
-round_is_more {B} {T} gives is_due wants has_told start last source sink batches batches_now telling net now onward pieces is keeps rests on u =
+pub round_is_more : {laws : Laws} {B T : Type 0} (gives : Giving B) (is_due : Due B) (wants : B → List Wanted) (has_told : TellingSets T) (start : Start B) (last : BatchEnd) (source : SourceTold) (sink : SinkTold) (batches batches_now : B) (telling : T) (net now : NetView) (onward : Onward) (pieces : List (StreamPrefix Plain)) → onward ≡ Round pieces
+    → ((job : LoggedJob laws) → StandsFor job net → StandsFor job now) → ((job : LoggedJob laws) → StandsFor job net → HasRested job now × IsAllTaken job now)
+    → Onwards laws gives is_due wants last source batches batches_now now onward → IsUnderWay laws gives has_told start last source sink batches telling net → last ≡ More
+round_is_more {laws} {B} {T} gives is_due wants has_told start last source sink batches batches_now telling net now onward pieces is keeps rests on u =
     (subst (λ (o : Onward). GoesOnward gives is_due wants start.batches start.plan start.source source last u.inputs now batches_now o) is
     (on start.batches start.plan start.source source u.inputs (as_given gives has_told start last source sink batches telling net now keeps rests u))).0
 
-pub round_goes_on : {B T : Type 0} (gives : Giving B) (is_due : Due B) (wants : B → List Wanted) (has_told : TellingSets T) (start : Start B) (last : BatchEnd) (source : SourceTold) (sink later : SinkTold) (batches batches_now : B) (telling telling_now : T) (net now after : NetView) (onward : Onward) (pieces : List (StreamPrefix Plain)) → onward ≡ Round pieces
-    → ((job : LoggedJob) → StandsFor job net → StandsFor job now)
-    → ((job : LoggedJob) (first : SinkTold) → StandsFor job net → IsTold has_told job.job first sink (taken_out net) telling → IsTold has_told job.job first later (taken_out now) telling_now)
-    → ((job : LoggedJob) → StandsFor job net → HasRested job now × IsAllTaken job now)
-    → Onwards gives is_due wants last source batches batches_now now onward
-    → ((first later : LoggedJob) → GoesOnWith (for_last (length now.plan.inputs) pieces) first later → StandsFor first now → StandsFor later after) → taken_out after ≡ taken_out now
-    → IsUnderWay gives has_told start last source sink batches telling net → IsUnderWay gives has_told start last source later batches_now telling_now after
-round_goes_on {B} {T} gives is_due wants has_told start last source sink later batches batches_now telling telling_now net now after onward pieces is keeps tells rests on extends same u =
+pub round_goes_on : {laws : Laws} {B T : Type 0} (gives : Giving B) (is_due : Due B) (wants : B → List Wanted) (has_told : TellingSets T) (start : Start B) (last : BatchEnd) (source : SourceTold) (sink later : SinkTold) (batches batches_now : B) (telling telling_now : T) (net now after : NetView) (onward : Onward) (pieces : List (StreamPrefix Plain)) → onward ≡ Round pieces
+    → ((job : LoggedJob laws) → StandsFor job net → StandsFor job now)
+    → ((job : LoggedJob laws) (first : SinkTold) → StandsFor job net → IsTold has_told job.job first sink (taken_out net) telling → IsTold has_told job.job first later (taken_out now) telling_now)
+    → ((job : LoggedJob laws) → StandsFor job net → HasRested job now × IsAllTaken job now)
+    → Onwards laws gives is_due wants last source batches batches_now now onward
+    → ((first later : LoggedJob laws) → GoesOnWith (for_last (length now.plan.inputs) pieces) first later → StandsFor first now → StandsFor later after) → taken_out after ≡ taken_out now
+    → IsUnderWay laws gives has_told start last source sink batches telling net → IsUnderWay laws gives has_told start last source later batches_now telling_now after
+round_goes_on {laws} {B} {T} gives is_due wants has_told start last source sink later batches batches_now telling telling_now net now after onward pieces is keeps tells rests on extends same u =
     let given = as_given gives has_told start last source sink batches telling net now keeps rests u in
     let g = subst (λ (o : Onward). GoesOnward gives is_due wants start.batches start.plan start.source source last u.inputs now batches_now o) is (on start.batches start.plan start.source source u.inputs given) in
     let goes = job_goes_on start.plan u.inputs (for_last (length now.plan.inputs) pieces) g.1.all start.boxes given.valid g.1.goes_on in
     record {
       inputs = g.1.all;
       given = subst (λ (e : BatchEnd). gives start.batches batches_now start.plan start.source source e g.1.all) (sym g.0) g.1.given;
-      stands = extends (job_with start u.inputs) (job_with start g.1.all) goes given.stands;
-      is_told = told_of_later has_told (job_with start u.inputs) (job_with start g.1.all) start.sink later now after telling_now given.stands goes.grows same (tells (job_with start u.inputs) start.sink u.stands u.is_told);
+      stands = extends (job_with laws start u.inputs) (job_with laws start g.1.all) goes given.stands;
+      is_told = told_of_later has_told (job_with laws start u.inputs) (job_with laws start g.1.all) start.sink later now after telling_now given.stands goes.grows same (tells (job_with laws start u.inputs) start.sink u.stands u.is_told);
     }
 
 -- the input has ended, and the net has rested
-pub over_at : {B T : Type 0} (gives : Giving B) (is_due : Due B) (wants : B → List Wanted) (has_told : TellingSets T) (start : Start B) (last : BatchEnd) (end : FeedEnd) (source : SourceTold) (sink later : SinkTold) (batches batches_now : B) (telling telling_now : T) (net now : NetView) (onward : Onward) → onward ≡ Over end
-    → ((job : LoggedJob) → StandsFor job net → StandsFor job now)
-    → ((job : LoggedJob) (first : SinkTold) → StandsFor job net → IsTold has_told job.job first sink (taken_out net) telling → IsTold has_told job.job first later (taken_out now) telling_now)
-    → ((job : LoggedJob) → StandsFor job net → HasRested job now × IsAllTaken job now)
-    → Onwards gives is_due wants last source batches batches_now now onward
-    → IsUnderWay gives has_told start last source sink batches telling net → RunIsOver gives has_told start end source later batches_now telling_now now
-over_at {B} {T} gives is_due wants has_told start last end source sink later batches batches_now telling telling_now net now onward is keeps tells rests on u =
+pub over_at : {laws : Laws} {B T : Type 0} (gives : Giving B) (is_due : Due B) (wants : B → List Wanted) (has_told : TellingSets T) (start : Start B) (last : BatchEnd) (end : FeedEnd) (source : SourceTold) (sink later : SinkTold) (batches batches_now : B) (telling telling_now : T) (net now : NetView) (onward : Onward) → onward ≡ Over end
+    → ((job : LoggedJob laws) → StandsFor job net → StandsFor job now)
+    → ((job : LoggedJob laws) (first : SinkTold) → StandsFor job net → IsTold has_told job.job first sink (taken_out net) telling → IsTold has_told job.job first later (taken_out now) telling_now)
+    → ((job : LoggedJob laws) → StandsFor job net → HasRested job now × IsAllTaken job now)
+    → Onwards laws gives is_due wants last source batches batches_now now onward
+    → IsUnderWay laws gives has_told start last source sink batches telling net → RunIsOver laws gives has_told start end source later batches_now telling_now now
+over_at {laws} {B} {T} gives is_due wants has_told start last end source sink later batches batches_now telling telling_now net now onward is keeps tells rests on u =
     let given = as_given gives has_told start last source sink batches telling net now keeps rests u in
     let g = subst (λ (o : Onward). GoesOnward gives is_due wants start.batches start.plan start.source source last u.inputs now batches_now o) is (on start.batches start.plan start.source source u.inputs given) in
     record {
-      under_way = record { inputs = u.inputs; given = g; stands = given.stands; is_told = tells (job_with start u.inputs) start.sink u.stands u.is_told };
-      has_rested = (rests (job_with start u.inputs) u.stands).0;
-      all = (rests (job_with start u.inputs) u.stands).1;
+      under_way = record { inputs = u.inputs; given = g; stands = given.stands; is_told = tells (job_with laws start u.inputs) start.sink u.stands u.is_told };
+      has_rested = (rests (job_with laws start u.inputs) u.stands).0;
+      all = (rests (job_with laws start u.inputs) u.stands).1;
     }
 
 -- or with the next batch, which is due
-abbrev pub IsDueNow : {B T : Type 0} → Giving B → Due B → TellingSets T → Start B → SourceTold → SinkTold → B → T → NetView → Type 0
-IsDueNow gives is_due has_told start source sink batches telling net =
-    (u : IsUnderWay gives has_told start More source sink batches telling net) × is_due batches start.plan u.inputs
+abbrev pub IsDueNow : (laws : Laws) {B T : Type 0} → Giving B → Due B → TellingSets T → Start B → SourceTold → SinkTold → B → T → NetView → Type 0
+IsDueNow laws gives is_due has_told start source sink batches telling net =
+    (u : IsUnderWay laws gives has_told start More source sink batches telling net) × is_due batches start.plan u.inputs
 
-pub next_is_due : {B T : Type 0} (gives : Giving B) (is_due : Due B) (wants : B → List Wanted) (has_told : TellingSets T) (start : Start B) (last : BatchEnd) (source : SourceTold) (sink later written : SinkTold) (batches batches_now : B) (telling telling_now telling_then : T) (net now : NetView) (onward : Onward) → onward ≡ Next
-    → ((job : LoggedJob) → StandsFor job net → StandsFor job now)
-    → ((job : LoggedJob) (first : SinkTold) → StandsFor job net → IsTold has_told job.job first sink (taken_out net) telling → IsTold has_told job.job first later (taken_out now) telling_now)
-    → ((job : LoggedJob) → StandsFor job net → HasRested job now × IsAllTaken job now)
-    → Onwards gives is_due wants last source batches batches_now now onward
+pub next_is_due : {laws : Laws} {B T : Type 0} (gives : Giving B) (is_due : Due B) (wants : B → List Wanted) (has_told : TellingSets T) (start : Start B) (last : BatchEnd) (source : SourceTold) (sink later written : SinkTold) (batches batches_now : B) (telling telling_now telling_then : T) (net now : NetView) (onward : Onward) → onward ≡ Next
+    → ((job : LoggedJob laws) → StandsFor job net → StandsFor job now)
+    → ((job : LoggedJob laws) (first : SinkTold) → StandsFor job net → IsTold has_told job.job first sink (taken_out net) telling → IsTold has_told job.job first later (taken_out now) telling_now)
+    → ((job : LoggedJob laws) → StandsFor job net → HasRested job now × IsAllTaken job now)
+    → Onwards laws gives is_due wants last source batches batches_now now onward
     → ((plan : Plan) (first : SinkTold) (sets : List (TimedSet Plain)) → has_told telling_now plan first later sets → has_told telling_then plan first written sets)
-    → IsUnderWay gives has_told start last source sink batches telling net → IsDueNow gives is_due has_told start source written batches_now telling_then now × (last ≡ More) × AreRead (wants batches_now) now
-next_is_due {B} {T} gives is_due wants has_told start last source sink later written batches batches_now telling telling_now telling_then net now onward is keeps tells rests on passes u =
+    → IsUnderWay laws gives has_told start last source sink batches telling net → IsDueNow laws gives is_due has_told start source written batches_now telling_then now × (last ≡ More) × AreRead (wants batches_now) now
+next_is_due {laws} {B} {T} gives is_due wants has_told start last source sink later written batches batches_now telling telling_now telling_then net now onward is keeps tells rests on passes u =
     let given = as_given gives has_told start last source sink batches telling net now keeps rests u in
     let g = subst (λ (o : Onward). GoesOnward gives is_due wants start.batches start.plan start.source source last u.inputs now batches_now o) is (on start.batches start.plan start.source source u.inputs given) in
-    let told = tells (job_with start u.inputs) start.sink u.stands u.is_told in (
+    let told = tells (job_with laws start u.inputs) start.sink u.stands u.is_told in (
       (
         record { inputs = u.inputs; given = g.given; stands = given.stands; is_told = record { told = λ streams solution. passes start.plan start.sink _ (told.told streams solution) } },
         g.due,
@@ -232,33 +233,33 @@ next_is_due {B} {T} gives is_due wants has_told start last source sink later wri
       g.read,
     )
 
-pub run_more : {B T : Type 0} (gives : Giving B) (is_due : Due B) (has_told : TellingSets T) (start : Start B) (source : SourceTold) (sink : SinkTold) (batches : B) (telling : T) (net : NetView)
-    → IsDueNow gives is_due has_told start source sink batches telling net → IsSomeMore gives is_due source batches net
-run_more {B} {T} gives is_due has_told start source sink batches telling net u = record { start = start; inputs = u.0.inputs; given = u.0.given; due = u.1; stands = u.0.stands }
+pub run_more : {laws : Laws} {B T : Type 0} (gives : Giving B) (is_due : Due B) (has_told : TellingSets T) (start : Start B) (source : SourceTold) (sink : SinkTold) (batches : B) (telling : T) (net : NetView)
+    → IsDueNow laws gives is_due has_told start source sink batches telling net → IsSomeMore laws gives is_due source batches net
+run_more {laws} {B} {T} gives is_due has_told start source sink batches telling net u = record { start = start; inputs = u.0.inputs; given = u.0.given; due = u.1; stands = u.0.stands }
 
 -- and was read
-pub went_on : {B T : Type 0} (gives : Giving B) (is_due : Due B) (has_told : TellingSets T) (start : Start B) (end : BatchEnd) (source later : SourceTold) (sink : SinkTold) (batches batches_now : B) (telling : T) (net now : NetView) → taken_out now ≡ taken_out net
-    → ((inputs : Inputs) → gives start.batches batches start.plan start.source source More inputs → is_due batches start.plan inputs → StandsFor (job_with start inputs) net → WentOn gives start end later batches_now inputs now)
-    → IsDueNow gives is_due has_told start source sink batches telling net → IsUnderWay gives has_told start end later sink batches_now telling now
-went_on {B} {T} gives is_due has_told start end source later sink batches batches_now telling net now same goes d =
+pub went_on : {laws : Laws} {B T : Type 0} (gives : Giving B) (is_due : Due B) (has_told : TellingSets T) (start : Start B) (end : BatchEnd) (source later : SourceTold) (sink : SinkTold) (batches batches_now : B) (telling : T) (net now : NetView) → taken_out now ≡ taken_out net
+    → ((inputs : Inputs) → gives start.batches batches start.plan start.source source More inputs → is_due batches start.plan inputs → StandsFor (job_with laws start inputs) net → WentOn laws gives start end later batches_now inputs now)
+    → IsDueNow laws gives is_due has_told start source sink batches telling net → IsUnderWay laws gives has_told start end later sink batches_now telling now
+went_on {laws} {B} {T} gives is_due has_told start end source later sink batches batches_now telling net now same goes d =
     let u = d.0 in
     let on = goes u.inputs u.given d.1 u.stands in
     record {
       inputs = on.all;
       given = on.given;
       stands = on.stands;
-      is_told = told_of_later has_told (job_with start u.inputs) (job_with start on.all) start.sink sink net now telling u.stands on.grows same u.is_told;
+      is_told = told_of_later has_told (job_with laws start u.inputs) (job_with laws start on.all) start.sink sink net now telling u.stands on.grows same u.is_told;
     }
 
 -- Memory ran out --
 
 -- where some sets were told since
-pub short_told : {B T : Type 0} (gives : Giving B) (reads_on : ReadingOn B) (has_told : TellingSets T) (form : OutputForm) (start : Start B) (end : BatchEnd) (source : SourceTold) (sink sink_now : SinkTold) (batches : B) (telling : T) (net now : NetView)
-    → ((job : LoggedJob) → StandsFor job net → StandsFor job now)
-    → ((job : LoggedJob) (first : SinkTold) → StandsFor job net → IsTold has_told job.job first sink (taken_out net) telling → IsToldSome has_told job.job first sink_now)
-    → IsUnderWay gives has_told start end source sink batches telling net → IsShort gives reads_on has_told form start source sink_now now
-short_told {B} {T} gives reads_on has_told form start end source sink sink_now batches telling net now keeps tells u =
-    let job = job_with start u.inputs in
+pub short_told : {laws : Laws} {B T : Type 0} (gives : Giving B) (reads_on : ReadingOn B) (has_told : TellingSets T) (form : OutputForm) (start : Start B) (end : BatchEnd) (source : SourceTold) (sink sink_now : SinkTold) (batches : B) (telling : T) (net now : NetView)
+    → ((job : LoggedJob laws) → StandsFor job net → StandsFor job now)
+    → ((job : LoggedJob laws) (first : SinkTold) → StandsFor job net → IsTold has_told job.job first sink (taken_out net) telling → IsToldSome has_told job.job first sink_now)
+    → IsUnderWay laws gives has_told start end source sink batches telling net → IsShort laws gives reads_on has_told form start source sink_now now
+short_told {laws} {B} {T} gives reads_on has_told form start end source sink sink_now batches telling net now keeps tells u =
+    let job = job_with laws start u.inputs in
     record {
       batches = batches;
       end = end;
@@ -272,17 +273,17 @@ short_told {B} {T} gives reads_on has_told form start end source sink sink_now b
     }
 
 -- where none was
-pub short_here : {B T : Type 0} (gives : Giving B) (reads_on : ReadingOn B) (has_told : TellingSets T) (form : OutputForm) (start : Start B) (end : BatchEnd) (source : SourceTold) (sink : SinkTold) (batches : B) (telling : T) (net now : NetView)
-    → ((job : LoggedJob) → StandsFor job net → StandsFor job now) → IsUnderWay gives has_told start end source sink batches telling net → IsShort gives reads_on has_told form start source sink now
-short_here {B} {T} gives reads_on has_told form start end source sink batches telling net now keeps u =
+pub short_here : {laws : Laws} {B T : Type 0} (gives : Giving B) (reads_on : ReadingOn B) (has_told : TellingSets T) (form : OutputForm) (start : Start B) (end : BatchEnd) (source : SourceTold) (sink : SinkTold) (batches : B) (telling : T) (net now : NetView)
+    → ((job : LoggedJob laws) → StandsFor job net → StandsFor job now) → IsUnderWay laws gives has_told start end source sink batches telling net → IsShort laws gives reads_on has_told form start source sink now
+short_here {laws} {B} {T} gives reads_on has_told form start end source sink batches telling net now keeps u =
     short_told gives reads_on has_told form start end source sink sink batches telling net now keeps (λ job first h t. told_some has_told job first sink (taken_out net) telling t) u
 
 -- and more was read
-pub short_more : {B T : Type 0} (gives : Giving B) (reads_on : ReadingOn B) (has_told : TellingSets T) (form : OutputForm) (start : Start B) (source later : SourceTold) (sink : SinkTold) (batches : B) (telling : T) (net now : NetView)
-    → ((job : LoggedJob) → StandsFor job net → StandsFor job now) → reads_on batches start.plan start.source source later → IsUnderWay gives has_told start More source sink batches telling net
-    → IsShort gives reads_on has_told form start later sink now
-short_more {B} {T} gives reads_on has_told form start source later sink batches telling net now keeps read u =
-    let job = job_with start u.inputs in
+pub short_more : {laws : Laws} {B T : Type 0} (gives : Giving B) (reads_on : ReadingOn B) (has_told : TellingSets T) (form : OutputForm) (start : Start B) (source later : SourceTold) (sink : SinkTold) (batches : B) (telling : T) (net now : NetView)
+    → ((job : LoggedJob laws) → StandsFor job net → StandsFor job now) → reads_on batches start.plan start.source source later → IsUnderWay laws gives has_told start More source sink batches telling net
+    → IsShort laws gives reads_on has_told form start later sink now
+short_more {laws} {B} {T} gives reads_on has_told form start source later sink batches telling net now keeps read u =
+    let job = job_with laws start u.inputs in
     record {
       batches = batches;
       end = More;

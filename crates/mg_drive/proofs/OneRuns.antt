@@ -4,7 +4,7 @@ use Rattle.mg_edge.specs.Edge.{SinkTold}
 use Rattle.mg_value.specs.Payload.{Plain}
 use Rattle.mg_settled.specs.Prefix.{StreamPrefix}
 use Rattle.mg_calc.specs.declared.plan_node.PlanNode.{PlanNode}
-use Rattle.mg_calc.specs.Told.{CalculatorTold}
+use Rattle.mg_calc.specs.Told.{BoxTold}
 use Rattle.mg_calc.specs.Equations.{Job, IsSolution}
 use Rattle.mg_calc.proofs.Solutions.{one_solution}
 use Rattle.mg_feed.specs.declared.feed_end.FeedEnd.{FeedEnd}
@@ -16,10 +16,10 @@ use Rattle.mg_drive.specs.Leaves.{HadItsCalls, IsRelatedAt, HadCallsOf}
 use Rattle.mg_drive.specs.OneRun.{CalculatorsCameBack, OneRun, OneShort}
 use Rattle.mg_drive.proofs.FrontsBack.{KeptFronts}
 
-abbrev EachHad : Job → Device (List CalculatorTold) → List (StreamPrefix Plain) → Type 0
+abbrev EachHad : Job → Device (List BoxTold) → List (StreamPrefix Plain) → Type 0
 EachHad job boxes streams = (number place : ℕ) (node : PlanNode) → slice_get job.plan.nodes number ≡ Some node → node.box_number ≡ Some place → IsRelatedAt place (HadItsCalls job streams node) boxes
 
-pub one_run : (telling : Telling) (job : Job) (end : FeedEnd) (status : Status) (output notes : Device SinkTold) (boxes : Device (List CalculatorTold)) → CalculatorsCameBack job.plan boxes.before boxes.now → Wrote telling job end status output notes → HadCallsOf job boxes
+pub one_run : (telling : Telling) (job : Job) (end : FeedEnd) (status : Status) (output notes : Device SinkTold) (boxes : Device (List BoxTold)) → CalculatorsCameBack job.plan boxes.before boxes.now → Wrote telling job end status output notes → HadCallsOf job boxes
     → OneRun telling job end status output notes boxes
 one_run telling job end status output notes boxes back wrote had = record {
   streams = wrote.streams;
@@ -29,7 +29,7 @@ one_run telling job end status output notes boxes back wrote had = record {
 }
 
 -- memory ran out in it
-pub one_short : (form : OutputForm) (job : Job) (output : Device SinkTold) (boxes : Device (List CalculatorTold)) → CalculatorsCameBack job.plan boxes.before boxes.now → KeptFronts job boxes
+pub one_short : (form : OutputForm) (job : Job) (output : Device SinkTold) (boxes : Device (List BoxTold)) → CalculatorsCameBack job.plan boxes.before boxes.now → KeptFronts job boxes
     → ((streams : List (StreamPrefix Plain)) → IsSolution job streams → TookFront output (output_in form job.plan streams)) → OneShort form job output boxes
 one_short form job output boxes back had front = record {
   streams = had.streams;

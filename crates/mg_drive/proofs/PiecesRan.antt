@@ -4,10 +4,11 @@ use Rattle.mg_edge.specs.Edge.{SinkTold}
 use Rattle.mg_value.specs.Payload.{Plain}
 use Rattle.mg_settled.specs.Prefix.{StreamPrefix}
 use Rattle.mg_settled.specs.Extension.{AreExtendedBy}
+use Rattle.mg_calc.specs.Rules.{Laws}
 use Rattle.mg_calc.specs.declared.inputs.Inputs.{Inputs}
 use Rattle.mg_calc.specs.declared.plan.Plan.{Plan}
 use Rattle.mg_calc.specs.Plan.{IsValid}
-use Rattle.mg_calc.specs.Told.{CalculatorTold}
+use Rattle.mg_calc.specs.Told.{BoxTold}
 use Rattle.mg_calc.specs.Equations.{IsJob}
 use Rattle.mg_feed.specs.Graph.{inputs_of}
 use Rattle.mg_feed.specs.Generated.{generated, generated_streams}
@@ -58,21 +59,21 @@ whole_made plan number m end inputs was all =
     was.inputs_are ∙ ap (made_inputs (inputs_of plan) m.made) (eq-eqb m.made number all) ∙ ap (λ n. made_inputs (inputs_of plan) n true) all
 
 -- they were run
-pub pieces_ran : (report : Bool) (plan : Plan) (number : ℕ) (m : Making) (output notes : Device SinkTold) (boxes : Device (List CalculatorTold)) (status : Status) (end : FeedEnd) (inputs : Inputs) → WereMade plan number m (End end) inputs
-    → CalculatorsCameBack plan boxes.before boxes.now → Wrote (by_summary report) (record { plan = plan; inputs = inputs }) end status output notes → HadCallsOf (record { plan = plan; inputs = inputs }) boxes
-    → OneMade report plan number status output notes boxes
-pieces_ran report plan number m output notes boxes status end inputs was back wrote had =
+pub pieces_ran : (laws : Laws) (report : Bool) (plan : Plan) (number : ℕ) (m : Making) (output notes : Device SinkTold) (boxes : Device (List BoxTold)) (status : Status) (end : FeedEnd) (inputs : Inputs) → WereMade plan number m (End end) inputs
+    → CalculatorsCameBack plan boxes.before boxes.now → Wrote (by_summary report) (record { plan = plan; inputs = inputs; laws = laws }) end status output notes → HadCallsOf (record { plan = plan; inputs = inputs; laws = laws }) boxes
+    → OneMade laws report plan number status output notes boxes
+pieces_ran laws report plan number m output notes boxes status end inputs was back wrote had =
     let all = all_made plan number m end inputs was in
-    subst (λ (e : FeedEnd). OneRun (by_summary report) (generated_job plan number) e status output notes boxes) all.1
-    (subst (λ (i : Inputs). OneRun (by_summary report) (record { plan = plan; inputs = i }) end status output notes boxes) all.0
-    (one_run (by_summary report) (record { plan = plan; inputs = inputs }) end status output notes boxes back wrote had))
+    subst (λ (e : FeedEnd). OneRun (by_summary report) (generated_job laws plan number) e status output notes boxes) all.1
+    (subst (λ (i : Inputs). OneRun (by_summary report) (record { plan = plan; inputs = i; laws = laws }) end status output notes boxes) all.0
+    (one_run (by_summary report) (record { plan = plan; inputs = inputs; laws = laws }) end status output notes boxes back wrote had))
 
 -- Memory ran out --
 
 -- the job so far goes on to that of all packets
-goes_on_to : (plan : Plan) (number : ℕ) (m : Making) (inputs : Inputs) (boxes : List CalculatorTold) → IsValid plan → WereMade plan number m More inputs
-    → Grows (logged plan (made_inputs (inputs_of plan) m.made false) boxes) (logged plan (generated_inputs (inputs_of plan) number) boxes)
-goes_on_to plan number m inputs boxes valid was =
+goes_on_to : {laws : Laws} (plan : Plan) (number : ℕ) (m : Making) (inputs : Inputs) (boxes : List BoxTold) → IsValid plan → WereMade plan number m More inputs
+    → Grows (logged laws plan (made_inputs (inputs_of plan) m.made false) boxes) (logged laws plan (generated_inputs (inputs_of plan) number) boxes)
+goes_on_to {laws} plan number m inputs boxes valid was =
     let kinds = (inputs_of plan).kinds in
     let before = generated_streams kinds m.made in
     record {
@@ -84,28 +85,28 @@ goes_on_to plan number m inputs boxes valid was =
     }
 
 -- nothing was written while there was more
-unwritten_yet : (plan : Plan) (number : ℕ) (inputs : Inputs) (first now : SinkTold) → IsJob (record { plan = plan; inputs = inputs }) → IsToldSome HasSums (record { plan = plan; inputs = inputs }) first now
-    → FrontIn totals first now (generated_job plan number)
-unwritten_yet plan number inputs first now is some =
-    let found = solved (logged plan inputs []) is in
+unwritten_yet : (laws : Laws) (plan : Plan) (number : ℕ) (inputs : Inputs) (first now : SinkTold) → IsJob (record { plan = plan; inputs = inputs; laws = laws }) → IsToldSome HasSums (record { plan = plan; inputs = inputs; laws = laws }) first now
+    → FrontIn totals first now (generated_job laws plan number)
+unwritten_yet laws plan number inputs first now is some =
+    let found = solved (logged laws plan inputs []) is in
     let same = (some.is_told.told found.0 found.1.solution).unwritten in
-    subst (λ (s : SinkTold). FrontIn totals first s (generated_job plan number)) (sym same) (front_unwritten first (generated_job plan number))
+    subst (λ (s : SinkTold). FrontIn totals first s (generated_job laws plan number)) (sym same) (front_unwritten first (generated_job laws plan number))
 
 -- a front of the summary was taken, and each calculator had a front of its calls
-pub pieces_short : (plan : Plan) (number : ℕ) (m : Making) (output : Device SinkTold) (boxes now : List CalculatorTold) (net : NetView) (end : BatchEnd) (inputs : Inputs) → BoxesFit plan boxes → WereMade plan number m end inputs
-    → IsJob (record { plan = plan; inputs = inputs })
-    → IsToldSome HasSums (record { plan = plan; inputs = inputs }) output.before output.now ⊎ FrontIn totals output.before output.now (record { plan = plan; inputs = inputs })
-    → (IsMore end → IsToldSome HasSums (record { plan = plan; inputs = inputs }) output.before output.now)
-    → StoodFor (logged plan inputs boxes) net → now ≡ given_back net → CalculatorsCameBack plan boxes now → OneShort totals (generated_job plan number) output (device boxes now)
-pieces_short plan number m output boxes now net More inputs fit was is front unended stood back came =
+pub pieces_short : {laws : Laws} (plan : Plan) (number : ℕ) (m : Making) (output : Device SinkTold) (boxes now : List BoxTold) (net : NetView) (end : BatchEnd) (inputs : Inputs) → BoxesFit plan boxes → WereMade plan number m end inputs
+    → IsJob (record { plan = plan; inputs = inputs; laws = laws })
+    → IsToldSome HasSums (record { plan = plan; inputs = inputs; laws = laws }) output.before output.now ⊎ FrontIn totals output.before output.now (record { plan = plan; inputs = inputs; laws = laws })
+    → (IsMore end → IsToldSome HasSums (record { plan = plan; inputs = inputs; laws = laws }) output.before output.now)
+    → StoodFor (logged laws plan inputs boxes) net → now ≡ given_back net → CalculatorsCameBack plan boxes now → OneShort totals (generated_job laws plan number) output (device boxes now)
+pieces_short {laws} plan number m output boxes now net More inputs fit was is front unended stood back came =
     let so_far = made_inputs (inputs_of plan) m.made false in
     let grows = goes_on_to plan number m inputs boxes is.plan was in
-    let then : StoodFor (logged plan so_far boxes) net = subst (λ (i : Inputs). StoodFor (logged plan i boxes) net) (so_far_made plan number m inputs was) stood in
-    one_short totals (generated_job plan number) output (device boxes now) came
-    (subst (λ (bs : List CalculatorTold). KeptFronts (generated_job plan number) (device boxes bs)) (sym back)
-    (kept_fronts boxes (logged plan so_far boxes) (logged plan (generated_inputs (inputs_of plan) number) boxes) net fit refl then refl (inr grows) grows.is_job))
-    (unwritten_yet plan number inputs output.before output.now is (unended tt))
-pieces_short plan number m output boxes now net (End end) inputs fit was is front unended stood back came =
-    subst (λ (i : Inputs). OneShort totals (record { plan = plan; inputs = i }) output (device boxes now)) (all_made plan number m end inputs was).0
-    (one_short totals (record { plan = plan; inputs = inputs }) output (device boxes now) came (kept_now boxes now (logged plan inputs boxes) net fit refl stood is back)
-    (front_sums (logged plan inputs []) output.before output.now is front))
+    let then : StoodFor (logged laws plan so_far boxes) net = subst (λ (i : Inputs). StoodFor (logged laws plan i boxes) net) (so_far_made plan number m inputs was) stood in
+    one_short totals (generated_job laws plan number) output (device boxes now) came
+    (subst (λ (bs : List BoxTold). KeptFronts (generated_job laws plan number) (device boxes bs)) (sym back)
+    (kept_fronts boxes (logged laws plan so_far boxes) (logged laws plan (generated_inputs (inputs_of plan) number) boxes) net fit refl then refl (inr grows) grows.is_job))
+    (unwritten_yet laws plan number inputs output.before output.now is (unended tt))
+pieces_short {laws} plan number m output boxes now net (End end) inputs fit was is front unended stood back came =
+    subst (λ (i : Inputs). OneShort totals (record { plan = plan; inputs = i; laws = laws }) output (device boxes now)) (all_made plan number m end inputs was).0
+    (one_short totals (record { plan = plan; inputs = inputs; laws = laws }) output (device boxes now) came (kept_now boxes now (logged laws plan inputs boxes) net fit refl stood is back)
+    (front_sums (logged laws plan inputs []) output.before output.now is front))

@@ -5,9 +5,10 @@ use Rattle.mg_edge.specs.Edge.{SourceTold, SinkTold}
 use Rattle.mg_value.specs.Payload.{Plain}
 use Rattle.mg_settled.specs.Prefix.{StreamPrefix}
 use Rattle.mg_settled.specs.Settled.{TimedSet}
+use Rattle.mg_calc.specs.Rules.{Laws}
 use Rattle.mg_calc.specs.declared.inputs.Inputs.{Inputs}
 use Rattle.mg_calc.specs.declared.plan.Plan.{Plan}
-use Rattle.mg_calc.specs.Told.{CalculatorTold}
+use Rattle.mg_calc.specs.Told.{BoxTold}
 use Rattle.mg_calc.specs.Equations.{Job}
 use Rattle.mg_feed.specs.declared.feed_end.FeedEnd.{FeedEnd}
 use Rattle.mg_feed.specs.declared.feed_end.BatchEnd.{BatchEnd}
@@ -44,19 +45,19 @@ none_taken : (net : NetView) (o : Option IntakeView) → collector_of net ≡ o 
 none_taken net None is fresh = refl
 none_taken net (Some intake) is fresh = fresh intake is
 
-pub none_yet : (plan : Plan) (inputs : Inputs) (boxes : List CalculatorTold) (net : NetView) → IsMade plan inputs boxes net → taken_out net ≡ 0
-none_yet plan inputs boxes net made = none_taken net (collector_of net) refl (λ intake there. (made.fresh (length net.plan.nodes) intake there).claimed)
+pub none_yet : {laws : Laws} (plan : Plan) (inputs : Inputs) (boxes : List BoxTold) (net : NetView) → IsMade laws plan inputs boxes net → taken_out net ≡ 0
+none_yet {laws} plan inputs boxes net made = none_taken net (collector_of net) refl (λ intake there. (made.fresh (length net.plan.nodes) intake there).claimed)
 
 -- how the run of a plan begins, with these calculators
-abbrev pub start_of : {B : Type 0} → Plan → List CalculatorTold → SourceTold → SinkTold → B → Start B
+abbrev pub start_of : {B : Type 0} → Plan → List BoxTold → SourceTold → SinkTold → B → Start B
 start_of plan boxes source sink batches = record { plan = plan; boxes = boxes; source = source; sink = sink; batches = batches }
 
 -- a net that was made of the first batch begins a run, of which nothing is told
-pub begins : {B T : Type 0} (gives : Giving B) (has_told : TellingSets T) (plan : Plan) (boxes handed : List CalculatorTold) (began batches : B) (telling : T) (first now : SourceTold) (sink : SinkTold) (end : BatchEnd) (inputs : Inputs) (net : NetView)
-    → handed ≡ boxes → IsMade plan inputs handed net → gives began batches plan first now end inputs → ((s : SinkTold) → has_told telling plan s s [])
-    → IsUnderWay gives has_told (start_of plan boxes first sink began) end now sink batches telling net
-begins {B} {T} gives has_told plan boxes handed began batches telling first now sink end inputs net same was given nothing =
-    let made : IsMade plan inputs boxes net = subst (λ (bs : List CalculatorTold). IsMade plan inputs bs net) same was in
+pub begins : {laws : Laws} {B T : Type 0} (gives : Giving B) (has_told : TellingSets T) (plan : Plan) (boxes handed : List BoxTold) (began batches : B) (telling : T) (first now : SourceTold) (sink : SinkTold) (end : BatchEnd) (inputs : Inputs) (net : NetView)
+    → handed ≡ boxes → IsMade laws plan inputs handed net → gives began batches plan first now end inputs → ((s : SinkTold) → has_told telling plan s s [])
+    → IsUnderWay laws gives has_told (start_of plan boxes first sink began) end now sink batches telling net
+begins {laws} {B} {T} gives has_told plan boxes handed began batches telling first now sink end inputs net same was given nothing =
+    let made : IsMade laws plan inputs boxes net = subst (λ (bs : List BoxTold). IsMade laws plan inputs bs net) same was in
     record {
       inputs = inputs;
       given = given;
@@ -69,20 +70,20 @@ begins {B} {T} gives has_told plan boxes handed began batches telling first now 
 -- The text --
 
 -- all sets were taken
-pub all_taken : (job : LoggedJob) (net : NetView) (streams : List (StreamPrefix Plain)) → StandsFor job net → IsAllTaken job net → Solves job streams → taken_out net ≡ length (settled_outputs job.job.plan streams)
-all_taken job net streams stands all solves = all streams solves ∙ ap (λ (p : Plan). length (settled_outputs p streams)) (plan_stood job net stands)
+pub all_taken : {laws : Laws} (job : LoggedJob laws) (net : NetView) (streams : List (StreamPrefix Plain)) → StandsFor job net → IsAllTaken job net → Solves job streams → taken_out net ≡ length (settled_outputs job.job.plan streams)
+all_taken {laws} job net streams stands all solves = all streams solves ∙ ap (λ (p : Plan). length (settled_outputs p streams)) (plan_stood job net stands)
 
 -- in a form, all sets of a job's solution are the text that its streams make
-pub told_whole : (form : OutputForm) (job : LoggedJob) (streams : List (StreamPrefix Plain)) → Solves job streams → told_in form job.job.plan (settled_outputs job.job.plan streams) ≡ output_in form job.job.plan streams
-told_whole packet_lines job streams solves = ap (sets_text (output_names job.job.plan)) (outputs_by_default job streams solves)
-told_whole totals job streams solves = ap (summary_text (output_names job.job.plan)) (outputs_by_default job streams solves)
-told_whole (in_place text) job streams solves = refl
+pub told_whole : {laws : Laws} (form : OutputForm) (job : LoggedJob laws) (streams : List (StreamPrefix Plain)) → Solves job streams → told_in form job.job.plan (settled_outputs job.job.plan streams) ≡ output_in form job.job.plan streams
+told_whole {laws} packet_lines job streams solves = ap (sets_text (output_names job.job.plan)) (outputs_by_default job streams solves)
+told_whole {laws} totals job streams solves = ap (summary_text (output_names job.job.plan)) (outputs_by_default job streams solves)
+told_whole {laws} (in_place text) job streams solves = refl
 
 -- all sets were told, so the text of what was told is whole
-pub whole_told : {T : Type 0} (has_told : TellingSets T) (form : OutputForm) (job : LoggedJob) (first sink : SinkTold) (net : NetView) (telling : T) (text : TextView) → StandsFor job net → IsAllTaken job net
+pub whole_told : {laws : Laws} {T : Type 0} (has_told : TellingSets T) (form : OutputForm) (job : LoggedJob laws) (first sink : SinkTold) (net : NetView) (telling : T) (text : TextView) → StandsFor job net → IsAllTaken job net
     → IsTold has_told job.job first sink (taken_out net) telling
     → ((plan : Plan) (f now : SinkTold) (sets : List (TimedSet Plain)) → has_told telling plan f now sets → HasPut f now text (told_in form plan sets)) → IsWhole form first sink job.job text
-whole_told {T} has_told form job first sink net telling text stands all_came told puts = λ streams solution.
+whole_told {laws} {T} has_told form job first sink net telling text stands all_came told puts = λ streams solution.
     let solves : Solves job streams = record { is_job = valid_plan job net stands; solution = solution } in
     let sets = settled_outputs job.job.plan streams in
     let all : take (taken_out net) sets ≡ sets = ap (λ (n : ℕ). take n sets) (all_taken job net streams stands all_came solves) ∙ take-length sets in
@@ -95,8 +96,8 @@ front_whole form first sink job text whole = λ streams solution. put-front text
 -- Calculators --
 
 -- each that a node uses comes back with all its calls
-pub had_of : (job : LoggedJob) (net wound : NetView) → StandsFor job net → HasRested job net → WindsUpNet net wound → wound.wound ≡ length net.plan.nodes → HadAllOf job wound
-had_of job net wound stands h winds all =
+pub had_of : {laws : Laws} (job : LoggedJob laws) (net wound : NetView) → StandsFor job net → HasRested job net → WindsUpNet laws net wound → wound.wound ≡ length net.plan.nodes → HadAllOf job wound
+had_of {laws} job net wound stands h winds all =
     let found = solved job (valid_plan job net stands) in
     record {
       streams = found.0;
@@ -110,9 +111,9 @@ had_of job net wound stands h winds all =
 -- The end --
 
 -- a run that is over has rested with all that was given
-pub some_rested : {B T : Type 0} (gives : Giving B) (has_told : TellingSets T) (plan : Plan) (start : Start B) (end : FeedEnd) (source : SourceTold) (sink : SinkTold) (batches : B) (telling : T) (net : NetView) → start.plan ≡ plan
-    → RunIsOver gives has_told start end source sink batches telling net → SomeRestedOf gives plan end net batches
-some_rested {B} {T} gives has_told plan start end source sink batches telling net is over =
+pub some_rested : {laws : Laws} {B T : Type 0} (gives : Giving B) (has_told : TellingSets T) (plan : Plan) (start : Start B) (end : FeedEnd) (source : SourceTold) (sink : SinkTold) (batches : B) (telling : T) (net : NetView) → start.plan ≡ plan
+    → RunIsOver laws gives has_told start end source sink batches telling net → SomeRestedOf laws gives plan end net batches
+some_rested {laws} {B} {T} gives has_told plan start end source sink batches telling net is over =
     let u = over.under_way in
     record {
       given = record {
@@ -122,7 +123,7 @@ some_rested {B} {T} gives has_told plan start end source sink batches telling ne
         source = source;
         so_far = u.inputs;
         as_given = record {
-          valid = (valid_plan (job_with start u.inputs) net u.stands).plan;
+          valid = (valid_plan (job_with laws start u.inputs) net u.stands).plan;
           given = u.given;
           boxes = start.boxes;
           stands = u.stands;
@@ -133,25 +134,25 @@ some_rested {B} {T} gives has_told plan start end source sink batches telling ne
     }
 
 -- and for some job
-pub rested_of : {B : Type 0} (gives : Giving B) (plan : Plan) (end : FeedEnd) (net : NetView) (batches : B) → SomeRestedOf gives plan end net batches → SomeRested plan net
-rested_of {B} gives plan end net batches r = record {
-  job = logged r.given.plan r.given.so_far r.given.as_given.boxes;
+pub rested_of : {laws : Laws} {B : Type 0} (gives : Giving B) (plan : Plan) (end : FeedEnd) (net : NetView) (batches : B) → SomeRestedOf laws gives plan end net batches → SomeRested laws plan net
+rested_of {laws} {B} gives plan end net batches r = record {
+  job = logged laws r.given.plan r.given.so_far r.given.as_given.boxes;
   plan_is = r.plan_is;
   stands = r.given.as_given.stands;
   has_rested = r.given.as_given.has_rested;
 }
 
 -- its answer was written
-pub ended_over : {B T : Type 0} (gives : Giving B) (writes : Writing B) (has_told : TellingSets T) (form : OutputForm) (report : Bool) (plan : Plan) (start : Start B) (end : FeedEnd) (source : SourceTold) (sink now : SinkTold) (batches : B) (telling : T) (net wound : NetView) (text : TextView) (status : Status)
+pub ended_over : {laws : Laws} {B T : Type 0} (gives : Giving B) (writes : Writing B) (has_told : TellingSets T) (form : OutputForm) (report : Bool) (plan : Plan) (start : Start B) (end : FeedEnd) (source : SourceTold) (sink now : SinkTold) (batches : B) (telling : T) (net wound : NetView) (text : TextView) (status : Status)
     (notes : Device SinkTold) → start.plan ≡ plan
     → ((p : Plan) (f n : SinkTold) (sets : List (TimedSet Plain)) → has_told telling p f n sets → HasPut f n text (told_in form p sets))
-    → ((fm : OutputForm) (job : LoggedJob) (first : SinkTold) → job.job.plan ≡ plan → StandsFor job net → HasRested job net → IsWhole fm first sink job.job text
+    → ((fm : OutputForm) (job : LoggedJob laws) (first : SinkTold) → job.job.plan ≡ plan → StandsFor job net → HasRested job net → IsWhole fm first sink job.job text
     → writes batches fm report job.job end status (device first now) notes)
-    → WindsUpNet net wound → wound.wound ≡ length net.plan.nodes
-    → RunIsOver gives has_told start end source sink batches telling net → HasEnded gives writes form report start status source now notes wound
-ended_over {B} {T} gives writes has_told form report plan start end source sink now batches telling net wound text status notes is puts wrote winds all over =
+    → WindsUpNet laws net wound → wound.wound ≡ length net.plan.nodes
+    → RunIsOver laws gives has_told start end source sink batches telling net → HasEnded laws gives writes form report start status source now notes wound
+ended_over {laws} {B} {T} gives writes has_told form report plan start end source sink now batches telling net wound text status notes is puts wrote winds all over =
     let u = over.under_way in
-    let job = job_with start u.inputs in
+    let job = job_with laws start u.inputs in
     record {
       batches = batches;
       end = end;
@@ -163,11 +164,11 @@ ended_over {B} {T} gives writes has_told form report plan start end source sink 
     }
 
 -- or memory ran out before its text was made
-pub short_over : {B T : Type 0} (gives : Giving B) (reads_on : ReadingOn B) (has_told : TellingSets T) (form : OutputForm) (start : Start B) (end : FeedEnd) (source : SourceTold) (sink : SinkTold) (batches : B) (telling : T) (net : NetView)
-    → RunIsOver gives has_told start end source sink batches telling net → IsShort gives reads_on has_told form start source sink net
-short_over {B} {T} gives reads_on has_told form start end source sink batches telling net over =
+pub short_over : {laws : Laws} {B T : Type 0} (gives : Giving B) (reads_on : ReadingOn B) (has_told : TellingSets T) (form : OutputForm) (start : Start B) (end : FeedEnd) (source : SourceTold) (sink : SinkTold) (batches : B) (telling : T) (net : NetView)
+    → RunIsOver laws gives has_told start end source sink batches telling net → IsShort laws gives reads_on has_told form start source sink net
+short_over {laws} {B} {T} gives reads_on has_told form start end source sink batches telling net over =
     let u = over.under_way in
-    let job = job_with start u.inputs in
+    let job = job_with laws start u.inputs in
     record {
       batches = batches;
       end = End end;
@@ -181,13 +182,13 @@ short_over {B} {T} gives reads_on has_told form start end source sink batches te
     }
 
 -- or after that
-pub short_end : {B T : Type 0} (gives : Giving B) (reads_on : ReadingOn B) (has_told : TellingSets T) (form : OutputForm) (start : Start B) (end : FeedEnd) (source : SourceTold) (sink now : SinkTold) (batches : B) (telling : T) (net later : NetView) (text : TextView)
+pub short_end : {laws : Laws} {B T : Type 0} (gives : Giving B) (reads_on : ReadingOn B) (has_told : TellingSets T) (form : OutputForm) (start : Start B) (end : FeedEnd) (source : SourceTold) (sink now : SinkTold) (batches : B) (telling : T) (net later : NetView) (text : TextView)
     → ((p : Plan) (f n : SinkTold) (sets : List (TimedSet Plain)) → has_told telling p f n sets → HasPut f n text (told_in form p sets))
-    → ((fm : OutputForm) (job : Job) (first : SinkTold) → IsWhole fm first sink job text → FrontIn fm first now job) → (later ≡ net) ⊎ WindsUpNet net later
-    → RunIsOver gives has_told start end source sink batches telling net → IsShort gives reads_on has_told form start source now later
-short_end {B} {T} gives reads_on has_told form start end source sink now batches telling net later text puts front since over =
+    → ((fm : OutputForm) (job : Job) (first : SinkTold) → IsWhole fm first sink job text → FrontIn fm first now job) → (later ≡ net) ⊎ WindsUpNet laws net later
+    → RunIsOver laws gives has_told start end source sink batches telling net → IsShort laws gives reads_on has_told form start source now later
+short_end {laws} {B} {T} gives reads_on has_told form start end source sink now batches telling net later text puts front since over =
     let u = over.under_way in
-    let job = job_with start u.inputs in
+    let job = job_with laws start u.inputs in
     record {
       batches = batches;
       end = End end;
@@ -200,6 +201,6 @@ short_end {B} {T} gives reads_on has_told form start end source sink now batches
       unended = λ more. absurd more;
     }
 
-pub winds_keep : (net now : NetView) → (now ≡ net) ⊎ WindsUpNet net now → Keeps net now
-winds_keep net now (inl same) = record { plan = ap (λ (v : NetView). v.plan) same; spare = ap (λ (v : NetView). v.spare) same }
-winds_keep net now (inr winds) = record { plan = ap (λ (v : NetView). v.plan) winds.parts; spare = ap (λ (v : NetView). v.spare) winds.parts }
+pub winds_keep : {laws : Laws} (net now : NetView) → (now ≡ net) ⊎ WindsUpNet laws net now → Keeps net now
+winds_keep {laws} net now (inl same) = record { plan = ap (λ (v : NetView). v.plan) same; spare = ap (λ (v : NetView). v.spare) same }
+winds_keep {laws} net now (inr winds) = record { plan = ap (λ (v : NetView). v.plan) winds.parts; spare = ap (λ (v : NetView). v.spare) winds.parts }

@@ -11,6 +11,7 @@ use Rattle.mg_settled.specs.Prefix.{StreamPrefix, IsPrefix}
 use Rattle.mg_settled.specs.Settled.{TimedSet, settled_sets, inputs_of, port_of}
 use Rattle.mg_settled.proofs.Lemmas.{all_inputs, sets-places}
 use Rattle.std.proofs.lemmas.List.Elements.{All-from_recursion}
+use Rattle.mg_calc.specs.Rules.{Laws}
 use Rattle.mg_calc.specs.declared.plan.Plan.{Plan}
 use Rattle.mg_calc.proofs.Solutions.{solution_keeps}
 use Rattle.mg_calc.proofs.Jobs.{job_known}
@@ -30,14 +31,14 @@ use Rattle.mg_drive.proofs.Jobs.{valid_plan, plan_stood}
 -- Counts --
 
 -- the sets of a solution are few
-few_settled : (job : LoggedJob) (streams : List (StreamPrefix Plain)) → Solves job streams → length (settled_outputs job.job.plan streams) ≤ done
-few_settled job streams solves =
+few_settled : {laws : Laws} (job : LoggedJob laws) (streams : List (StreamPrefix Plain)) → Solves job streams → length (settled_outputs job.job.plan streams) ≤ done
+few_settled {laws} job streams solves =
     let all = All-from_recursion IsPrefix streams (solution_keeps job.job (job_known job.job solves.is_job) streams solves.solution) in
     subst (λ (l : List (TimedSet Plain)). length l ≤ done) (sym (outputs_by_default job streams solves)) (few_sets Default (inputs_of streams job.job.plan.outputs) (all_inputs streams job.job.plan.outputs all))
 
 -- so as many may be taken
-pub few_are_taken : (job : LoggedJob) (net : NetView) → StandsFor job net → taken_out net ≤ done
-few_are_taken job net stands =
+pub few_are_taken : {laws : Laws} (job : LoggedJob laws) (net : NetView) → StandsFor job net → taken_out net ≤ done
+few_are_taken {laws} job net stands =
     let found = solved job (valid_plan job net stands) in
     let few = few_taken job found.0 net stands found.1 in
     let most = few_settled job found.0 found.1 in
@@ -45,9 +46,9 @@ few_are_taken job net stands =
     omega (arith, few, most, same)
 
 -- and each that is taken leaves fewer to take
-pub fewer_to_take : (set_old set_now : List (Option (Stamped Plain))) (before now : NetView) → StandsForSome now → TakesOut true set_old set_now before now
+pub fewer_to_take : {laws : Laws} (set_old set_now : List (Option (Stamped Plain))) (before now : NetView) → StandsForSome laws now → TakesOut true set_old set_now before now
     → 2 ^ 65 - taken_out now < 2 ^ 65 - taken_out before
-fewer_to_take set_old set_now before now some takes =
+fewer_to_take {laws} set_old set_now before now some takes =
     let few = few_are_taken some.job now some.stands in
     let more = one_more_taken set_old set_now before now takes in
     let small : done < 2 ^ 65 = omega arith in
@@ -62,9 +63,9 @@ take_more {X} (y ∷ xs) zero x is = (let one : y ≡ x = cc in ap (λ (z : X). 
 take_more {X} (y ∷ xs) (suc n) x is = ap (λ (l : List X). y ∷ l) (take_more xs n x is)
 
 -- a set that was taken is that of its number in the solution
-pub set_there : (job : LoggedJob) (streams : List (StreamPrefix Plain)) (before : NetView) (set : List (Option (Stamped Plain))) → StandsFor job before
+pub set_there : {laws : Laws} (job : LoggedJob laws) (streams : List (StreamPrefix Plain)) (before : NetView) (set : List (Option (Stamped Plain))) → StandsFor job before
     → HasSet job streams (length before.plan.nodes) (taken_out before) set → (at : ℕ) × (slice_get (settled_outputs job.job.plan streams) (taken_out before) ≡ Some (record { at = at; set = set }))
-set_there job streams before set stands has =
+set_there {laws} job streams before set stands has =
     let h : HasSet job streams (length job.job.plan.nodes) (taken_out before) set = subst (λ (p : Plan). HasSet job streams (length p.nodes) (taken_out before) set) (plan_stood job before stands) has in
     (h.at, h.is)
 
@@ -83,14 +84,14 @@ shown_true : (taken : Bool) (P : Type 0) → taken ≡ true → OnTrue taken P �
 shown_true true P is p = p
 shown_true false P is p = absurd (let no : false ≡ true = is in cc)
 
-pub set_shown : (taken : Bool) (job : LoggedJob) (streams : List (StreamPrefix Plain)) (net : NetView) (set : List (Option (Stamped Plain))) → taken ≡ true
+pub set_shown : {laws : Laws} (taken : Bool) (job : LoggedJob laws) (streams : List (StreamPrefix Plain)) (net : NetView) (set : List (Option (Stamped Plain))) → taken ≡ true
     → OnTrue taken (HasSet job streams (length net.plan.nodes) (taken_out net) set) → HasSet job streams (length net.plan.nodes) (taken_out net) set
-set_shown taken job streams net set is has = shown_true taken (HasSet job streams (length net.plan.nodes) (taken_out net) set) is has
+set_shown {laws} taken job streams net set is has = shown_true taken (HasSet job streams (length net.plan.nodes) (taken_out net) set) is has
 
 -- a set has a place for each output
-pub set_places : (job : LoggedJob) (before : NetView) (set : List (Option (Stamped Plain))) → StandsFor job before
+pub set_places : {laws : Laws} (job : LoggedJob laws) (before : NetView) (set : List (Option (Stamped Plain))) → StandsFor job before
     → ((streams : List (StreamPrefix Plain)) → Solves job streams → HasSet job streams (length before.plan.nodes) (taken_out before) set) → length set ≡ length before.plan.outputs
-set_places job before set stands shows =
+set_places {laws} job before set stands shows =
     let found = solved job (valid_plan job before stands) in
     let at = set_there job found.0 before set stands (shows found.0 found.1) in
     let there : slice_get (settled_sets Default (inputs_of found.0 job.job.plan.outputs)) (taken_out before) ≡ Some (record { at = at.0; set = set }) =
@@ -102,12 +103,12 @@ set_places job before set stands shows =
 -- What is told --
 
 -- a set more was told
-pub told_more : {T : Type 0} (has_told : TellingSets T) (job : LoggedJob) (first was sink : SinkTold) (before now : NetView) (old new : T) (set_old set : List (Option (Stamped Plain))) → StandsFor job before
+pub told_more : {laws : Laws} {T : Type 0} (has_told : TellingSets T) (job : LoggedJob laws) (first was sink : SinkTold) (before now : NetView) (old new : T) (set_old set : List (Option (Stamped Plain))) → StandsFor job before
     → IsTold has_told job.job first was (taken_out before) old → TakesOut true set_old set before now
     → ((streams : List (StreamPrefix Plain)) → Solves job streams → HasSet job streams (length before.plan.nodes) (taken_out before) set)
     → ((plan : Plan) (f : SinkTold) (sets : List (TimedSet Plain)) (timed : TimedSet Plain) → timed.set ≡ set → has_told old plan f was sets → has_told new plan f sink (sets ++ timed ∷ []))
     → IsTold has_told job.job first sink (taken_out now) new
-told_more {T} has_told job first was sink before now old new set_old set stands told takes shows tells = record {
+told_more {laws} {T} has_told job first was sink before now old new set_old set stands told takes shows tells = record {
   told = λ streams solution.
       let all = settled_outputs job.job.plan streams in
       let at = set_there job streams before set stands (shows streams (record { is_job = valid_plan job before stands; solution = solution })) in
@@ -118,9 +119,9 @@ told_more {T} has_told job first was sink before now old new set_old set stands 
 }
 
 -- there is room for it
-pub told_few : {T : Type 0} (has_told : TellingSets T) (job : LoggedJob) (first was : SinkTold) (before now : NetView) (telling : T) (set_old set : List (Option (Stamped Plain))) → StandsFor job before → StandsFor job now
+pub told_few : {laws : Laws} {T : Type 0} (has_told : TellingSets T) (job : LoggedJob laws) (first was : SinkTold) (before now : NetView) (telling : T) (set_old set : List (Option (Stamped Plain))) → StandsFor job before → StandsFor job now
     → IsTold has_told job.job first was (taken_out before) telling → TakesOut true set_old set before now → IsFewTold has_told was telling
-told_few {T} has_told job first was before now telling set_old set stands stands_now told takes =
+told_few {laws} {T} has_told job first was before now telling set_old set stands stands_now told takes =
     let found = solved job (valid_plan job before stands) in
     let all = settled_outputs job.job.plan found.0 in
     let short = length-take (taken_out before) all in
@@ -135,18 +136,18 @@ told_few {T} has_told job first was before now telling set_old set stands stands
     }
 
 -- as many sets are taken
-pub told_same : {T : Type 0} (has_told : TellingSets T) (job : LoggedJob) (first sink : SinkTold) (n m : ℕ) (telling : T) → m ≡ n → IsTold has_told job.job first sink n telling → IsTold has_told job.job first sink m telling
-told_same {T} has_told job first sink n m telling same told = subst (λ (k : ℕ). IsTold has_told job.job first sink k telling) (sym same) told
+pub told_same : {laws : Laws} {T : Type 0} (has_told : TellingSets T) (job : LoggedJob laws) (first sink : SinkTold) (n m : ℕ) (telling : T) → m ≡ n → IsTold has_told job.job first sink n telling → IsTold has_told job.job first sink m telling
+told_same {laws} {T} has_told job first sink n m telling same told = subst (λ (k : ℕ). IsTold has_told job.job first sink k telling) (sym same) told
 
 -- a number of them was told
-pub told_some : {T : Type 0} (has_told : TellingSets T) (job : LoggedJob) (first sink : SinkTold) (taken : ℕ) (telling : T) → IsTold has_told job.job first sink taken telling → IsToldSome has_told job.job first sink
-told_some {T} has_told job first sink taken telling told = record { telling = telling; taken = taken; is_told = told }
+pub told_some : {laws : Laws} {T : Type 0} (has_told : TellingSets T) (job : LoggedJob laws) (first sink : SinkTold) (taken : ℕ) (telling : T) → IsTold has_told job.job first sink taken telling → IsToldSome has_told job.job first sink
+told_some {laws} {T} has_told job first sink taken telling told = record { telling = telling; taken = taken; is_told = told }
 
 -- where nothing was written since
-pub told_some_then : {T : Type 0} (has_told : TellingSets T) (job : LoggedJob) (first sink now : SinkTold) (taken : ℕ) (telling : T) → now ≡ sink → IsTold has_told job.job first sink taken telling → IsToldSome has_told job.job first now
-told_some_then {T} has_told job first sink now taken telling same told =
+pub told_some_then : {laws : Laws} {T : Type 0} (has_told : TellingSets T) (job : LoggedJob laws) (first sink now : SinkTold) (taken : ℕ) (telling : T) → now ≡ sink → IsTold has_told job.job first sink taken telling → IsToldSome has_told job.job first now
+told_some_then {laws} {T} has_told job first sink now taken telling same told =
     subst (λ (s : SinkTold). IsToldSome has_told job.job first s) (sym same) (told_some has_told job first sink taken telling told)
 
 -- a net of which something is told stands for a job
-pub told_stands : {T : Type 0} (has_told : TellingSets T) (sink : SinkTold) (net : NetView) (telling : T) → IsSomeTold has_told sink net telling → StandsForSome net
-told_stands {T} has_told sink net telling some = record { job = some.job; stands = some.stands }
+pub told_stands : {laws : Laws} {T : Type 0} (has_told : TellingSets T) (sink : SinkTold) (net : NetView) (telling : T) → IsSomeTold laws has_told sink net telling → StandsForSome laws net
+told_stands {laws} {T} has_told sink net telling some = record { job = some.job; stands = some.stands }

@@ -1,14 +1,15 @@
 -- Batches, what they hand to a graph, and how a run goes on after each.
-use Rattle.std.specs.Prelude.{◌≡◌, ◌⊎◌, ◌<◌, ◌^◌, ℕ, List, All, length, slice_index_or, ⊤}
+use Rattle.std.specs.Prelude.{◌≡◌, ◌⊎◌, ◌<◌, ◌^◌, ℕ, List, All, length, slice_index_or, ⊤, refl}
 use Rattle.mg_edge.specs.Edge.{SourceTold, SinkTold}
 use Rattle.mg_value.specs.Payload.{Plain}
 use Rattle.mg_settled.specs.Prefix.{StreamPrefix, empty_prefix}
 use Rattle.mg_settled.specs.Extension.{AreExtendedBy}
+use Rattle.mg_calc.specs.Rules.{Laws}
 use Rattle.mg_calc.specs.declared.inputs.Inputs.{Inputs}
 use Rattle.mg_calc.specs.declared.plan.Plan.{Plan}
 use Rattle.mg_calc.specs.Plan.{IsValid, InputsFit}
 use Rattle.mg_calc.specs.Equations.{Job, IsSolution}
-use Rattle.mg_calc.specs.Told.{CalculatorTold}
+use Rattle.mg_calc.specs.Told.{BoxTold}
 use Rattle.mg_feed.specs.declared.feed_end.FeedEnd.{FeedEnd}
 use Rattle.mg_feed.specs.declared.feed_end.BatchEnd.{BatchEnd}
 use Rattle.mg_feed.specs.declared.feed_end.BatchEnd.TheVariants.{More, End}
@@ -31,8 +32,8 @@ IsMore More = ⊤
 IsMore (End end) = ⊥
 
 -- the job of a plan over inputs, with the calculators that are handed in
-abbrev pub logged : Plan → Inputs → List CalculatorTold → LoggedJob
-logged plan inputs boxes = record { job = record { plan = plan; inputs = inputs }; boxes = boxes }
+abbrev pub logged : (laws : Laws) → Plan → Inputs → List BoxTold → LoggedJob laws
+logged laws plan inputs boxes = record { job = record { plan = plan; inputs = inputs; laws = laws }; boxes = boxes; same = refl }
 
 -- The inputs of the first batch were given, and they fit the plan.
 pub record IsFirst (gives : BatchEnd → Inputs → Type 0) (plan : Plan) (end : BatchEnd) (inputs : Inputs) : Type 0 where
@@ -73,21 +74,21 @@ abbrev pub MayRead : {B : Type 0} → (B → Plan → Type 0) → Due B → B �
 MayRead is_fresh is_due batches plan = is_fresh batches plan ⊎ ((inputs : Inputs) × is_due batches plan inputs)
 
 -- A net has come to rest over what batches gave, the last of which ended in this way.
-pub record IsAsGiven {B : Type 0} (gives : Giving B) (began : B) (plan : Plan) (first source : SourceTold) (last : BatchEnd) (so_far : Inputs) (net : NetView) (batches : B) : Type 0 where
+pub record IsAsGiven (laws : Laws) {B : Type 0} (gives : Giving B) (began : B) (plan : Plan) (first source : SourceTold) (last : BatchEnd) (so_far : Inputs) (net : NetView) (batches : B) : Type 0 where
   pub valid : IsValid plan
   pub given : gives began batches plan first source last so_far
-  pub boxes : List CalculatorTold
-  pub stands : StandsFor (logged plan so_far boxes) net
-  pub has_rested : HasRested (logged plan so_far boxes) net
+  pub boxes : List BoxTold
+  pub stands : StandsFor (logged laws plan so_far boxes) net
+  pub has_rested : HasRested (logged laws plan so_far boxes) net
 
 -- in some run of some plan a net has come to rest over what batches gave
-pub record SomeGiven {B : Type 0} (gives : Giving B) (last : BatchEnd) (net : NetView) (batches : B) : Type 0 where
+pub record SomeGiven (laws : Laws) {B : Type 0} (gives : Giving B) (last : BatchEnd) (net : NetView) (batches : B) : Type 0 where
   pub began : B
   pub plan : Plan
   pub first : SourceTold
   pub source : SourceTold
   pub so_far : Inputs
-  pub as_given : IsAsGiven gives began plan first source last so_far net batches
+  pub as_given : IsAsGiven laws gives began plan first source last so_far net batches
 
 -- The next batch is due: the input has no end yet, nothing comes before the batch, and all that the net has laid for the batches to read
 -- was read.
@@ -126,14 +127,14 @@ pub record OutcomesFit (plan : Plan) (outcomes : Outcomes) : Type 0 where
   pub nodes : All (λ fault. fault.node < length plan.nodes) outcomes.faults
 
 -- outcomes are of streams of the job over all that batches gave, the last of which ended the input in this way
-pub record AreOfGiven {B : Type 0} (gives : Giving B) (plan : Plan) (end : FeedEnd) (batches : B) (outcomes : Outcomes) : Type 0 where
+pub record AreOfGiven (laws : Laws) {B : Type 0} (gives : Giving B) (plan : Plan) (end : FeedEnd) (batches : B) (outcomes : Outcomes) : Type 0 where
   pub began : B
   pub first : SourceTold
   pub source : SourceTold
   pub inputs : Inputs
   pub given : gives began batches plan first source (End end) inputs
   pub streams : List (StreamPrefix Plain)
-  pub tells : TellsOf (record { plan = plan; inputs = inputs }) streams outcomes
+  pub tells : TellsOf (record { plan = plan; inputs = inputs; laws = laws }) streams outcomes
 
 -- a job of the plan has a solution of which the outcomes are, and a text that tells it in a form was put
 pub record TellsSolution (form : OutputForm) (job : Job) (first sink : SinkTold) (plan : Plan) (text : TextView) (outcomes : Outcomes) : Type 0 where

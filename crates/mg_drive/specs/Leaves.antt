@@ -4,21 +4,23 @@ use Rattle.mg_value.specs.Payload.{Plain}
 use Rattle.mg_settled.specs.Prefix.{StreamPrefix}
 use Rattle.mg_settled.specs.Settled.{settled_sets}
 use Rattle.mg_edge.specs.Edge.{SourceTold}
+use Rattle.mg_calc.specs.Rules.{Laws}
 use Rattle.mg_calc.specs.declared.call.Call.{Call}
 use Rattle.mg_calc.specs.declared.call.Call.TheVariants.{Begun, Shown, Finished}
 use Rattle.mg_calc.specs.declared.plan.Plan.{Plan}
 use Rattle.mg_calc.specs.declared.plan_node.PlanNode.{PlanNode}
 use Rattle.mg_calc.specs.Outcome.{Outcome, shown_all}
-use Rattle.mg_calc.specs.Equations.{Job, IsSolution, sides_of, inputs_of as ports_of, outcome_of}
-use Rattle.mg_calc.specs.Meaning.{shown_sets, log_of}
-use Rattle.mg_calc.specs.Told.{CalculatorTold}
+use Rattle.mg_calc.specs.Equations.{Job, IsSolution, sides_of, inputs_of as ports_of, outcome_of, rules_at}
+use Rattle.mg_calc.specs.Meaning.{count_of, shown_sets, log_of}
+use Rattle.mg_calc.specs.Told.{BoxTold}
 use Rattle.mg_feed.specs.Graph.{inputs_of}
 use Rattle.mg_answer.specs.Answer.{Read, job_of}
 use Rattle.mg_answer.specs.Devices.{Device, Untouched}
 use Rattle.mg_answer.specs.Ran.{CameTo}
 use Rattle.mg_answer.specs.declared.status.Status.{Status}
 use Rattle.mg_answer.specs.declared.status.Status.TheVariants.{OutOfMemory}
-use Rattle.mg_calc.specs.Law.{rules_of}
+use Rattle.mg_node.specs.Lawful.{kept_after}
+use Rattle.mg_node.specs.Had.{state_by, had_close}
 
 -- the first `count` calls of a node's calculator: Open, and a Process for each set that the node is shown; with Close behind them or not
 abbrev pub first_calls : Job → List (StreamPrefix Plain) → PlanNode → ℕ → Bool → List Call
@@ -26,37 +28,37 @@ first_calls job streams node count close =
     take count (Begun ∷ map (λ e. Shown e.at e.set) (shown_sets job streams node)) ++ (if close then Finished ∷ [] else [])
 
 -- A calculator had the calls that its node has in a solution: its log, where it tells one, grew by just these, in their order; and its
--- state is the one to which the node comes.
-pub record HadItsCalls (job : Job) (streams : List (StreamPrefix Plain)) (node : PlanNode) (before now : CalculatorTold) : Type 0 where
+-- state is what they leave: that of the node behind the last set that it was shown, and what Close gives for that, unless Open failed.
+pub record HadItsCalls (job : Job) (streams : List (StreamPrefix Plain)) (node : PlanNode) (before now : BoxTold) : Type 0 where
   pub log : now.log ≡ option_map (λ calls. calls ++ log_of job streams node) before.log
-  pub state : now.state ≡ (outcome_of job streams node).state
+  pub state : now.state ≡ state_by job streams node (count_of job streams node) (had_close (outcome_of job streams node).fault)
   pub law : now.law ≡ before.law
   pub shape : now.shape ≡ before.shape
 
 -- The calculator that stood at a place before and the one that stands there now are related by `P`.
-pub record IsRelatedAt (place : ℕ) (P : CalculatorTold → CalculatorTold → Type 0) (boxes : Device (List CalculatorTold)) : Type 0 where
-  pub before : CalculatorTold
-  pub now : CalculatorTold
+pub record IsRelatedAt (place : ℕ) (P : BoxTold → BoxTold → Type 0) (boxes : Device (List BoxTold)) : Type 0 where
+  pub before : BoxTold
+  pub now : BoxTold
   pub was : slice_get boxes.before place ≡ Some before
   pub is : slice_get boxes.now place ≡ Some now
   pub holds : P before now
 
 -- Each calculator that a node uses had all the calls that its node has in the solution of a job.
-pub record HadCallsOf (job : Job) (boxes : Device (List CalculatorTold)) : Type 0 where
+pub record HadCallsOf (job : Job) (boxes : Device (List BoxTold)) : Type 0 where
   pub streams : List (StreamPrefix Plain)
   pub solution : IsSolution job streams
   pub each : (number place : ℕ) (node : PlanNode) → slice_get job.plan.nodes number ≡ Some node → node.box_number ≡ Some place
       → IsRelatedAt place (HadItsCalls job streams node) boxes
 
 -- Each calculator that a node uses had all the calls that its node has in the solution over what the input came to.
-pub record AllHadCalls (plan : Plan) (input : Device SourceTold) (boxes : Device (List CalculatorTold)) : Type 0 where
+pub record AllHadCalls (laws : Laws) (plan : Plan) (input : Device SourceTold) (boxes : Device (List BoxTold)) : Type 0 where
   pub read : Read
   pub came : CameTo (inputs_of plan) input read
-  pub had : HadCallsOf (job_of plan read) boxes
+  pub had : HadCallsOf (job_of laws plan read) boxes
 
 -- A calculator had a front of the calls that its node has in a solution: the first of them, a number of them, and perhaps Close behind
 -- them, but not without Open. Its log, where it tells one, grew by just these.
-pub record HadAFront (job : Job) (streams : List (StreamPrefix Plain)) (node : PlanNode) (before now : CalculatorTold) : Type 0 where
+pub record HadAFront (job : Job) (streams : List (StreamPrefix Plain)) (node : PlanNode) (before now : BoxTold) : Type 0 where
   pub count : ℕ
   pub close : Bool
   pub opened : close ≡ true → 1 ≤ count
@@ -66,36 +68,42 @@ pub record HadAFront (job : Job) (streams : List (StreamPrefix Plain)) (node : P
 
 -- what a node has come to once it was opened and shown its first `shown` settled sets
 abbrev pub come_to : Job → List (StreamPrefix Plain) → PlanNode → ℕ → Outcome
-come_to job streams node shown = shown_all (rules_of node.law) node.shape.offset (length node.outputs) (sides_of job node) (take shown (settled_sets node.policy (ports_of streams node)))
+come_to job streams node shown = shown_all (rules_at job node) node.shape.offset (length node.outputs) (sides_of job node) (take shown (settled_sets node.policy (ports_of streams node)))
+
+-- what a node's calculator keeps once it was opened and shown its first `shown` settled sets, and perhaps had Close behind them
+abbrev pub kept_by : Job → List (StreamPrefix Plain) → PlanNode → ℕ → Bool → List Plain
+kept_by job streams node shown close =
+    if close then kept_after ((rules_at job node).finish (come_to job streams node shown).state) (come_to job streams node shown).state
+    else (come_to job streams node shown).state
 
 -- A calculator had a front of its node's calls. Before Open its state is what it was, and from Open on it is the one to which its node has
--- come after the sets that it was shown. Close changes nothing of it.
-pub record KeepsAFront (job : Job) (streams : List (StreamPrefix Plain)) (node : PlanNode) (before now : CalculatorTold) : Type 0 where
+-- come after the sets that it was shown, or, where it had Close, the one that Close gives for that.
+pub record KeepsAFront (job : Job) (streams : List (StreamPrefix Plain)) (node : PlanNode) (before now : BoxTold) : Type 0 where
   pub front : HadAFront job streams node before now
   pub unopened : front.count ≡ 0 → now.state ≡ before.state
-  pub state : (shown : ℕ) → front.count ≡ suc shown → now.state ≡ (come_to job streams node shown).state
+  pub state : (shown : ℕ) → front.count ≡ suc shown → now.state ≡ kept_by job streams node shown front.close
 
 -- Each calculator that a node uses had a front of the calls that its node has in the solution of a job.
-pub record HadFronts (job : Job) (boxes : Device (List CalculatorTold)) : Type 0 where
+pub record HadFronts (job : Job) (boxes : Device (List BoxTold)) : Type 0 where
   pub streams : List (StreamPrefix Plain)
   pub solution : IsSolution job streams
   pub each : (number place : ℕ) (node : PlanNode) → slice_get job.plan.nodes number ≡ Some node → node.box_number ≡ Some place
       → IsRelatedAt place (HadAFront job streams node) boxes
 
 -- The input was read, and each calculator that a node uses had a front of its node's calls in the solution over what the input came to.
-pub record HadFrontsOfRead (plan : Plan) (input : Device SourceTold) (boxes : Device (List CalculatorTold)) : Type 0 where
+pub record HadFrontsOfRead (laws : Laws) (plan : Plan) (input : Device SourceTold) (boxes : Device (List BoxTold)) : Type 0 where
   pub read : Read
   pub came : CameTo (inputs_of plan) input read
-  pub fronts : HadFronts (job_of plan read) boxes
+  pub fronts : HadFronts (job_of laws plan read) boxes
 
 -- Memory ran out: no calculator had a call, or the input was read, and each that a node uses had a front of its node's calls.
-abbrev pub HadSome : Plan → Device SourceTold → Device (List CalculatorTold) → Type 0
-HadSome plan input boxes = Untouched boxes ⊎ HadFrontsOfRead plan input boxes
+abbrev pub HadSome : Laws → Plan → Device SourceTold → Device (List BoxTold) → Type 0
+HadSome laws plan input boxes = Untouched boxes ⊎ HadFrontsOfRead laws plan input boxes
 
 -- What a recorded run leaves of the calculators. All come back in their order. A calculator that no node uses had no call. Each other one
 -- had all of its calls, or, where memory ran out, a front of them, perhaps with Close behind it.
-pub record RunLeaves (plan : Plan) (status : Status) (input : Device SourceTold) (boxes : Device (List CalculatorTold)) : Type 0 where
+pub record RunLeaves (laws : Laws) (plan : Plan) (status : Status) (input : Device SourceTold) (boxes : Device (List BoxTold)) : Type 0 where
   pub count : length boxes.now ≡ length boxes.before
   pub unused : (place : ℕ) → All (λ node. ¬ (node.box_number ≡ Some place)) plan.nodes → slice_get boxes.now place ≡ slice_get boxes.before place
-  pub used : status ≢ OutOfMemory → AllHadCalls plan input boxes
-  pub short : status ≡ OutOfMemory → HadSome plan input boxes
+  pub used : status ≢ OutOfMemory → AllHadCalls laws plan input boxes
+  pub short : status ≡ OutOfMemory → HadSome laws plan input boxes

@@ -1,4 +1,5 @@
 -- What a net keeps while it is driven, and which of its packets are still to be read.
+use Rattle.mg_calc.specs.Rules.{Laws}
 use Rattle.std.specs.Prelude.{◌≡◌, ◌+◌, ◌≤◌, ℕ, List, length, All}
 use Rattle.mg_value.specs.Payload.{Plain}
 use Rattle.mg_stream.specs.Pool.{Backlog}
@@ -15,11 +16,11 @@ pub record Keeps (before now : NetView) : Type 0 where
   pub spare : now.spare ≡ before.spare
 
 -- A net came to rest for a job, and since then nothing was done but that sets of its outputs were taken.
-pub record HasRested (job : LoggedJob) (net : NetView) : Type 0 where
+pub record HasRested {laws : Laws} (job : LoggedJob laws) (net : NetView) : Type 0 where
   pub rested : NetView
   pub stands : StandsFor job rested
   pub running : IsRunning rested
-  pub rests : IsAtRest rested
+  pub rests : IsAtRest laws rested
   pub since : LeavesNodes rested net
 
 -- no packet of a stream was given up between two states of a net

@@ -5,10 +5,11 @@ use Rattle.std.specs.List.{AllZip}
 use Rattle.mg_edge.specs.Edge.{SourceTold, SinkTold}
 use Rattle.mg_value.specs.Payload.{Plain}
 use Rattle.mg_settled.specs.Prefix.{StreamPrefix}
+use Rattle.mg_calc.specs.Rules.{Laws}
 use Rattle.mg_calc.specs.declared.inputs.Inputs.{Inputs}
 use Rattle.mg_calc.specs.declared.plan.Plan.{Plan}
 use Rattle.mg_calc.specs.Equations.{IsSolution}
-use Rattle.mg_calc.specs.Told.{CalculatorTold}
+use Rattle.mg_calc.specs.Told.{BoxTold}
 use Rattle.mg_free.specs.Core.{split_of}
 use Rattle.mg_free.specs.Logs.{output_of}
 use Rattle.mg_free.specs.Rounds.{Taken, none_taken, free_inputs, output_so_far, core_job, AllRounds}
@@ -36,42 +37,42 @@ use Rattle.mg_drive.specs.InBatches.{InBatches, come_after}
 
 -- The rounds over some batches come to logs. In the solution of the core for these, the log of each free node is lawful, the node's output
 -- is the one that its law gives for its log, and `live` is what this tells of the plan.
-pub record ComesTo (whole : Plan) (first : Inputs) (later : List Inputs) : Type 0 where
+pub record ComesTo (laws : Laws) (whole : Plan) (first : Inputs) (later : List Inputs) : Type 0 where
   pub takens : List Taken
-  pub rounds : AllRounds (split_of whole) (first ∷ later) (none_taken (split_of whole)) takens
+  pub rounds : AllRounds laws (split_of whole) (first ∷ later) (none_taken (split_of whole)) takens
   pub streams : List (StreamPrefix Plain)
-  pub solution : IsSolution (core_job (split_of whole) (last_batch first later) takens) streams
+  pub solution : IsSolution (core_job laws (split_of whole) (last_batch first later) takens) streams
   pub logs : AreLawful streams (split_of whole).free takens
   pub outputs : AllZip (λ free taken. output_so_far free taken ≡ output_of free.law (free_inputs streams free) taken.log) (split_of whole).free takens
   pub live : Outcomes
-  pub tells : LiveTells whole (core_job (split_of whole) (last_batch first later) takens) streams (split_of whole).free takens live
+  pub tells : LiveTells whole (core_job laws (split_of whole) (last_batch first later) takens) streams (split_of whole).free takens live
 
 -- the answer of a run over batches, by how its input ended
-pub record IsLiveAnswer (form : OutputForm) (report : Bool) (whole : Plan) (first : Inputs) (later : List Inputs) (end : FeedEnd) (answer : RunAnswer) : Type 0 where
-  pub comes : ComesTo whole first later
+pub record IsLiveAnswer (laws : Laws) (form : OutputForm) (report : Bool) (whole : Plan) (first : Inputs) (later : List Inputs) (end : FeedEnd) (answer : RunAnswer) : Type 0 where
+  pub comes : ComesTo laws whole first later
   pub is : answer ≡ told_answer report whole end comes.live (output_in form (split_of whole).core comes.streams)
 
 -- A run over batches, by how its input ended. The output, the status and the notes are those of the core's solution, by the plan's numbers,
 -- with a line for each arrival; and each calculator that is handed in had exactly the calls that its node has in that solution.
-pub record OneLive (form : OutputForm) (report : Bool) (whole : Plan) (first : Inputs) (later : List Inputs) (end : FeedEnd) (status : Status) (output notes : Device SinkTold) (boxes : Device (List CalculatorTold)) : Type 0 where
-  pub comes : ComesTo whole first later
+pub record OneLive (laws : Laws) (form : OutputForm) (report : Bool) (whole : Plan) (first : Inputs) (later : List Inputs) (end : FeedEnd) (status : Status) (output notes : Device SinkTold) (boxes : Device (List BoxTold)) : Type 0 where
+  pub comes : ComesTo laws whole first later
   pub wrote : WroteBy status (told_answer report whole end comes.live (output_in form (split_of whole).core comes.streams)) (told_failed report whole end comes.live) output notes
-  pub had : AllHad (split_of whole).core (HadItsCalls (core_job (split_of whole) (last_batch first later) comes.takens) comes.streams) boxes
+  pub had : AllHad (split_of whole).core (HadItsCalls (core_job laws (split_of whole) (last_batch first later) comes.takens) comes.streams) boxes
 
 -- A run over batches in which memory ran out. By then a first number of the batches had come: the last of these is `base`, and those before
 -- it are `earlier`, the newest first. Rounds over these had come to logs. In the solution of the core for what the free nodes had taken,
 -- the output took a front of the text, and each calculator had a front of its calls and keeps what its node has come to after them.
-pub record LiveShort (form : OutputForm) (whole : Plan) (batches : List Inputs) (output : Device SinkTold) (boxes : Device (List CalculatorTold)) : Type 0 where
+pub record LiveShort (laws : Laws) (form : OutputForm) (whole : Plan) (batches : List Inputs) (output : Device SinkTold) (boxes : Device (List BoxTold)) : Type 0 where
   pub base : Inputs
   pub earlier : List Inputs
   pub later : List Inputs
   pub first : batches ≡ reverse (base ∷ earlier) ++ later
   pub takens : List Taken
-  pub so_far : SoFar (split_of whole) (base ∷ earlier) takens
+  pub so_far : SoFar laws (split_of whole) (base ∷ earlier) takens
   pub streams : List (StreamPrefix Plain)
-  pub solution : IsSolution (core_job (split_of whole) base takens) streams
+  pub solution : IsSolution (core_job laws (split_of whole) base takens) streams
   pub front : TookFront output (output_in form (split_of whole).core streams)
-  pub had : AllHad (split_of whole).core (KeepsAFront (core_job (split_of whole) base takens) streams) boxes
+  pub had : AllHad (split_of whole).core (KeepsAFront (core_job laws (split_of whole) base takens) streams) boxes
 
 -- Over packet lines --
 
@@ -82,26 +83,26 @@ pub record AreBatchesOf (whole : Plan) (read : Read) (batches : List Inputs) : T
   pub are : come_after (inputs_of whole) read.end [] lines ≡ batches
 
 -- The input was read to its end, its first line that isn't good or its first failed read, and the batches of its lines were run.
-pub record OneLiveReading (report : Bool) (whole : Plan) (status : Status) (devices : RunDevices) (boxes : Device (List CalculatorTold)) : Type 0 where
+pub record OneLiveReading (laws : Laws) (report : Bool) (whole : Plan) (status : Status) (devices : RunDevices) (boxes : Device (List BoxTold)) : Type 0 where
   pub read : Read
   pub came : CameTo (inputs_of whole) devices.input read
   pub first : Inputs
   pub later : List Inputs
   pub batches : AreBatchesOf whole read (first ∷ later)
-  pub run : OneLive packet_lines report whole first later read.end status devices.output devices.notes boxes
+  pub run : OneLive laws packet_lines report whole first later read.end status devices.output devices.notes boxes
 
 -- Memory ran out once the whole input had been read, to its end, its first line that isn't good or its first failed read.
-pub record LiveShortAtEnd (whole : Plan) (input : Device SourceTold) (output : Device SinkTold) (boxes : Device (List CalculatorTold)) : Type 0 where
+pub record LiveShortAtEnd (laws : Laws) (whole : Plan) (input : Device SourceTold) (output : Device SinkTold) (boxes : Device (List BoxTold)) : Type 0 where
   pub read : Read
   pub came : CameTo (inputs_of whole) input read
   pub batches : List Inputs
   pub are : AreBatchesOf whole read batches
-  pub short : LiveShort packet_lines whole batches output boxes
+  pub short : LiveShort laws packet_lines whole batches output boxes
 
 -- Memory ran out while the input went on. The input was read once, and `first` are the first of the bytes that came. Whatever bytes follow
 -- these, of which there are none where the source had ended with them, what was written and called is a front of what belongs to the
 -- batches of the whole input.
-pub record LiveShortBefore (whole : Plan) (input : Device SourceTold) (output : Device SinkTold) (boxes : Device (List CalculatorTold)) : Type 0 where
+pub record LiveShortBefore (laws : Laws) (whole : Plan) (input : Device SourceTold) (output : Device SinkTold) (boxes : Device (List BoxTold)) : Type 0 where
   pub read : ReadSome (inputs_of whole) input
   pub first : List ℕ
   pub later : List ℕ
@@ -109,50 +110,50 @@ pub record LiveShortBefore (whole : Plan) (input : Device SourceTold) (output : 
   pub ended : Bool
   pub met : ended ≡ true → EndCame input.before input.now × (later ≡ [])
   pub short : (rest : List ℕ) → (ended ≡ true → rest ≡ []) → (batches : List Inputs) → AreBatchesOf whole (ended_input (inputs_of whole) (first ++ rest)) batches
-      → LiveShort packet_lines whole batches output boxes
+      → LiveShort laws packet_lines whole batches output boxes
 
 -- memory ran out before anything was written or called, once the input had been read, or while it went on
-abbrev pub LiveShortIn : Plan → Device SourceTold → Device SinkTold → Device (List CalculatorTold) → Type 0
-LiveShortIn whole input output boxes = ShortAtOnce whole input output boxes ⊎ (LiveShortAtEnd whole input output boxes ⊎ LiveShortBefore whole input output boxes)
+abbrev pub LiveShortIn : Laws → Plan → Device SourceTold → Device SinkTold → Device (List BoxTold) → Type 0
+LiveShortIn laws whole input output boxes = ShortAtOnce whole input output boxes ⊎ (LiveShortAtEnd laws whole input output boxes ⊎ LiveShortBefore laws whole input output boxes)
 
 -- A run over packet lines ended since memory ran out, and the notes say that alone.
-pub record LiveShortReading (whole : Plan) (status : Status) (devices : RunDevices) (boxes : Device (List CalculatorTold)) : Type 0 where
+pub record LiveShortReading (laws : Laws) (whole : Plan) (status : Status) (devices : RunDevices) (boxes : Device (List BoxTold)) : Type 0 where
   pub is : status ≡ OutOfMemory
   pub noted : TookNotes devices.notes memory_note
-  pub by : LiveShortIn whole devices.input devices.output boxes
+  pub by : LiveShortIn laws whole devices.input devices.output boxes
 
 -- a run over packet lines ended with this status: over the whole input, or since memory ran out
-abbrev pub RanLive : Bool → Plan → Status → RunDevices → Device (List CalculatorTold) → Type 0
-RanLive report whole status devices boxes = OneLiveReading report whole status devices boxes ⊎ LiveShortReading whole status devices boxes
+abbrev pub RanLive : Laws → Bool → Plan → Status → RunDevices → Device (List BoxTold) → Type 0
+RanLive laws report whole status devices boxes = OneLiveReading laws report whole status devices boxes ⊎ LiveShortReading laws whole status devices boxes
 
 -- the answer of a graph with free nodes over an input that ended after these bytes
-pub record AnswersLive (report : Bool) (whole : Plan) (bytes : List ℕ) (answer : RunAnswer) : Type 0 where
+pub record AnswersLive (laws : Laws) (report : Bool) (whole : Plan) (bytes : List ℕ) (answer : RunAnswer) : Type 0 where
   pub first : Inputs
   pub later : List Inputs
   pub batches : AreBatchesOf whole (ended_input (inputs_of whole) bytes) (first ∷ later)
-  pub answers : IsLiveAnswer packet_lines report whole first later (ended_input (inputs_of whole) bytes).end answer
+  pub answers : IsLiveAnswer laws packet_lines report whole first later (ended_input (inputs_of whole) bytes).end answer
 
 -- Over packets that are made, all of which are one batch --
 
 -- A number of packets were made, and were run as one batch.
-abbrev pub OneLiveMade : Bool → Plan → ℕ → Status → Device SinkTold → Device SinkTold → Device (List CalculatorTold) → Type 0
-OneLiveMade report whole number status output notes boxes = OneLive totals report whole (generated_job whole number).inputs [] Ended status output notes boxes
+abbrev pub OneLiveMade : Laws → Bool → Plan → ℕ → Status → Device SinkTold → Device SinkTold → Device (List BoxTold) → Type 0
+OneLiveMade laws report whole number status output notes boxes = OneLive laws totals report whole (generated_job laws whole number).inputs [] Ended status output notes boxes
 
 -- Memory ran out in a run over packets that are made, before anything was done or later.
-abbrev pub LiveShortInMade : Plan → ℕ → Device SinkTold → Device (List CalculatorTold) → Type 0
-LiveShortInMade whole number output boxes = WasNothing output boxes ⊎ LiveShort totals whole ((generated_job whole number).inputs ∷ []) output boxes
+abbrev pub LiveShortInMade : Laws → Plan → ℕ → Device SinkTold → Device (List BoxTold) → Type 0
+LiveShortInMade laws whole number output boxes = WasNothing output boxes ⊎ LiveShort laws totals whole ((generated_job laws whole number).inputs ∷ []) output boxes
 
 -- A run over packets that are made ended since memory ran out, and the notes say that alone.
-pub record LiveShortMade (whole : Plan) (number : ℕ) (status : Status) (output notes : Device SinkTold) (boxes : Device (List CalculatorTold)) : Type 0 where
+pub record LiveShortMade (laws : Laws) (whole : Plan) (number : ℕ) (status : Status) (output notes : Device SinkTold) (boxes : Device (List BoxTold)) : Type 0 where
   pub is : status ≡ OutOfMemory
   pub noted : TookNotes notes memory_note
-  pub by : LiveShortInMade whole number output boxes
+  pub by : LiveShortInMade laws whole number output boxes
 
 -- a run over packets that are made ended with this status: over all packets, or since memory ran out
-abbrev pub RanLiveMade : Bool → Plan → ℕ → Status → Device SinkTold → Device SinkTold → Device (List CalculatorTold) → Type 0
-RanLiveMade report whole number status output notes boxes =
-    OneLiveMade report whole number status output notes boxes ⊎ LiveShortMade whole number status output notes boxes
+abbrev pub RanLiveMade : Laws → Bool → Plan → ℕ → Status → Device SinkTold → Device SinkTold → Device (List BoxTold) → Type 0
+RanLiveMade laws report whole number status output notes boxes =
+    OneLiveMade laws report whole number status output notes boxes ⊎ LiveShortMade laws whole number status output notes boxes
 
 -- the answer of a graph with free nodes over a number of packets that are made
-abbrev pub AnswersLiveMade : Bool → Plan → ℕ → RunAnswer → Type 0
-AnswersLiveMade report whole number answer = IsLiveAnswer totals report whole (generated_job whole number).inputs [] Ended answer
+abbrev pub AnswersLiveMade : Laws → Bool → Plan → ℕ → RunAnswer → Type 0
+AnswersLiveMade laws report whole number answer = IsLiveAnswer laws totals report whole (generated_job laws whole number).inputs [] Ended answer

@@ -4,10 +4,11 @@ use Rattle.std.specs.Prelude.{◌≡◌, ◌⊎◌, ℕ, List, [], ◌++◌, len
 use Rattle.mg_edge.specs.Edge.{SourceTold, SinkTold}
 use Rattle.mg_value.specs.Payload.{Plain}
 use Rattle.mg_settled.specs.Prefix.{StreamPrefix}
+use Rattle.mg_calc.specs.Rules.{Laws}
 use Rattle.mg_calc.specs.declared.plan.Plan.{Plan}
 use Rattle.mg_calc.specs.declared.plan_node.PlanNode.{PlanNode}
 use Rattle.mg_calc.specs.Equations.{Job, IsSolution}
-use Rattle.mg_calc.specs.Told.{CalculatorTold}
+use Rattle.mg_calc.specs.Told.{BoxTold}
 use Rattle.mg_feed.specs.Graph.{inputs_of}
 use Rattle.mg_feed.specs.Ran.{EndCame}
 use Rattle.mg_feed.specs.declared.feed_end.FeedEnd.{FeedEnd}
@@ -22,18 +23,18 @@ use Rattle.mg_answer.specs.declared.status.Status.TheVariants.{OutOfMemory}
 use Rattle.mg_drive.specs.Leaves.{IsRelatedAt, HadItsCalls, KeepsAFront}
 
 -- All calculators come back in their order, and each that no node uses had no call.
-pub record CalculatorsCameBack (plan : Plan) (before now : List CalculatorTold) : Type 0 where
+pub record CalculatorsCameBack (plan : Plan) (before now : List BoxTold) : Type 0 where
   pub count : length now ≡ length before
   pub unused : (place : ℕ) → All (λ node. ¬ (node.box_number ≡ Some place)) plan.nodes → slice_get now place ≡ slice_get before place
 
 -- All calculators come back, and each that a node uses is related by `had` to what it was before the run.
-pub record AllHad (plan : Plan) (had : PlanNode → CalculatorTold → CalculatorTold → Type 0) (boxes : Device (List CalculatorTold)) : Type 0 where
+pub record AllHad (plan : Plan) (had : PlanNode → BoxTold → BoxTold → Type 0) (boxes : Device (List BoxTold)) : Type 0 where
   pub back : CalculatorsCameBack plan boxes.before boxes.now
   pub used : (number place : ℕ) (node : PlanNode) → slice_get plan.nodes number ≡ Some node → node.box_number ≡ Some place → IsRelatedAt place (had node) boxes
 
 -- A run of a job, by how its input ended. There is one solution: the output, the notes and the status are those that it has, and each
 -- calculator that is handed in had exactly the calls that its node has in it: Open, each of the node's settled sets, and Close.
-pub record OneRun (telling : Telling) (job : Job) (end : FeedEnd) (status : Status) (output notes : Device SinkTold) (boxes : Device (List CalculatorTold)) : Type 0 where
+pub record OneRun (telling : Telling) (job : Job) (end : FeedEnd) (status : Status) (output notes : Device SinkTold) (boxes : Device (List BoxTold)) : Type 0 where
   pub streams : List (StreamPrefix Plain)
   pub solution : IsSolution job streams
   pub wrote : WroteBy status (answer_of telling job end streams) (failed_notes telling job end streams) output notes
@@ -41,78 +42,78 @@ pub record OneRun (telling : Telling) (job : Job) (end : FeedEnd) (status : Stat
 
 -- A run of a job in which memory ran out. By the one solution the output took a front of the text, and each calculator had a front of its
 -- calls and keeps what its node has come to after them.
-pub record OneShort (form : OutputForm) (job : Job) (output : Device SinkTold) (boxes : Device (List CalculatorTold)) : Type 0 where
+pub record OneShort (form : OutputForm) (job : Job) (output : Device SinkTold) (boxes : Device (List BoxTold)) : Type 0 where
   pub streams : List (StreamPrefix Plain)
   pub solution : IsSolution job streams
   pub front : TookFront output (output_in form job.plan streams)
   pub had : AllHad job.plan (KeepsAFront job streams) boxes
 
 -- nothing was written, and no calculator had a call
-pub record WasNothing (output : Device SinkTold) (boxes : Device (List CalculatorTold)) : Type 0 where
+pub record WasNothing (output : Device SinkTold) (boxes : Device (List BoxTold)) : Type 0 where
   pub unwritten : Untouched output
   pub uncalled : Untouched boxes
 
 -- Runs over packet lines --
 
 -- The input was read to its end, its first line that isn't good or its first failed read, and the job of what it came to was run.
-pub record OneReading (report : Bool) (plan : Plan) (status : Status) (devices : RunDevices) (boxes : Device (List CalculatorTold)) : Type 0 where
+pub record OneReading (laws : Laws) (report : Bool) (plan : Plan) (status : Status) (devices : RunDevices) (boxes : Device (List BoxTold)) : Type 0 where
   pub read : Read
   pub came : CameTo (inputs_of plan) devices.input read
-  pub run : OneRun (by_lines report) (job_of plan read) read.end status devices.output devices.notes boxes
+  pub run : OneRun (by_lines report) (job_of laws plan read) read.end status devices.output devices.notes boxes
 
 -- Memory ran out before anything was written or called. What was read of the input by then was read once.
-pub record ShortAtOnce (plan : Plan) (input : Device SourceTold) (output : Device SinkTold) (boxes : Device (List CalculatorTold)) : Type 0 where
+pub record ShortAtOnce (plan : Plan) (input : Device SourceTold) (output : Device SinkTold) (boxes : Device (List BoxTold)) : Type 0 where
   pub read : ReadSome (inputs_of plan) input
   pub nothing : WasNothing output boxes
 
 -- Memory ran out once the whole input had been read, to its end, its first line that isn't good or its first failed read.
-pub record ShortAtEnd (plan : Plan) (input : Device SourceTold) (output : Device SinkTold) (boxes : Device (List CalculatorTold)) : Type 0 where
+pub record ShortAtEnd (laws : Laws) (plan : Plan) (input : Device SourceTold) (output : Device SinkTold) (boxes : Device (List BoxTold)) : Type 0 where
   pub read : Read
   pub came : CameTo (inputs_of plan) input read
-  pub short : OneShort packet_lines (job_of plan read) output boxes
+  pub short : OneShort packet_lines (job_of laws plan read) output boxes
 
 -- Memory ran out while the input went on. The input was read once, and `first` are the first of the bytes that came. Whatever bytes follow
 -- these, of which there are none where the source had ended with them, what was written and called is a front of what belongs to the whole
 -- input.
-pub record ShortBefore (plan : Plan) (input : Device SourceTold) (output : Device SinkTold) (boxes : Device (List CalculatorTold)) : Type 0 where
+pub record ShortBefore (laws : Laws) (plan : Plan) (input : Device SourceTold) (output : Device SinkTold) (boxes : Device (List BoxTold)) : Type 0 where
   pub read : ReadSome (inputs_of plan) input
   pub first : List ℕ
   pub later : List ℕ
   pub split : read.came ≡ first ++ later
   pub ended : Bool
   pub met : ended ≡ true → EndCame input.before input.now × (later ≡ [])
-  pub short : (rest : List ℕ) → (ended ≡ true → rest ≡ []) → OneShort packet_lines (job_of plan (ended_input (inputs_of plan) (first ++ rest))) output boxes
+  pub short : (rest : List ℕ) → (ended ≡ true → rest ≡ []) → OneShort packet_lines (job_of laws plan (ended_input (inputs_of plan) (first ++ rest))) output boxes
 
 -- memory ran out before anything was written or called, once the input had been read, or while it went on
-abbrev pub ShortIn : Plan → Device SourceTold → Device SinkTold → Device (List CalculatorTold) → Type 0
-ShortIn plan input output boxes = ShortAtOnce plan input output boxes ⊎ (ShortAtEnd plan input output boxes ⊎ ShortBefore plan input output boxes)
+abbrev pub ShortIn : Laws → Plan → Device SourceTold → Device SinkTold → Device (List BoxTold) → Type 0
+ShortIn laws plan input output boxes = ShortAtOnce plan input output boxes ⊎ (ShortAtEnd laws plan input output boxes ⊎ ShortBefore laws plan input output boxes)
 
 -- A run over packet lines ended since memory ran out, and the notes say that alone.
-pub record ShortReading (plan : Plan) (status : Status) (devices : RunDevices) (boxes : Device (List CalculatorTold)) : Type 0 where
+pub record ShortReading (laws : Laws) (plan : Plan) (status : Status) (devices : RunDevices) (boxes : Device (List BoxTold)) : Type 0 where
   pub is : status ≡ OutOfMemory
   pub noted : TookNotes devices.notes memory_note
-  pub by : ShortIn plan devices.input devices.output boxes
+  pub by : ShortIn laws plan devices.input devices.output boxes
 
 -- a run over packet lines ended with this status: over the whole input, or since memory ran out
-abbrev pub RanOverLines : Bool → Plan → Status → RunDevices → Device (List CalculatorTold) → Type 0
-RanOverLines report plan status devices boxes = OneReading report plan status devices boxes ⊎ ShortReading plan status devices boxes
+abbrev pub RanOverLines : Laws → Bool → Plan → Status → RunDevices → Device (List BoxTold) → Type 0
+RanOverLines laws report plan status devices boxes = OneReading laws report plan status devices boxes ⊎ ShortReading laws plan status devices boxes
 
 -- Runs over packets that are made --
 
 -- A number of packets were made, and their job was run.
-abbrev pub OneMade : Bool → Plan → ℕ → Status → Device SinkTold → Device SinkTold → Device (List CalculatorTold) → Type 0
-OneMade report plan number status output notes boxes = OneRun (by_summary report) (generated_job plan number) Ended status output notes boxes
+abbrev pub OneMade : Laws → Bool → Plan → ℕ → Status → Device SinkTold → Device SinkTold → Device (List BoxTold) → Type 0
+OneMade laws report plan number status output notes boxes = OneRun (by_summary report) (generated_job laws plan number) Ended status output notes boxes
 
 -- Memory ran out in a run over packets that are made, before anything was done or later.
-abbrev pub ShortInMade : Plan → ℕ → Device SinkTold → Device (List CalculatorTold) → Type 0
-ShortInMade plan number output boxes = WasNothing output boxes ⊎ OneShort totals (generated_job plan number) output boxes
+abbrev pub ShortInMade : Laws → Plan → ℕ → Device SinkTold → Device (List BoxTold) → Type 0
+ShortInMade laws plan number output boxes = WasNothing output boxes ⊎ OneShort totals (generated_job laws plan number) output boxes
 
 -- A run over packets that are made ended since memory ran out, and the notes say that alone.
-pub record ShortMade (plan : Plan) (number : ℕ) (status : Status) (output notes : Device SinkTold) (boxes : Device (List CalculatorTold)) : Type 0 where
+pub record ShortMade (laws : Laws) (plan : Plan) (number : ℕ) (status : Status) (output notes : Device SinkTold) (boxes : Device (List BoxTold)) : Type 0 where
   pub is : status ≡ OutOfMemory
   pub noted : TookNotes notes memory_note
-  pub by : ShortInMade plan number output boxes
+  pub by : ShortInMade laws plan number output boxes
 
 -- a run over packets that are made ended with this status: over all packets, or since memory ran out
-abbrev pub RanOverPackets : Bool → Plan → ℕ → Status → Device SinkTold → Device SinkTold → Device (List CalculatorTold) → Type 0
-RanOverPackets report plan number status output notes boxes = OneMade report plan number status output notes boxes ⊎ ShortMade plan number status output notes boxes
+abbrev pub RanOverPackets : Laws → Bool → Plan → ℕ → Status → Device SinkTold → Device SinkTold → Device (List BoxTold) → Type 0
+RanOverPackets laws report plan number status output notes boxes = OneMade laws report plan number status output notes boxes ⊎ ShortMade laws plan number status output notes boxes

@@ -2,10 +2,11 @@
 -- its nodes had begun. All else is as in a run that writes its outputs.
 use Rattle.std.specs.Prelude.{◌≡◌, ◌⊎◌, ℕ, List, ◌++◌, Bool}
 use Rattle.mg_edge.specs.Edge.{SourceTold, SinkTold}
+use Rattle.mg_calc.specs.Rules.{Laws}
 use Rattle.mg_calc.specs.declared.event.Event.{Event}
 use Rattle.mg_calc.specs.declared.inputs.Inputs.{Inputs}
 use Rattle.mg_calc.specs.declared.plan.Plan.{Plan}
-use Rattle.mg_calc.specs.Told.{CalculatorTold}
+use Rattle.mg_calc.specs.Told.{BoxTold}
 use Rattle.mg_feed.specs.Graph.{inputs_of}
 use Rattle.mg_trace.specs.Job.{job_text}
 use Rattle.mg_trace.specs.Trace.{events_text, trace_text}
@@ -22,65 +23,65 @@ use Rattle.mg_sched.specs.Runs.{IsRun, IsBegun, IsRunAtRest}
 -- Traces --
 
 -- A trace of a job, with the calculators that are handed in: the job's lines, and the events of a run of it to rest.
-pub record IsTrace (plan : Plan) (inputs : Inputs) (boxes : List CalculatorTold) (text : List ℕ) : Type 0 where
+pub record IsTrace (laws : Laws) (plan : Plan) (inputs : Inputs) (boxes : List BoxTold) (text : List ℕ) : Type 0 where
   pub events : List Event
-  pub run : IsRunAtRest plan inputs boxes events
+  pub run : IsRunAtRest laws plan inputs boxes events
   pub is : text ≡ trace_text plan inputs events
 
 -- The events of a run of a job so far: they begin where the job's runs begin, and the run may go on.
-pub record IsRunSoFar (plan : Plan) (inputs : Inputs) (boxes : List CalculatorTold) (events : List Event) : Type 0 where
+pub record IsRunSoFar (laws : Laws) (plan : Plan) (inputs : Inputs) (boxes : List BoxTold) (events : List Event) : Type 0 where
   pub begun : NetView
-  pub begins : IsBegun plan inputs boxes begun
+  pub begins : IsBegun laws plan inputs boxes begun
   pub now : NetView
-  pub run : IsRun events begun now
+  pub run : IsRun laws events begun now
 
 -- The output took a front of a trace of a job, or of the job's lines and of the events of a run so far.
-abbrev pub TookSomeTrace : Plan → Inputs → List CalculatorTold → Device SinkTold → Type 0
-TookSomeTrace plan inputs boxes output = ((text : List ℕ) × IsTrace plan inputs boxes text × TookFront output text)
-    ⊎ ((events : List Event) × IsRunSoFar plan inputs boxes events × TookFront output (job_text plan inputs ++ events_text events))
+abbrev pub TookSomeTrace : Laws → Plan → Inputs → List BoxTold → Device SinkTold → Type 0
+TookSomeTrace laws plan inputs boxes output = ((text : List ℕ) × IsTrace laws plan inputs boxes text × TookFront output text)
+    ⊎ ((events : List Event) × IsRunSoFar laws plan inputs boxes events × TookFront output (job_text plan inputs ++ events_text events))
 
 -- The answer of a recorded run over what its input came to: the answer of a run, but that the output is a trace.
-pub record IsTraced (report : Bool) (plan : Plan) (boxes : List CalculatorTold) (read : Read) (answer : RunAnswer) : Type 0 where
+pub record IsTraced (laws : Laws) (report : Bool) (plan : Plan) (boxes : List BoxTold) (read : Read) (answer : RunAnswer) : Type 0 where
   pub text : List ℕ
-  pub trace : IsTrace plan (inputs_by (inputs_of plan) read) boxes text
+  pub trace : IsTrace laws plan (inputs_by (inputs_of plan) read) boxes text
   pub of_run : RunAnswer
-  pub is_answer : IsAnswer report plan read of_run
+  pub is_answer : IsAnswer laws report plan read of_run
   pub is : answer ≡ record of_run { output = text }
 
 -- the answer of a recorded run over an input that ended after these bytes
-abbrev pub TracesEnded : Bool → Plan → List CalculatorTold → List ℕ → RunAnswer → Type 0
-TracesEnded report plan boxes bytes answer = IsTraced report plan boxes (ended_input (inputs_of plan) bytes) answer
+abbrev pub TracesEnded : Laws → Bool → Plan → List BoxTold → List ℕ → RunAnswer → Type 0
+TracesEnded laws report plan boxes bytes answer = IsTraced laws report plan boxes (ended_input (inputs_of plan) bytes) answer
 
 -- The run --
 
 -- The recorded run wrote its answer.
-pub record TracedAll (report : Bool) (plan : Plan) (boxes : List CalculatorTold) (status : Status) (devices : RunDevices) : Type 0 where
+pub record TracedAll (laws : Laws) (report : Bool) (plan : Plan) (boxes : List BoxTold) (status : Status) (devices : RunDevices) : Type 0 where
   pub read : Read
   pub input : CameTo (inputs_of plan) devices.input read
   pub answer : RunAnswer
-  pub is : IsTraced report plan boxes read answer
+  pub is : IsTraced laws report plan boxes read answer
   pub met : Meets answer status devices.output devices.notes
 
 -- A write failed, after the input was read; what was written is of the recorded run's answer.
-pub record TracedShort (report : Bool) (plan : Plan) (boxes : List CalculatorTold) (devices : RunDevices) : Type 0 where
+pub record TracedShort (laws : Laws) (report : Bool) (plan : Plan) (boxes : List BoxTold) (devices : RunDevices) : Type 0 where
   pub read : Read
   pub input : CameTo (inputs_of plan) devices.input read
   pub answer : RunAnswer
-  pub is : IsTraced report plan boxes read answer
-  pub short : MetShort answer (failed_notes (by_lines report) (job_of plan read) read.end is.is_answer.streams) devices.output devices.notes
+  pub is : IsTraced laws report plan boxes read answer
+  pub short : MetShort answer (failed_notes (by_lines report) (job_of laws plan read) read.end is.is_answer.streams) devices.output devices.notes
 
 -- The output took some of a trace of the job of what the input came to.
-pub record TracedSome (plan : Plan) (boxes : List CalculatorTold) (input : Device SourceTold) (output : Device SinkTold) : Type 0 where
+pub record TracedSome (laws : Laws) (plan : Plan) (boxes : List BoxTold) (input : Device SourceTold) (output : Device SinkTold) : Type 0 where
   pub read : Read
   pub came : CameTo (inputs_of plan) input read
-  pub took : TookSomeTrace plan (inputs_by (inputs_of plan) read) boxes output
+  pub took : TookSomeTrace laws plan (inputs_by (inputs_of plan) read) boxes output
 
 -- Memory ran out, before anything was written or after the input was read.
-abbrev pub TracedOut : Plan → List CalculatorTold → RunDevices → Type 0
-TracedOut plan boxes devices = Untouched devices.output ⊎ TracedSome plan boxes devices.input devices.output
+abbrev pub TracedOut : Laws → Plan → List BoxTold → RunDevices → Type 0
+TracedOut laws plan boxes devices = Untouched devices.output ⊎ TracedSome laws plan boxes devices.input devices.output
 
 -- A recorded run ended with this status. Where memory ran out the notes say that alone, and what was read of the input was read once.
-abbrev pub Traced : Bool → Plan → List CalculatorTold → Status → RunDevices → Type 0
-Traced report plan boxes WriteFault devices = TracedShort report plan boxes devices
-Traced report plan boxes OutOfMemory devices = TracedOut plan boxes devices × TookNotes devices.notes memory_note × ReadSome (inputs_of plan) devices.input
-Traced report plan boxes status devices = TracedAll report plan boxes status devices
+abbrev pub Traced : Laws → Bool → Plan → List BoxTold → Status → RunDevices → Type 0
+Traced laws report plan boxes WriteFault devices = TracedShort laws report plan boxes devices
+Traced laws report plan boxes OutOfMemory devices = TracedOut laws plan boxes devices × TookNotes devices.notes memory_note × ReadSome (inputs_of plan) devices.input
+Traced laws report plan boxes status devices = TracedAll laws report plan boxes status devices

@@ -1,4 +1,5 @@
 ghost use Rattle.std.specs.Prelude.{◌≡◌, ◌<◌, ◌∷◌, [], ℕ, List, Bool, false, IfOk, OnOk, OnErr};
+ghost use Rattle.mg_calc.specs.Rules.{Laws};
 ghost use Rattle.mg_edge.specs.Edge.{SourceTold, SinkTold};
 ghost use Rattle.mg_calc.specs.declared.plan.Plan.{Plan};
 ghost use Rattle.mg_calc.specs.declared.inputs.Inputs.{Inputs as Given};
@@ -52,11 +53,12 @@ pub trait Batches: Drop {
     ghost is_fresh: { Self → Plan → Type 0 };
 
     /// Between two states it has given these inputs for a plan, all batches together. The source told the first of the two `SourceTold`
-    /// before that, and tells the second now; and the last batch ended in this way.
-    ghost gives: { Self → Self → Plan → SourceTold → SourceTold → Ending → Given → Type 0 };
+    /// before that, and tells the second now; and the last batch ended in this way. What free nodes give goes by the rules of a net's stated
+    /// laws.
+    ghost gives: { Laws → Self → Self → Plan → SourceTold → SourceTold → Ending → Given → Type 0 };
 
     /// As `gives`, but batch by batch: the list has what all batches up to each one gave together, the newest batch first.
-    ghost came: { Self → Self → Plan → SourceTold → SourceTold → Ending → List Given → Type 0 };
+    ghost came: { Laws → Self → Self → Plan → SourceTold → SourceTold → Ending → List Given → Type 0 };
 
     /// Where it has given these inputs for a plan, the next batch is due: nothing else comes before that.
     ghost is_due: { Self → Plan → Given → Type 0 };
@@ -80,18 +82,18 @@ pub trait Batches: Drop {
 
     /// Reads the next batch. Behind a batch with which the input ended there is none.
     fn next<S: Source>(&mut self, input: &mut S) -> Result<Batch, AllocError>
-        ensures first { (plan : Plan) → IsValidWithFree plan → is_fresh self.old plan
-            → IfOk result (λ b. IsFirst (gives self.old self.new plan (S.told input.old) (S.told input.new)) plan b.end b.inputs) }
-        ensures goes_on { (began : Self) (plan : Plan) (first : SourceTold) (so_far : Given) → IsValidWithFree plan
-            → gives began self.old plan first (S.told input.old) BatchEnd.More so_far → is_due self.old plan so_far
-            → IfOk result (λ b. BatchesGoOn (gives began self.new plan first (S.told input.new) b.end) plan so_far b.inputs) }
-        ensures first_came { (plan : Plan) → IsValidWithFree plan → is_fresh self.old plan
-            → IfOk result (λ b. IsFirst (λ end inputs. gives self.old self.new plan (S.told input.old) (S.told input.new) end inputs × came self.old self.new plan (S.told input.old) (S.told input.new) end (inputs ∷ [])) plan b.end b.inputs) }
-        ensures comes_on { (began : Self) (plan : Plan) (first : SourceTold) (so_far : Given) (earlier : List Given) → IsValidWithFree plan
-            → came began self.old plan first (S.told input.old) BatchEnd.More (so_far ∷ earlier) → is_due self.old plan so_far
-            → IfOk result (λ b. BatchesGoOn (λ all. gives began self.new plan first (S.told input.new) b.end all × came began self.new plan first (S.told input.new) b.end (all ∷ so_far ∷ earlier)) plan so_far b.inputs) }
-        ensures fewer { (began : Self) (plan : Plan) (first : SourceTold) (so_far : Given)
-            → gives began self.old plan first (S.told input.old) BatchEnd.More so_far → is_due self.old plan so_far
+        ensures first { (laws : Laws) (plan : Plan) → IsValidWithFree plan → is_fresh self.old plan
+            → IfOk result (λ b. IsFirst (gives laws self.old self.new plan (S.told input.old) (S.told input.new)) plan b.end b.inputs) }
+        ensures goes_on { (laws : Laws) (began : Self) (plan : Plan) (first : SourceTold) (so_far : Given) → IsValidWithFree plan
+            → gives laws began self.old plan first (S.told input.old) BatchEnd.More so_far → is_due self.old plan so_far
+            → IfOk result (λ b. BatchesGoOn (gives laws began self.new plan first (S.told input.new) b.end) plan so_far b.inputs) }
+        ensures first_came { (laws : Laws) (plan : Plan) → IsValidWithFree plan → is_fresh self.old plan
+            → IfOk result (λ b. IsFirst (λ end inputs. gives laws self.old self.new plan (S.told input.old) (S.told input.new) end inputs × came laws self.old self.new plan (S.told input.old) (S.told input.new) end (inputs ∷ [])) plan b.end b.inputs) }
+        ensures comes_on { (laws : Laws) (began : Self) (plan : Plan) (first : SourceTold) (so_far : Given) (earlier : List Given) → IsValidWithFree plan
+            → came laws began self.old plan first (S.told input.old) BatchEnd.More (so_far ∷ earlier) → is_due self.old plan so_far
+            → IfOk result (λ b. BatchesGoOn (λ all. gives laws began self.new plan first (S.told input.new) b.end all × came laws began self.new plan first (S.told input.new) b.end (all ∷ so_far ∷ earlier)) plan so_far b.inputs) }
+        ensures fewer { (laws : Laws) (began : Self) (plan : Plan) (first : SourceTold) (so_far : Given)
+            → gives laws began self.old plan first (S.told input.old) BatchEnd.More so_far → is_due self.old plan so_far
             → IfOk result (λ b. IsMore b.end → left self.new < left self.old) }
         ensures wants { wants self.new ≡ wants self.old }
         ensures further { (plan : Plan) (first : SourceTold) → MayRead is_fresh is_due self.old plan → reads_on self.old plan first (S.told input.old) (S.told input.new) }
@@ -99,10 +101,10 @@ pub trait Batches: Drop {
 
     /// Returns how the run goes on, once its net has come to rest over all that was given. `last` tells how the last batch ended.
     fn onward<N: Driven>(&mut self, last: BatchEnd, net: &N) -> Result<Onward, AllocError>
-        requires given { SomeGiven gives last (N.net net.now) self.old }
+        requires given { SomeGiven N.laws (gives N.laws) last (N.net net.now) self.old }
         requires there { AreThere (wants self.old) (N.net net.now) }
-        ensures onward { (began : Self) (plan : Plan) (first source : SourceTold) (so_far : Given) → IsAsGiven gives began plan first source last so_far (N.net net.now) self.old
-            → IfOk result (GoesOnward gives is_due wants began plan first source last so_far (N.net net.now) self.new) }
+        ensures onward { (began : Self) (plan : Plan) (first source : SourceTold) (so_far : Given) → IsAsGiven N.laws (gives N.laws) began plan first source last so_far (N.net net.now) self.old
+            → IfOk result (GoesOnward (gives N.laws) is_due wants began plan first source last so_far (N.net net.now) self.new) }
         ensures there { OnOk result (AreThere (wants self.new) (N.net net.now)) }
         ensures leaves { IfOk result (λ onward. RoundLeaves onward (left self.old) (left self.new)) };
 
@@ -117,7 +119,7 @@ pub trait Batches: Drop {
         notes: &mut E,
     ) -> Result<Status, AllocError>
         requires tells { OutcomesFit run.now.plan.now outcomes }
-        requires of { AreOfGiven gives run.now.plan.now closing.end self.now outcomes }
+        requires of { (laws : Laws) × AreOfGiven laws (gives laws) run.now.plan.now closing.end self.now outcomes }
         ensures wrote { IfOk result (λ status. (form : OutputForm) (job : Job) (first : SinkTold) → TellsSolution form job first (K.told output.old) run.now.plan.now closing.text outcomes
             → wrote self.now form run.now.report job closing.end status (device first (K.told output.new)) (device (E.told notes.old) (E.told notes.new))) }
         ensures front { OnErr result ((first : SinkTold) (whole : List ℕ) → HasPut first (K.told output.old) closing.text whole → TookFront (device first (K.told output.new)) whole) }

@@ -3,6 +3,7 @@ ghost use Rattle.std.specs.Bool.{OnTrue};
 ghost use Rattle.mg_value.specs.Payload.{Plain};
 ghost use Rattle.mg_settled.specs.Prefix.{StreamPrefix};
 ghost use Rattle.mg_stream.specs.Pool.{Backlog};
+ghost use Rattle.mg_calc.specs.Rules.{Laws};
 ghost use Rattle.mg_node.specs.Job.{LoggedJob, Solves};
 ghost use Rattle.mg_node.specs.Looking.{kept_packet};
 ghost use Rattle.mg_node.specs.Intakes.{HasSet};
@@ -24,69 +25,72 @@ use std::alloc::{AllocError, Global};
 
 /// A net that can be driven, however its nodes are made to run.
 pub trait Driven {
+    /// The rules of the stated laws.
+    ghost laws: { Laws };
+
     /// The net as contracts see it.
     ghost net: { Self → NetView };
 
     /// Begins each node that isn't begun yet: opens its calculator, and lays what that emits. After an `Err`, for want of memory, this may
     /// be called again.
     fn begin(&mut self) -> Result<(), AllocError>
-        requires stands { StandsForSome (net self.old) }
+        requires stands { StandsForSome laws (net self.old) }
         ensures running { OnOk result (IsRunning (net self.new)) }
         ensures keeps { Keeps (net self.old) (net self.new) }
         ensures whole { GaveNothingUp (net self.old) (net self.new) }
         ensures taken { taken_out (net self.new) ≡ taken_out (net self.old) }
-        ensures stands { (job : LoggedJob) → StandsFor job (net self.old) → StandsFor job (net self.new) };
+        ensures stands { (job : LoggedJob laws) → StandsFor job (net self.old) → StandsFor job (net self.new) };
 
     /// Takes in further input. After an `Err`, for want of memory, the net is as it was.
     fn extend(&mut self, more: &Inputs) -> Result<(), AllocError>
-        requires may { MayGoOnWith more.now (net self.old) }
+        requires may { MayGoOnWith laws more.now (net self.old) }
         ensures running { IsRunning (net self.old) → IsRunning (net self.new) }
         ensures keeps { Keeps (net self.old) (net self.new) }
         ensures whole { GaveNothingUp (net self.old) (net self.new) }
         ensures taken { taken_out (net self.new) ≡ taken_out (net self.old) }
         ensures unchanged { OnErr result (net self.new ≡ net self.old) }
-        ensures stands { (first later : LoggedJob) → GoesOnWith more.now first later → StandsFor first (net self.old) → OnOk result (StandsFor later (net self.new)) };
+        ensures stands { (first later : LoggedJob laws) → GoesOnWith more.now first later → StandsFor first (net self.old) → OnOk result (StandsFor later (net self.new)) };
 
     /// Takes in further input at the last graph inputs alone, a piece for each of them. After an `Err`, for want of memory, the net is as
     /// it was.
     fn extend_last(&mut self, pieces: &PrefixList) -> Result<(), AllocError>
-        requires may { MayGoOnWith (for_last (length (net self.old).plan.inputs) pieces.now) (net self.old) }
+        requires may { MayGoOnWith laws (for_last (length (net self.old).plan.inputs) pieces.now) (net self.old) }
         ensures running { IsRunning (net self.old) → IsRunning (net self.new) }
         ensures keeps { Keeps (net self.old) (net self.new) }
         ensures whole { GaveNothingUp (net self.old) (net self.new) }
         ensures taken { taken_out (net self.new) ≡ taken_out (net self.old) }
         ensures unchanged { OnErr result (net self.new ≡ net self.old) }
-        ensures stands { (first later : LoggedJob) → GoesOnWith (for_last (length (net self.old).plan.inputs) pieces.now) first later → StandsFor first (net self.old) → OnOk result (StandsFor later (net self.new)) };
+        ensures stands { (first later : LoggedJob laws) → GoesOnWith (for_last (length (net self.old).plan.inputs) pieces.now) first later → StandsFor first (net self.old) → OnOk result (StandsFor later (net self.new)) };
 
     /// Gives up the packets that all readers of their stream have got.
     fn trim(&mut self)
-        requires stands { StandsForSome (net self.old) }
+        requires stands { StandsForSome laws (net self.old) }
         ensures running { IsRunning (net self.old) → IsRunning (net self.new) }
         ensures keeps { Keeps (net self.old) (net self.new) }
         ensures laid { (stream number : ℕ) → HasAtMost (net self.old) stream number → HasFrom (net self.new) stream number }
         ensures taken { taken_out (net self.new) ≡ taken_out (net self.old) }
-        ensures stands { (job : LoggedJob) → StandsFor job (net self.old) → StandsFor job (net self.new) };
+        ensures stands { (job : LoggedJob laws) → StandsFor job (net self.old) → StandsFor job (net self.new) };
 
     /// Takes the next settled set of the graph's outputs, and returns whether there was one.
     fn take_out(&mut self, into: &mut InputSet) -> bool
         requires places { length into.old ≡ length (net self.old).plan.outputs }
-        requires stands { StandsForSome (net self.old) }
+        requires stands { StandsForSome laws (net self.old) }
         ensures taken { TakesOut result into.old into.new (net self.old) (net self.new) }
         ensures whole { GaveNothingUp (net self.old) (net self.new) }
-        ensures stands { (job : LoggedJob) → StandsFor job (net self.old) → StandsFor job (net self.new) }
-        ensures in_solution { (job : LoggedJob) (streams : List (StreamPrefix Plain)) → Solves job streams → StandsFor job (net self.old)
+        ensures stands { (job : LoggedJob laws) → StandsFor job (net self.old) → StandsFor job (net self.new) }
+        ensures in_solution { (job : LoggedJob laws) (streams : List (StreamPrefix Plain)) → Solves job streams → StandsFor job (net self.old)
             → OnTrue result (HasSet job streams (length (net self.old).plan.nodes) (taken_out (net self.old)) into.new) };
 
     /// Returns the packet of a stream with a number, counted from 0. It is there exactly where it was laid and wasn't given up.
     fn packet(&self, stream: u32, number: u64) -> Option<&Packet>
-        requires stands { StandsForSome (net self.now) }
+        requires stands { StandsForSome laws (net self.now) }
         ensures packet { (output : Backlog Plain) → IsOutputOf (net self.now) stream output → option_copied result ≡ kept_packet output number }
         ensures past { length (net self.now).plan.streams ≤ stream → option_copied result ≡ None };
 
     /// Returns the bound of a stream.
     fn bound(&self, stream: u32) -> Timestamp
         requires stream { stream < length (net self.now).plan.streams }
-        requires stands { StandsForSome (net self.now) }
+        requires stands { StandsForSome laws (net self.now) }
         ensures { (output : Backlog Plain) → IsOutputOf (net self.now) stream output → result ≡ output.bound };
 
     /// Returns how far the net's nodes and streams have come.
@@ -96,6 +100,6 @@ pub trait Driven {
     /// Closes the nodes that were opened and had no Close.
     fn wind_up(&mut self) -> Result<(), AllocError>
         requires may { MayWindUp (net self.old) }
-        ensures wound_up { WindsUpNet (net self.old) (net self.new) }
+        ensures wound_up { WindsUpNet laws (net self.old) (net self.new) }
         ensures all { OnOk result ((net self.new).wound ≡ length (net self.old).plan.nodes) };
 }

@@ -13,7 +13,7 @@ ghost use Rattle.mg_drive.specs.Batches.{IsMore};
 ghost use Rattle.mg_drive.specs.Code.Running.{Start, job_with, IsTold, IsToldSome, IsSomeTold, IsUnderWay, IsSomeRun, IsSomeMore, WentOn, HasRested, IsAllTaken, RunIsOver, IsShort};
 
 use crate::{Batches, Driven, ManyThreads, NetEnds, Onward, Telling};
-use mg_calc::Calculator;
+use mg_calc::NodeCalculator;
 use mg_edge::{Gate, Sink, Source};
 use mg_feed::{BatchEnd, FeedEnd};
 use mg_settled::InputSet;
@@ -27,13 +27,13 @@ fn next_batch<N: Driven, B: Batches, S: Source>(
     batches: &mut B,
     input: &mut S,
 ) -> Result<BatchEnd, AllocError>
-    requires more { IsSomeMore B.gives B.is_due (S.told input.old) batches.old (N.net net.old) }
+    requires more { IsSomeMore N.laws (B.gives N.laws) B.is_due (S.told input.old) batches.old (N.net net.old) }
     requires read { AreRead (B.wants batches.old) (N.net net.old) }
-    ensures goes_on { IfOk result (λ end. (start : Start B) (inputs : Given) → B.gives start.batches batches.old start.plan start.source (S.told input.old) BatchEnd.More inputs
-        → B.is_due batches.old start.plan inputs → StandsFor (job_with start inputs) (N.net net.old) → WentOn B.gives start end (S.told input.new) batches.new inputs (N.net net.new)) }
+    ensures goes_on { IfOk result (λ end. (start : Start B) (inputs : Given) → (B.gives N.laws) start.batches batches.old start.plan start.source (S.told input.old) BatchEnd.More inputs
+        → B.is_due batches.old start.plan inputs → StandsFor (job_with N.laws start inputs) (N.net net.old) → WentOn N.laws (B.gives N.laws) start end (S.told input.new) batches.new inputs (N.net net.new)) }
     ensures fewer { IfOk result (λ end. IsMore end → B.left batches.new < B.left batches.old) }
     ensures there { AreThere (B.wants batches.new) (N.net net.new) }
-    ensures same { OnErr result ((job : LoggedJob) → StandsFor job (N.net net.old) → StandsFor job (N.net net.new)) }
+    ensures same { OnErr result ((job : LoggedJob N.laws) → StandsFor job (N.net net.old) → StandsFor job (N.net net.new)) }
     ensures taken { taken_out (N.net net.new) ≡ taken_out (N.net net.old) }
     ensures running { IsRunning (N.net net.old) → IsRunning (N.net net.new) }
     ensures keeps { Keeps (N.net net.old) (N.net net.new) }
@@ -54,18 +54,18 @@ pub fn take_all<N: Driven, T: Telling, K: Sink>(
     output: &mut K,
 ) -> Result<(), AllocError>
     requires places { length set.old ≡ length (N.net net.old).plan.outputs }
-    requires told { IsSomeTold T.has_told (K.told output.old) (N.net net.old) telling.old }
+    requires told { IsSomeTold N.laws T.has_told (K.told output.old) (N.net net.old) telling.old }
     ensures places { length set.new ≡ length (N.net net.new).plan.outputs }
     ensures left { LeavesNodes (N.net net.old) (N.net net.new) }
     ensures whole { GaveNothingUp (N.net net.old) (N.net net.new) }
-    ensures stands { (job : LoggedJob) → StandsFor job (N.net net.old) → StandsFor job (N.net net.new) }
-    ensures told { OnOk result ((job : LoggedJob) (first : SinkTold) → StandsFor job (N.net net.old) → IsTold T.has_told job.job first (K.told output.old) (taken_out (N.net net.old)) telling.old
+    ensures stands { (job : LoggedJob N.laws) → StandsFor job (N.net net.old) → StandsFor job (N.net net.new) }
+    ensures told { OnOk result ((job : LoggedJob N.laws) (first : SinkTold) → StandsFor job (N.net net.old) → IsTold T.has_told job.job first (K.told output.old) (taken_out (N.net net.old)) telling.old
         → IsTold T.has_told job.job first (K.told output.new) (taken_out (N.net net.new)) telling.new) }
-    ensures front { OnErr result ((job : LoggedJob) (first : SinkTold) → StandsFor job (N.net net.old) → IsTold T.has_told job.job first (K.told output.old) (taken_out (N.net net.old)) telling.old
+    ensures front { OnErr result ((job : LoggedJob N.laws) (first : SinkTold) → StandsFor job (N.net net.old) → IsTold T.has_told job.job first (K.told output.old) (taken_out (N.net net.old)) telling.old
         → IsToldSome T.has_told job.job first (K.told output.new)) }
 
     // Where all that a solution has at the graph's outputs had come, all of its sets were taken.
-    ensures all { OnOk result ((job : LoggedJob) (streams : List (StreamPrefix Plain)) → StandsFor job (N.net net.old) → Solves job streams → HasAllOutputs streams (N.net net.old)
+    ensures all { OnOk result ((job : LoggedJob N.laws) (streams : List (StreamPrefix Plain)) → StandsFor job (N.net net.old) → Solves job streams → HasAllOutputs streams (N.net net.old)
         → taken_out (N.net net.new) ≡ length (settled_outputs (N.net net.new).plan streams)) }
 {
     'sets: while net.take_out(set) {
@@ -75,7 +75,7 @@ pub fn take_all<N: Driven, T: Telling, K: Sink>(
 }
 
 // Brings a net to rest, and tells all sets that its outputs then have.
-fn advance<R: Threads + Wait + Sync, G: Gate + Sync, C: Calculator + Send, T: Telling, K: Sink>(
+fn advance<R: Threads + Wait + Sync, G: Gate + Sync, C: NodeCalculator + Send, T: Telling, K: Sink>(
     net: &mut ManyThreads<'_, C, R, G>,
     set: &mut InputSet,
     telling: &mut T,
@@ -83,17 +83,17 @@ fn advance<R: Threads + Wait + Sync, G: Gate + Sync, C: Calculator + Send, T: Te
 ) -> Result<(), AllocError>
     requires places { length set.old ≡ length net.old.one.net.plan.outputs }
     requires running { IsRunning net.old.one.net }
-    requires told { IsSomeTold T.has_told (K.told output.old) net.old.one.net telling.old }
+    requires told { IsSomeTold C.laws T.has_told (K.told output.old) net.old.one.net telling.old }
     ensures places { length set.new ≡ length net.new.one.net.plan.outputs }
     ensures running { IsRunning net.new.one.net }
     ensures keeps { Keeps net.old.one.net net.new.one.net }
     ensures whole { GaveNothingUp net.old.one.net net.new.one.net }
-    ensures stands { (job : LoggedJob) → StandsFor job net.old.one.net → StandsFor job net.new.one.net }
-    ensures told { OnOk result ((job : LoggedJob) (first : SinkTold) → StandsFor job net.old.one.net → IsTold T.has_told job.job first (K.told output.old) (taken_out net.old.one.net) telling.old
+    ensures stands { (job : LoggedJob C.laws) → StandsFor job net.old.one.net → StandsFor job net.new.one.net }
+    ensures told { OnOk result ((job : LoggedJob C.laws) (first : SinkTold) → StandsFor job net.old.one.net → IsTold T.has_told job.job first (K.told output.old) (taken_out net.old.one.net) telling.old
         → IsTold T.has_told job.job first (K.told output.new) (taken_out net.new.one.net) telling.new) }
-    ensures front { OnErr result ((job : LoggedJob) (first : SinkTold) → StandsFor job net.old.one.net → IsTold T.has_told job.job first (K.told output.old) (taken_out net.old.one.net) telling.old
+    ensures front { OnErr result ((job : LoggedJob C.laws) (first : SinkTold) → StandsFor job net.old.one.net → IsTold T.has_told job.job first (K.told output.old) (taken_out net.old.one.net) telling.old
         → IsToldSome T.has_told job.job first (K.told output.new)) }
-    ensures rested { OnOk result ((job : LoggedJob) → StandsFor job net.old.one.net → HasRested job net.new.one.net × IsAllTaken job net.new.one.net) }
+    ensures rested { OnOk result ((job : LoggedJob C.laws) → StandsFor job net.old.one.net → HasRested job net.new.one.net × IsAllTaken job net.new.one.net) }
 {
     net.to_rest()?;
     take_all(net, set, telling, output)?;
@@ -105,7 +105,7 @@ fn advance<R: Threads + Wait + Sync, G: Gate + Sync, C: Calculator + Send, T: Te
 pub fn drive<
     R: Threads + Wait + Sync,
     G: Gate + Sync,
-    C: Calculator + Send,
+    C: NodeCalculator + Send,
     B: Batches,
     T: Telling,
     S: Source,
@@ -117,13 +117,13 @@ pub fn drive<
     input: &mut S,
     output: &mut K,
 ) -> Result<FeedEnd, AllocError>
-    requires under_way { (plan : Plan) × IsSomeRun B.gives T.has_told plan first (S.told input.old) (K.told output.old) ends.old.batches ends.old.telling net.old.one.net }
+    requires under_way { (plan : Plan) × IsSomeRun C.laws (B.gives C.laws) T.has_told plan first (S.told input.old) (K.told output.old) ends.old.batches ends.old.telling net.old.one.net }
     requires there { AreThere (B.wants ends.old.batches) net.old.one.net }
     requires places { length ends.old.set ≡ length net.old.one.net.plan.outputs }
-    ensures over { IfOk result (λ end. (start : Start B) → IsUnderWay B.gives T.has_told start first (S.told input.old) (K.told output.old) ends.old.batches ends.old.telling net.old.one.net
-        → RunIsOver B.gives T.has_told start end (S.told input.new) (K.told output.new) ends.new.batches ends.new.telling net.new.one.net) }
-    ensures short { OnErr result ((start : Start B) → IsUnderWay B.gives T.has_told start first (S.told input.old) (K.told output.old) ends.old.batches ends.old.telling net.old.one.net
-        → IsShort B.gives B.reads_on T.has_told T.form start (S.told input.new) (K.told output.new) net.new.one.net) }
+    ensures over { IfOk result (λ end. (start : Start B) → IsUnderWay C.laws (B.gives C.laws) T.has_told start first (S.told input.old) (K.told output.old) ends.old.batches ends.old.telling net.old.one.net
+        → RunIsOver C.laws (B.gives C.laws) T.has_told start end (S.told input.new) (K.told output.new) ends.new.batches ends.new.telling net.new.one.net) }
+    ensures short { OnErr result ((start : Start B) → IsUnderWay C.laws (B.gives C.laws) T.has_told start first (S.told input.old) (K.told output.old) ends.old.batches ends.old.telling net.old.one.net
+        → IsShort C.laws (B.gives C.laws) B.reads_on T.has_told T.form start (S.told input.new) (K.told output.new) net.new.one.net) }
     ensures keeps { Keeps net.old.one.net net.new.one.net }
     ensures unread { B.reads ≡ false → S.told input.new ≡ S.told input.old }
 {

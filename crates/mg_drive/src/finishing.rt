@@ -30,14 +30,14 @@ pub fn finish<N: Driven, K: Sink, E: Sink>(
     output: &mut K,
     notes: &mut E,
 ) -> Result<Status, AllocError>
-    requires rested { SomeRested run.now.plan.now (N.net net.old) }
-    ensures wrote { IfOk result (λ status. (form : OutputForm) (job : LoggedJob) (first : SinkTold) → job.job.plan ≡ run.now.plan.now → StandsFor job (N.net net.old) → HasRested job (N.net net.old)
+    requires rested { SomeRested N.laws run.now.plan.now (N.net net.old) }
+    ensures wrote { IfOk result (λ status. (form : OutputForm) (job : LoggedJob N.laws) (first : SinkTold) → job.job.plan ≡ run.now.plan.now → StandsFor job (N.net net.old) → HasRested job (N.net net.old)
         → IsWhole form first (K.told output.old) job.job text
         → Wrote (record { form = form; report = run.now.report }) job.job end status (device first (K.told output.new)) (device (E.told notes.old) (E.told notes.new))) }
     ensures front { OnErr result ((form : OutputForm) (job : Job) (first : SinkTold) → IsWhole form first (K.told output.old) job text → FrontIn form first (K.told output.new) job) }
     ensures unnoted { OnErr result (E.told notes.new ≡ E.told notes.old) }
-    ensures since { (N.net net.new ≡ N.net net.old) ⊎ WindsUpNet (N.net net.old) (N.net net.new) }
-    ensures wound { OnOk result (WindsUpNet (N.net net.old) (N.net net.new) × ((N.net net.new).wound ≡ length (N.net net.old).plan.nodes)) }
+    ensures since { (N.net net.new ≡ N.net net.old) ⊎ WindsUpNet N.laws (N.net net.old) (N.net net.new) }
+    ensures wound { OnOk result (WindsUpNet N.laws (N.net net.old) (N.net net.new) × ((N.net net.new).wound ≡ length (N.net net.old).plan.nodes)) }
 {
     let outcomes = wound_up(run, net)?;
     let status = conclude(run, end, &outcomes, text, output, notes)?;
@@ -53,14 +53,14 @@ pub(crate) fn finish_batches<N: Driven, B: Batches, K: Sink, E: Sink>(
     output: &mut K,
     notes: &mut E,
 ) -> Result<Status, AllocError>
-    requires rested { SomeRestedOf B.gives run.now.plan.now closing.end (N.net net.old) batches.now }
-    ensures wrote { IfOk result (λ status. (form : OutputForm) (job : LoggedJob) (first : SinkTold) → job.job.plan ≡ run.now.plan.now → StandsFor job (N.net net.old) → HasRested job (N.net net.old)
+    requires rested { SomeRestedOf N.laws (B.gives N.laws) run.now.plan.now closing.end (N.net net.old) batches.now }
+    ensures wrote { IfOk result (λ status. (form : OutputForm) (job : LoggedJob N.laws) (first : SinkTold) → job.job.plan ≡ run.now.plan.now → StandsFor job (N.net net.old) → HasRested job (N.net net.old)
         → IsWhole form first (K.told output.old) job.job closing.text
         → B.wrote batches.now form run.now.report job.job closing.end status (device first (K.told output.new)) (device (E.told notes.old) (E.told notes.new))) }
     ensures front { OnErr result ((form : OutputForm) (job : Job) (first : SinkTold) → IsWhole form first (K.told output.old) job closing.text → FrontIn form first (K.told output.new) job) }
     ensures unnoted { OnErr result (E.told notes.new ≡ E.told notes.old) }
-    ensures since { (N.net net.new ≡ N.net net.old) ⊎ WindsUpNet (N.net net.old) (N.net net.new) }
-    ensures wound { OnOk result (WindsUpNet (N.net net.old) (N.net net.new) × ((N.net net.new).wound ≡ length (N.net net.old).plan.nodes)) }
+    ensures since { (N.net net.new ≡ N.net net.old) ⊎ WindsUpNet N.laws (N.net net.old) (N.net net.new) }
+    ensures wound { OnOk result (WindsUpNet N.laws (N.net net.old) (N.net net.new) × ((N.net net.new).wound ≡ length (N.net net.old).plan.nodes)) }
 {
     let outcomes = wound_up(run, net)?;
     let status = batches.conclude(run, closing, outcomes, output, notes)?;
@@ -75,14 +75,14 @@ pub fn finish_frozen<N: Driven, K: Sink, E: Sink>(
     output: &mut K,
     notes: &mut E,
 ) -> Result<Status, AllocError>
-    requires rested { SomeRested run.now.plan.now (N.net net.old) }
-    ensures wrote { IfOk result (λ status. (form : OutputForm) (job : LoggedJob) (first : SinkTold) → job.job.plan ≡ run.now.plan.now → StandsFor job (N.net net.old) → HasRested job (N.net net.old)
+    requires rested { SomeRested N.laws run.now.plan.now (N.net net.old) }
+    ensures wrote { IfOk result (λ status. (form : OutputForm) (job : LoggedJob N.laws) (first : SinkTold) → job.job.plan ≡ run.now.plan.now → StandsFor job (N.net net.old) → HasRested job (N.net net.old)
         → IsWhole form first (K.told output.old) job.job text
         → WroteFrozen (record { form = form; report = run.now.report }) job.job status (device first (K.told output.new)) (device (E.told notes.old) (E.told notes.new))) }
     ensures front { OnErr result ((form : OutputForm) (job : Job) (first : SinkTold) → IsWhole form first (K.told output.old) job text → FrontIn form first (K.told output.new) job) }
     ensures unnoted { OnErr result (E.told notes.new ≡ E.told notes.old) }
-    ensures since { (N.net net.new ≡ N.net net.old) ⊎ WindsUpNet (N.net net.old) (N.net net.new) }
-    ensures wound { OnOk result (WindsUpNet (N.net net.old) (N.net net.new) × ((N.net net.new).wound ≡ length (N.net net.old).plan.nodes)) }
+    ensures since { (N.net net.new ≡ N.net net.old) ⊎ WindsUpNet N.laws (N.net net.old) (N.net net.new) }
+    ensures wound { OnOk result (WindsUpNet N.laws (N.net net.old) (N.net net.new) × ((N.net net.new).wound ≡ length (N.net net.old).plan.nodes)) }
 {
     let outcomes = wound_up(run, net)?;
     let status = conclude_frozen(run, &outcomes, text, output, notes)?;
@@ -91,13 +91,13 @@ pub fn finish_frozen<N: Driven, K: Sink, E: Sink>(
 
 // Returns the outcomes of a net that has come to rest, and winds its nodes up.
 fn wound_up<N: Driven>(run: &Run<'_>, net: &mut N) -> Result<Outcomes, AllocError>
-    requires rested { SomeRested run.now.plan.now (N.net net.old) }
+    requires rested { SomeRested N.laws run.now.plan.now (N.net net.old) }
     ensures told { IfOk result (λ outcomes. TellsNet (N.net net.old) outcomes) }
     ensures tells { IfOk result (λ outcomes. OutcomesFit run.now.plan.now outcomes) }
-    ensures ends { IfOk result (λ outcomes. (form : OutputForm) (job : LoggedJob) (first sink : SinkTold) (text : TextView) → job.job.plan ≡ run.now.plan.now → StandsFor job (N.net net.old) → HasRested job (N.net net.old)
+    ensures ends { IfOk result (λ outcomes. (form : OutputForm) (job : LoggedJob N.laws) (first sink : SinkTold) (text : TextView) → job.job.plan ≡ run.now.plan.now → StandsFor job (N.net net.old) → HasRested job (N.net net.old)
         → IsWhole form first sink job.job text → TellsSolution form job.job first sink run.now.plan.now text outcomes) }
-    ensures since { (N.net net.new ≡ N.net net.old) ⊎ WindsUpNet (N.net net.old) (N.net net.new) }
-    ensures wound { OnOk result (WindsUpNet (N.net net.old) (N.net net.new) × ((N.net net.new).wound ≡ length (N.net net.old).plan.nodes)) }
+    ensures since { (N.net net.new ≡ N.net net.old) ⊎ WindsUpNet N.laws (N.net net.old) (N.net net.new) }
+    ensures wound { OnOk result (WindsUpNet N.laws (N.net net.old) (N.net net.new) × ((N.net net.new).wound ≡ length (N.net net.old).plan.nodes)) }
 {
     let outcomes = outcomes_of(run.alloc, net)?;
     net.wind_up()?;

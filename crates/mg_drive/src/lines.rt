@@ -18,7 +18,7 @@ use crate::{Batch, Batches, Closing, Crew, Driven, Onward, run_batches};
 use mg_answer::{
     Devices, Outcomes, OutputText, Run, Status, conclude, is_ended, note_out_of_memory, ran_out,
 };
-use mg_calc::Calculator;
+use mg_calc::NodeCalculator;
 use mg_edge::{Gate, Sink, Source};
 use mg_feed::{BatchEnd, Feed};
 use std::alloc::AllocError;
@@ -65,9 +65,9 @@ fn read_on<S: Source>(feed: &mut Feed, input: &mut S) -> Result<Batch, AllocErro
 impl Batches for Feed {
     ghost is_fresh = { λ f plan. IsNew (fed f) plan };
 
-    ghost gives = { λ began f plan first now end inputs. LinesGave (fed f) plan first now end inputs };
+    ghost gives = { λ laws began f plan first now end inputs. LinesGave (fed f) plan first now end inputs };
 
-    ghost came = { λ began f plan first now end history. LinesCame (fed f) plan first now end history };
+    ghost came = { λ laws began f plan first now end history. LinesCame (fed f) plan first now end history };
 
     ghost is_due = { λ f plan so_far. Unit {0} };
 
@@ -114,7 +114,7 @@ impl Batches for Feed {
 pub fn run_lines<
     R: Threads + Wait + Sync,
     G: Gate + Sync,
-    C: Calculator + Send,
+    C: NodeCalculator + Send,
     S: Source,
     K: Sink,
     E: Sink,
@@ -128,7 +128,7 @@ pub fn run_lines<
     requires boxes { BoxesFit run.now.plan.now (map C.told boxes.old.items) }
 
     // There is one reading of the input, one job and one solution, and all that is seen of the run is theirs; or memory ran out.
-    ensures ran { RanOverLines run.now.report run.now.plan.now result (told_by S.told K.told E.told devices.old devices.new) (device (map C.told boxes.old.items) (map C.told boxes.new.items)) }
+    ensures ran { RanOverLines C.laws run.now.report run.now.plan.now result (told_by S.told K.told E.told devices.old devices.new) (device (map C.told boxes.old.items) (map C.told boxes.new.items)) }
     ensures same { SameDevices devices.old devices.new }
 {
     match run_whole(run, crew, boxes, devices) {
@@ -141,7 +141,7 @@ pub fn run_lines<
 fn run_whole<
     R: Threads + Wait + Sync,
     G: Gate + Sync,
-    C: Calculator + Send,
+    C: NodeCalculator + Send,
     S: Source,
     K: Sink,
     E: Sink,
@@ -153,8 +153,8 @@ fn run_whole<
 ) -> Result<Status, AllocError>
     requires valid { IsValid run.now.plan.now }
     requires boxes { BoxesFit run.now.plan.now (map C.told boxes.old.items) }
-    ensures ran { IfOk result (λ status. OneReading run.now.report run.now.plan.now status (told_by S.told K.told E.told devices.old devices.new) (device (map C.told boxes.old.items) (map C.told boxes.new.items))) }
-    ensures short { OnErr result (ShortIn run.now.plan.now (told_by S.told K.told E.told devices.old devices.new).input (told_by S.told K.told E.told devices.old devices.new).output (device (map C.told boxes.old.items) (map C.told boxes.new.items))) }
+    ensures ran { IfOk result (λ status. OneReading C.laws run.now.report run.now.plan.now status (told_by S.told K.told E.told devices.old devices.new) (device (map C.told boxes.old.items) (map C.told boxes.new.items))) }
+    ensures short { OnErr result (ShortIn C.laws run.now.plan.now (told_by S.told K.told E.told devices.old devices.new).input (told_by S.told K.told E.told devices.old devices.new).output (device (map C.told boxes.old.items) (map C.told boxes.new.items))) }
     ensures unnoted { OnErr result (E.told devices.new.notes.now ≡ E.told devices.old.notes.now) }
     ensures same { SameDevices devices.old devices.new }
 {

@@ -79,9 +79,9 @@ fn with_open(alloc: Global, inputs: Inputs, count: usize) -> Result<Inputs, Allo
 impl<'p, B: Batches> Batches for Live<'p, B> {
     ghost is_fresh = { λ l core. IsFreshLive B.is_fresh B.is_due core (record { batches = l.batches; plan = l.whole.plan.now; whole = l.whole.plan.now; nodes = l.whole.nodes.now; streams = l.whole.streams.now; ended = l.end; rested = l.rested; frees = l.nodes.free; takers = l.nodes.takers.items }) };
 
-    ghost gives = { λ began l core first now end inputs. LiveGives B.gives B.came B.is_due began.batches (record { batches = l.batches; plan = began.whole.plan.now; whole = l.whole.plan.now; nodes = l.whole.nodes.now; streams = l.whole.streams.now; ended = l.end; rested = l.rested; frees = l.nodes.free; takers = l.nodes.takers.items }) core first now end inputs };
+    ghost gives = { λ laws began l core first now end inputs. LiveGives laws (B.gives laws) (B.came laws) B.is_due began.batches (record { batches = l.batches; plan = began.whole.plan.now; whole = l.whole.plan.now; nodes = l.whole.nodes.now; streams = l.whole.streams.now; ended = l.end; rested = l.rested; frees = l.nodes.free; takers = l.nodes.takers.items }) core first now end inputs };
 
-    ghost came = { λ began l core first now end history. LiveCame B.gives B.came B.is_due began.batches (record { batches = l.batches; plan = began.whole.plan.now; whole = l.whole.plan.now; nodes = l.whole.nodes.now; streams = l.whole.streams.now; ended = l.end; rested = l.rested; frees = l.nodes.free; takers = l.nodes.takers.items }) core first now end history };
+    ghost came = { λ laws began l core first now end history. LiveCame laws (B.gives laws) (B.came laws) B.is_due began.batches (record { batches = l.batches; plan = began.whole.plan.now; whole = l.whole.plan.now; nodes = l.whole.nodes.now; streams = l.whole.streams.now; ended = l.end; rested = l.rested; frees = l.nodes.free; takers = l.nodes.takers.items }) core first now end history };
 
     ghost is_due = { λ l core inputs. (l.end ≡ None) × (l.rested ≡ true) };
 

@@ -15,7 +15,7 @@ use crate::in_plan::InPlan;
 use crate::pieces::Pieces;
 use crate::{Batches, Crew, Live, Telling, run_batches};
 use mg_answer::{Devices, OutputSummary, OutputText, Run, Status, note_out_of_memory};
-use mg_calc::Calculator;
+use mg_calc::NodeCalculator;
 use mg_edge::{Gate, Sink, Source};
 use mg_feed::Feed;
 use mg_free::{FreePlan, split};
@@ -30,7 +30,7 @@ use std::thread::Threads;
 pub fn run_live_lines<
     R: Threads + Wait + Sync,
     G: Gate + Sync,
-    C: Calculator + Send,
+    C: NodeCalculator + Send,
     S: Source,
     K: Sink,
     E: Sink,
@@ -45,7 +45,7 @@ pub fn run_live_lines<
 
     // There is one reading of the input, its batches, the logs to which the free nodes' rounds over these come, and one solution, and all
     // that is seen of the run is theirs; or memory ran out.
-    ensures ran { RanLive run.now.report run.now.plan.now result (told_by S.told K.told E.told devices.old devices.new) (device (map C.told boxes.old.items) (map C.told boxes.new.items)) }
+    ensures ran { RanLive C.laws run.now.report run.now.plan.now result (told_by S.told K.told E.told devices.old devices.new) (device (map C.told boxes.old.items) (map C.told boxes.new.items)) }
     ensures same { SameDevices devices.old devices.new }
 {
     match lines_whole(run, crew, boxes, devices) {
@@ -58,7 +58,7 @@ pub fn run_live_lines<
 fn lines_whole<
     R: Threads + Wait + Sync,
     G: Gate + Sync,
-    C: Calculator + Send,
+    C: NodeCalculator + Send,
     S: Source,
     K: Sink,
     E: Sink,
@@ -70,8 +70,8 @@ fn lines_whole<
 ) -> Result<Status, AllocError>
     requires valid { IsValidWithFree run.now.plan.now }
     requires boxes { BoxesFit (split_of run.now.plan.now).core (map C.told boxes.old.items) }
-    ensures ran { IfOk result (λ status. OneLiveReading run.now.report run.now.plan.now status (told_by S.told K.told E.told devices.old devices.new) (device (map C.told boxes.old.items) (map C.told boxes.new.items))) }
-    ensures short { OnErr result (LiveShortIn run.now.plan.now (told_by S.told K.told E.told devices.old devices.new).input (told_by S.told K.told E.told devices.old devices.new).output (device (map C.told boxes.old.items) (map C.told boxes.new.items))) }
+    ensures ran { IfOk result (λ status. OneLiveReading C.laws run.now.report run.now.plan.now status (told_by S.told K.told E.told devices.old devices.new) (device (map C.told boxes.old.items) (map C.told boxes.new.items))) }
+    ensures short { OnErr result (LiveShortIn C.laws run.now.plan.now (told_by S.told K.told E.told devices.old devices.new).input (told_by S.told K.told E.told devices.old devices.new).output (device (map C.told boxes.old.items) (map C.told boxes.new.items))) }
     ensures unnoted { OnErr result (E.told devices.new.notes.now ≡ E.told devices.old.notes.now) }
     ensures same { SameDevices devices.old devices.new }
 {
@@ -86,7 +86,7 @@ fn lines_whole<
 pub fn run_live_made<
     R: Threads + Wait + Sync,
     G: Gate + Sync,
-    C: Calculator + Send,
+    C: NodeCalculator + Send,
     S: Source,
     K: Sink,
     E: Sink,
@@ -102,7 +102,7 @@ pub fn run_live_made<
 
     // There is one job, the logs to which its rounds come, and one solution, and all that is seen of the run is theirs; or memory ran out.
     // The input has no part in it.
-    ensures ran { RanLiveMade run.now.report run.now.plan.now number result (told_by S.told K.told E.told devices.old devices.new).output (told_by S.told K.told E.told devices.old devices.new).notes (device (map C.told boxes.old.items) (map C.told boxes.new.items)) }
+    ensures ran { RanLiveMade C.laws run.now.report run.now.plan.now number result (told_by S.told K.told E.told devices.old devices.new).output (told_by S.told K.told E.told devices.old devices.new).notes (device (map C.told boxes.old.items) (map C.told boxes.new.items)) }
     ensures unread { S.told devices.new.input.now ≡ S.told devices.old.input.now }
     ensures same { SameDevices devices.old devices.new }
 {
@@ -116,7 +116,7 @@ pub fn run_live_made<
 fn made_whole<
     R: Threads + Wait + Sync,
     G: Gate + Sync,
-    C: Calculator + Send,
+    C: NodeCalculator + Send,
     S: Source,
     K: Sink,
     E: Sink,
@@ -129,8 +129,8 @@ fn made_whole<
 ) -> Result<Status, AllocError>
     requires valid { IsValidWithFree run.now.plan.now }
     requires boxes { BoxesFit (split_of run.now.plan.now).core (map C.told boxes.old.items) }
-    ensures ran { IfOk result (λ status. OneLiveMade run.now.report run.now.plan.now number status (told_by S.told K.told E.told devices.old devices.new).output (told_by S.told K.told E.told devices.old devices.new).notes (device (map C.told boxes.old.items) (map C.told boxes.new.items))) }
-    ensures short { OnErr result (LiveShortInMade run.now.plan.now number (told_by S.told K.told E.told devices.old devices.new).output (device (map C.told boxes.old.items) (map C.told boxes.new.items))) }
+    ensures ran { IfOk result (λ status. OneLiveMade C.laws run.now.report run.now.plan.now number status (told_by S.told K.told E.told devices.old devices.new).output (told_by S.told K.told E.told devices.old devices.new).notes (device (map C.told boxes.old.items) (map C.told boxes.new.items))) }
+    ensures short { OnErr result (LiveShortInMade C.laws run.now.plan.now number (told_by S.told K.told E.told devices.old devices.new).output (device (map C.told boxes.old.items) (map C.told boxes.new.items))) }
     ensures unnoted { OnErr result (E.told devices.new.notes.now ≡ E.told devices.old.notes.now) }
     ensures unread { S.told devices.new.input.now ≡ S.told devices.old.input.now }
     ensures same { SameDevices devices.old devices.new }
@@ -147,7 +147,7 @@ fn made_whole<
 fn run_live<
     R: Threads + Wait + Sync,
     G: Gate + Sync,
-    C: Calculator + Send,
+    C: NodeCalculator + Send,
     B: Batches,
     T: Telling,
     S: Source,
@@ -167,8 +167,8 @@ fn run_live<
     requires fresh { B.is_fresh ends.0 run.now.plan.now }
     requires due { (batches : B) (plan : Plan) (inputs : Given) → B.is_due batches plan inputs }
     requires nothing { (sink : SinkTold) → T.has_told ends.1 (split_of run.now.plan.now).core sink sink [] }
-    ensures ran { IfOk result (λ status. HasRunLive B.gives B.came T.form run.now.report ends.0 run.now.plan.now status (told_by S.told K.told E.told devices.old devices.new) (device (map C.told boxes.old.items) (map C.told boxes.new.items))) }
-    ensures short { OnErr result (HasRunLiveShort B.gives B.came (ReadsWhere B.is_fresh B.is_due B.reads_on) T.has_told T.form ends.0 run.now.plan.now (told_by S.told K.told E.told devices.old devices.new) (device (map C.told boxes.old.items) (map C.told boxes.new.items))) }
+    ensures ran { IfOk result (λ status. HasRunLive C.laws (B.gives C.laws) (B.came C.laws) T.form run.now.report ends.0 run.now.plan.now status (told_by S.told K.told E.told devices.old devices.new) (device (map C.told boxes.old.items) (map C.told boxes.new.items))) }
+    ensures short { OnErr result (HasRunLiveShort C.laws (B.gives C.laws) (B.came C.laws) (ReadsWhere B.is_fresh B.is_due B.reads_on) T.has_told T.form ends.0 run.now.plan.now (told_by S.told K.told E.told devices.old devices.new) (device (map C.told boxes.old.items) (map C.told boxes.new.items))) }
     ensures unnoted { OnErr result (E.told devices.new.notes.now ≡ E.told devices.old.notes.now) }
     ensures unread { B.reads ≡ false → S.told devices.new.input.now ≡ S.told devices.old.input.now }
     ensures same { SameDevices devices.old devices.new }

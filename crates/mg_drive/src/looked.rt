@@ -14,7 +14,7 @@ pub(crate) struct Looked<'n, N: Driven> {
 }
 
 impl<'n, N: Driven> Streams for Looked<'n, N> {
-    ghost are = { λ l streams. AreRested (N.net l.net.now) streams };
+    ghost are = { λ l streams. AreRested N.laws (N.net l.net.now) streams };
 
     ghost has_from = { λ l stream number. HasFrom (N.net l.net.now) stream number };
 

@@ -13,7 +13,7 @@ ghost use Rattle.mg_drive.specs.Code.InPieces.{AreToCome};
 use crate::pieces::Pieces;
 use crate::{Crew, run_batches};
 use mg_answer::{Devices, OutputSummary, Run, Status, note_out_of_memory};
-use mg_calc::Calculator;
+use mg_calc::NodeCalculator;
 use mg_edge::{Gate, Sink, Source};
 use std::alloc::AllocError;
 use std::sync::Wait;
@@ -29,7 +29,7 @@ use std::thread::Threads;
 pub fn run_made<
     R: Threads + Wait + Sync,
     G: Gate + Sync,
-    C: Calculator + Send,
+    C: NodeCalculator + Send,
     S: Source,
     K: Sink,
     E: Sink,
@@ -44,7 +44,7 @@ pub fn run_made<
     requires boxes { BoxesFit run.now.plan.now (map C.told boxes.old.items) }
 
     // There is one job and one solution, and all that is seen of the run is theirs; or memory ran out. The input has no part in it.
-    ensures ran { RanOverPackets run.now.report run.now.plan.now number result (told_by S.told K.told E.told devices.old devices.new).output (told_by S.told K.told E.told devices.old devices.new).notes (device (map C.told boxes.old.items) (map C.told boxes.new.items)) }
+    ensures ran { RanOverPackets C.laws run.now.report run.now.plan.now number result (told_by S.told K.told E.told devices.old devices.new).output (told_by S.told K.told E.told devices.old devices.new).notes (device (map C.told boxes.old.items) (map C.told boxes.new.items)) }
     ensures unread { S.told devices.new.input.now ≡ S.told devices.old.input.now }
     ensures same { SameDevices devices.old devices.new }
 {
@@ -58,7 +58,7 @@ pub fn run_made<
 fn run_whole<
     R: Threads + Wait + Sync,
     G: Gate + Sync,
-    C: Calculator + Send,
+    C: NodeCalculator + Send,
     S: Source,
     K: Sink,
     E: Sink,
@@ -71,8 +71,8 @@ fn run_whole<
 ) -> Result<Status, AllocError>
     requires valid { IsValid run.now.plan.now }
     requires boxes { BoxesFit run.now.plan.now (map C.told boxes.old.items) }
-    ensures ran { IfOk result (λ status. OneMade run.now.report run.now.plan.now number status (told_by S.told K.told E.told devices.old devices.new).output (told_by S.told K.told E.told devices.old devices.new).notes (device (map C.told boxes.old.items) (map C.told boxes.new.items))) }
-    ensures short { OnErr result (ShortInMade run.now.plan.now number (told_by S.told K.told E.told devices.old devices.new).output (device (map C.told boxes.old.items) (map C.told boxes.new.items))) }
+    ensures ran { IfOk result (λ status. OneMade C.laws run.now.report run.now.plan.now number status (told_by S.told K.told E.told devices.old devices.new).output (told_by S.told K.told E.told devices.old devices.new).notes (device (map C.told boxes.old.items) (map C.told boxes.new.items))) }
+    ensures short { OnErr result (ShortInMade C.laws run.now.plan.now number (told_by S.told K.told E.told devices.old devices.new).output (device (map C.told boxes.old.items) (map C.told boxes.new.items))) }
     ensures unnoted { OnErr result (E.told devices.new.notes.now ≡ E.told devices.old.notes.now) }
     ensures unread { S.told devices.new.input.now ≡ S.told devices.old.input.now }
     ensures same { SameDevices devices.old devices.new }

@@ -9,7 +9,7 @@ ghost use Rattle.mg_drive.specs.Nets.{Keeps, GaveNothingUp};
 use crate::crew::packets_in;
 use crate::nothing::net_of_nothing;
 use crate::{Driven, OneThread};
-use mg_calc::{Calculator, Inputs};
+use mg_calc::{Inputs, NodeCalculator};
 use mg_crew::run_workers;
 use mg_edge::Gate;
 use mg_sched::Report;
@@ -22,7 +22,7 @@ use std::sync::Wait;
 use std::thread::Threads;
 
 /// A net that workers run side by side. The thread that drives it does what they leave undone.
-pub struct ManyThreads<'a, C: Calculator, R, G: Gate> {
+pub struct ManyThreads<'a, C: NodeCalculator, R, G: Gate> {
     pub one: OneThread<'a, C, G>,
     pub rt: &'a R,
     pub alloc: Global,
@@ -36,13 +36,18 @@ pub struct ManyThreads<'a, C: Calculator, R, G: Gate> {
     pub fresh: bool,
 }
 
-impl<'a, C: Calculator + Send, R: Threads + Wait + Sync, G: Gate + Sync> ManyThreads<'a, C, R, G> {
+impl<'a, C: NodeCalculator + Send, R: Threads + Wait + Sync, G: Gate + Sync> ManyThreads<
+    'a,
+    C,
+    R,
+    G,
+> {
     // Lets workers run the net, where enough packets have come or `fresh` is set. Meanwhile a net of no node stands in its place.
     fn work(&mut self)
         requires running { IsRunning self.old.one.net }
-        requires stands { StandsForSome self.old.one.net }
+        requires stands { StandsForSome C.laws self.old.one.net }
         ensures running { IsRunning self.new.one.net }
-        ensures became { Became self.old.one.net self.new.one.net }
+        ensures became { Became C.laws self.old.one.net self.new.one.net }
     {
         if self.workers == 0 || !self.fresh && self.came < self.least {
             return;
@@ -59,13 +64,13 @@ impl<'a, C: Calculator + Send, R: Threads + Wait + Sync, G: Gate + Sync> ManyThr
     /// Lets the workers run the net, and then sweeps it until no node can go further. It takes no set of the outputs.
     pub fn to_rest(&mut self) -> Result<(), AllocError>
         requires running { IsRunning self.old.one.net }
-        requires stands { StandsForSome self.old.one.net }
-        ensures rest { OnOk result (IsAtRest self.new.one.net) }
+        requires stands { StandsForSome C.laws self.old.one.net }
+        ensures rest { OnOk result (IsAtRest C.laws self.new.one.net) }
         ensures running { IsRunning self.new.one.net }
         ensures keeps { Keeps self.old.one.net self.new.one.net }
         ensures whole { GaveNothingUp self.old.one.net self.new.one.net }
         ensures taken { taken_out self.new.one.net ≡ taken_out self.old.one.net }
-        ensures stands { (job : LoggedJob) → StandsFor job self.old.one.net → StandsFor job self.new.one.net }
+        ensures stands { (job : LoggedJob C.laws) → StandsFor job self.old.one.net → StandsFor job self.new.one.net }
     {
         self.work();
         self.one.to_rest()?;
@@ -74,7 +79,9 @@ impl<'a, C: Calculator + Send, R: Threads + Wait + Sync, G: Gate + Sync> ManyThr
     }
 }
 
-impl<'a, C: Calculator, R, G: Gate> Driven for ManyThreads<'a, C, R, G> {
+impl<'a, C: NodeCalculator, R, G: Gate> Driven for ManyThreads<'a, C, R, G> {
+    ghost laws = { C.laws };
+
     ghost net = { λ t. t.one.net };
 
     fn begin(&mut self) -> Result<(), AllocError> {

@@ -2,7 +2,7 @@
 ghost use Rattle.std.specs.Prelude.{◌≡◌, []};
 ghost use Rattle.mg_drive.specs.Code.Nothing.{no_plan, no_inputs};
 
-use mg_calc::{Calculator, GivenList, Inputs, Plan};
+use mg_calc::{GivenList, Inputs, NodeCalculator, Plan};
 use mg_sched::Net;
 use mg_value::BlockList;
 use std::alloc::{AllocError, Global};
@@ -53,7 +53,7 @@ fn inputs_of_nothing(alloc: Global) -> Inputs
 }
 
 /// Returns a net of no node.
-pub(crate) fn net_of_nothing<C: Calculator>(alloc: Global) -> Result<Net<C>, AllocError> {
+pub(crate) fn net_of_nothing<C: NodeCalculator>(alloc: Global) -> Result<Net<C>, AllocError> {
     let plan = plan_of_nothing(alloc);
     let inputs = inputs_of_nothing(alloc);
     match Net::new(alloc, &plan, &inputs, Vec::new(alloc)) {

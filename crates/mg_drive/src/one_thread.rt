@@ -6,7 +6,7 @@ ghost use Rattle.mg_sched.specs.Taking.{taken_out};
 ghost use Rattle.mg_drive.specs.Nets.{Keeps, GaveNothingUp};
 
 use crate::Driven;
-use mg_calc::{Calculator, Inputs};
+use mg_calc::{Inputs, NodeCalculator};
 use mg_edge::Gate;
 use mg_sched::{Deaf, Net, Report};
 use mg_settled::{InputSet, PrefixList};
@@ -15,29 +15,31 @@ use mg_value::Packet;
 use std::alloc::{AllocError, Global};
 
 /// A net whose nodes run on the one thread that drives it, each Process call through a gate.
-pub struct OneThread<'a, C: Calculator, G: Gate> {
+pub struct OneThread<'a, C: NodeCalculator, G: Gate> {
     pub net: Net<C>,
     pub gate: &'a G,
 }
 
-impl<'a, C: Calculator, G: Gate> OneThread<'a, C, G> {
+impl<'a, C: NodeCalculator, G: Gate> OneThread<'a, C, G> {
     /// Sweeps the net until no node can go further. It takes no set of the outputs.
     pub fn to_rest(&mut self) -> Result<(), AllocError>
         requires running { IsRunning self.old.net }
-        requires stands { StandsForSome self.old.net }
-        ensures rest { OnOk result (IsAtRest self.new.net) }
+        requires stands { StandsForSome C.laws self.old.net }
+        ensures rest { OnOk result (IsAtRest C.laws self.new.net) }
         ensures running { IsRunning self.new.net }
         ensures keeps { Keeps self.old.net self.new.net }
         ensures whole { GaveNothingUp self.old.net self.new.net }
         ensures taken { taken_out self.new.net ≡ taken_out self.old.net }
-        ensures stands { (job : LoggedJob) → StandsFor job self.old.net → StandsFor job self.new.net }
+        ensures stands { (job : LoggedJob C.laws) → StandsFor job self.old.net → StandsFor job self.new.net }
     {
         self.net.sweep(self.gate, &mut Deaf)?;
         Ok(())
     }
 }
 
-impl<'a, C: Calculator, G: Gate> Driven for OneThread<'a, C, G> {
+impl<'a, C: NodeCalculator, G: Gate> Driven for OneThread<'a, C, G> {
+    ghost laws = { C.laws };
+
     ghost net = { λ t. t.net };
 
     fn begin(&mut self) -> Result<(), AllocError> {

@@ -74,9 +74,9 @@ fn end_by(ended: bool) -> BatchEnd
 impl Batches for Pieces {
     ghost is_fresh = { λ p plan. AreToCome plan (making p.generator).number (making p.generator) };
 
-    ghost gives = { λ began p plan first now end inputs. WereMade plan (making began.generator).number (making p.generator) end inputs };
+    ghost gives = { λ laws began p plan first now end inputs. WereMade plan (making began.generator).number (making p.generator) end inputs };
 
-    ghost came = { λ began p plan first now end history. HaveComeInPieces plan (making began.generator).number began.most p.most (making p.generator) end history };
+    ghost came = { λ laws began p plan first now end history. HaveComeInPieces plan (making began.generator).number began.most p.most (making p.generator) end history };
 
     ghost is_due = { λ p plan so_far. Unit {0} };
 

@@ -10,7 +10,7 @@ ghost use Rattle.mg_drive.specs.Code.Tracing.{HasRecorded, HasRecordedSome};
 
 use crate::{EventText, OneThread};
 use mg_answer::{BlockText, OutputText, Puts};
-use mg_calc::Calculator;
+use mg_calc::NodeCalculator;
 use mg_edge::{Gate, Sink};
 use std::alloc::{AllocError, Global};
 
@@ -31,22 +31,22 @@ impl Puts for LastLine {
 
 /// Runs a net to rest, and puts the line of each event that it makes behind a text, and then the last line of a trace. Where memory runs
 /// out for a line no more lines are put, and the net still runs to rest if it has memory for that.
-pub fn record_run<G: Gate, C: Calculator, K: Sink>(
+pub fn record_run<G: Gate, C: NodeCalculator, K: Sink>(
     alloc: Global,
     net: &mut OneThread<'_, C, G>,
     blocks: BlockText,
     output: &mut K,
 ) -> Result<OutputText, AllocError>
     requires running { IsRunning net.old.net }
-    requires stands { StandsForSome net.old.net }
-    ensures rest { OnOk result (IsAtRest net.new.net) }
+    requires stands { StandsForSome C.laws net.old.net }
+    ensures rest { OnOk result (IsAtRest C.laws net.new.net) }
     ensures running { IsRunning net.new.net }
-    ensures stands { (job : LoggedJob) → StandsFor job net.old.net → StandsFor job net.new.net }
+    ensures stands { (job : LoggedJob C.laws) → StandsFor job net.old.net → StandsFor job net.new.net }
     ensures keeps { Keeps net.old.net net.new.net }
     ensures recorded { IfOk result (λ text. (first : SinkTold) (lines : List ℕ) → HasPutIn first (K.told output.old) blocks lines
-        → HasRecorded first (K.told output.new) (record { kept = text.kept; failed = text.failed }) lines (codes "end\n") net.old.net net.new.net) }
+        → HasRecorded C.laws first (K.told output.new) (record { kept = text.kept; failed = text.failed }) lines (codes "end\n") net.old.net net.new.net) }
     ensures short { OnErr result ((first : SinkTold) (lines : List ℕ) → HasPutIn first (K.told output.old) blocks lines
-        → HasRecordedSome first (K.told output.new) lines net.old.net) }
+        → HasRecordedSome C.laws first (K.told output.new) lines net.old.net) }
 {
     let mut blocks = blocks;
     record_events(net, &mut blocks, output)?;
@@ -55,21 +55,21 @@ pub fn record_run<G: Gate, C: Calculator, K: Sink>(
 }
 
 // Runs a net to rest, and puts the line of each event behind a text.
-fn record_events<G: Gate, C: Calculator, K: Sink>(
+fn record_events<G: Gate, C: NodeCalculator, K: Sink>(
     net: &mut OneThread<'_, C, G>,
     blocks: &mut BlockText,
     output: &mut K,
 ) -> Result<(), AllocError>
     requires running { IsRunning net.old.net }
-    requires stands { StandsForSome net.old.net }
-    ensures rest { OnOk result (IsAtRest net.new.net) }
+    requires stands { StandsForSome C.laws net.old.net }
+    ensures rest { OnOk result (IsAtRest C.laws net.new.net) }
     ensures running { IsRunning net.new.net }
-    ensures stands { (job : LoggedJob) → StandsFor job net.old.net → StandsFor job net.new.net }
+    ensures stands { (job : LoggedJob C.laws) → StandsFor job net.old.net → StandsFor job net.new.net }
     ensures keeps { Keeps net.old.net net.new.net }
     ensures recorded { OnOk result ((first : SinkTold) (lines : List ℕ) → HasPutIn first (K.told output.old) blocks.old lines
-        → HasRecorded first (K.told output.new) blocks.new lines [] net.old.net net.new.net) }
+        → HasRecorded C.laws first (K.told output.new) blocks.new lines [] net.old.net net.new.net) }
     ensures short { OnErr result ((first : SinkTold) (lines : List ℕ) → HasPutIn first (K.told output.old) blocks.old lines
-        → HasRecordedSome first (K.told output.new) lines net.old.net) }
+        → HasRecordedSome C.laws first (K.told output.new) lines net.old.net) }
 {
     let mut events = EventText {
         blocks,
@@ -80,22 +80,22 @@ fn record_events<G: Gate, C: Calculator, K: Sink>(
 }
 
 // Runs a net to rest, and lets a text that has all lines so far hear its events.
-fn hear_run<G: Gate, C: Calculator, K: Sink>(
+fn hear_run<G: Gate, C: NodeCalculator, K: Sink>(
     net: &mut OneThread<'_, C, G>,
     events: &mut EventText<'_, '_, K>,
 ) -> Result<(), AllocError>
     requires running { IsRunning net.old.net }
-    requires stands { StandsForSome net.old.net }
+    requires stands { StandsForSome C.laws net.old.net }
     requires memory { events.old.out_of_memory ≡ false }
-    ensures rest { OnOk result (IsAtRest net.new.net) }
+    ensures rest { OnOk result (IsAtRest C.laws net.new.net) }
     ensures running { IsRunning net.new.net }
-    ensures stands { (job : LoggedJob) → StandsFor job net.old.net → StandsFor job net.new.net }
+    ensures stands { (job : LoggedJob C.laws) → StandsFor job net.old.net → StandsFor job net.new.net }
     ensures keeps { Keeps net.old.net net.new.net }
     ensures same { (events.new.blocks.ghost_name ≡ events.old.blocks.ghost_name) × (events.new.output.ghost_name ≡ events.old.output.ghost_name) }
     ensures recorded { OnOk result ((first : SinkTold) (lines : List ℕ) → HasPutIn first (K.told events.old.output.now) events.old.blocks.now lines
-        → HasRecorded first (K.told events.new.output.now) events.new.blocks.now lines [] net.old.net net.new.net) }
+        → HasRecorded C.laws first (K.told events.new.output.now) events.new.blocks.now lines [] net.old.net net.new.net) }
     ensures short { OnErr result ((first : SinkTold) (lines : List ℕ) → HasPutIn first (K.told events.old.output.now) events.old.blocks.now lines
-        → HasRecordedSome first (K.told events.new.output.now) lines net.old.net) }
+        → HasRecordedSome C.laws first (K.told events.new.output.now) lines net.old.net) }
 {
     net.net.sweep(net.gate, events)?;
     if events.out_of_memory {

@@ -14,7 +14,7 @@ use crate::crew::{has_sources, least_for, packets_in, workers_for};
 use crate::finishing::finish_batches;
 use crate::{Batch, Batches, Closing, Crew, ManyThreads, NetEnds, OneThread, Telling, drive};
 use mg_answer::{Devices, Run, Status};
-use mg_calc::Calculator;
+use mg_calc::NodeCalculator;
 use mg_edge::{Gate, Sink, Source};
 use mg_feed::BatchEnd;
 use mg_sched::Net;
@@ -28,7 +28,7 @@ use std::thread::Threads;
 pub fn run_net<
     R: Threads + Wait + Sync,
     G: Gate + Sync,
-    C: Calculator + Send,
+    C: NodeCalculator + Send,
     B: Batches,
     T: Telling,
     S: Source,
@@ -41,15 +41,15 @@ pub fn run_net<
     first: BatchEnd,
     devices: &mut Devices<'_, '_, '_, S, K, E>,
 ) -> Result<Status, AllocError>
-    requires under_way { IsSomeRun B.gives T.has_told run.now.plan.now first (S.told devices.old.input.now) (K.told devices.old.output.now) ends.batches ends.telling net.old.one.net }
+    requires under_way { IsSomeRun C.laws (B.gives C.laws) T.has_told run.now.plan.now first (S.told devices.old.input.now) (K.told devices.old.output.now) ends.batches ends.telling net.old.one.net }
     requires there { AreThere (B.wants ends.batches) net.old.one.net }
     requires places { length ends.set ≡ length net.old.one.net.plan.outputs }
     ensures ended { IfOk result (λ status. (start : Start B) → start.plan ≡ run.now.plan.now
-        → IsUnderWay B.gives T.has_told start first (S.told devices.old.input.now) (K.told devices.old.output.now) ends.batches ends.telling net.old.one.net
-        → HasEnded B.gives B.wrote T.form run.now.report start status (S.told devices.new.input.now) (K.told devices.new.output.now) (told_by S.told K.told E.told devices.old devices.new).notes net.new.one.net) }
+        → IsUnderWay C.laws (B.gives C.laws) T.has_told start first (S.told devices.old.input.now) (K.told devices.old.output.now) ends.batches ends.telling net.old.one.net
+        → HasEnded C.laws (B.gives C.laws) B.wrote T.form run.now.report start status (S.told devices.new.input.now) (K.told devices.new.output.now) (told_by S.told K.told E.told devices.old devices.new).notes net.new.one.net) }
     ensures short { OnErr result ((start : Start B) → start.plan ≡ run.now.plan.now
-        → IsUnderWay B.gives T.has_told start first (S.told devices.old.input.now) (K.told devices.old.output.now) ends.batches ends.telling net.old.one.net
-        → IsShort B.gives B.reads_on T.has_told T.form start (S.told devices.new.input.now) (K.told devices.new.output.now) net.new.one.net) }
+        → IsUnderWay C.laws (B.gives C.laws) T.has_told start first (S.told devices.old.input.now) (K.told devices.old.output.now) ends.batches ends.telling net.old.one.net
+        → IsShort C.laws (B.gives C.laws) B.reads_on T.has_told T.form start (S.told devices.new.input.now) (K.told devices.new.output.now) net.new.one.net) }
     ensures unnoted { OnErr result (E.told devices.new.notes.now ≡ E.told devices.old.notes.now) }
     ensures keeps { Keeps net.old.one.net net.new.one.net }
     ensures unread { B.reads ≡ false → S.told devices.new.input.now ≡ S.told devices.old.input.now }
@@ -74,7 +74,7 @@ pub fn run_net<
 fn run_made_net<
     R: Threads + Wait + Sync,
     G: Gate + Sync,
-    C: Calculator + Send,
+    C: NodeCalculator + Send,
     B: Batches,
     T: Telling,
     S: Source,
@@ -88,15 +88,15 @@ fn run_made_net<
     first: Batch,
     devices: &mut Devices<'_, '_, '_, S, K, E>,
 ) -> Result<Status, AllocError>
-    requires job { IsJob (record { plan = run.now.plan.now; inputs = first.inputs }) }
+    requires job { IsJob (record { plan = run.now.plan.now; inputs = first.inputs; laws = C.laws }) }
     requires boxes { BoxesFit run.now.plan.now (map C.told boxes.old.items) }
-    requires first { (began : B) × ((source : SourceTold) × B.gives began ends.batches run.now.plan.now source (S.told devices.old.input.now) first.end first.inputs) }
+    requires first { (began : B) × ((source : SourceTold) × (B.gives C.laws) began ends.batches run.now.plan.now source (S.told devices.old.input.now) first.end first.inputs) }
     requires set { length ends.set ≡ length run.now.plan.now.outputs }
     requires nothing { (sink : SinkTold) → T.has_told ends.telling run.now.plan.now sink sink [] }
-    ensures ran { IfOk result (λ status. (began : B) (source : SourceTold) → B.gives began ends.batches run.now.plan.now source (S.told devices.old.input.now) first.end first.inputs
-        → HasRunBatches B.gives B.wrote T.form run.now.report began run.now.plan.now status (since source (told_by S.told K.told E.told devices.old devices.new)) (device (map C.told boxes.old.items) (map C.told boxes.new.items))) }
-    ensures short { OnErr result ((began : B) (source : SourceTold) → B.gives began ends.batches run.now.plan.now source (S.told devices.old.input.now) first.end first.inputs
-        → RanOutOfMemory B.gives B.reads_on T.has_told T.form began run.now.plan.now (since source (told_by S.told K.told E.told devices.old devices.new)) (device (map C.told boxes.old.items) (map C.told boxes.new.items))) }
+    ensures ran { IfOk result (λ status. (began : B) (source : SourceTold) → (B.gives C.laws) began ends.batches run.now.plan.now source (S.told devices.old.input.now) first.end first.inputs
+        → HasRunBatches C.laws (B.gives C.laws) B.wrote T.form run.now.report began run.now.plan.now status (since source (told_by S.told K.told E.told devices.old devices.new)) (device (map C.told boxes.old.items) (map C.told boxes.new.items))) }
+    ensures short { OnErr result ((began : B) (source : SourceTold) → (B.gives C.laws) began ends.batches run.now.plan.now source (S.told devices.old.input.now) first.end first.inputs
+        → RanOutOfMemory C.laws (B.gives C.laws) B.reads_on T.has_told T.form began run.now.plan.now (since source (told_by S.told K.told E.told devices.old devices.new)) (device (map C.told boxes.old.items) (map C.told boxes.new.items))) }
     ensures unnoted { OnErr result (E.told devices.new.notes.now ≡ E.told devices.old.notes.now) }
     ensures back { CalculatorsCameBack run.now.plan.now (map C.told boxes.old.items) (map C.told boxes.new.items) }
     ensures unread { B.reads ≡ false → S.told devices.new.input.now ≡ S.told devices.old.input.now }
@@ -143,7 +143,7 @@ fn run_made_net<
 pub fn run_batches<
     R: Threads + Wait + Sync,
     G: Gate + Sync,
-    C: Calculator + Send,
+    C: NodeCalculator + Send,
     B: Batches,
     T: Telling,
     S: Source,
@@ -161,8 +161,8 @@ pub fn run_batches<
     requires boxes { BoxesFit run.now.plan.now (map C.told boxes.old.items) }
     requires fresh { B.is_fresh batches run.now.plan.now }
     requires nothing { (sink : SinkTold) → T.has_told telling run.now.plan.now sink sink [] }
-    ensures ran { IfOk result (λ status. HasRunBatches B.gives B.wrote T.form run.now.report batches run.now.plan.now status (told_by S.told K.told E.told devices.old devices.new) (device (map C.told boxes.old.items) (map C.told boxes.new.items))) }
-    ensures short { OnErr result (RanOutOfMemory B.gives B.reads_on T.has_told T.form batches run.now.plan.now (told_by S.told K.told E.told devices.old devices.new) (device (map C.told boxes.old.items) (map C.told boxes.new.items))) }
+    ensures ran { IfOk result (λ status. HasRunBatches C.laws (B.gives C.laws) B.wrote T.form run.now.report batches run.now.plan.now status (told_by S.told K.told E.told devices.old devices.new) (device (map C.told boxes.old.items) (map C.told boxes.new.items))) }
+    ensures short { OnErr result (RanOutOfMemory C.laws (B.gives C.laws) B.reads_on T.has_told T.form batches run.now.plan.now (told_by S.told K.told E.told devices.old devices.new) (device (map C.told boxes.old.items) (map C.told boxes.new.items))) }
     ensures unnoted { OnErr result (E.told devices.new.notes.now ≡ E.told devices.old.notes.now) }
     ensures back { CalculatorsCameBack run.now.plan.now (map C.told boxes.old.items) (map C.told boxes.new.items) }
     ensures unread { B.reads ≡ false → S.told devices.new.input.now ≡ S.told devices.old.input.now }

@@ -4,7 +4,7 @@ ghost use Rattle.mg_edge.specs.Edge.{SinkTold};
 ghost use Rattle.mg_calc.specs.declared.inputs.Inputs.{Inputs as Given};
 ghost use Rattle.mg_calc.specs.Plan.{IsValid};
 ghost use Rattle.mg_calc.specs.Equations.{IsJob};
-ghost use Rattle.mg_calc.specs.Told.{CalculatorTold};
+ghost use Rattle.mg_calc.specs.Told.{BoxTold};
 ghost use Rattle.mg_feed.specs.Graph.{inputs_of};
 ghost use Rattle.mg_trace.specs.Job.{job_text};
 ghost use Rattle.mg_answer.specs.Put.{HasPutIn};
@@ -20,7 +20,7 @@ ghost use Rattle.mg_drive.specs.Code.Tracing.{plan_job, IsSomeMade, NetTraced, N
 
 use crate::{OneThread, finish, record_run};
 use mg_answer::{BlockText, Devices, Run, Status, WholeInput, note_out_of_memory, read_whole};
-use mg_calc::Calculator;
+use mg_calc::NodeCalculator;
 use mg_edge::{Gate, Sink, Source};
 use mg_feed::FeedEnd;
 use mg_sched::Net;
@@ -35,7 +35,7 @@ use std::mem;
 ///
 /// Once a write to the output has failed nothing more is written to it. The run goes on all the same, and the notes are written and say
 /// so. Where memory runs out they say that alone.
-pub fn trace_lines<G: Gate, C: Calculator, S: Source, K: Sink, E: Sink>(
+pub fn trace_lines<G: Gate, C: NodeCalculator, S: Source, K: Sink, E: Sink>(
     run: &Run<'_>,
     gate: &G,
     boxes: &mut Vec<C>,
@@ -45,10 +45,10 @@ pub fn trace_lines<G: Gate, C: Calculator, S: Source, K: Sink, E: Sink>(
     requires boxes { BoxesFit run.now.plan.now (map C.told boxes.old.items) }
 
     // What each status means: the same as in a run that isn't recorded, but that the output took a trace.
-    ensures traced { Traced run.now.report run.now.plan.now (map C.told boxes.old.items) result (told_by S.told K.told E.told devices.old devices.new) }
+    ensures traced { Traced C.laws run.now.report run.now.plan.now (map C.told boxes.old.items) result (told_by S.told K.told E.told devices.old devices.new) }
 
     // What the run leaves of the calculators that are handed in.
-    ensures left { RunLeaves run.now.plan.now result (told_by S.told K.told E.told devices.old devices.new).input (device (map C.told boxes.old.items) (map C.told boxes.new.items)) }
+    ensures left { RunLeaves C.laws run.now.plan.now result (told_by S.told K.told E.told devices.old devices.new).input (device (map C.told boxes.old.items) (map C.told boxes.new.items)) }
     ensures same { SameDevices devices.old devices.new }
 {
     match trace_whole(run, gate, boxes, devices) {
@@ -58,7 +58,7 @@ pub fn trace_lines<G: Gate, C: Calculator, S: Source, K: Sink, E: Sink>(
 }
 
 // Reads the whole input, runs the graph over it, and writes the trace and the notes.
-fn trace_whole<G: Gate, C: Calculator, S: Source, K: Sink, E: Sink>(
+fn trace_whole<G: Gate, C: NodeCalculator, S: Source, K: Sink, E: Sink>(
     run: &Run<'_>,
     gate: &G,
     boxes: &mut Vec<C>,
@@ -66,12 +66,12 @@ fn trace_whole<G: Gate, C: Calculator, S: Source, K: Sink, E: Sink>(
 ) -> Result<Status, AllocError>
     requires valid { IsValid run.now.plan.now }
     requires boxes { BoxesFit run.now.plan.now (map C.told boxes.old.items) }
-    ensures traced { IfOk result (λ status. Traced run.now.report run.now.plan.now (map C.told boxes.old.items) status (told_by S.told K.told E.told devices.old devices.new)) }
-    ensures short { OnErr result (TracedOut run.now.plan.now (map C.told boxes.old.items) (told_by S.told K.told E.told devices.old devices.new)) }
+    ensures traced { IfOk result (λ status. Traced C.laws run.now.report run.now.plan.now (map C.told boxes.old.items) status (told_by S.told K.told E.told devices.old devices.new)) }
+    ensures short { OnErr result (TracedOut C.laws run.now.plan.now (map C.told boxes.old.items) (told_by S.told K.told E.told devices.old devices.new)) }
     ensures read { OnErr result (ReadSome (inputs_of run.now.plan.now) (told_by S.told K.told E.told devices.old devices.new).input) }
     ensures unnoted { OnErr result (E.told devices.new.notes.now ≡ E.told devices.old.notes.now) }
-    ensures used { OnOk result (AllHadCalls run.now.plan.now (told_by S.told K.told E.told devices.old devices.new).input (device (map C.told boxes.old.items) (map C.told boxes.new.items))) }
-    ensures fronts { OnErr result (HadSome run.now.plan.now (told_by S.told K.told E.told devices.old devices.new).input (device (map C.told boxes.old.items) (map C.told boxes.new.items))) }
+    ensures used { OnOk result (AllHadCalls C.laws run.now.plan.now (told_by S.told K.told E.told devices.old devices.new).input (device (map C.told boxes.old.items) (map C.told boxes.new.items))) }
+    ensures fronts { OnErr result (HadSome C.laws run.now.plan.now (told_by S.told K.told E.told devices.old devices.new).input (device (map C.told boxes.old.items) (map C.told boxes.new.items))) }
     ensures back { CalculatorsCameBack run.now.plan.now (map C.told boxes.old.items) (map C.told boxes.new.items) }
     ensures same { SameDevices devices.old devices.new }
 {
@@ -93,7 +93,7 @@ struct Opening {
 }
 
 // Makes the net of a job, runs it on this thread, and takes the calculators out of it again.
-fn trace_job<G: Gate, C: Calculator, K: Sink, E: Sink>(
+fn trace_job<G: Gate, C: NodeCalculator, K: Sink, E: Sink>(
     run: &Run<'_>,
     gate: &G,
     boxes: &mut Vec<C>,
@@ -101,13 +101,13 @@ fn trace_job<G: Gate, C: Calculator, K: Sink, E: Sink>(
     output: &mut K,
     notes: &mut E,
 ) -> Result<Status, AllocError>
-    requires job { IsJob (plan_job run.now.plan.now opening.whole.inputs) }
+    requires job { IsJob (plan_job C.laws run.now.plan.now opening.whole.inputs) }
     requires boxes { BoxesFit run.now.plan.now (map C.told boxes.old.items) }
     requires opened { opening.blocks ≡ record { kept = job_text run.now.plan.now opening.whole.inputs; failed = false } }
-    ensures traced { IfOk result (λ status. JobTraced run.now.report run.now.plan.now opening.whole.inputs opening.whole.end status (device (K.told output.old) (K.told output.new)) (device (E.told notes.old) (E.told notes.new))
+    ensures traced { IfOk result (λ status. JobTraced C.laws run.now.report run.now.plan.now opening.whole.inputs opening.whole.end status (device (K.told output.old) (K.told output.new)) (device (E.told notes.old) (E.told notes.new))
         (device (map C.told boxes.old.items) (map C.told boxes.new.items))) }
     ensures short { OnErr result ((Untouched (device (K.told output.old) (K.told output.new)) × Untouched (device (map C.told boxes.old.items) (map C.told boxes.new.items)))
-        ⊎ JobShort run.now.plan.now opening.whole.inputs (device (K.told output.old) (K.told output.new)) (device (map C.told boxes.old.items) (map C.told boxes.new.items))) }
+        ⊎ JobShort C.laws run.now.plan.now opening.whole.inputs (device (K.told output.old) (K.told output.new)) (device (map C.told boxes.old.items) (map C.told boxes.new.items))) }
     ensures unnoted { OnErr result (E.told notes.new ≡ E.told notes.old) }
     ensures back { CalculatorsCameBack run.now.plan.now (map C.told boxes.old.items) (map C.told boxes.new.items) }
 {
@@ -129,7 +129,7 @@ fn trace_job<G: Gate, C: Calculator, K: Sink, E: Sink>(
 }
 
 // Begins a net that was made, runs it to rest, and ends the run.
-fn trace_net<G: Gate, C: Calculator, K: Sink, E: Sink>(
+fn trace_net<G: Gate, C: NodeCalculator, K: Sink, E: Sink>(
     run: &Run<'_>,
     net: &mut OneThread<'_, C, G>,
     end: FeedEnd,
@@ -137,13 +137,13 @@ fn trace_net<G: Gate, C: Calculator, K: Sink, E: Sink>(
     output: &mut K,
     notes: &mut E,
 ) -> Result<Status, AllocError>
-    requires made { IsSomeMade run.now.plan.now net.old.net }
-    ensures traced { IfOk result (λ status. (inputs : Given) (boxes : List CalculatorTold) (first : SinkTold) → IsMade run.now.plan.now inputs boxes net.old.net
+    requires made { IsSomeMade C.laws run.now.plan.now net.old.net }
+    ensures traced { IfOk result (λ status. (inputs : Given) (boxes : List BoxTold) (first : SinkTold) → IsMade C.laws run.now.plan.now inputs boxes net.old.net
         → HasPutIn first (K.told output.old) blocks (job_text run.now.plan.now inputs)
-        → NetTraced run.now.report run.now.plan.now inputs boxes end status (device first (K.told output.new)) (device (E.told notes.old) (E.told notes.new)) net.new.net) }
-    ensures short { OnErr result ((inputs : Given) (boxes : List CalculatorTold) (first : SinkTold) → IsMade run.now.plan.now inputs boxes net.old.net
+        → NetTraced C.laws run.now.report run.now.plan.now inputs boxes end status (device first (K.told output.new)) (device (E.told notes.old) (E.told notes.new)) net.new.net) }
+    ensures short { OnErr result ((inputs : Given) (boxes : List BoxTold) (first : SinkTold) → IsMade C.laws run.now.plan.now inputs boxes net.old.net
         → HasPutIn first (K.told output.old) blocks (job_text run.now.plan.now inputs)
-        → NetShort run.now.plan.now inputs boxes (K.told output.old) (device first (K.told output.new)) net.new.net) }
+        → NetShort C.laws run.now.plan.now inputs boxes (K.told output.old) (device first (K.told output.new)) net.new.net) }
     ensures unnoted { OnErr result (E.told notes.new ≡ E.told notes.old) }
     ensures keeps { Keeps net.old.net net.new.net }
 {

@@ -1,5 +1,5 @@
 -- Nodes go on, by their laws.
-use Rattle.std.proofs.Common.{◌≡◌, ℕ, zero, suc, ◌<◌, ◌≤◌, ◌==◌, Bool, true, false, replicate, List, [], ◌∷◌, map, get_or, length, length-drop, All, None, Some, slice_get, refl, sym, ap, ap₂, subst, ◌∙◌, arith, inl, inr}
+use Rattle.std.proofs.Common.{◌≡◌, ℕ, zero, suc, ◌<◌, ◌≤◌, ◌==◌, Bool, true, false, replicate, List, [], ◌∷◌, map, get_or, length, length-drop, All, Option, None, Some, slice_get, refl, sym, ap, ap₂, subst, ◌∙◌, arith, inl, inr}
 use Rattle.std.proofs.lemmas.Option.{slice_get_within, slice_get-get_or, get_or_from_slice_get}
 use Rattle.std.proofs.lemmas.List.{length-replicate, get_or_default}
 use Rattle.std.specs.List.{AllByRecursion}
@@ -17,10 +17,10 @@ use Rattle.mg_calc.specs.declared.law.Law.{Law}
 use Rattle.mg_calc.specs.declared.law.Law.TheVariants.{Count, SideOnce, Constants, Loopback}
 use Rattle.mg_calc.specs.declared.plan_node.PlanNode.{PlanNode}
 use Rattle.mg_calc.specs.declared.port_kind.PortKind.{PortKind}
-use Rattle.mg_calc.specs.Shape.{IsOuter, IsShapeOf, HasInputs}
+use Rattle.mg_calc.specs.Shape.{IsOuter, IsShapeOf, IsStated, HasInputs, calls_of}
 use Rattle.mg_calc.specs.Plan.{HasNumbers}
-use Rattle.mg_calc.specs.Outcome.{Outcome, opened, node_outcome, loopback_outcome}
-use Rattle.mg_calc.specs.Equations.{Job, IsJob, sides_of, stream_of, inputs_of, outcome_by, outcome_of}
+use Rattle.mg_calc.specs.Outcome.{Outcome, opened, node_outcome, source_outcome, loopback_outcome}
+use Rattle.mg_calc.specs.Equations.{Job, IsJob, rules_at, sides_of, stream_of, inputs_of, outcome_by, outcome_of}
 use Rattle.mg_equations.specs.declared.outcome.Outcome.{Outcome as CodeOutcome}
 use Rattle.mg_equations.specs.declared.progress.Progress.{Progress}
 use Rattle.mg_equations.specs.Code.Begun.{begun_by}
@@ -32,9 +32,12 @@ use Rattle.mg_equations.proofs.NodeSteps.{few_sets, node_counts, opened_counts}
 use Rattle.mg_equations.proofs.OutcomeSteps.{outer_outcome, inputs_are}
 use Rattle.mg_equations.proofs.PortSteps.{inputs_long}
 use Rattle.mg_equations.proofs.RoundSteps.{node_at}
+use Rattle.mg_calc.proofs.Earlier.{at_place}
 use Rattle.mg_calc.proofs.Settling.{outcome_of_inputs_by}
+use Rattle.mg_calc.proofs.TableRules.{by_table}
 use Rattle.mg_equations.proofs.ProgressSteps.{shown_more, shown_first, answered_more, within_later, within_gone}
-use Rattle.mg_calc.specs.Law.{rules_of}
+use Rattle.mg_calc.specs.Rules.{Rules}
+use Rattle.mg_calc.specs.Law.{table_rules}
 
 -- the streams of a loopback, by port
 two_ports : (law : Law) (ps : List PortKind) → HasInputs law ps → law ≡ Loopback → length ps ≡ 2
@@ -51,9 +54,11 @@ loop_outcome job streams node known two e =
     ∙ ap₂ loopback_outcome (get_or_default (inputs_of streams node) 1 empty_prefix (closed empty_prefix) (omega (arith, long))) (get_or_default (inputs_of streams node) 0 empty_prefix (closed empty_prefix) (omega (arith, long)))
     ∙ ap (λ (ss : List (StreamPrefix Plain)). loopback_outcome (port_of ss 1) (port_of ss 0)) (sym (inputs_are streams node.inputs known))
 
-outer_is : (job : Job) (streams : List (StreamPrefix Plain)) (node : PlanNode) → All (λ i. i < length streams) node.inputs → IsOuter node.law
-    → outcome_of job streams node ≡ node_outcome (rules_of node.law) node.shape.offset node.policy (length node.outputs) (sides_of job node) (inputs_at streams node.inputs)
-outer_is job streams node known outer = sym (outer_outcome node.law job streams node (sides_of job node) outer known refl)
+outer_is : (job : Job) (streams : List (StreamPrefix Plain)) (node : PlanNode) → All (λ i. i < length streams) node.inputs → IsOuter node.law → rules_at job node ≡ table_rules node.law
+    → outcome_of job streams node ≡ node_outcome (table_rules node.law) node.shape.offset node.policy (length node.outputs) (sides_of job node) (inputs_at streams node.inputs)
+outer_is job streams node known outer rules =
+    sym (outer_outcome node.law job streams node (sides_of job node) outer known refl)
+    ∙ ap (λ (r : Rules). node_outcome r node.shape.offset node.policy (length node.outputs) (sides_of job node) (inputs_at streams node.inputs)) rules
 
 -- What a node of a job has where its streams have grown.
 pub record MayGoOn (job : Job) (before streams : List (StreamPrefix Plain)) (node : PlanNode) : Type 0 where
@@ -64,6 +69,7 @@ pub record MayGoOn (job : Job) (before streams : List (StreamPrefix Plain)) (nod
   pub extended : AreExtendedBy before streams
   pub numbers : HasNumbers node
   pub shape : IsShapeOf node.law node.shape
+  pub rules : rules_at job node ≡ table_rules node.law
 
 come_source : (job : Job) (before streams : List (StreamPrefix Plain)) (node : PlanNode) (first then : Progress) (law : Law) → (IsOuter law → ⊥) → (law ≡ Loopback → ⊥) → outcome_by law job before node ≡ outcome_by law job streams node → law ≡ node.law
     → MayGoOn job before streams node → HasCome job before node first → then ≡ first → HasCome job streams node then
@@ -81,9 +87,9 @@ come_outer job before streams node first then not_loop outer may come more =
     let tt = inputs_at streams node.inputs in
     let ht = all_inputs streams node.inputs may.grown in
     let e = inputs-extended before streams node.inputs may.extended in
-    let now = shown_more node (length node.outputs) (sides_of job node) ss tt first then (all_inputs before node.inputs may.prefixes) ht e (come.sets outer) (come.outcome ∙ outer_is job before node may.was_known outer) more in
+    let now = shown_more node (length node.outputs) (sides_of job node) ss tt first then (all_inputs before node.inputs may.prefixes) ht e (come.sets outer) (come.outcome ∙ outer_is job before node may.was_known outer may.rules) more in
     record {
-      outcome = now.0 ∙ sym (outer_is job streams node may.known outer);
+      outcome = now.0 ∙ sym (outer_is job streams node may.known outer may.rules);
       within = within_gone node.policy (length (settled_sets node.policy tt)) tt then.read.items now.1.gone;
       sets = λ also. now.1;
       turns = λ loop. absurd (not_loop loop);
@@ -131,19 +137,20 @@ goes_further job before streams node first then may come goes = come_by node.law
 
 -- A node that has begun.
 pub record HasBegun (job : Job) (node : PlanNode) (progress : Progress) : Type 0 where
-  pub outcome : seen progress.outcome ≡ begun_by node.law job node
+  pub outcome : seen progress.outcome ≡ begun_by node.law (sides_of job node) node
+  pub rules : rules_at job node ≡ table_rules node.law
   pub read : progress.read.items ≡ replicate (length node.inputs) 0
   pub reached : progress.reached ≡ pre_stream
 
-pub has_begun : (job : Job) (node : PlanNode) (outcome : CodeOutcome) (progress : Progress) → seen outcome ≡ begun_by node.law job node → progress.outcome ≡ outcome → progress.read.items ≡ replicate (length node.inputs) 0 → progress.reached ≡ pre_stream → HasBegun job node progress
-has_begun job node outcome progress is same read reached = record { outcome = ap seen same ∙ is; read = read; reached = reached }
+pub has_begun : (job : Job) (node : PlanNode) (outcome : CodeOutcome) (progress : Progress) → rules_at job node ≡ table_rules node.law → seen outcome ≡ begun_by node.law (sides_of job node) node → progress.outcome ≡ outcome → progress.read.items ≡ replicate (length node.inputs) 0 → progress.reached ≡ pre_stream → HasBegun job node progress
+has_begun job node outcome progress rules is same read reached = record { outcome = ap seen same ∙ is; rules = rules; read = read; reached = reached }
 
-begun_outer : (law : Law) (job : Job) (node : PlanNode) → IsOuter law → begun_by law job node ≡ opened (rules_of node.law) node.shape.offset (length node.outputs) (sides_of job node)
-begun_outer (Count count start step) job node outer = absurd outer
-begun_outer (SideOnce at) job node outer = absurd outer
-begun_outer Constants job node outer = absurd outer
-begun_outer Loopback job node outer = absurd outer
-begun_outer law job node outer = refl
+begun_outer : (law : Law) (sides : List (Option Plain)) (node : PlanNode) → IsOuter law → begun_by law sides node ≡ opened (table_rules node.law) node.shape.offset (length node.outputs) sides
+begun_outer (Count count start step) sides node outer = absurd outer
+begun_outer (SideOnce at) sides node outer = absurd outer
+begun_outer Constants sides node outer = absurd outer
+begun_outer Loopback sides node outer = absurd outer
+begun_outer law sides node outer = refl
 
 abbrev zeros : ℕ → List ℕ
 zeros n = replicate n 0
@@ -162,10 +169,10 @@ none_within count ss read is long = subst (λ (ns : List ℕ). AreWithin ns ss) 
 begun_within : (job : Job) (streams : List (StreamPrefix Plain)) (node : PlanNode) (progress : Progress) → HasBegun job node progress → AreWithin progress.read.items (inputs_at streams node.inputs)
 begun_within job streams node progress begun = none_within (length node.inputs) (inputs_at streams node.inputs) progress.read.items begun.read (sym (inputs_long streams node.inputs))
 
-first_source : (job : Job) (streams : List (StreamPrefix Plain)) (node : PlanNode) (first then : Progress) (law : Law) → (IsOuter law → ⊥) → (law ≡ Loopback → ⊥) → begun_by law job node ≡ outcome_by law job streams node → law ≡ node.law
+first_source : (job : Job) (streams : List (StreamPrefix Plain)) (node : PlanNode) (first then : Progress) (law : Law) → (IsOuter law → ⊥) → (law ≡ Loopback → ⊥) → begun_by law (sides_of job node) node ≡ outcome_by law job streams node → law ≡ node.law
     → HasBegun job node first → then ≡ first → HasCome job streams node then
 first_source job streams node first then law not_outer not_loop same is begun stays = record {
-  outcome = ap (λ (p : Progress). seen p.outcome) stays ∙ begun.outcome ∙ subst (λ (l : Law). begun_by l job node ≡ outcome_by l job streams node) is same;
+  outcome = ap (λ (p : Progress). seen p.outcome) stays ∙ begun.outcome ∙ subst (λ (l : Law). begun_by l (sides_of job node) node ≡ outcome_by l job streams node) is same;
   within = subst (λ (p : Progress). AreWithin p.read.items (inputs_at streams node.inputs)) (sym stays) (begun_within job streams node first begun);
   sets = λ outer. absurd (not_outer (subst IsOuter (sym is) outer));
   turns = λ loop. absurd (not_loop (is ∙ loop));
@@ -176,9 +183,9 @@ first_outer : (job : Job) (streams : List (StreamPrefix Plain)) (node : PlanNode
 first_outer job streams node first then not_loop outer known h begun more =
     let tt = inputs_at streams node.inputs in
     let none : first.read.items ≡ replicate (length tt) 0 = begun.read ∙ ap (λ (n : ℕ). replicate n 0) (sym (inputs_long streams node.inputs)) in
-    let now = shown_first node (length node.outputs) (sides_of job node) tt first then (all_inputs streams node.inputs h) none begun.reached (begun.outcome ∙ begun_outer node.law job node outer) more in
+    let now = shown_first node (length node.outputs) (sides_of job node) tt first then (all_inputs streams node.inputs h) none begun.reached (begun.outcome ∙ begun_outer node.law (sides_of job node) node outer) more in
     record {
-      outcome = now.0 ∙ sym (outer_is job streams node known outer);
+      outcome = now.0 ∙ sym (outer_is job streams node known outer begun.rules);
       within = within_gone node.policy (length (settled_sets node.policy tt)) tt then.read.items now.1.gone;
       sets = λ also. now.1;
       turns = λ loop. absurd (not_loop loop);
@@ -196,7 +203,7 @@ first_loop job streams node first then loop known h numbers shape begun made =
     let not_outer : IsOuter node.law → ⊥ = λ outer. (let bad : IsOuter Loopback = subst IsOuter loop outer in bad) in
     let none : (i : ℕ) → get_or first.read.items i 0 ≡ 0 = λ i. ap (λ (ns : List ℕ). get_or ns i 0) begun.read ∙ zero_read (length node.inputs) i in
     let answered : LoopbackHasAnswered empty_prefix empty_prefix first = record { turns = none 1; past = subst (IsPast None empty_prefix) (sym (none 0)) (record { within = omega arith; past = refl }) } in
-    let is : seen first.outcome ≡ loopback_outcome empty_prefix empty_prefix = begun.outcome ∙ ap (λ (law : Law). begun_by law job node) loop in
+    let is : seen first.outcome ≡ loopback_outcome empty_prefix empty_prefix = begun.outcome ∙ ap (λ (law : Law). begun_by law (sides_of job node) node) loop in
     let now = answered_more empty_prefix (port_of tt 1) empty_prefix (port_of tt 0) first then (port-prefix tt ht 1) (from_empty (port_of tt 1) (port-prefix tt ht 1)) (from_empty (port_of tt 0) (port-prefix tt ht 0)) answered is made in
     record {
       outcome = now.0 ∙ sym (loop_outcome job streams node known two loop);
@@ -205,11 +212,15 @@ first_loop job streams node first then loop known h numbers shape begun made =
       turns = λ also. now.1;
     }
 
+source_same : (job : Job) (node : PlanNode) → rules_at job node ≡ table_rules node.law
+    → source_outcome (table_rules node.law) node.law (calls_of node.law) (length node.outputs) (sides_of job node) ≡ source_outcome (rules_at job node) node.law (calls_of node.law) (length node.outputs) (sides_of job node)
+source_same job node rules = ap (λ (r : Rules). source_outcome r node.law (calls_of node.law) (length node.outputs) (sides_of job node)) (sym rules)
+
 first_by : (law : Law) (job : Job) (streams : List (StreamPrefix Plain)) (node : PlanNode) (first then : Progress) → law ≡ node.law → All (λ i. i < length streams) node.inputs → All IsPrefix streams → HasNumbers node → IsShapeOf node.law node.shape
     → HasBegun job node first → NodeGoesOn law node (inputs_at streams node.inputs) first then → HasCome job streams node then
-first_by (Count count start step) job streams node first then is known h numbers shape begun goes = first_source job streams node first then (Count count start step) (λ o. o) (λ e. absurd cc) refl is begun goes
-first_by (SideOnce at) job streams node first then is known h numbers shape begun goes = first_source job streams node first then (SideOnce at) (λ o. o) (λ e. absurd cc) refl is begun goes
-first_by Constants job streams node first then is known h numbers shape begun goes = first_source job streams node first then Constants (λ o. o) (λ e. absurd cc) refl is begun goes
+first_by (Count count start step) job streams node first then is known h numbers shape begun goes = first_source job streams node first then (Count count start step) (λ o. o) (λ e. absurd cc) (source_same job node begun.rules) is begun goes
+first_by (SideOnce at) job streams node first then is known h numbers shape begun goes = first_source job streams node first then (SideOnce at) (λ o. o) (λ e. absurd cc) (source_same job node begun.rules) is begun goes
+first_by Constants job streams node first then is known h numbers shape begun goes = first_source job streams node first then Constants (λ o. o) (λ e. absurd cc) (source_same job node begun.rules) is begun goes
 first_by Loopback job streams node first then is known h numbers shape begun goes = first_loop job streams node first then (sym is) known h numbers shape begun goes
 first_by law job streams node first then is known h numbers shape begun goes = first_outer job streams node first then (λ e. (let bad = is ∙ e in absurd cc)) (subst IsOuter is tt) known h begun goes
 
@@ -227,9 +238,9 @@ begun_can job streams node progress h begun =
       room = λ outer. (
           let ht = all_inputs streams node.inputs h in
           let left = sets-gone node.policy 0 tt progress.read.items ht (subst (λ (ns : List ℕ). AreGone node.policy 0 tt ns) (sym none) (none-gone node.policy tt)) in
-          let zero_taken = ap (λ (o : Outcome). o.taken) (begun.outcome ∙ begun_outer node.law job node outer) ∙ opened_counts (rules_of node.law) node.shape.offset (length node.outputs) (sides_of job node) in
+          let zero_taken = ap (λ (o : Outcome). o.taken) (begun.outcome ∙ begun_outer node.law (sides_of job node) node outer) ∙ opened_counts (table_rules node.law) node.shape.offset (length node.outputs) (sides_of job node) in
           omega (arith, few_sets node.policy tt ht, zero_taken, ap length left));
-      output = λ loop. ap (λ (o : Outcome). length o.outputs) (begun.outcome ∙ ap (λ (law : Law). begun_by law job node) loop);
+      output = λ loop. ap (λ (o : Outcome). length o.outputs) (begun.outcome ∙ ap (λ (law : Law). begun_by law (sides_of job node) node) loop);
     }
 
 pub come_can : (job : Job) (before streams : List (StreamPrefix Plain)) (node : PlanNode) (progress : Progress) → MayGoOn job before streams node → HasCome job before node progress → CanGoOn node (inputs_at streams node.inputs) progress
@@ -246,8 +257,8 @@ come_can job before streams node progress may come =
           let gone = gone-extended policy k ss tt progress.read.items (all_inputs before node.inputs may.prefixes) e (come.sets outer).gone in
           let claimed = gone.claimed in
           let left = sets-gone policy k tt progress.read.items ht gone in
-          let taken = ap (λ (o : Outcome). o.taken) (come.outcome ∙ outer_is job before node may.was_known outer) in
-          let few = node_counts (rules_of node.law) node.shape.offset policy (length node.outputs) (sides_of job node) ss in
+          let taken = ap (λ (o : Outcome). o.taken) (come.outcome ∙ outer_is job before node may.was_known outer may.rules) in
+          let few = node_counts (table_rules node.law) node.shape.offset policy (length node.outputs) (sides_of job node) ss in
           omega (arith, few_sets policy tt ht, claimed, ap length left, length-drop k (settled_sets policy tt), taken, few));
       output = λ loop. ap (λ (o : Outcome). length o.outputs) (come.outcome ∙ loop_outcome job before node may.was_known (loop_ports node may.numbers may.shape loop) loop);
     }
@@ -270,18 +281,29 @@ goes_if false job before streams node first then may come stays goes =
     (come_same job before streams node first (inputs_are before node.inputs may.was_known ∙ same ∙ sym (inputs_are streams node.inputs may.known)) (outcome_of_inputs_by node.law job node before streams same) come)
 
 -- all nodes
-node_may : (job : Job) (before streams : List (StreamPrefix Plain)) (k : ℕ) (node : PlanNode) → IsJob job → length before ≡ length job.plan.streams → length streams ≡ length job.plan.streams → All IsPrefix before → All IsPrefix streams → AreExtendedBy before streams → slice_get job.plan.nodes k ≡ Some node
+
+-- no node has a law that its author states
+abbrev pub AreUnstated : List PlanNode → Type 0
+AreUnstated nodes = All (λ node. IsStated node.law → ⊥) nodes
+
+-- so each has the rules of the table
+table_at : (job : Job) (k : ℕ) (node : PlanNode) → AreUnstated job.plan.nodes → slice_get job.plan.nodes k ≡ Some node → rules_at job node ≡ table_rules node.law
+table_at job k node unstated at =
+    by_table job.laws node.law (at_place (λ (n : PlanNode). IsStated n.law → ⊥) job.plan.nodes k node (recursion_from_All (λ (n : PlanNode). IsStated n.law → ⊥) job.plan.nodes unstated) at)
+
+node_may : (job : Job) (before streams : List (StreamPrefix Plain)) (k : ℕ) (node : PlanNode) → IsJob job → AreUnstated job.plan.nodes → length before ≡ length job.plan.streams → length streams ≡ length job.plan.streams → All IsPrefix before → All IsPrefix streams → AreExtendedBy before streams → slice_get job.plan.nodes k ≡ Some node
     → MayGoOn job before streams node
-node_may job before streams k node is was_many many prefixes grown extended at =
+node_may job before streams k node is unstated was_many many prefixes grown extended at =
     let below = slice_get_within job.plan.nodes k node at in
     let same : node ≡ get_or job.plan.nodes k node = sym (get_or_from_slice_get job.plan.nodes k node node at) in
     let was = node_at job before k node is was_many below same in
     let now = node_at job streams k node is many below same in
-    record { was_known = was.known; known = now.known; prefixes = prefixes; grown = grown; extended = extended; numbers = now.ports; shape = now.shape }
+    record { was_known = was.known; known = now.known; prefixes = prefixes; grown = grown; extended = extended; numbers = now.ports; shape = now.shape; rules = table_at job k node unstated at }
 
 -- streams that are grown to the next round's
 pub record AreGrownTo (job : Job) (before streams : List (StreamPrefix Plain)) : Type 0 where
   pub is : IsJob job
+  pub unstated : AreUnstated job.plan.nodes
   pub was_many : length before ≡ length job.plan.streams
   pub many : length streams ≡ length job.plan.streams
   pub prefixes : All IsPrefix before
@@ -290,7 +312,7 @@ pub record AreGrownTo (job : Job) (before streams : List (StreamPrefix Plain)) :
 
 pub all_can : (job : Job) (before streams : List (StreamPrefix Plain)) (nodes : List Progress) → AreGrownTo job before streams → HaveCome job before nodes → (k : ℕ) (node : PlanNode) (progress : Progress) → slice_get job.plan.nodes k ≡ Some node → slice_get nodes k ≡ Some progress
     → CanGoOn node (inputs_at streams node.inputs) progress
-all_can job before streams nodes g come k node progress at there = come_can job before streams node progress (node_may job before streams k node g.is g.was_many g.many g.prefixes g.grown g.extended at) (come.each k node progress at there)
+all_can job before streams nodes g come k node progress at there = come_can job before streams node progress (node_may job before streams k node g.is g.unstated g.was_many g.many g.prefixes g.grown g.extended at) (come.each k node progress at there)
 
 -- a node that hasn't gone on reads no other streams than before
 same_inputs : (xs ys : List (StreamPrefix Plain)) (ports : List ℕ) → AllByRecursion (λ s. stream_of xs s ≡ stream_of ys s) ports → map (stream_of xs) ports ≡ map (stream_of ys) ports
@@ -315,6 +337,6 @@ all_come job before streams changed due nodes now g come change gone_on = record
       let below : k < length nodes = (let within = slice_get_within now k progress there in let many = gone_on.many in omega (arith, within, many)) in
       let first = get_or nodes k progress in
       let was : slice_get nodes k ≡ Some first = slice_get-get_or nodes k progress below in
-      goes_if (gone_on.gone k) job before streams node first progress (node_may job before streams k node g.is g.was_many g.many g.prefixes g.grown g.extended at) (come.each k node first at was)
+      goes_if (gone_on.gone k) job before streams node first progress (node_may job before streams k node g.is g.unstated g.was_many g.many g.prefixes g.grown g.extended at) (come.each k node first at was)
       (λ not. stays_at job before streams changed due nodes now k node g.is g.was_many change gone_on at not) (gone_on.each k node first progress at was there));
 }

@@ -11,11 +11,10 @@ use Rattle.mg_settled.specs.Extension.{AreExtendedBy}
 use Rattle.mg_settled.specs.Settled.{TimedSet, settled_sets, reach}
 use Rattle.mg_settled.proofs.Lemmas.{Rises, times-rise, below-reach, reach-most, reach-rises, sets-stay, sets-further, sets-end}
 use Rattle.mg_calc.specs.declared.cause.Cause.{Cause}
-use Rattle.mg_calc.specs.declared.law.Law.{Law}
 use Rattle.mg_calc.specs.declared.node_fault.Phase.TheVariants.{Open, Process, Close}
-use Rattle.mg_calc.specs.Law.{opening, step, finish}
-use Rattle.mg_calc.specs.Laying.{after, laid_behind, all_raised}
-use Rattle.mg_calc.specs.Outcome.{Failure, Outcome, after_call, unopened, opened, unless_failed, shown, shown_all, after_close, finished, with_reach, ended, node_outcome}
+use Rattle.mg_calc.specs.Answer.{Answer}
+use Rattle.mg_calc.specs.Laying.{laid_behind, all_raised}
+use Rattle.mg_calc.specs.Outcome.{Failure, Outcome, after_call, unopened, opened, unless_failed, shown, shown_all, after_close, closed_with, finished, with_reach, ended, node_outcome}
 use Rattle.mg_calc.proofs.LaidBehind.{shift_order}
 use Rattle.mg_calc.proofs.Outcomes.{goes_on, stays}
 use Rattle.mg_equations.proofs.OutcomeSteps.{call_counts, shown_counts}
@@ -115,6 +114,10 @@ close_counts : (outcome : Outcome) (answer : Result (List (StreamPrefix Plain)) 
 close_counts outcome (Ok outputs) = refl
 close_counts outcome (Err cause) = refl
 
+closing_counts : (offset : Option ℤ) (outcome : Outcome) (answer : Answer) → (closed_with offset outcome answer).taken ≡ outcome.taken
+closing_counts offset outcome (Err cause) = refl
+closing_counts offset outcome (Ok given) = close_counts (record outcome { state = given.0 }) (laid_behind offset Close outcome.outputs given.1)
+
 if_counts : (test : Bool) (a b : Outcome) (n : ℕ) → a.taken ≡ n → b.taken ≡ n → (if test then a else b).taken ≡ n
 if_counts true a b n e f = e
 if_counts false a b n e f = f
@@ -123,7 +126,7 @@ ended_counts : (rules : Rules) (offset : Option ℤ) (reached : ℕ) (outcome : 
 ended_counts rules offset reached outcome =
     let before = raised_to offset reached outcome in
     unless_same outcome.fault outcome (with_reach rules offset reached outcome)
-    (if_counts (reached == done) (finished rules offset before) before outcome.taken (close_counts before (after (rules.finish before.state) (λ given. laid_behind offset Close before.outputs given.1))) refl)
+    (if_counts (reached == done) (finished rules offset before) before outcome.taken (closing_counts offset before (rules.finish before.state)) refl)
 
 fold_counts : (rules : Rules) (offset : Option ℤ) (outcome : Outcome) (sets : List (TimedSet Plain)) → (fold (shown rules offset) outcome sets).taken ≤ outcome.taken + length sets
 fold_counts rules offset outcome [] = omega arith

@@ -13,13 +13,13 @@ use Rattle.mg_calc.specs.declared.node_fault.Phase.TheVariants.{Call, Process}
 use Rattle.mg_calc.specs.declared.law.Law.{Law}
 use Rattle.mg_calc.specs.declared.law.Law.TheVariants.{Count, SideOnce, Constants, Loopback}
 use Rattle.mg_calc.specs.Answer.{Answer}
-use Rattle.mg_calc.specs.Law.{step, call, rules_of}
+use Rattle.mg_calc.specs.Law.{call, table_rules}
 use Rattle.mg_calc.specs.Laying.{laid_behind, all_raised}
 use Rattle.mg_calc.specs.Shape.{IsOuter}
 use Rattle.mg_settled.specs.Settled.{TimedSet, inputs_of as inputs_at}
 use Rattle.mg_calc.specs.Outcome.{Outcome, Failure, after_laying, after_call, unless_failed, shown, called, node_outcome}
 use Rattle.mg_calc.specs.declared.plan_node.PlanNode.{PlanNode}
-use Rattle.mg_calc.specs.Equations.{Job, sides_of, stream_of, inputs_of, outcome_by}
+use Rattle.mg_calc.specs.Equations.{Job, rules_at, sides_of, stream_of, inputs_of, outcome_by}
 use Rattle.mg_route.proofs.LayingLemmas.{from_here}
 use Rattle.mg_calc.specs.Rules.{Rules}
 
@@ -55,15 +55,15 @@ called_counts law outcome number =
 
 -- A node that was shown the sets so far: with the others it comes to the same.
 pub record IsShown (law : Law) (offset : Option ℤ) (begun outcome : Outcome) (sets : List (TimedSet Plain)) (i : ℕ) : Type 0 where
-  pub same : fold (shown (rules_of law) offset) outcome (drop i sets) ≡ fold (shown (rules_of law) offset) begun sets
+  pub same : fold (shown (table_rules law) offset) outcome (drop i sets) ≡ fold (shown (table_rules law) offset) begun sets
   pub counted : outcome.taken ≤ begun.taken + i
 
 pub shown_further : (law : Law) (offset : Option ℤ) (begun outcome next : Outcome) (sets : List (TimedSet Plain)) (i : ℕ) (set : TimedSet Plain) → IsShown law offset begun outcome sets i → i < length sets → set ≡ get_or sets i set
-    → next ≡ shown (rules_of law) offset outcome set → IsShown law offset begun next sets (i + 1)
+    → next ≡ shown (table_rules law) offset outcome set → IsShown law offset begun next sets (i + 1)
 shown_further law offset begun outcome next sets i set so_far below is next_is = record {
-  same = ap (λ (o : Outcome). fold (shown (rules_of law) offset) o (drop (i + 1) sets)) next_is
-      ∙ (ap (fold (shown (rules_of law) offset) outcome) (sym (from_here sets i set below is)) ∙ so_far.same);
-  counted = (let one = shown_counts (rules_of law) offset outcome set in let same = ap (λ (o : Outcome). o.taken) next_is in let few = so_far.counted in omega (arith, one, same, few));
+  same = ap (λ (o : Outcome). fold (shown (table_rules law) offset) o (drop (i + 1) sets)) next_is
+      ∙ (ap (fold (shown (table_rules law) offset) outcome) (sym (from_here sets i set below is)) ∙ so_far.same);
+  counted = (let one = shown_counts (table_rules law) offset outcome set in let same = ap (λ (o : Outcome). o.taken) next_is in let few = so_far.counted in omega (arith, one, same, few));
 }
 
 -- A source that was called so often.
@@ -89,7 +89,7 @@ inputs_are streams ports there = inputs_by_recursion streams ports (recursion_fr
 
 -- what becomes of a node that is shown sets, by its law
 outer_by : (law : Law) (job : Job) (streams : List (StreamPrefix Plain)) (node : PlanNode) → IsOuter law
-    → outcome_by law job streams node ≡ node_outcome (rules_of node.law) node.shape.offset node.policy (length node.outputs) (sides_of job node) (inputs_of streams node)
+    → outcome_by law job streams node ≡ node_outcome (rules_at job node) node.shape.offset node.policy (length node.outputs) (sides_of job node) (inputs_of streams node)
 outer_by (Count count start apart) job streams node outer = absurd outer
 outer_by (SideOnce at) job streams node outer = absurd outer
 outer_by Constants job streams node outer = absurd outer
@@ -97,9 +97,9 @@ outer_by Loopback job streams node outer = absurd outer
 outer_by law job streams node outer = refl
 
 pub outer_outcome : (law : Law) (job : Job) (streams : List (StreamPrefix Plain)) (node : PlanNode) (sides : List (Option Plain)) → IsOuter law → All (λ i. i < length streams) node.inputs → sides ≡ sides_of job node
-    → node_outcome (rules_of node.law) node.shape.offset node.policy (length node.outputs) sides (inputs_at streams node.inputs) ≡ outcome_by law job streams node
+    → node_outcome (rules_at job node) node.shape.offset node.policy (length node.outputs) sides (inputs_at streams node.inputs) ≡ outcome_by law job streams node
 outer_outcome law job streams node sides outer there same =
-    ap₂ (λ (s : List (Option Plain)) (inputs : List (StreamPrefix Plain)). node_outcome (rules_of node.law) node.shape.offset node.policy (length node.outputs) s inputs) same (inputs_are streams node.inputs there)
+    ap₂ (λ (s : List (Option Plain)) (inputs : List (StreamPrefix Plain)). node_outcome (rules_at job node) node.shape.offset node.policy (length node.outputs) s inputs) same (inputs_are streams node.inputs there)
     ∙ sym (outer_by law job streams node outer)
 
 -- the time of the last packet of those that are read

@@ -18,7 +18,7 @@ use Rattle.mg_equations.specs.declared.progress.Progress.{Progress}
 use Rattle.mg_equations.specs.Code.Seen.{seen, with_answers}
 use Rattle.mg_equations.specs.Code.Progress.{AreWithin, HasRead, LoopbackHasAnswered, IsShownMore, ShowsMore, AnswersMore}
 use Rattle.mg_equations.proofs.NodeSteps.{node_resumed, node_over, reach_same}
-use Rattle.mg_calc.specs.Law.{rules_of}
+use Rattle.mg_calc.specs.Law.{table_rules}
 
 -- Sets.
 
@@ -36,8 +36,8 @@ read_further node ss before now k h gone more =
     }
 
 pub shown_more : (node : PlanNode) (outputs : ℕ) (sides : List (Option Plain)) (ss tt : List (StreamPrefix Plain)) (before now : Progress) → All IsPrefix ss → All IsPrefix tt → AreExtendedBy ss tt → HasRead node ss before
-    → seen before.outcome ≡ node_outcome (rules_of node.law) node.shape.offset node.policy outputs sides ss → ShowsMore (before.reached == done) node tt before now
-    → (seen now.outcome ≡ node_outcome (rules_of node.law) node.shape.offset node.policy outputs sides tt) × HasRead node tt now
+    → seen before.outcome ≡ node_outcome (table_rules node.law) node.shape.offset node.policy outputs sides ss → ShowsMore (before.reached == done) node tt before now
+    → (seen now.outcome ≡ node_outcome (table_rules node.law) node.shape.offset node.policy outputs sides tt) × HasRead node tt now
 shown_more node outputs sides ss tt before now hs ht e read is more = elim (cases_Bool (before.reached == done)) [
   | inl over ↦
       (let law = node.law in
@@ -48,7 +48,7 @@ shown_more node outputs sides ss tt before now hs ht e read is more = elim (case
         gone = subst (λ (n : ℕ). AreGone policy n tt before.read.items) (sym (ap length (sets-end policy ss tt ht e at_done))) (gone-extended policy (length (settled_sets policy ss)) ss tt before.read.items hs e read.gone);
         reached = read.reached ∙ sym (reach_same policy ss tt ht e at_done);
       } in
-      (ap (λ (p : Progress). seen p.outcome) same ∙ is ∙ node_over (rules_of law) node.shape.offset policy outputs sides ss tt ht e at_done, subst (HasRead node tt) (sym same) kept))
+      (ap (λ (p : Progress). seen p.outcome) same ∙ is ∙ node_over (table_rules law) node.shape.offset policy outputs sides ss tt ht e at_done, subst (HasRead node tt) (sym same) kept))
   | inr goes ↦
       (let law = node.law in
       let offset = node.shape.offset in
@@ -58,17 +58,17 @@ shown_more node outputs sides ss tt before now hs ht e read is more = elim (case
       let gone = gone-extended policy k ss tt before.read.items hs e read.gone in
       let test : (reach policy ss == done) ≡ false = ap (λ (r : ℕ). r == done) (sym read.reached) ∙ goes in (
         made.outcome
-            ∙ ap₂ (λ r sets. ended (rules_of law) offset r (fold (shown (rules_of law) offset) (seen before.outcome) sets)) (reach-gone policy k tt before.read.items ht gone) (sets-gone policy k tt before.read.items ht gone)
-            ∙ ap (λ (o : Outcome). ended (rules_of law) offset (reach policy tt) (fold (shown (rules_of law) offset) o (drop k (settled_sets policy tt)))) is
-            ∙ node_resumed (rules_of law) offset policy outputs sides ss tt ht e test,
+            ∙ ap₂ (λ r sets. ended (table_rules law) offset r (fold (shown (table_rules law) offset) (seen before.outcome) sets)) (reach-gone policy k tt before.read.items ht gone) (sets-gone policy k tt before.read.items ht gone)
+            ∙ ap (λ (o : Outcome). ended (table_rules law) offset (reach policy tt) (fold (shown (table_rules law) offset) o (drop k (settled_sets policy tt)))) is
+            ∙ node_resumed (table_rules law) offset policy outputs sides ss tt ht e test,
         read_further node tt before now k ht gone made,
       ))
 ]
 
 -- a node that was opened
 pub shown_first : (node : PlanNode) (outputs : ℕ) (sides : List (Option Plain)) (tt : List (StreamPrefix Plain)) (before now : Progress) → All IsPrefix tt → before.read.items ≡ replicate (length tt) 0 → before.reached ≡ pre_stream
-    → seen before.outcome ≡ opened (rules_of node.law) node.shape.offset outputs sides → ShowsMore (before.reached == done) node tt before now
-    → (seen now.outcome ≡ node_outcome (rules_of node.law) node.shape.offset node.policy outputs sides tt) × HasRead node tt now
+    → seen before.outcome ≡ opened (table_rules node.law) node.shape.offset outputs sides → ShowsMore (before.reached == done) node tt before now
+    → (seen now.outcome ≡ node_outcome (table_rules node.law) node.shape.offset node.policy outputs sides tt) × HasRead node tt now
 shown_first node outputs sides tt before now ht none at_start is more =
     let law = node.law in
     let offset = node.shape.offset in
@@ -77,8 +77,8 @@ shown_first node outputs sides tt before now ht none at_start is more =
     let made : IsShownMore node tt before now = subst (λ (t : Bool). ShowsMore t node tt before now) test more in
     let gone : AreGone policy 0 tt before.read.items = subst (AreGone policy 0 tt) (sym none) (none-gone policy tt) in (
       made.outcome
-          ∙ ap₂ (λ r sets. ended (rules_of law) offset r (fold (shown (rules_of law) offset) (seen before.outcome) sets)) (reach-gone policy 0 tt before.read.items ht gone) (sets-gone policy 0 tt before.read.items ht gone)
-          ∙ ap (λ (o : Outcome). ended (rules_of law) offset (reach policy tt) (fold (shown (rules_of law) offset) o (settled_sets policy tt))) is,
+          ∙ ap₂ (λ r sets. ended (table_rules law) offset r (fold (shown (table_rules law) offset) (seen before.outcome) sets)) (reach-gone policy 0 tt before.read.items ht gone) (sets-gone policy 0 tt before.read.items ht gone)
+          ∙ ap (λ (o : Outcome). ended (table_rules law) offset (reach policy tt) (fold (shown (table_rules law) offset) o (settled_sets policy tt))) is,
       read_further node tt before now 0 ht gone made,
     )
 

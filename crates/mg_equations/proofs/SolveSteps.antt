@@ -16,6 +16,7 @@ use Rattle.mg_calc.specs.declared.plan_stream.Producer.TheVariants.{Input, Node}
 use Rattle.mg_calc.specs.declared.law.Law.TheVariants.{Loopback}
 use Rattle.mg_calc.specs.Equations.{Job, IsJob, stream_of, outcome_of, next_round, IsSolution}
 use Rattle.mg_calc.specs.Meaning.{counts, faults}
+use Rattle.mg_calc.specs.Rules.{Laws}
 use Rattle.mg_calc.specs.Outcome.{Outcome}
 use Rattle.mg_calc.specs.Plan.{producers}
 use Rattle.mg_calc.proofs.Earlier.{at_place}
@@ -30,7 +31,7 @@ use Rattle.mg_equations.specs.Code.Rounds.{numbered_fault}
 use Rattle.mg_equations.specs.Code.Progress.{HaveCome, CanGoOn, outcomes}
 use Rattle.mg_equations.specs.Code.RoundNodes.{IsBegun, HaveGoneOn}
 use Rattle.mg_equations.proofs.Changing.{AreReached, SomeChanges, room, next_extends, next_prefixes, next_many, reached_keep, reached_long, reached_prefixes, reached_further, reached_solution, less_room, told_solution}
-use Rattle.mg_equations.proofs.ComeSteps.{AreGrownTo, all_can, all_come, stays_at}
+use Rattle.mg_equations.proofs.ComeSteps.{AreUnstated, AreGrownTo, all_can, all_come, stays_at}
 use Rattle.mg_equations.proofs.DueSteps.{same_streams}
 use Rattle.mg_equations.proofs.Places.{GivesEach, StandsAt, IsPart, IsWriter, stands_at, writer_at}
 use Rattle.mg_equations.proofs.RoundSteps.{next_streams_are, counts_are, faults_are}
@@ -119,16 +120,18 @@ may_grow job streams going due nodes numbers is way nodes_are numbers_are =
 -- A round goes on: the streams have grown, and a list has those that have changed.
 pub record IsGoing (job : Job) (before streams : List (StreamPrefix Plain)) (changed : List ℕ) (going : RoundNodes) : Type 0 where
   pub is : IsJob job
+  pub unstated : AreUnstated job.plan.nodes
   pub reached : AreReached job before
   pub come : HaveCome job before going.nodes.items
   pub begun : IsBegun going
   pub next : streams ≡ next_round job before
   pub changed_are : AreChanged changed before streams
 
-pub going_is : (job : Job) (before streams : List (StreamPrefix Plain)) (changed due : List ℕ) (going : RoundNodes) (nodes : List Progress) → IsJob job → IsUnderWay job before going due → nodes ≡ going.nodes.items
+pub going_is : (job : Job) (before streams : List (StreamPrefix Plain)) (changed due : List ℕ) (going : RoundNodes) (nodes : List Progress) → IsJob job → AreUnstated job.plan.nodes → IsUnderWay job before going due → nodes ≡ going.nodes.items
     → streams ≡ given_streams job.inputs.streams nodes → AreChanged changed before (given_streams job.inputs.streams nodes) → IsGoing job before streams changed going
-going_is job before streams changed due going nodes is way nodes_are grown told = record {
+going_is job before streams changed due going nodes is unstated way nodes_are grown told = record {
   is = is;
+  unstated = unstated;
   reached = way.reached;
   come = way.come;
   begun = way.begun;
@@ -139,6 +142,7 @@ going_is job before streams changed due going nodes is way nodes_are grown told 
 grown_to : (job : Job) (before streams : List (StreamPrefix Plain)) (changed : List ℕ) (going : RoundNodes) → IsGoing job before streams changed going → AreGrownTo job before streams
 grown_to job before streams changed going t = record {
   is = t.is;
+  unstated = t.unstated;
   was_many = reached_long job before t.is t.reached;
   many = next_many job before streams t.is t.reached t.next;
   prefixes = reached_prefixes job before t.is t.reached;
@@ -165,6 +169,11 @@ pub going_stays : (job : Job) (before streams : List (StreamPrefix Plain)) (chan
 going_stays job before streams changed read going change t same tells not =
     none_changed before streams changed t.changed_are (reached_long job before t.is t.reached ∙ sym (next_many job before streams t.is t.reached t.next))
     (ap (λ (l : List ℕ). nat_lt 0 (length l)) (sym same) ∙ sym tells ∙ not)
+
+-- what holds of a result whatever the stated laws are
+pub ok_for_all : {E : Type 0} (P : Laws → Streams → Type 0) (result : Result Streams E) → ((laws : Laws) → IfOk result (P laws)) → IfOk result (λ s. (laws : Laws) → P laws s)
+ok_for_all P (Ok s) all = all
+ok_for_all P (Err e) all = tt
 
 -- where nothing has, the streams are the solution
 pub going_solution : {E : Type 0} (job : Job) (before streams : List (StreamPrefix Plain)) (changed : List ℕ) (going : RoundNodes) (result : Result Streams E) → IsGoing job before streams changed going → before ≡ streams

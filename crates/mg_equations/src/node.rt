@@ -2,6 +2,8 @@
 ghost use Rattle.std.specs.Prelude.{◌≡◌, length, IfOk};
 ghost use Rattle.mg_calc.specs.Outcome.{source_outcome as the_source_outcome};
 ghost use Rattle.mg_calc.specs.Shape.{IsServed, calls_of};
+ghost use Rattle.mg_calc.specs.Law.{table_rules};
+ghost use Rattle.mg_calc.specs.Plan.{node_sides as the_sides};
 ghost use Rattle.mg_equations.specs.Code.Seen.{seen};
 ghost use Rattle.mg_equations.specs.Code.Begun.{begun_by};
 
@@ -12,7 +14,7 @@ use std::alloc::{AllocError, Global};
 /// Returns what becomes of a source, which is called as often as its law says.
 fn source_outcome(alloc: Global, node: &PlanNode, sides: &GivenList) -> Result<Outcome, AllocError>
     requires { IsServed node.now.law }
-    ensures { IfOk result (λ outcome. seen outcome ≡ the_source_outcome node.now.law (calls_of node.now.law) (length node.now.outputs) sides.now) }
+    ensures { IfOk result (λ outcome. seen outcome ≡ the_source_outcome (table_rules node.now.law) node.now.law (calls_of node.now.law) (length node.now.outputs) sides.now) }
 {
     let mut outcome = Outcome::opened(alloc, &node.law, None, node.outputs.len(), sides)?;
     for number in 0..call_count(&node.law) {
@@ -42,7 +44,7 @@ pub fn begun(
     node: &PlanNode,
 ) -> Result<Outcome, AllocError>
     requires { IsServed node.now.law }
-    ensures { IfOk result (λ outcome. seen outcome ≡ begun_by node.now.law (record { plan = plan.now; inputs = inputs.now }) node.now) }
+    ensures { IfOk result (λ outcome. seen outcome ≡ begun_by node.now.law (the_sides plan.now inputs.now.sides node.now) node.now) }
 {
     let sides = node_sides(alloc, plan, &inputs.sides, node)?;
     match &node.law {

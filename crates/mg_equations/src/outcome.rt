@@ -6,7 +6,7 @@ ghost use Rattle.mg_calc.specs.Shape.{IsServed, IsOuter, IsSource, calls_of};
 ghost use Rattle.mg_calc.specs.Laying.{laid_behind, all_raised};
 ghost use Rattle.mg_calc.specs.Outcome.{unopened, opened as the_opened, after_laying, shown, called, finished, ended, with_last_call};
 ghost use Rattle.mg_equations.specs.Code.Seen.{seen, with_outputs, with_answers, Fails, TakesEmission};
-ghost use Rattle.mg_calc.specs.Law.{rules_of};
+ghost use Rattle.mg_calc.specs.Law.{table_rules};
 
 use crate::laying::{close_all, emission_fault, lay_all, raise_all};
 use crate::output::Output;
@@ -68,7 +68,7 @@ impl Outcome {
         sides: &GivenList,
     ) -> Result<Outcome, AllocError>
         requires { IsServed law.now }
-        ensures { IfOk result (λ outcome. seen outcome ≡ the_opened (rules_of law.now) offset outputs sides.now) }
+        ensures { IfOk result (λ outcome. seen outcome ≡ the_opened (table_rules law.now) offset outputs sides.now) }
     {
         let mut outcome = Outcome::before_open(alloc, outputs)?;
         let answer = begin_in(alloc, law, &mut outcome.state, sides);
@@ -87,7 +87,7 @@ impl Outcome {
         requires law { IsOuter law.now }
         requires served { IsServed law.now }
         requires room { self.old.taken + 1 < 2 ^ 64 }
-        ensures { OnOk result (seen self.new ≡ shown (rules_of law.now) offset (seen self.old) timed.now) }
+        ensures { OnOk result (seen self.new ≡ shown (table_rules law.now) offset (seen self.old) timed.now) }
     {
         if self.fault.is_some() {
             return Ok(());
@@ -107,7 +107,7 @@ impl Outcome {
         offset: Option<i64>,
         reached: Timestamp,
     ) -> Result<(), AllocError>
-        ensures { OnOk result (seen self.new ≡ ended (rules_of law.now) offset reached (seen self.old)) }
+        ensures { OnOk result (seen self.new ≡ ended (table_rules law.now) offset reached (seen self.old)) }
     {
         if self.fault.is_some() {
             return Ok(());
@@ -162,7 +162,7 @@ impl Outcome {
     // Calls Close, lays what it emits, and then closes the outputs.
     fn finish(&mut self, law: &Law, offset: Option<i64>) -> Result<(), AllocError>
         requires { (seen self.old).fault ≡ None }
-        ensures { OnOk result (seen self.new ≡ finished (rules_of law.now) offset (seen self.old)) }
+        ensures { OnOk result (seen self.new ≡ finished (table_rules law.now) offset (seen self.old)) }
     {
         match law {
             Law::Scripted { last, .. } => {

@@ -7,7 +7,7 @@ ghost use Rattle.mg_settled.specs.Settled.{settled_sets, port_of, inputs_of as i
 ghost use Rattle.mg_settled.specs.Left.{without_first, gone_of};
 ghost use Rattle.mg_calc.specs.Shape.{IsServed, IsOuter, IsShapeOf};
 ghost use Rattle.mg_calc.specs.Plan.{HasNumbers};
-ghost use Rattle.mg_calc.specs.Law.{rules_of};
+ghost use Rattle.mg_calc.specs.Law.{table_rules};
 ghost use Rattle.mg_calc.specs.Outcome.{shown};
 ghost use Rattle.mg_equations.specs.Code.Seen.{seen};
 ghost use Rattle.mg_equations.specs.Code.Progress.{AreWithin, CanGoOn, ShowsMore, AnswersMore, NodeGoesOn};
@@ -156,7 +156,7 @@ fn show_all(
     requires law { IsOuter node.now.law }
     requires served { IsServed node.now.law }
     requires room { outcome.old.taken + length sets.now < 2 ^ 64 }
-    ensures { OnOk result (seen outcome.new ≡ fold (shown (rules_of node.now.law) node.now.shape.offset) (seen outcome.old) sets.now) }
+    ensures { OnOk result (seen outcome.new ≡ fold (shown (table_rules node.now.law) node.now.shape.offset) (seen outcome.old) sets.now) }
 {
     for timed in sets {
         outcome.show(alloc, &node.law, node.shape.offset, timed)?;

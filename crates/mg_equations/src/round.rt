@@ -4,9 +4,10 @@ ghost use Rattle.mg_value.specs.Payload.{Plain};
 ghost use Rattle.mg_settled.specs.Prefix.{StreamPrefix, IsPrefix};
 ghost use Rattle.mg_settled.specs.Extension.{IsExtendedBy};
 ghost use Rattle.mg_calc.specs.declared.plan_stream.PlanStream.{PlanStream};
-ghost use Rattle.mg_calc.specs.Equations.{IsJob, stream_of};
-ghost use Rattle.mg_calc.specs.Plan.{HasNumbers};
-ghost use Rattle.mg_calc.specs.Shape.{IsServed, IsShapeOf};
+ghost use Rattle.mg_calc.specs.Equations.{stream_of};
+ghost use Rattle.mg_calc.specs.Plan.{HasNumbers, IsValid, InputsFit};
+ghost use Rattle.mg_calc.specs.Rules.{Laws};
+ghost use Rattle.mg_calc.specs.Shape.{IsServed, IsShapeOf, IsStated};
 ghost use Rattle.mg_equations.specs.Code.Changes.{is_changed};
 ghost use Rattle.mg_equations.specs.Code.Growing.{given_streams, IsGivenBy, MayGrow, AreChanged};
 ghost use Rattle.mg_equations.specs.Code.Progress.{HasCome, HaveCome};
@@ -25,10 +26,12 @@ pub fn first_nodes(
     inputs: &Inputs,
     streams: &[Output],
 ) -> Result<Vec<Progress>, AllocError>
-    requires job { IsJob (record { plan = plan.now; inputs = inputs.now }) }
+    requires plan { IsValid plan.now }
+    requires inputs { InputsFit plan.now inputs.now }
+    requires unstated { All (λ node. IsStated node.law → ⊥) plan.now.nodes }
     requires streams { All IsPrefix streams.now }
     requires many { length streams.now ≡ length plan.now.streams }
-    ensures { IfOk result (λ nodes. HaveCome (record { plan = plan.now; inputs = inputs.now }) streams.now nodes.items) }
+    ensures { IfOk result (λ nodes. (laws : Laws) → HaveCome (record { plan = plan.now; inputs = inputs.now; laws = laws }) streams.now nodes.items) }
 {
     let mut nodes = Vec::with_capacity(alloc, plan.nodes.len() as usize)?;
     for node in plan.nodes.as_slice() {
@@ -50,7 +53,8 @@ fn first(
     requires ports { HasNumbers node.now }
     requires shape { IsShapeOf node.now.law node.now.shape }
     requires served { IsServed node.now.law }
-    ensures { IfOk result (HasCome (record { plan = plan.now; inputs = inputs.now }) streams.now node.now) }
+    requires unstated { IsStated node.now.law → ⊥ }
+    ensures { IfOk result (λ progress. (laws : Laws) → HasCome (record { plan = plan.now; inputs = inputs.now; laws = laws }) streams.now node.now progress) }
 {
     let mut progress = Progress::begun(alloc, node, begun(alloc, plan, inputs, node)?)?;
     progress.go_on(alloc, node, streams)?;

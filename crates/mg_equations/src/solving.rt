@@ -1,10 +1,12 @@
 //! The solution of a job: rounds from nothing on, up to the first that changes nothing.
-ghost use Rattle.std.specs.Prelude.{◌≡◌, ◌<◌, ◌^◌, nat_lt, length, map, replicate, IfOk};
+ghost use Rattle.std.specs.Prelude.{◌≡◌, ◌<◌, ◌^◌, All, nat_lt, length, map, replicate, IfOk};
 ghost use Rattle.std.specs.List.{range_with_len, filter_map, enumerate_from};
 ghost use Rattle.mg_settled.specs.Prefix.{empty_prefix};
 ghost use Rattle.mg_calc.specs.Equations.{IsSolution};
 ghost use Rattle.mg_calc.specs.Meaning.{counts, faults};
 ghost use Rattle.mg_calc.specs.Plan.{IsValid, InputsFit};
+ghost use Rattle.mg_calc.specs.Rules.{Laws};
+ghost use Rattle.mg_calc.specs.Shape.{IsStated};
 ghost use Rattle.mg_equations.specs.Code.Progress.{outcomes};
 ghost use Rattle.mg_equations.specs.Code.Rounds.{numbered_fault};
 
@@ -30,7 +32,8 @@ pub struct Streams {
     pub faults: NodeFaultList,
 }
 
-/// Solves the equations of a graph for what is handed in.
+/// Solves the equations of a graph for what is handed in. Each law of the graph is one of the table, so that what becomes of it is the same
+/// whatever the stated laws are.
 ///
 /// Streams are computed in rounds, and no calculator that is handed in is called. A round computes only the nodes that read a stream
 /// which the round before has changed, each from where it stood, so that all rounds together read each packet once at each port, and
@@ -38,9 +41,10 @@ pub struct Streams {
 pub fn solve(alloc: Global, plan: &Plan, inputs: &Inputs) -> Result<Streams, AllocError>
     requires plan { IsValid plan.now }
     requires inputs { InputsFit plan.now inputs.now }
-    ensures solution { IfOk result (λ s. IsSolution (record { plan = plan.now; inputs = inputs.now }) s.prefixes) }
-    ensures sets { IfOk result (λ s. s.sets ≡ counts (record { plan = plan.now; inputs = inputs.now }) s.prefixes) }
-    ensures faults { IfOk result (λ s. s.faults ≡ faults (record { plan = plan.now; inputs = inputs.now }) s.prefixes) }
+    requires unstated { All (λ node. IsStated node.law → ⊥) plan.now.nodes }
+    ensures solution { IfOk result (λ s. (laws : Laws) → IsSolution (record { plan = plan.now; inputs = inputs.now; laws = laws }) s.prefixes) }
+    ensures sets { IfOk result (λ s. (laws : Laws) → s.sets ≡ counts (record { plan = plan.now; inputs = inputs.now; laws = laws }) s.prefixes) }
+    ensures faults { IfOk result (λ s. (laws : Laws) → s.faults ≡ faults (record { plan = plan.now; inputs = inputs.now; laws = laws }) s.prefixes) }
 {
     let readers = readers_of(alloc, plan)?;
     let mut streams = nothing_known(alloc, plan.streams.len())?;

@@ -67,3 +67,7 @@ expand_note fault = codes "refused: expand " ++ expand_refusal fault ++ codes "\
 -- The note that a graph with free nodes is refused, as it can't be used in the way of this word; `node` is its first free node.
 abbrev pub free_note : List ℕ → ℕ → List ℕ
 free_note verb node = codes "refused: " ++ verb ++ codes " FreeNode " ++ decimal node ++ codes "\n"
+
+-- The note that a graph is refused to be solved, as the law of a node of it is one of an author's own; `node` is the first such node.
+abbrev pub own_law_note : ℕ → List ℕ
+own_law_note node = codes "refused: solve OwnLaw " ++ decimal node ++ codes "\n"

@@ -11,6 +11,7 @@ mod files;
 mod free_notes;
 pub mod laws;
 mod load;
+mod own_law_notes;
 mod refusal;
 mod text;
 
@@ -20,4 +21,5 @@ pub use fault::Fault;
 pub use files::graphs_of;
 pub use free_notes::free_note;
 pub use load::load_all;
+pub use own_law_notes::own_law_note;
 pub use text::graph_text;

@@ -1,5 +1,5 @@
 -- The core of a plan that is valid with free nodes is a valid plan.
-use Rattle.std.proofs.Common.{◌≡◌, ◌≢◌, ℕ, zero, suc, ◌+◌, ◌<◌, ◌⊎◌, true, false, not, List, [], ◌∷◌, map, filter, length, slice_get, All, AllPairs, Option, None, Some, IsSomeAnd, is_some, unwrap_or, option_map, refl, sym, ap, ◌∙◌, subst, inl, inr, arith}
+use Rattle.std.proofs.Common.{◌≡◌, ◌≢◌, ℕ, zero, suc, ◌+◌, ◌<◌, ◌⊎◌, true, false, not, List, [], ◌∷◌, map, filter, length, slice_get, All, AllPairs, Option, None, Some, IsSome, IsSomeAnd, is_some, unwrap_or, option_map, refl, sym, ap, ◌∙◌, subst, inl, inr, arith}
 use Rattle.std.specs.Bool.{⊤}
 use Rattle.std.specs.List.{AllZip, filter_map, cons_option}
 use Rattle.std.proofs.lemmas.List.Elements.{All-from_recursion, recursion_from_All}
@@ -8,7 +8,7 @@ use Rattle.mg_calc.specs.declared.law.Law.{Law}
 use Rattle.mg_calc.specs.declared.law.Law.TheVariants.{Loopback, FirstCome, Limiter}
 use Rattle.mg_calc.specs.declared.plan.Plan.{Plan}
 use Rattle.mg_calc.specs.declared.plan_node.PlanNode.{PlanNode}
-use Rattle.mg_calc.specs.Shape.{ParametersFit, IsServed, IsLimiter, IsShapeOf}
+use Rattle.mg_calc.specs.Shape.{ParametersFit, IsServed, IsStated, IsLimiter, IsShapeOf}
 use Rattle.mg_calc.specs.Plan.{IsValid, IsValidWithFree, AreInRange, HasNumbers, numbers, FlightFits, MayHavePolicy, LeadsForward, EndsAtLoop, EndsAtFinished}
 use Rattle.mg_calc.proofs.Earlier.{some_same}
 use Rattle.mg_free.specs.Core.{free_law_of, is_free, is_core, is_free_at, core_numbers, core_streams, stream_number, node_number, core_node, core_edge, core_of}
@@ -117,6 +117,7 @@ core_is_valid plan valid = record {
   shapes = nodes_keep plan (λ node. IsShapeOf node.law node.shape) (λ node. IsShapeOf node.law node.shape) (λ node is shape. shape) valid.shapes;
   flights = nodes_keep plan FlightFits FlightFits (λ node is fit. record { some = fit.some; most = fit.most; boxed = fit.boxed; stateful = fit.stateful }) valid.flights;
   policies = nodes_keep plan (λ node. MayHavePolicy node.law node.policy) (λ node. MayHavePolicy node.law node.policy) (λ node is may. may) valid.policies;
+  stated = nodes_keep plan (λ node. IsStated node.law → IsSome node.box_number) (λ node. IsStated node.law → IsSome node.box_number) (λ node is boxed. boxed) valid.stated;
   boxes = boxes_kept plan valid.boxes;
   order = order_once plan (length (core_of plan).nodes) valid.order (core_count plan);
   forward = edges_keep plan (λ e. e.back ≡ false → LeadsForward plan e) (λ e. e.back ≡ false → LeadsForward (core_of plan) e)

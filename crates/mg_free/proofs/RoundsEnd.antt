@@ -9,6 +9,7 @@ use Rattle.mg_value.specs.Payload.{Plain}
 use Rattle.mg_value.specs.Packet.{Stamped}
 use Rattle.mg_settled.specs.Prefix.{StreamPrefix, IsPrefix, Ascends, first_time}
 use Rattle.mg_calc.specs.declared.inputs.Inputs.{Inputs}
+use Rattle.mg_calc.specs.Rules.{Laws}
 use Rattle.mg_calc.specs.Equations.{stream_of}
 use Rattle.mg_calc.proofs.Solutions.{one_solution}
 use Rattle.mg_free.specs.declared.node.FreeNode.{FreeNode}
@@ -71,11 +72,11 @@ not_same : (before after : List Taken) → taken_by_all before < taken_by_all af
 not_same before after less same = (let e = ap taken_by_all same in omega (arith, less, e))
 
 -- there is a last round
-pub rounds_end_from : (fuel : ℕ) (split : FreePlan) (inputs : Inputs) (before : List Taken) → FitsCore split inputs → IsUnderWay split inputs before → most split.free ≤ taken_by_all before + fuel
-    → (last : List Taken) × Rounds split inputs before last
-rounds_end_from zero split inputs before fits u enough =
+pub rounds_end_from : (laws : Laws) (fuel : ℕ) (split : FreePlan) (inputs : Inputs) (before : List Taken) → FitsCore split inputs → IsUnderWay laws split inputs before → most split.free ≤ taken_by_all before + fuel
+    → (last : List Taken) × Rounds laws split inputs before last
+rounds_end_from laws zero split inputs before fits u enough =
     let after = turns u.streams split.free before in
-    let all = kept (core_job split inputs before) u.streams u.job u.solution in
+    let all = kept (core_job laws split inputs before) u.streams u.job u.solution in
     elim (turns_rise u.streams split.free before (zipped_long (λ free taken. IsWell (free_inputs u.streams free) free taken) split.free before u.well)) [
       | inl same ↦ (before, rests (record { streams = u.streams; solution = u.solution; turns = sym same }))
       | inr less ↦ absurd (
@@ -84,43 +85,43 @@ rounds_end_from zero split inputs before fits u enough =
           omega (arith, less, short, room, enough)
           )
     ]
-rounds_end_from (suc fuel) split inputs before fits u enough =
+rounds_end_from laws (suc fuel) split inputs before fits u enough =
     let after = turns u.streams split.free before in
     elim (turns_rise u.streams split.free before (zipped_long (λ free taken. IsWell (free_inputs u.streams free) free taken) split.free before u.well)) [
       | inl same ↦ (before, rests (record { streams = u.streams; solution = u.solution; turns = sym same }))
       | inr less ↦ (
-          let r : IsRound split inputs before after = record { streams = u.streams; solution = u.solution; turns = refl } in
-          let rest = rounds_end_from fuel split inputs after fits (a_round split inputs before after fits u r) (omega (arith, less, enough)) in
+          let r : IsRound laws split inputs before after = record { streams = u.streams; solution = u.solution; turns = refl } in
+          let rest = rounds_end_from laws fuel split inputs after fits (a_round laws split inputs before after fits u r) (omega (arith, less, enough)) in
           (rest.0, round r (not_same before after less) rest.1)
           )
     ]
 
-pub rounds_end : (split : FreePlan) (inputs : Inputs) (before : List Taken) → FitsCore split inputs → IsUnderWay split inputs before → (last : List Taken) × Rounds split inputs before last
-rounds_end split inputs before fits u = rounds_end_from (most split.free) split inputs before fits u (omega arith)
+pub rounds_end : (laws : Laws) (split : FreePlan) (inputs : Inputs) (before : List Taken) → FitsCore split inputs → IsUnderWay laws split inputs before → (last : List Taken) × Rounds laws split inputs before last
+rounds_end laws split inputs before fits u = rounds_end_from laws (most split.free) split inputs before fits u (omega arith)
 
 -- and so of each batch
-pub all_rounds_end : (split : FreePlan) (inputs : Inputs) (later : List Inputs) (before : List Taken) → FitsCore split inputs → BatchesFit split inputs later → IsUnderWay split inputs before
-    → (last : List Taken) × AllRounds split (inputs ∷ later) before last
-all_rounds_end split inputs [] before fits more u = (let r = rounds_end split inputs before fits u in (r.0, batch r.1 ends))
-all_rounds_end split inputs (next ∷ later) before fits more u =
-    let r = rounds_end split inputs before fits u in
-    let come = rounds_come split inputs before r.0 fits u r.1 in
-    let rest = all_rounds_end split next later r.0 more.0 more.3 (a_batch split inputs next r.0 more.0 more.1 more.2 come.goes_on) in
+pub all_rounds_end : (laws : Laws) (split : FreePlan) (inputs : Inputs) (later : List Inputs) (before : List Taken) → FitsCore split inputs → BatchesFit split inputs later → IsUnderWay laws split inputs before
+    → (last : List Taken) × AllRounds laws split (inputs ∷ later) before last
+all_rounds_end laws split inputs [] before fits more u = (let r = rounds_end laws split inputs before fits u in (r.0, batch r.1 ends))
+all_rounds_end laws split inputs (next ∷ later) before fits more u =
+    let r = rounds_end laws split inputs before fits u in
+    let come = rounds_come laws split inputs before r.0 fits u r.1 in
+    let rest = all_rounds_end laws split next later r.0 more.0 more.3 (a_batch laws split inputs next r.0 more.0 more.1 more.2 come.goes_on) in
     (rest.0, batch r.1 rest.1)
 
 -- The rounds are determined: each has one solution, and the turns in it.
-same_round : (split : FreePlan) (inputs : Inputs) (before after other : List Taken) → IsRound split inputs before after → IsRound split inputs before other → after ≡ other
-same_round split inputs before after other r q =
-    r.turns ∙ (ap (λ (streams : List (StreamPrefix Plain)). turns streams split.free before) (one_solution (core_job split inputs before) r.streams q.streams r.solution q.solution) ∙ sym q.turns)
+same_round : (laws : Laws) (split : FreePlan) (inputs : Inputs) (before after other : List Taken) → IsRound laws split inputs before after → IsRound laws split inputs before other → after ≡ other
+same_round laws split inputs before after other r q =
+    r.turns ∙ (ap (λ (streams : List (StreamPrefix Plain)). turns streams split.free before) (one_solution (core_job laws split inputs before) r.streams q.streams r.solution q.solution) ∙ sym q.turns)
 
-pub rounds_one : (split : FreePlan) (inputs : Inputs) (before last other : List Taken) → Rounds split inputs before last → Rounds split inputs before other → last ≡ other
-rounds_one split inputs before last other (rests r) (rests q) = refl
-rounds_one split inputs before last other (rests r) (round q changed more) = absurd (changed (same_round split inputs _ _ _ q r))
-rounds_one split inputs before last other (round r changed more) (rests q) = absurd (changed (same_round split inputs _ _ _ r q))
-rounds_one split inputs before last other (round r changed more) (round q differs rest) =
-    rounds_one split inputs _ last other more (subst (λ (t : List Taken). Rounds split inputs t other) (sym (same_round split inputs _ _ _ r q)) rest)
+pub rounds_one : (laws : Laws) (split : FreePlan) (inputs : Inputs) (before last other : List Taken) → Rounds laws split inputs before last → Rounds laws split inputs before other → last ≡ other
+rounds_one laws split inputs before last other (rests r) (rests q) = refl
+rounds_one laws split inputs before last other (rests r) (round q changed more) = absurd (changed (same_round laws split inputs _ _ _ q r))
+rounds_one laws split inputs before last other (round r changed more) (rests q) = absurd (changed (same_round laws split inputs _ _ _ r q))
+rounds_one laws split inputs before last other (round r changed more) (round q differs rest) =
+    rounds_one laws split inputs _ last other more (subst (λ (t : List Taken). Rounds laws split inputs t other) (sym (same_round laws split inputs _ _ _ r q)) rest)
 
-pub all_rounds_one : (split : FreePlan) (batches : List Inputs) (before last other : List Taken) → AllRounds split batches before last → AllRounds split batches before other → last ≡ other
-all_rounds_one split [] before last other ends ends = refl
-all_rounds_one split (inputs ∷ batches) before last other (batch r rest) (batch q later) =
-    all_rounds_one split batches _ last other rest (subst (λ (t : List Taken). AllRounds split batches t other) (sym (rounds_one split inputs before _ _ r q)) later)
+pub all_rounds_one : (laws : Laws) (split : FreePlan) (batches : List Inputs) (before last other : List Taken) → AllRounds laws split batches before last → AllRounds laws split batches before other → last ≡ other
+all_rounds_one laws split [] before last other ends ends = refl
+all_rounds_one laws split (inputs ∷ batches) before last other (batch r rest) (batch q later) =
+    all_rounds_one laws split batches _ last other rest (subst (λ (t : List Taken). AllRounds laws split batches t other) (sym (rounds_one laws split inputs before _ _ r q)) later)

@@ -9,6 +9,7 @@ use Rattle.mg_settled.specs.Extension.{AreExtendedBy}
 use Rattle.mg_settled.proofs.Lemmas.{empty_is_prefix, all_by_themselves}
 use Rattle.mg_calc.specs.declared.inputs.Inputs.{Inputs}
 use Rattle.mg_calc.specs.Plan.{IsValid, given_places}
+use Rattle.mg_calc.specs.Rules.{Laws}
 use Rattle.mg_calc.specs.Equations.{Job, IsJob, IsSolution, stream_of}
 use Rattle.mg_calc.proofs.Jobs.{job_known, solution_grows}
 use Rattle.mg_calc.proofs.Solutions.{solution_keeps}
@@ -95,8 +96,8 @@ extend_both [] (v ∷ vs) ws zs e f = absurd e
 extend_both (u ∷ us) [] ws zs e f = absurd e
 extend_both (u ∷ us) (v ∷ vs) ws zs e f = (e.0, extend_both us vs ws zs e.1 f)
 
-job_of : (split : FreePlan) (inputs : Inputs) (takens : List Taken) → FitsCore split inputs → length split.free ≡ length takens → AllByRecursion IsPrefix (outs split.free takens) → IsJob (core_job split inputs takens)
-job_of split inputs takens fits long all = record {
+job_of : (laws : Laws) (split : FreePlan) (inputs : Inputs) (takens : List Taken) → FitsCore split inputs → length split.free ≡ length takens → AllByRecursion IsPrefix (outs split.free takens) → IsJob (core_job laws split inputs takens)
+job_of laws split inputs takens fits long all = record {
   plan = fits.core;
   inputs = record {
     streams = length-append inputs.streams (outs split.free takens) ∙ (ap (λ n. length inputs.streams + n) (outs_long split.free takens long) ∙ fits.count);
@@ -106,10 +107,10 @@ job_of split inputs takens fits long all = record {
 }
 
 -- Rounds are under way.
-pub record IsUnderWay (split : FreePlan) (inputs : Inputs) (takens : List Taken) : Type 0 where
-  pub job : IsJob (core_job split inputs takens)
+pub record IsUnderWay (laws : Laws) (split : FreePlan) (inputs : Inputs) (takens : List Taken) : Type 0 where
+  pub job : IsJob (core_job laws split inputs takens)
   pub streams : List (StreamPrefix Plain)
-  pub solution : IsSolution (core_job split inputs takens) streams
+  pub solution : IsSolution (core_job laws split inputs takens) streams
   pub well : AreWell streams split.free takens
 
 pub kept : (job : Job) (streams : List (StreamPrefix Plain)) → IsJob job → IsSolution job streams → AllByRecursion IsPrefix streams
@@ -119,39 +120,39 @@ solved : (job : Job) → IsJob job → (streams : List (StreamPrefix Plain)) × 
 solved job is = a_solution job (job_known job is) is.plan is.inputs.streams
 
 -- what was under way still is with more that came, whether from outside or from the free nodes
-further : (split : FreePlan) (inputs more : Inputs) (before after : List Taken) (streams : List (StreamPrefix Plain)) → FitsCore split more → IsJob (core_job split inputs before) → IsSolution (core_job split inputs before) streams
-    → inputs.sides ≡ more.sides → AreExtendedBy inputs.streams more.streams → AreExtendedBy (outs split.free before) (outs split.free after) → AreWell streams split.free after → IsUnderWay split more after
-further split inputs more before after streams fits job solution sides streams_more outs_more well =
-    let all = kept (core_job split inputs before) streams job solution in
-    let later = job_of split more after fits (zipped_long (λ free taken. IsWell (free_inputs streams free) free taken) split.free after well) (outs_keep streams split.free after all well) in
-    let solution_later = solved (core_job split more after) later in
+further : (laws : Laws) (split : FreePlan) (inputs more : Inputs) (before after : List Taken) (streams : List (StreamPrefix Plain)) → FitsCore split more → IsJob (core_job laws split inputs before) → IsSolution (core_job laws split inputs before) streams
+    → inputs.sides ≡ more.sides → AreExtendedBy inputs.streams more.streams → AreExtendedBy (outs split.free before) (outs split.free after) → AreWell streams split.free after → IsUnderWay laws split more after
+further laws split inputs more before after streams fits job solution sides streams_more outs_more well =
+    let all = kept (core_job laws split inputs before) streams job solution in
+    let later = job_of laws split more after fits (zipped_long (λ free taken. IsWell (free_inputs streams free) free taken) split.free after well) (outs_keep streams split.free after all well) in
+    let solution_later = solved (core_job laws split more after) later in
     let grows = solution_grows split.core (core_inputs split inputs before) (core_inputs split more after) streams solution_later.0 job later sides
     (extend_both inputs.streams more.streams (outs split.free before) (outs split.free after) streams_more outs_more) solution solution_later.1 in
     record {
       job = later;
       streams = solution_later.0;
       solution = solution_later.1;
-      well = all_later streams solution_later.0 split.free after grows (kept (core_job split more after) solution_later.0 later solution_later.1) well;
+      well = all_later streams solution_later.0 split.free after grows (kept (core_job laws split more after) solution_later.0 later solution_later.1) well;
     }
 
 -- whatever solution is taken, it is the one
-well_in : (split : FreePlan) (inputs : Inputs) (takens : List Taken) (streams : List (StreamPrefix Plain)) (u : IsUnderWay split inputs takens) → IsSolution (core_job split inputs takens) streams → AreWell streams split.free takens
-well_in split inputs takens streams u solution =
+well_in : (laws : Laws) (split : FreePlan) (inputs : Inputs) (takens : List Taken) (streams : List (StreamPrefix Plain)) (u : IsUnderWay laws split inputs takens) → IsSolution (core_job laws split inputs takens) streams → AreWell streams split.free takens
+well_in laws split inputs takens streams u solution =
     all_later u.streams streams split.free takens
     (solution_grows split.core (core_inputs split inputs takens) (core_inputs split inputs takens) u.streams streams u.job u.job refl
     (all_by_themselves (core_inputs split inputs takens).streams) u.solution solution)
-    (kept (core_job split inputs takens) streams u.job solution) u.well
+    (kept (core_job laws split inputs takens) streams u.job solution) u.well
 
-pub a_round : (split : FreePlan) (inputs : Inputs) (before after : List Taken) → FitsCore split inputs → IsUnderWay split inputs before → IsRound split inputs before after → IsUnderWay split inputs after
-a_round split inputs before after fits u r =
-    let well = well_in split inputs before r.streams u r.solution in
-    subst (IsUnderWay split inputs) (sym r.turns)
-    (further split inputs inputs before (turns r.streams split.free before) r.streams fits u.job r.solution refl (all_by_themselves inputs.streams)
-    (outs_extend r.streams split.free before (kept (core_job split inputs before) r.streams u.job r.solution) well) (all_turn r.streams split.free before well))
+pub a_round : (laws : Laws) (split : FreePlan) (inputs : Inputs) (before after : List Taken) → FitsCore split inputs → IsUnderWay laws split inputs before → IsRound laws split inputs before after → IsUnderWay laws split inputs after
+a_round laws split inputs before after fits u r =
+    let well = well_in laws split inputs before r.streams u r.solution in
+    subst (IsUnderWay laws split inputs) (sym r.turns)
+    (further laws split inputs inputs before (turns r.streams split.free before) r.streams fits u.job r.solution refl (all_by_themselves inputs.streams)
+    (outs_extend r.streams split.free before (kept (core_job laws split inputs before) r.streams u.job r.solution) well) (all_turn r.streams split.free before well))
 
-pub a_batch : (split : FreePlan) (inputs more : Inputs) (takens : List Taken) → FitsCore split more → inputs.sides ≡ more.sides → AreExtendedBy inputs.streams more.streams → IsUnderWay split inputs takens → IsUnderWay split more takens
-a_batch split inputs more takens fits sides streams_more u =
-    further split inputs more takens takens u.streams fits u.job u.solution sides streams_more (all_by_themselves (outs split.free takens)) u.well
+pub a_batch : (laws : Laws) (split : FreePlan) (inputs more : Inputs) (takens : List Taken) → FitsCore split more → inputs.sides ≡ more.sides → AreExtendedBy inputs.streams more.streams → IsUnderWay laws split inputs takens → IsUnderWay laws split more takens
+a_batch laws split inputs more takens fits sides streams_more u =
+    further laws split inputs more takens takens u.streams fits u.job u.solution sides streams_more (all_by_themselves (outs split.free takens)) u.well
 
 -- At the end of the rounds.
 abbrev Ended : List (StreamPrefix Plain) → FreeNode → Taken → Type 0
@@ -179,9 +180,9 @@ outputs_at_rest streams (f ∷ frees) (t ∷ takens) rest well = (
   outputs_at_rest streams frees takens (tails (turn streams f t) t (turns streams frees takens) takens rest) well.1,
 )
 
-has_come : (split : FreePlan) (inputs : Inputs) (takens : List Taken) → IsUnderWay split inputs takens → IsRound split inputs takens takens → HasCome split inputs takens
-has_come split inputs takens u r =
-    let well = well_in split inputs takens r.streams u r.solution in
+has_come : (laws : Laws) (split : FreePlan) (inputs : Inputs) (takens : List Taken) → IsUnderWay laws split inputs takens → IsRound laws split inputs takens takens → HasCome laws split inputs takens
+has_come laws split inputs takens u r =
+    let well = well_in laws split inputs takens r.streams u r.solution in
     record {
       job = u.job;
       streams = r.streams;
@@ -191,25 +192,25 @@ has_come split inputs takens u r =
     }
 
 -- what rounds come to
-pub record Come (split : FreePlan) (inputs : Inputs) (takens : List Taken) : Type 0 where
-  pub goes_on : IsUnderWay split inputs takens
-  pub come : HasCome split inputs takens
+pub record Come (laws : Laws) (split : FreePlan) (inputs : Inputs) (takens : List Taken) : Type 0 where
+  pub goes_on : IsUnderWay laws split inputs takens
+  pub come : HasCome laws split inputs takens
 
-pub rounds_come : (split : FreePlan) (inputs : Inputs) (before last : List Taken) → FitsCore split inputs → IsUnderWay split inputs before → Rounds split inputs before last → Come split inputs last
-rounds_come split inputs before last fits u (rests r) = record { goes_on = u; come = has_come split inputs _ u r }
-rounds_come split inputs before last fits u (round r changes more) = rounds_come split inputs _ last fits (a_round split inputs before _ fits u r) more
+pub rounds_come : (laws : Laws) (split : FreePlan) (inputs : Inputs) (before last : List Taken) → FitsCore split inputs → IsUnderWay laws split inputs before → Rounds laws split inputs before last → Come laws split inputs last
+rounds_come laws split inputs before last fits u (rests r) = record { goes_on = u; come = has_come laws split inputs _ u r }
+rounds_come laws split inputs before last fits u (round r changes more) = rounds_come laws split inputs _ last fits (a_round laws split inputs before _ fits u r) more
 
 -- and those of all batches
 abbrev pub BatchesFit : FreePlan → Inputs → List Inputs → Type 0
 BatchesFit split before [] = Unit {0}
 BatchesFit split before (inputs ∷ later) = FitsCore split inputs × (before.sides ≡ inputs.sides) × AreExtendedBy before.streams inputs.streams × BatchesFit split inputs later
 
-pub all_rounds_come : (split : FreePlan) (inputs : Inputs) (later : List Inputs) (before last : List Taken) → FitsCore split inputs → BatchesFit split inputs later → IsUnderWay split inputs before
-    → AllRounds split (inputs ∷ later) before last → HasCome split (last_batch inputs later) last
-all_rounds_come split inputs [] before last fits more u (batch rounds ends) = (rounds_come split inputs before _ fits u rounds).come
-all_rounds_come split inputs (next ∷ later) before last fits more u (batch rounds rest) =
-    let come = rounds_come split inputs before _ fits u rounds in
-    all_rounds_come split next later _ last more.0 more.3 (a_batch split inputs next _ more.0 more.1 more.2 come.goes_on) rest
+pub all_rounds_come : (laws : Laws) (split : FreePlan) (inputs : Inputs) (later : List Inputs) (before last : List Taken) → FitsCore split inputs → BatchesFit split inputs later → IsUnderWay laws split inputs before
+    → AllRounds laws split (inputs ∷ later) before last → HasCome laws split (last_batch inputs later) last
+all_rounds_come laws split inputs [] before last fits more u (batch rounds ends) = (rounds_come laws split inputs before _ fits u rounds).come
+all_rounds_come laws split inputs (next ∷ later) before last fits more u (batch rounds rest) =
+    let come = rounds_come laws split inputs before _ fits u rounds in
+    all_rounds_come laws split next later _ last more.0 more.3 (a_batch laws split inputs next _ more.0 more.1 more.2 come.goes_on) rest
 
 -- At first.
 none_keep : (frees : List FreeNode) → AllByRecursion IsPrefix (outs frees (map (λ free. record { log = []; closed = false }) frees))
@@ -227,8 +228,8 @@ none_well streams (f ∷ frees) ports = (
   none_well streams frees ports.1,
 )
 
-pub begins_under_way : (split : FreePlan) (inputs : Inputs) → FitsCore split inputs → IsUnderWay split inputs (none_taken split)
-begins_under_way split inputs fits =
-    let job = job_of split inputs (none_taken split) fits (sym (length-map split.free (λ free. record { log = []; closed = false }))) (none_keep split.free) in
-    let solution = solved (core_job split inputs (none_taken split)) job in
+pub begins_under_way : (laws : Laws) (split : FreePlan) (inputs : Inputs) → FitsCore split inputs → IsUnderWay laws split inputs (none_taken split)
+begins_under_way laws split inputs fits =
+    let job = job_of laws split inputs (none_taken split) fits (sym (length-map split.free (λ free. record { log = []; closed = false }))) (none_keep split.free) in
+    let solution = solved (core_job laws split inputs (none_taken split)) job in
     record { job = job; streams = solution.0; solution = solution.1; well = none_well solution.0 split.free fits.ports }

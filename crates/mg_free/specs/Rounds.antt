@@ -5,6 +5,7 @@ use Rattle.std.specs.List.{enumerate_from, filter_map, zip}
 use Rattle.mg_value.specs.Payload.{Plain}
 use Rattle.mg_settled.specs.Prefix.{StreamPrefix, closed}
 use Rattle.mg_calc.specs.declared.inputs.Inputs.{Inputs}
+use Rattle.mg_calc.specs.Rules.{Laws}
 use Rattle.mg_calc.specs.Equations.{Job, IsSolution, stream_of}
 use Rattle.mg_free.specs.declared.node.FreeNode.{FreeNode}
 use Rattle.mg_free.specs.declared.plan.FreePlan.{FreePlan}
@@ -29,8 +30,8 @@ abbrev pub core_inputs : FreePlan → Inputs → List Taken → Inputs
 core_inputs split inputs takens = record inputs { streams = inputs.streams ++ map (λ e. output_so_far e.0 e.1) (zip split.free takens) }
 
 -- the job of the core with what has come to it
-abbrev pub core_job : FreePlan → Inputs → List Taken → Job
-core_job split inputs takens = record { plan = split.core; inputs = core_inputs split inputs takens }
+abbrev pub core_job : Laws → FreePlan → Inputs → List Taken → Job
+core_job laws split inputs takens = record { plan = split.core; inputs = core_inputs split inputs takens; laws = laws }
 
 -- the input streams of a free node, by port
 abbrev pub free_inputs : List (StreamPrefix Plain) → FreeNode → List (StreamPrefix Plain)
@@ -57,18 +58,18 @@ abbrev pub turn : List (StreamPrefix Plain) → FreeNode → Taken → Taken
 turn streams free taken = with_next streams free taken (last_of (next_arrivals streams free taken))
 
 -- a round: all free nodes have their turns, in one solution of the core
-pub record IsRound (split : FreePlan) (inputs : Inputs) (before after : List Taken) : Type 0 where
+pub record IsRound (laws : Laws) (split : FreePlan) (inputs : Inputs) (before after : List Taken) : Type 0 where
   pub streams : List (StreamPrefix Plain)
-  pub solution : IsSolution (core_job split inputs before) streams
+  pub solution : IsSolution (core_job laws split inputs before) streams
   pub turns : after ≡ map (λ e. turn streams e.0 e.1) (zip split.free before)
 
 -- rounds over the same inputs, each of which takes something or closes something, up to one that doesn't
-pub data Rounds (split : FreePlan) (inputs : Inputs) : List Taken → List Taken → Type 0 where
-  rests : {takens : List Taken} → IsRound split inputs takens takens → Rounds split inputs takens takens
-  round : {before after last : List Taken} → IsRound split inputs before after → ¬ (after ≡ before) → Rounds split inputs after last → Rounds split inputs before last
+pub data Rounds (laws : Laws) (split : FreePlan) (inputs : Inputs) : List Taken → List Taken → Type 0 where
+  rests : {takens : List Taken} → IsRound laws split inputs takens takens → Rounds laws split inputs takens takens
+  round : {before after last : List Taken} → IsRound laws split inputs before after → ¬ (after ≡ before) → Rounds laws split inputs after last → Rounds laws split inputs before last
 
 -- the rounds of a run, over what has come after each batch of its input
-pub data AllRounds (split : FreePlan) : List Inputs → List Taken → List Taken → Type 0 where
-  ends : {takens : List Taken} → AllRounds split [] takens takens
-  batch : {inputs : Inputs} {later : List Inputs} {before after last : List Taken} → Rounds split inputs before after → AllRounds split later after last
-      → AllRounds split (inputs ∷ later) before last
+pub data AllRounds (laws : Laws) (split : FreePlan) : List Inputs → List Taken → List Taken → Type 0 where
+  ends : {takens : List Taken} → AllRounds laws split [] takens takens
+  batch : {inputs : Inputs} {later : List Inputs} {before after last : List Taken} → Rounds laws split inputs before after → AllRounds laws split later after last
+      → AllRounds laws split (inputs ∷ later) before last

@@ -7,6 +7,7 @@ use Rattle.mg_settled.specs.Extension.{AreExtendedBy}
 use Rattle.mg_calc.specs.declared.inputs.Inputs.{Inputs}
 use Rattle.mg_calc.specs.declared.plan.Plan.{Plan}
 use Rattle.mg_calc.specs.Plan.{InputsFit}
+use Rattle.mg_calc.specs.Rules.{Laws}
 use Rattle.mg_calc.specs.Equations.{IsJob, IsSolution}
 use Rattle.mg_free.specs.declared.node.FreeNode.{FreeNode}
 use Rattle.mg_free.specs.declared.plan.FreePlan.{FreePlan}
@@ -52,9 +53,9 @@ last_batch before (inputs ∷ later) = last_batch inputs later
 
 -- a run has come to its end with these logs: in the solution of the core, for all inputs and for the free nodes' outputs, each log is
 -- lawful, and the output of each free node is the one that its law gives for its log
-pub record HasCome (split : FreePlan) (inputs : Inputs) (takens : List Taken) : Type 0 where
-  pub job : IsJob (core_job split inputs takens)
+pub record HasCome (laws : Laws) (split : FreePlan) (inputs : Inputs) (takens : List Taken) : Type 0 where
+  pub job : IsJob (core_job laws split inputs takens)
   pub streams : List (StreamPrefix Plain)
-  pub solution : IsSolution (core_job split inputs takens) streams
+  pub solution : IsSolution (core_job laws split inputs takens) streams
   pub logs : AreLawful streams split.free takens
   pub outputs : AllZip (λ free taken. output_so_far free taken ≡ output_of free.law (free_inputs streams free) taken.log) split.free takens

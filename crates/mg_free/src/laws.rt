@@ -6,6 +6,7 @@ ghost use Rattle.mg_settled.specs.Extension.{IsExtendedBy, AreExtendedBy};
 ghost use Rattle.mg_calc.specs.declared.inputs.Inputs.{Inputs};
 ghost use Rattle.mg_calc.specs.declared.plan.Plan.{Plan};
 ghost use Rattle.mg_calc.specs.Plan.{IsValidWithFree, InputsFit};
+ghost use Rattle.mg_calc.specs.Rules.{Laws};
 ghost use Rattle.mg_free.specs.declared.law.FreeLaw.{FreeLaw};
 ghost use Rattle.mg_free.specs.declared.law.FreeLaw.TheVariants.{FirstCome, Limiter};
 ghost use Rattle.mg_free.specs.declared.node.FreeNode.{FreeNode};
@@ -48,15 +49,15 @@ pub fn outputs_are_no_longer_than_logs()
 /// free nodes, and one closing for each. A log that is lawful so far stays so after a round, and where the streams are extended.
 /// Where a round leaves all as it was, each log is lawful: all packets have arrived.
 pub fn rounds_take_what_there_is()
-    ensures rises { (split : FreePlan) (inputs : Inputs) (before after : List Taken) → length split.free ≡ length before → IsRound split inputs before after
+    ensures rises { (laws : Laws) (split : FreePlan) (inputs : Inputs) (before after : List Taken) → length split.free ≡ length before → IsRound laws split inputs before after
         → (after ≡ before) ⊎ (taken_by_all before < taken_by_all after) }
-    ensures lawful { (split : FreePlan) (inputs : Inputs) (before after : List Taken) (round : IsRound split inputs before after)
+    ensures lawful { (laws : Laws) (split : FreePlan) (inputs : Inputs) (before after : List Taken) (round : IsRound laws split inputs before after)
         → AreLawfulSoFar round.streams split.free before → AreLawfulSoFar round.streams split.free after }
     ensures grows { (streams later : List (StreamPrefix Plain)) (frees : List FreeNode) (takens : List Taken) → AreExtendedBy streams later
         → AreLawfulSoFar streams frees takens → AreLawfulSoFar later frees takens }
     ensures most { (streams : List (StreamPrefix Plain)) (frees : List FreeNode) (takens : List Taken) → AreLawfulSoFar streams frees takens
         → taken_by_all takens ≤ room_of_all streams frees }
-    ensures rest { (split : FreePlan) (inputs : Inputs) (takens : List Taken) (round : IsRound split inputs takens takens)
+    ensures rest { (laws : Laws) (split : FreePlan) (inputs : Inputs) (takens : List Taken) (round : IsRound laws split inputs takens takens)
         → AreLawfulSoFar round.streams split.free takens → AreLawful round.streams split.free takens }
 {}
 
@@ -64,10 +65,10 @@ pub fn rounds_take_what_there_is()
 /// in the job's solution the log of each free node is lawful; and the output of each free node is the one that its law gives for its
 /// log, closed where it has ended.
 pub fn rounds_end()
-    ensures ends { (plan : Plan) (inputs : Inputs) (later : List Inputs) → IsValidWithFree plan → InputsFit plan inputs → AreBatches plan inputs later
-        → (last : List Taken) × AllRounds (split_of plan) (inputs ∷ later) (none_taken (split_of plan)) last }
-    ensures one { (split : FreePlan) (batches : List Inputs) (before last other : List Taken) → AllRounds split batches before last → AllRounds split batches before other
+    ensures ends { (laws : Laws) (plan : Plan) (inputs : Inputs) (later : List Inputs) → IsValidWithFree plan → InputsFit plan inputs → AreBatches plan inputs later
+        → (last : List Taken) × AllRounds laws (split_of plan) (inputs ∷ later) (none_taken (split_of plan)) last }
+    ensures one { (laws : Laws) (split : FreePlan) (batches : List Inputs) (before last other : List Taken) → AllRounds laws split batches before last → AllRounds laws split batches before other
         → last ≡ other }
-    ensures come { (plan : Plan) (inputs : Inputs) (later : List Inputs) (last : List Taken) → IsValidWithFree plan → InputsFit plan inputs → AreBatches plan inputs later
-        → AllRounds (split_of plan) (inputs ∷ later) (none_taken (split_of plan)) last → HasCome (split_of plan) (last_batch inputs later) last }
+    ensures come { (laws : Laws) (plan : Plan) (inputs : Inputs) (later : List Inputs) (last : List Taken) → IsValidWithFree plan → InputsFit plan inputs → AreBatches plan inputs later
+        → AllRounds laws (split_of plan) (inputs ∷ later) (none_taken (split_of plan)) last → HasCome laws (split_of plan) (last_batch inputs later) last }
 {}

@@ -15,7 +15,7 @@ use Rattle.mg_config.specs.Config.{NodeView}
 use Rattle.mg_calc.specs.declared.law.Law.{Law}
 use Rattle.mg_calc.specs.declared.law.Law.TheVariants as law
 use Rattle.mg_calc.specs.declared.port_kind.PortKind.{PortKind}
-use Rattle.mg_calc.specs.Shape.{ParametersFit, IsShapeOf, HasInputs, HasOutputs, HasSides, AreAnyInputs, control_tag, ports, untagged}
+use Rattle.mg_calc.specs.Shape.{ParametersFit, IsStated, IsShapeOf, HasInputs, HasOutputs, HasSides, AreAnyInputs, control_tag, ports, untagged}
 use Rattle.mg_kinds.specs.Ports.{has_just, ports_in, fitting}
 use Rattle.mg_kinds.specs.PortOrder.{in_order}
 use Rattle.mg_kinds.specs.Options.{calculator_options, set_to, number}
@@ -266,6 +266,61 @@ kind-suits kind node ps settings name fit e = by kind fit (is_set kind node sett
     by : (kind : CalculatorKind) → kind_ports kind node ≡ Some ps → IsSet kind node settings → Suits name ps settings.law
     by PassThrough fit h = subst (Suits name ps) (same_Some law.Pass settings.law h.rule) (suits_passed node name ps (is_passed node ps fit))
     by kind fit h = suits_rowed kind node h.options name ps settings.law fit h.rule (λ same. cc)
+
+-- No calculator of the table has a law that its author states.
+
+abbrev IsUnstated : Law → Type 0
+IsUnstated rule = IsStated rule → ⊥
+
+-- each law that is made of options is one of a kind that isn't stated
+thin-unstated : (options : List Entry) (t : Bool) (rule : Law) → (if t then option_map law.Thin (positive_or_one (codes "period") options) else None) ≡ Some rule → IsUnstated rule
+thin-unstated options true rule e = (let made = mapped law.Thin (positive_or_one (codes "period") options) rule e in subst IsUnstated made.2 (λ is. is))
+thin-unstated options false rule e = absurd (none-some rule e)
+
+merge-unstated : (node : NodeView) (t : Bool) → IsUnstated (if t then law.FirstCome (lanes_of Merge node) else law.Merge (lanes_of Merge node))
+merge-unstated node true = λ is. is
+merge-unstated node false = λ is. is
+
+filter-unstated : (options : List Entry) (rule : Law) → filter_law_of options ≡ Some rule → IsUnstated rule
+filter-unstated options rule e =
+    let keep = made_by (λ keep. option_map (law.Filter keep) (truth_or_false (codes "raise_bound") options)) (required keep_in (set_to (codes "keep") options)) rule e in
+    let made = mapped (law.Filter keep.0) (truth_or_false (codes "raise_bound") options) rule keep.2 in
+    subst IsUnstated made.2 (λ is. is)
+
+count-unstated : (options : List Entry) (rule : Law) → counting_law options ≡ Some rule → IsUnstated rule
+count-unstated options rule e =
+    let steps = λ (count : ℕ) (start : ℤ). option_map (law.Count count start) (positive_or_one (codes "step") options) in
+    let starts = λ (count : ℕ). option_and_then (steps count) (timestamp_or_zero (codes "start") options) in
+    let count = made_by starts (required call_count (set_to (codes "count") options)) rule e in
+    let start = made_by (steps count.0) (timestamp_or_zero (codes "start") options) rule count.2 in
+    let made = mapped (law.Count count.0 start.0) (positive_or_one (codes "step") options) rule start.2 in
+    subst IsUnstated made.2 (λ is. is)
+
+law-unstated : (kind : CalculatorKind) (node : NodeView) (options : List Entry) (rule : Law) → law_with kind node options ≡ Some rule → IsUnstated rule
+law-unstated PassThrough node options rule e = subst IsUnstated (same_Some law.Pass rule e) (λ is. is)
+law-unstated Gate node options rule e =
+    let made = mapped (λ empty. law.Gate (lanes_of Gate node) (disallows node) empty) (truth_or_false (codes "empty_packets_as_allow") options) rule e in
+    subst IsUnstated made.2 (λ is. is)
+law-unstated Mux node options rule e = subst IsUnstated (same_Some (law.Mux (lanes_of Mux node)) rule e) (λ is. is)
+law-unstated Cloner node options rule e = subst IsUnstated (same_Some (law.Cloner (lanes_of Cloner node)) rule e) (λ is. is)
+law-unstated Merge node options rule e = subst IsUnstated (same_Some (merge_law node) rule e) (merge-unstated node (bytes_eq node.handler (codes "ImmediateInputStreamHandler")))
+law-unstated Thinner node options rule e = thin-unstated options (thins options) rule e
+law-unstated Sum node options rule e = subst IsUnstated (same_Some (law.Sum (lanes_of Sum node)) rule e) (λ is. is)
+law-unstated (Map m) node options rule e =
+    let made = mapped (λ pair. law.Map pair.0 pair.1) (map_with m options) rule e in
+    subst IsUnstated made.2 (λ is. is)
+law-unstated Filter node options rule e = filter-unstated options rule e
+law-unstated Running node options rule e = subst IsUnstated (same_Some law.Running rule e) (λ is. is)
+law-unstated Shift node options rule e = (let made = mapped law.Shift (number (codes "offset") options) rule e in subst IsUnstated made.2 (λ is. is))
+law-unstated Counting node options rule e = count-unstated options rule e
+law-unstated SideToStream node options rule e = subst IsUnstated (same_Some (law.SideOnce (time_of (moment_of node))) rule e) (λ is. is)
+law-unstated Constants node options rule e = subst IsUnstated (same_Some law.Constants rule e) (λ is. is)
+law-unstated Loopback node options rule e = subst IsUnstated (same_Some law.Loopback rule e) (λ is. is)
+law-unstated FlowLimiter node options rule e = (let made = mapped law.Limiter (flight_or_one (codes "max_in_flight") options) rule e in subst IsUnstated made.2 (λ is. is))
+
+-- no node of a kind of the table has a stated law
+pub kind-unstated : (kind : CalculatorKind) (node : NodeView) (settings : SettingsView) → kind_settings kind node ≡ Some settings → IsStated settings.law → ⊥
+kind-unstated kind node settings e = (let h = is_set kind node settings e in law-unstated kind node h.options settings.law h.rule)
 
 -- The side packets that a node writes, and what they are.
 

@@ -11,6 +11,7 @@ use Rattle.mg_settled.proofs.Lemmas.{all_by_themselves}
 use Rattle.mg_calc.specs.declared.inputs.Inputs.{Inputs}
 use Rattle.mg_calc.specs.declared.plan.Plan.{Plan}
 use Rattle.mg_calc.specs.Plan.{IsValidWithFree, InputsFit}
+use Rattle.mg_calc.specs.Rules.{Laws}
 use Rattle.mg_calc.specs.Equations.{IsJob, IsSolution, stream_of}
 use Rattle.mg_calc.proofs.Jobs.{job_known}
 use Rattle.mg_calc.proofs.Solutions.{one_solution, solution_has_each}
@@ -28,18 +29,18 @@ use Rattle.mg_live.proofs.CoreReads.{reads_core}
 use Rattle.mg_live.specs.SoFar.{SoFar, begins, goes, comes, HaveCome, CoreGoesOn}
 
 -- With the rounds that are left they are all rounds.
-rounds_with : (split : FreePlan) (inputs : Inputs) (earlier : List Inputs) (takens mid last : List Taken) (later : List Inputs) → SoFar split (inputs ∷ earlier) takens → Rounds split inputs takens mid → AllRounds split later mid last
-    → AllRounds split (reverse earlier ++ inputs ∷ later) (none_taken split) last
-rounds_with split inputs earlier takens mid last later begins rounds rest = batch rounds rest
-rounds_with split inputs earlier takens mid last later (goes h r changed) rounds rest = rounds_with split inputs earlier _ mid last later h (round r changed rounds) rest
-rounds_with split inputs earlier takens mid last later (comes {inputs = first} {earlier = before} h r) rounds rest =
-    subst (λ (bs : List Inputs). AllRounds split bs (none_taken split) last) (sym (ap (λ (bs : List Inputs). bs ++ inputs ∷ later) (reverse-append (first ∷ []) before) ∙ append_assoc (reverse before) (first ∷ []) (inputs ∷ later)))
-    (rounds_with split first before takens takens last (inputs ∷ later) h (rests r) (batch rounds rest))
+rounds_with : (laws : Laws) (split : FreePlan) (inputs : Inputs) (earlier : List Inputs) (takens mid last : List Taken) (later : List Inputs) → SoFar laws split (inputs ∷ earlier) takens → Rounds laws split inputs takens mid → AllRounds laws split later mid last
+    → AllRounds laws split (reverse earlier ++ inputs ∷ later) (none_taken split) last
+rounds_with laws split inputs earlier takens mid last later begins rounds rest = batch rounds rest
+rounds_with laws split inputs earlier takens mid last later (goes h r changed) rounds rest = rounds_with laws split inputs earlier _ mid last later h (round r changed rounds) rest
+rounds_with laws split inputs earlier takens mid last later (comes {inputs = first} {earlier = before} h r) rounds rest =
+    subst (λ (bs : List Inputs). AllRounds laws split bs (none_taken split) last) (sym (ap (λ (bs : List Inputs). bs ++ inputs ∷ later) (reverse-append (first ∷ []) before) ∙ append_assoc (reverse before) (first ∷ []) (inputs ∷ later)))
+    (rounds_with laws split first before takens takens last (inputs ∷ later) h (rests r) (batch rounds rest))
 
-pub all_rounds : (split : FreePlan) (inputs : Inputs) (earlier : List Inputs) (takens : List Taken) → SoFar split (inputs ∷ earlier) takens → IsRound split inputs takens takens
-    → AllRounds split (reverse (inputs ∷ earlier)) (none_taken split) takens
-all_rounds split inputs earlier takens h r =
-    subst (λ (bs : List Inputs). AllRounds split bs (none_taken split) takens) (sym (reverse-append (inputs ∷ []) earlier)) (rounds_with split inputs earlier takens takens takens [] h (rests r) ends)
+pub all_rounds : (laws : Laws) (split : FreePlan) (inputs : Inputs) (earlier : List Inputs) (takens : List Taken) → SoFar laws split (inputs ∷ earlier) takens → IsRound laws split inputs takens takens
+    → AllRounds laws split (reverse (inputs ∷ earlier)) (none_taken split) takens
+all_rounds laws split inputs earlier takens h r =
+    subst (λ (bs : List Inputs). AllRounds laws split bs (none_taken split) takens) (sym (reverse-append (inputs ∷ []) earlier)) (rounds_with laws split inputs earlier takens takens takens [] h (rests r) ends)
 
 -- Each batch fits.
 newest_fits : (plan : Plan) (inputs : Inputs) (earlier : List Inputs) → HaveCome plan (inputs ∷ earlier) → InputsFit plan inputs
@@ -47,22 +48,22 @@ newest_fits plan inputs [] h = h
 newest_fits plan inputs (before ∷ earlier) h = h.0
 
 -- So they are under way.
-pub under_way : (plan : Plan) (inputs : Inputs) (earlier : List Inputs) (takens : List Taken) → IsValidWithFree plan → HaveCome plan (inputs ∷ earlier) → SoFar (split_of plan) (inputs ∷ earlier) takens
-    → IsUnderWay (split_of plan) inputs takens
-under_way plan inputs earlier takens valid come begins = begins_under_way (split_of plan) inputs (core_fits plan inputs valid come)
-under_way plan inputs earlier takens valid come (goes h r changed) =
-    a_round (split_of plan) inputs _ takens (core_fits plan inputs valid (newest_fits plan inputs earlier come)) (under_way plan inputs earlier _ valid come h) r
-under_way plan inputs earlier takens valid come (comes {inputs = first} {earlier = before} h r) =
-    a_batch (split_of plan) first inputs takens (core_fits plan inputs valid come.0) come.1 come.2 (under_way plan first before takens valid come.3 h)
+pub under_way : (laws : Laws) (plan : Plan) (inputs : Inputs) (earlier : List Inputs) (takens : List Taken) → IsValidWithFree plan → HaveCome plan (inputs ∷ earlier) → SoFar laws (split_of plan) (inputs ∷ earlier) takens
+    → IsUnderWay laws (split_of plan) inputs takens
+under_way laws plan inputs earlier takens valid come begins = begins_under_way laws (split_of plan) inputs (core_fits plan inputs valid come)
+under_way laws plan inputs earlier takens valid come (goes h r changed) =
+    a_round laws (split_of plan) inputs _ takens (core_fits plan inputs valid (newest_fits plan inputs earlier come)) (under_way laws plan inputs earlier _ valid come h) r
+under_way laws plan inputs earlier takens valid come (comes {inputs = first} {earlier = before} h r) =
+    a_batch laws (split_of plan) first inputs takens (core_fits plan inputs valid come.0) come.1 come.2 (under_way laws plan first before takens valid come.3 h)
 
 -- At the end all has come.
-pub all_come : (plan : Plan) (inputs : Inputs) (earlier : List Inputs) (takens : List Taken) → IsValidWithFree plan → HaveCome plan (inputs ∷ earlier) → SoFar (split_of plan) (inputs ∷ earlier) takens → IsRound (split_of plan) inputs takens takens
-    → HasCome (split_of plan) inputs takens
-all_come plan inputs earlier takens valid come h r =
-    (rounds_come (split_of plan) inputs takens takens (core_fits plan inputs valid (newest_fits plan inputs earlier come)) (under_way plan inputs earlier takens valid come h) (rests r)).come
+pub all_come : (laws : Laws) (plan : Plan) (inputs : Inputs) (earlier : List Inputs) (takens : List Taken) → IsValidWithFree plan → HaveCome plan (inputs ∷ earlier) → SoFar laws (split_of plan) (inputs ∷ earlier) takens → IsRound laws (split_of plan) inputs takens takens
+    → HasCome laws (split_of plan) inputs takens
+all_come laws plan inputs earlier takens valid come h r =
+    (rounds_come laws (split_of plan) inputs takens takens (core_fits plan inputs valid (newest_fits plan inputs earlier come)) (under_way laws plan inputs earlier takens valid come h) (rests r)).come
 
-pub is_job : (plan : Plan) (inputs : Inputs) (earlier : List Inputs) (takens : List Taken) → IsValidWithFree plan → HaveCome plan (inputs ∷ earlier) → SoFar (split_of plan) (inputs ∷ earlier) takens → IsJob (core_job (split_of plan) inputs takens)
-is_job plan inputs earlier takens valid come h = (under_way plan inputs earlier takens valid come h).job
+pub is_job : (laws : Laws) (plan : Plan) (inputs : Inputs) (earlier : List Inputs) (takens : List Taken) → IsValidWithFree plan → HaveCome plan (inputs ∷ earlier) → SoFar laws (split_of plan) (inputs ∷ earlier) takens → IsJob (core_job laws (split_of plan) inputs takens)
+is_job laws plan inputs earlier takens valid come h = (under_way laws plan inputs earlier takens valid come h).job
 
 -- What comes to the core is extended.
 abbrev outs : List FreeNode → List Taken → List (StreamPrefix Plain)
@@ -81,30 +82,30 @@ outs_extend streams (f ∷ frees) [] all well = absurd well
 outs_extend streams (f ∷ frees) (t ∷ takens) all well = (turn_extends streams f t (inputs_keep streams f.inputs all) well.0, outs_extend streams frees takens all well.1)
 
 -- the logs are well in every solution for what has come
-well_in : (split : FreePlan) (inputs : Inputs) (takens : List Taken) (streams : List (StreamPrefix Plain)) (u : IsUnderWay split inputs takens) → IsSolution (core_job split inputs takens) streams → AreWell streams split.free takens
-well_in split inputs takens streams u solution = subst (λ (ss : List (StreamPrefix Plain)). AreWell ss split.free takens) (one_solution (core_job split inputs takens) u.streams streams u.solution solution) u.well
+well_in : (laws : Laws) (split : FreePlan) (inputs : Inputs) (takens : List Taken) (streams : List (StreamPrefix Plain)) (u : IsUnderWay laws split inputs takens) → IsSolution (core_job laws split inputs takens) streams → AreWell streams split.free takens
+well_in laws split inputs takens streams u solution = subst (λ (ss : List (StreamPrefix Plain)). AreWell ss split.free takens) (one_solution (core_job laws split inputs takens) u.streams streams u.solution solution) u.well
 
-pub round_goes_on : (plan : Plan) (inputs : Inputs) (earlier : List Inputs) (before after : List Taken) → IsValidWithFree plan → HaveCome plan (inputs ∷ earlier) → SoFar (split_of plan) (inputs ∷ earlier) before
-    → IsRound (split_of plan) inputs before after → CoreGoesOn (split_of plan) inputs inputs before after
-round_goes_on plan inputs earlier before after valid come h r =
+pub round_goes_on : (laws : Laws) (plan : Plan) (inputs : Inputs) (earlier : List Inputs) (before after : List Taken) → IsValidWithFree plan → HaveCome plan (inputs ∷ earlier) → SoFar laws (split_of plan) (inputs ∷ earlier) before
+    → IsRound laws (split_of plan) inputs before after → CoreGoesOn laws (split_of plan) inputs inputs before after
+round_goes_on laws plan inputs earlier before after valid come h r =
     let split = split_of plan in
-    let u = under_way plan inputs earlier before valid come h in
-    let later = a_round split inputs before after (core_fits plan inputs valid (newest_fits plan inputs earlier come)) u r in
-    let well = well_in split inputs before r.streams u r.solution in
+    let u = under_way laws plan inputs earlier before valid come h in
+    let later = a_round laws split inputs before after (core_fits plan inputs valid (newest_fits plan inputs earlier come)) u r in
+    let well = well_in laws split inputs before r.streams u r.solution in
     record {
       is_job = later.job;
       sides = refl;
       extended = extend_both inputs.streams inputs.streams (outs split.free before) (outs split.free after) (all_by_themselves inputs.streams)
           (subst (λ (ts : List Taken). AreExtendedBy (outs split.free before) (outs split.free ts)) (sym r.turns)
-          (outs_extend r.streams split.free before (kept (core_job split inputs before) r.streams u.job r.solution) well));
+          (outs_extend r.streams split.free before (kept (core_job laws split inputs before) r.streams u.job r.solution) well));
     }
 
-pub batch_goes_on : (plan : Plan) (inputs more : Inputs) (earlier : List Inputs) (takens : List Taken) → IsValidWithFree plan → HaveCome plan (more ∷ inputs ∷ earlier) → SoFar (split_of plan) (inputs ∷ earlier) takens
-    → CoreGoesOn (split_of plan) inputs more takens takens
-batch_goes_on plan inputs more earlier takens valid come h =
+pub batch_goes_on : (laws : Laws) (plan : Plan) (inputs more : Inputs) (earlier : List Inputs) (takens : List Taken) → IsValidWithFree plan → HaveCome plan (more ∷ inputs ∷ earlier) → SoFar laws (split_of plan) (inputs ∷ earlier) takens
+    → CoreGoesOn laws (split_of plan) inputs more takens takens
+batch_goes_on laws plan inputs more earlier takens valid come h =
     let split = split_of plan in
-    let u = under_way plan inputs earlier takens valid come.3 h in
-    let later = a_batch split inputs more takens (core_fits plan more valid come.0) come.1 come.2 u in
+    let u = under_way laws plan inputs earlier takens valid come.3 h in
+    let later = a_batch laws split inputs more takens (core_fits plan more valid come.0) come.1 come.2 u in
     record {
       is_job = later.job;
       sides = come.1;
@@ -121,18 +122,18 @@ well_at streams (f ∷ frees) (t ∷ takens) zero free taken well at at_taken =
     subst (λ (x : FreeNode). IsWell (free_inputs streams x) x taken) (same_Some f free at) (subst (λ (x : Taken). IsWell (free_inputs streams f) f x) (same_Some t taken at_taken) well.0)
 well_at streams (f ∷ frees) (t ∷ takens) (suc i) free taken well at at_taken = well_at streams frees takens i free taken well.1 at at_taken
 
-pub may_all_turn : (plan : Plan) (inputs : Inputs) (earlier : List Inputs) (takens : List Taken) (streams : List (StreamPrefix Plain)) → IsValidWithFree plan → HaveCome plan (inputs ∷ earlier) → SoFar (split_of plan) (inputs ∷ earlier) takens
-    → IsSolution (core_job (split_of plan) inputs takens) streams → MayAllTurn streams (split_of plan).free takens
-may_all_turn plan inputs earlier takens streams valid come h solution place free taken at at_taken =
+pub may_all_turn : (laws : Laws) (plan : Plan) (inputs : Inputs) (earlier : List Inputs) (takens : List Taken) (streams : List (StreamPrefix Plain)) → IsValidWithFree plan → HaveCome plan (inputs ∷ earlier) → SoFar laws (split_of plan) (inputs ∷ earlier) takens
+    → IsSolution (core_job laws (split_of plan) inputs takens) streams → MayAllTurn streams (split_of plan).free takens
+may_all_turn laws plan inputs earlier takens streams valid come h solution place free taken at at_taken =
     let split = split_of plan in
-    let u = under_way plan inputs earlier takens valid come h in
-    let well = well_at streams split.free takens place free taken (well_in split inputs takens streams u solution) at at_taken in
+    let u = under_way laws plan inputs earlier takens valid come h in
+    let well = well_at streams split.free takens place free taken (well_in laws split inputs takens streams u solution) at at_taken in
     record {
       ports = sym (length-map free.inputs (stream_of streams)) ∙ well.ports;
       among = λ port stream at_port.
-          let each = solution_has_each (core_job split inputs takens) (job_known (core_job split inputs takens) u.job) streams solution in
+          let each = solution_has_each (core_job laws split inputs takens) (job_known (core_job laws split inputs takens) u.job) streams solution in
           let reads = reads_core plan place port stream free valid at at_port in
           omega (arith, each, reads);
-      prefixes = All-from_recursion IsPrefix (free_inputs streams free) (inputs_keep streams free.inputs (kept (core_job split inputs takens) streams u.job solution));
+      prefixes = All-from_recursion IsPrefix (free_inputs streams free) (inputs_keep streams free.inputs (kept (core_job laws split inputs takens) streams u.job solution));
       lawful = well.lawful;
     }

@@ -3,6 +3,7 @@ ghost use Rattle.std.specs.Prelude.{◌≡◌, ◌∷◌, ◌++◌, List, length
 ghost use Rattle.mg_calc.specs.declared.inputs.Inputs.{Inputs};
 ghost use Rattle.mg_calc.specs.declared.plan.Plan.{Plan};
 ghost use Rattle.mg_calc.specs.Plan.{IsValidWithFree};
+ghost use Rattle.mg_calc.specs.Rules.{Laws};
 ghost use Rattle.mg_calc.specs.Equations.{IsJob, IsSolution};
 ghost use Rattle.mg_value.specs.Payload.{Plain};
 ghost use Rattle.mg_settled.specs.Prefix.{StreamPrefix};
@@ -17,27 +18,27 @@ ghost use Rattle.mg_live.specs.SoFar.{SoFar, HaveCome, CoreGoesOn};
 /// If a round does nothing after the last batch, the rounds so far are all rounds of the run. In the solution of the core the log of
 /// each free node is then lawful, and the output of each free node is the one that its law gives for its log.
 pub fn rounds_so_far_are_rounds()
-    ensures all { (split : FreePlan) (inputs : Inputs) (earlier : List Inputs) (takens : List Taken) → SoFar split (inputs ∷ earlier) takens → IsRound split inputs takens takens
-        → AllRounds split (reverse (inputs ∷ earlier)) (none_taken split) takens }
-    ensures come { (plan : Plan) (inputs : Inputs) (earlier : List Inputs) (takens : List Taken) → IsValidWithFree plan → HaveCome plan (inputs ∷ earlier)
-        → SoFar (split_of plan) (inputs ∷ earlier) takens → IsRound (split_of plan) inputs takens takens → HasCome (split_of plan) inputs takens }
+    ensures all { (laws : Laws) (split : FreePlan) (inputs : Inputs) (earlier : List Inputs) (takens : List Taken) → SoFar laws split (inputs ∷ earlier) takens → IsRound laws split inputs takens takens
+        → AllRounds laws split (reverse (inputs ∷ earlier)) (none_taken split) takens }
+    ensures come { (laws : Laws) (plan : Plan) (inputs : Inputs) (earlier : List Inputs) (takens : List Taken) → IsValidWithFree plan → HaveCome plan (inputs ∷ earlier)
+        → SoFar laws (split_of plan) (inputs ∷ earlier) takens → IsRound laws (split_of plan) inputs takens takens → HasCome laws (split_of plan) inputs takens }
 {}
 
 /// At each point of a run, what has come to the core makes a job. After a further round, or a further batch, it makes a job whose
 /// inputs extend those before.
 pub fn rounds_go_on()
-    ensures job { (plan : Plan) (inputs : Inputs) (earlier : List Inputs) (takens : List Taken) → IsValidWithFree plan → HaveCome plan (inputs ∷ earlier) → SoFar (split_of plan) (inputs ∷ earlier) takens
-        → IsJob (core_job (split_of plan) inputs takens) }
-    ensures round { (plan : Plan) (inputs : Inputs) (earlier : List Inputs) (before after : List Taken) → IsValidWithFree plan → HaveCome plan (inputs ∷ earlier)
-        → SoFar (split_of plan) (inputs ∷ earlier) before → IsRound (split_of plan) inputs before after → CoreGoesOn (split_of plan) inputs inputs before after }
-    ensures batch { (plan : Plan) (inputs more : Inputs) (earlier : List Inputs) (takens : List Taken) → IsValidWithFree plan → HaveCome plan (more ∷ inputs ∷ earlier)
-        → SoFar (split_of plan) (inputs ∷ earlier) takens → CoreGoesOn (split_of plan) inputs more takens takens }
+    ensures job { (laws : Laws) (plan : Plan) (inputs : Inputs) (earlier : List Inputs) (takens : List Taken) → IsValidWithFree plan → HaveCome plan (inputs ∷ earlier) → SoFar laws (split_of plan) (inputs ∷ earlier) takens
+        → IsJob (core_job laws (split_of plan) inputs takens) }
+    ensures round { (laws : Laws) (plan : Plan) (inputs : Inputs) (earlier : List Inputs) (before after : List Taken) → IsValidWithFree plan → HaveCome plan (inputs ∷ earlier)
+        → SoFar laws (split_of plan) (inputs ∷ earlier) before → IsRound laws (split_of plan) inputs before after → CoreGoesOn laws (split_of plan) inputs inputs before after }
+    ensures batch { (laws : Laws) (plan : Plan) (inputs more : Inputs) (earlier : List Inputs) (takens : List Taken) → IsValidWithFree plan → HaveCome plan (more ∷ inputs ∷ earlier)
+        → SoFar laws (split_of plan) (inputs ∷ earlier) takens → CoreGoesOn laws (split_of plan) inputs more takens takens }
 {}
 
 /// In the solution for what has come to the core each free node may have its turn.
 pub fn free_nodes_may_have_their_turns()
-    ensures { (plan : Plan) (inputs : Inputs) (earlier : List Inputs) (takens : List Taken) (streams : List (StreamPrefix Plain)) → IsValidWithFree plan → HaveCome plan (inputs ∷ earlier)
-        → SoFar (split_of plan) (inputs ∷ earlier) takens → IsSolution (core_job (split_of plan) inputs takens) streams → MayAllTurn streams (split_of plan).free takens }
+    ensures { (laws : Laws) (plan : Plan) (inputs : Inputs) (earlier : List Inputs) (takens : List Taken) (streams : List (StreamPrefix Plain)) → IsValidWithFree plan → HaveCome plan (inputs ∷ earlier)
+        → SoFar laws (split_of plan) (inputs ∷ earlier) takens → IsSolution (core_job laws (split_of plan) inputs takens) streams → MayAllTurn streams (split_of plan).free takens }
 {}
 
 /// A piece that a free node hands on goes behind what it handed on before: the packets before and those of the piece are the packets of

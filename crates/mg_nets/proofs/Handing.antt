@@ -3,7 +3,7 @@ use Rattle.std.proofs.Common.{◌≡◌, ℕ, zero, suc, List, Option, Some, Non
 use Rattle.mg_calc.specs.declared.plan.Plan.{Plan}
 use Rattle.mg_calc.specs.declared.plan_node.PlanNode.{PlanNode}
 use Rattle.mg_calc.specs.Plan.{FitsNode, OutersFit}
-use Rattle.mg_calc.specs.Told.{CalculatorTold}
+use Rattle.mg_calc.specs.Told.{BoxTold}
 use Rattle.mg_sched.specs.Made.{FitsNew, BoxesFit}
 use Rattle.mg_nets.specs.Handed.{two_outers, two_tallies}
 
@@ -15,7 +15,7 @@ box_fits node (Some zero) h = record { fits = h; outer = tt }
 box_fits node (Some (suc zero)) h = record { fits = h; outer = tt }
 box_fits node (Some (suc (suc n))) h = absurd h
 
-pub boxes_fit : {X : Type 0} (told : X → CalculatorTold) (plan : Plan) (boxes two : List X) → boxes ≡ two → map told two ≡ two_tallies → OutersFit plan two_outers → BoxesFit plan (map told boxes)
+pub boxes_fit : {X : Type 0} (told : X → BoxTold) (plan : Plan) (boxes two : List X) → boxes ≡ two → map told two ≡ two_tallies → OutersFit plan two_outers → BoxesFit plan (map told boxes)
 boxes_fit {X} told plan boxes two are tell fit = subst (BoxesFit plan) (sym (ap (λ (bs : List X). map told bs) are ∙ tell)) fits
   where
     fits : BoxesFit plan two_tallies

@@ -6,7 +6,7 @@ use Rattle.mg_calc.specs.declared.law.Law.TheVariants.{Tally}
 use Rattle.mg_calc.specs.declared.shape.Shape.{Shape}
 use Rattle.mg_calc.specs.declared.shape.OuterShape.{OuterShape}
 use Rattle.mg_calc.specs.Shape.{untagged}
-use Rattle.mg_calc.specs.Told.{CalculatorTold}
+use Rattle.mg_calc.specs.Told.{BoxTold}
 
 abbrev pub tally_shape : Shape
 tally_shape = record {
@@ -22,11 +22,11 @@ abbrev pub tally_outer : OuterShape
 tally_outer = record { shape = tally_shape; law = Tally }
 
 -- what such a calculator tells before its first call
-abbrev pub new_tally : CalculatorTold
+abbrev pub new_tally : BoxTold
 new_tally = record { law = Tally; shape = tally_shape; state = []; log = Some [] }
 
 abbrev pub two_outers : List OuterShape
 two_outers = tally_outer ∷ tally_outer ∷ []
 
-abbrev pub two_tallies : List CalculatorTold
+abbrev pub two_tallies : List BoxTold
 two_tallies = new_tally ∷ new_tally ∷ []

@@ -2,6 +2,7 @@
 ghost use Rattle.std.specs.Prelude.{◌≡◌, true, IfOk};
 ghost use Rattle.mg_calc.specs.Plan.{IsValid, OutersFit};
 ghost use Rattle.mg_calc.specs.Equations.{IsJob};
+ghost use Rattle.mg_route.specs.TableLaws.{table_laws};
 ghost use Rattle.mg_sched.specs.Views.{NetView};
 ghost use Rattle.mg_sched.specs.Acts.{IsEventOf};
 ghost use Rattle.mg_nets.specs.Driven.{IsDriven, StandsOver};
@@ -27,12 +28,11 @@ pub struct Driver {
 }
 
 // Makes the net of a plan over inputs, with two calculators that are handed in. No node is begun.
-#[tactic(auto, using(crate::proofs::Driving::made_plan))]
 fn net_of(alloc: Global, plan: &Plan, inputs: &Inputs) -> Result<Net<LawBox>, Fail>
-    requires job { IsJob (record { plan = plan.now; inputs = inputs.now }) }
+    requires job { IsJob (record { plan = plan.now; inputs = inputs.now; laws = table_laws }) }
     requires fit { OutersFit plan.now two_outers }
     ensures of_plan { IfOk result (λ n. n.plan ≡ plan.now) }
-    ensures stands { IfOk result (λ n. StandsOver plan.now inputs.now n) }
+    ensures stands { IfOk result (λ n. StandsOver table_laws plan.now inputs.now n) }
 {
     let boxes = tallies(alloc)?;
     match Net::new(alloc, plan, inputs, boxes) {
@@ -43,9 +43,9 @@ fn net_of(alloc: Global, plan: &Plan, inputs: &Inputs) -> Result<Net<LawBox>, Fa
 
 // Makes the net of a plan over inputs, and begins its nodes.
 fn begun(alloc: Global, plan: &Plan, inputs: &Inputs) -> Result<Net<LawBox>, Fail>
-    requires job { IsJob (record { plan = plan.now; inputs = inputs.now }) }
+    requires job { IsJob (record { plan = plan.now; inputs = inputs.now; laws = table_laws }) }
     requires fit { OutersFit plan.now two_outers }
-    ensures { IfOk result (λ n. IsDriven plan.now inputs.now n) }
+    ensures { IfOk result (λ n. IsDriven table_laws plan.now inputs.now n) }
 {
     let mut net = net_of(alloc, plan, inputs)?;
     match net.begin() {
@@ -61,7 +61,7 @@ fn begun(alloc: Global, plan: &Plan, inputs: &Inputs) -> Result<Net<LawBox>, Fai
 fn net_over(alloc: Global, plan: &Plan, inputs: &Inputs) -> Result<Net<LawBox>, Fail>
     requires valid { IsValid plan.now }
     requires fit { OutersFit plan.now two_outers }
-    ensures { IfOk result (λ n. IsDriven plan.now inputs.now n) }
+    ensures { IfOk result (λ n. IsDriven table_laws plan.now inputs.now n) }
 {
     if !do_fit(plan, inputs) {
         return Err(Fail::from("inputs don't fit"));
@@ -73,7 +73,7 @@ fn net_over(alloc: Global, plan: &Plan, inputs: &Inputs) -> Result<Net<LawBox>, 
 pub fn driver_over(alloc: Global, plan: Plan, inputs: Inputs) -> Result<Driver, Fail>
     requires valid { IsValid plan }
     requires fit { OutersFit plan two_outers }
-    ensures { IfOk result (λ d. IsDriven d.plan d.inputs d.net) }
+    ensures { IfOk result (λ d. IsDriven table_laws d.plan d.inputs d.net) }
 {
     match net_over(alloc, &plan, &inputs) {
         Ok(net) => Ok(Driver { plan, inputs, net }),
@@ -87,7 +87,7 @@ pub fn driver_over(alloc: Global, plan: Plan, inputs: Inputs) -> Result<Driver, 
 
 /// Makes the net of a graph over packet lines, and begins its nodes.
 pub fn driver_of(alloc: Global, graph: &str, lines: &str) -> Result<Driver, Fail>
-    ensures { IfOk result (λ d. IsDriven d.plan d.inputs d.net) }
+    ensures { IfOk result (λ d. IsDriven table_laws d.plan d.inputs d.net) }
 {
     let plan = plan_of(alloc, graph)?;
     match inputs_of(alloc, &plan, lines, true) {
@@ -120,8 +120,8 @@ fn is_event_of(plan: &Plan, event: Event) -> bool
 
 /// Makes a step, and returns its effect. An event of a node or an edge that isn't there is an error.
 pub fn act(driver: &mut Driver, event: Event) -> Result<Effect, Fail>
-    requires { IsDriven driver.old.plan driver.old.inputs driver.old.net }
-    ensures { IsDriven driver.new.plan driver.new.inputs driver.new.net }
+    requires { IsDriven table_laws driver.old.plan driver.old.inputs driver.old.net }
+    ensures { IsDriven table_laws driver.new.plan driver.new.inputs driver.new.net }
 {
     if !is_event_of(&driver.plan, event) {
         return Err(Fail::from("no such node or edge"));
@@ -131,8 +131,8 @@ pub fn act(driver: &mut Driver, event: Event) -> Result<Effect, Fail>
 
 /// Makes steps until none would do anything, each Process call through a gate. Each step that does something is told to the hearer.
 pub fn sweep<G: Gate, H: Hears>(driver: &mut Driver, gate: &G, hearer: &mut H) -> Result<(), Fail>
-    requires { IsDriven driver.old.plan driver.old.inputs driver.old.net }
-    ensures { IsDriven driver.new.plan driver.new.inputs driver.new.net }
+    requires { IsDriven table_laws driver.old.plan driver.old.inputs driver.old.net }
+    ensures { IsDriven table_laws driver.new.plan driver.new.inputs driver.new.net }
 {
     match driver.net.sweep(gate, hearer) {
         Ok(()) => Ok(()),
@@ -142,8 +142,8 @@ pub fn sweep<G: Gate, H: Hears>(driver: &mut Driver, gate: &G, hearer: &mut H) -
 
 /// Takes the next set of the graph's outputs, if there is one.
 pub(crate) fn take_out(alloc: Global, driver: &mut Driver) -> Result<Option<InputSet>, Fail>
-    requires { IsDriven driver.old.plan driver.old.inputs driver.old.net }
-    ensures { IsDriven driver.new.plan driver.new.inputs driver.new.net }
+    requires { IsDriven table_laws driver.old.plan driver.old.inputs driver.old.net }
+    ensures { IsDriven table_laws driver.new.plan driver.new.inputs driver.new.net }
 {
     let mut set = InputSet::new(alloc, driver.plan.outputs.len())?;
     if driver.net.take_out(&mut set) {
@@ -154,8 +154,8 @@ pub(crate) fn take_out(alloc: Global, driver: &mut Driver) -> Result<Option<Inpu
 
 /// Gives up the packets that have come along all edges of their streams.
 pub fn trim(driver: &mut Driver)
-    requires { IsDriven driver.old.plan driver.old.inputs driver.old.net }
-    ensures { IsDriven driver.new.plan driver.new.inputs driver.new.net }
+    requires { IsDriven table_laws driver.old.plan driver.old.inputs driver.old.net }
+    ensures { IsDriven table_laws driver.new.plan driver.new.inputs driver.new.net }
 {
     driver.net.trim();
 }
@@ -172,7 +172,7 @@ pub(crate) fn report(alloc: Global, driver: &Driver) -> Result<Report, Fail> {
 
 /// Winds the net up.
 pub(crate) fn wind_up(driver: &mut Driver) -> Result<(), Fail>
-    requires { IsDriven driver.old.plan driver.old.inputs driver.old.net }
+    requires { IsDriven table_laws driver.old.plan driver.old.inputs driver.old.net }
 {
     Ok(driver.net.wind_up()?)
 }

@@ -1,4 +1,5 @@
 //! What comes out of a net, what it tells, and what it gives back at its end.
+ghost use Rattle.mg_route.specs.TableLaws.{table_laws};
 ghost use Rattle.mg_nets.specs.Driven.{IsDriven};
 
 use crate::driver::{Driver, held, report, take_out, trim, wind_up};
@@ -9,8 +10,8 @@ use std::test::Fail;
 
 /// Takes all sets of the graph's outputs that are there, and shows them, a blank behind each. 2,000 sets or more are an error.
 pub fn all_taken(alloc: Global, driver: &mut Driver) -> Result<String, Fail>
-    requires { IsDriven driver.old.plan driver.old.inputs driver.old.net }
-    ensures { IsDriven driver.new.plan driver.new.inputs driver.new.net }
+    requires { IsDriven table_laws driver.old.plan driver.old.inputs driver.old.net }
+    ensures { IsDriven table_laws driver.new.plan driver.new.inputs driver.new.net }
 {
     let mut shown = String::new(alloc);
     for _ in 0..2000u32 {
@@ -30,8 +31,8 @@ pub fn told(alloc: Global, driver: &Driver) -> Result<String, Fail> {
 
 /// Shows what comes out of a net at rest; and then, once all packets are given up that can be, how many are in it, and how far it has come.
 pub(crate) fn come_out(alloc: Global, driver: &mut Driver) -> Result<String, Fail>
-    requires { IsDriven driver.old.plan driver.old.inputs driver.old.net }
-    ensures { IsDriven driver.new.plan driver.new.inputs driver.new.net }
+    requires { IsDriven table_laws driver.old.plan driver.old.inputs driver.old.net }
+    ensures { IsDriven table_laws driver.new.plan driver.new.inputs driver.new.net }
 {
     let sets = all_taken(alloc, driver)?;
     trim(driver);
@@ -42,7 +43,7 @@ pub(crate) fn come_out(alloc: Global, driver: &mut Driver) -> Result<String, Fai
 
 // Winds a net up, and shows what it tells then.
 fn told_wound_up(alloc: Global, driver: &mut Driver) -> Result<String, Fail>
-    requires { IsDriven driver.old.plan driver.old.inputs driver.old.net }
+    requires { IsDriven table_laws driver.old.plan driver.old.inputs driver.old.net }
 {
     wind_up(driver)?;
     told(alloc, driver)
@@ -61,7 +62,7 @@ fn given_back(alloc: Global, driver: Driver) -> Result<String, Fail> {
 
 /// Winds a net up, and shows what it tells then, and the calls of the calculators that come back.
 pub(crate) fn ended(alloc: Global, driver: Driver) -> Result<(String, String), Fail>
-    requires { IsDriven driver.plan driver.inputs driver.net }
+    requires { IsDriven table_laws driver.plan driver.inputs driver.net }
 {
     let mut driver = driver;
     match told_wound_up(alloc, &mut driver) {

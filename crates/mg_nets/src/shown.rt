@@ -1,5 +1,5 @@
 //! How what a net gives and tells is written in tables: a packet as its number, `@` and its timestamp.
-use mg_calc::{Calculator, Call, CallList, NodeFault, Phase};
+use mg_calc::{Call, CallList, NodeCalculator, NodeFault, Phase};
 use mg_route::LawBox;
 use mg_sched::Report;
 use mg_settled::StreamEnd;

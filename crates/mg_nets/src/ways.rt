@@ -1,5 +1,6 @@
 //! Nets that are driven in some way, and what they have to come to. What drives a net has it by `&mut`, and what owns it here drops it, so
 //! that no crate of tests proves how it is dropped.
+ghost use Rattle.mg_route.specs.TableLaws.{table_laws};
 ghost use Rattle.std.specs.Prelude.{IfOk};
 ghost use Rattle.mg_nets.specs.Driven.{IsDriven};
 
@@ -16,13 +17,13 @@ use std::test::Fail;
 pub trait Way {
     /// Drives a net.
     fn drive(&mut self, alloc: Global, driver: &mut Driver) -> Result<(), Fail>
-        requires { IsDriven driver.old.plan driver.old.inputs driver.old.net }
-        ensures { IsDriven driver.new.plan driver.new.inputs driver.new.net };
+        requires { IsDriven table_laws driver.old.plan driver.old.inputs driver.old.net }
+        ensures { IsDriven table_laws driver.new.plan driver.new.inputs driver.new.net };
 }
 
 /// Makes the net of a case under a limit of its queues, and begins its nodes.
 pub fn driver_under(alloc: Global, case: &Case, limit: i32) -> Result<Driver, Fail>
-    ensures { IfOk result (λ d. IsDriven d.plan d.inputs d.net) }
+    ensures { IfOk result (λ d. IsDriven table_laws d.plan d.inputs d.net) }
 {
     let graph = limited(alloc, limit, case.graph)?;
     driver_of(alloc, graph.as_str(), case.lines)
@@ -30,8 +31,8 @@ pub fn driver_under(alloc: Global, case: &Case, limit: i32) -> Result<Driver, Fa
 
 /// Drives a net in a way, and returns it. Where the way fails, the net is dropped.
 pub fn driven<W: Way>(alloc: Global, driver: Driver, way: &mut W) -> Result<Driver, Fail>
-    requires { IsDriven driver.plan driver.inputs driver.net }
-    ensures { IfOk result (λ d. IsDriven d.plan d.inputs d.net) }
+    requires { IsDriven table_laws driver.plan driver.inputs driver.net }
+    ensures { IfOk result (λ d. IsDriven table_laws d.plan d.inputs d.net) }
 {
     let mut driver = driver;
     match way.drive(alloc, &mut driver) {
@@ -45,7 +46,7 @@ pub fn driven<W: Way>(alloc: Global, driver: Driver, way: &mut W) -> Result<Driv
 
 // Sweeps a net, and shows what comes out of it.
 fn come_out_swept(alloc: Global, driver: &mut Driver) -> Result<String, Fail>
-    requires { IsDriven driver.old.plan driver.old.inputs driver.old.net }
+    requires { IsDriven table_laws driver.old.plan driver.old.inputs driver.old.net }
 {
     sweep(driver, &StillGate, &mut Deaf)?;
     come_out(alloc, driver)
@@ -62,7 +63,7 @@ pub fn swept(alloc: Global, case: &Case) -> Result<String, Fail> {
 /// Drives a net to rest in a way, and expects what is wanted to come out of it. Then winds it up, and expects it to tell the same as
 /// before, and to give its calculators back in their order, with the calls that are wanted.
 pub fn expect<W: Way>(alloc: Global, driver: Driver, way: &mut W, case: &Case) -> Result<(), Fail>
-    requires { IsDriven driver.plan driver.inputs driver.net }
+    requires { IsDriven table_laws driver.plan driver.inputs driver.net }
 {
     let mut driver = driven(alloc, driver, way)?;
     match expect_rest(alloc, &mut driver, case) {
@@ -76,8 +77,8 @@ pub fn expect<W: Way>(alloc: Global, driver: Driver, way: &mut W, case: &Case) -
 
 // Expects what is wanted to come out of a net at rest, and returns what the net tells.
 fn expect_rest(alloc: Global, driver: &mut Driver, case: &Case) -> Result<String, Fail>
-    requires { IsDriven driver.old.plan driver.old.inputs driver.old.net }
-    ensures { IsDriven driver.new.plan driver.new.inputs driver.new.net }
+    requires { IsDriven table_laws driver.old.plan driver.old.inputs driver.old.net }
+    ensures { IsDriven table_laws driver.new.plan driver.new.inputs driver.new.net }
 {
     let shown = come_out(alloc, driver)?;
     if is_wanted(case, shown.as_str()) {
@@ -88,7 +89,7 @@ fn expect_rest(alloc: Global, driver: &mut Driver, case: &Case) -> Result<String
 
 // Expects this of what a net tells once it is wound up, and of the calls of the calculators that come back.
 fn expect_end(alloc: Global, driver: Driver, told: &str, calls: &str) -> Result<(), Fail>
-    requires { IsDriven driver.plan driver.inputs driver.net }
+    requires { IsDriven table_laws driver.plan driver.inputs driver.net }
 {
     let (told_then, calls_then) = ended(alloc, driver)?;
     if told_then.as_str() == told && calls_then.as_str() == calls {

@@ -12,6 +12,7 @@ use Rattle.mg_settled.proofs.Lemmas.{reach-most, loopback_is_prefix}
 use Rattle.mg_stream.specs.Pool.{Backlog}
 use Rattle.mg_loopback.specs.Loopback.{reached}
 use Rattle.mg_loopback.specs.Standing.{after_replies}
+use Rattle.mg_calc.specs.Rules.{Laws}
 use Rattle.mg_calc.specs.declared.law.Law.{Law}
 use Rattle.mg_calc.specs.declared.law.Law.TheVariants.{Count, SideOnce, Constants, Loopback}
 use Rattle.mg_calc.specs.declared.node_fault.Phase.{Phase}
@@ -41,7 +42,7 @@ use Rattle.mg_node.proofs.Closing.{no_fault, second_not}
 use Rattle.mg_node.proofs.Giving.{with_outputs}
 use Rattle.mg_node.proofs.NodeSolution.{node_streams}
 use Rattle.mg_node.proofs.NothingBelow.{NoneBelow, none_comes_below, none_left_below, until_least, Tells, answers_tell}
-use Rattle.mg_node.proofs.Performing.{of_node as at_node}
+use Rattle.mg_node.proofs.HeldRules.{of_node as at_node}
 use Rattle.mg_node.proofs.RaisedOutputs.{IsUnder, MayRise, all_between, raised_under, raised_engine}
 use Rattle.mg_node.proofs.Stages.{IsCalled, called_offset}
 use Rattle.mg_node.proofs.StageStreams.{node_known, raised_stage_extended}
@@ -62,9 +63,9 @@ called_role Loopback calls e = absurd cc
 called_role law calls e = absurd cc
 
 -- A node that is shown sets.
-sets_rise : (job : LoggedJob) (number : ℕ) (engine : EngineView) (h : IsEngineOf job number engine) (w : Pending) (offset : ℤ) → engine.role ≡ SetsRole → engine.offset ≡ Some offset → engine.closed ≡ false → (stage job.job h.streams h.node engine.laid).fault ≡ None
+sets_rise : {laws : Laws} (job : LoggedJob laws) (number : ℕ) (engine : EngineView) (h : IsEngineOf job number engine) (w : Pending) (offset : ℤ) → engine.role ≡ SetsRole → engine.offset ≡ Some offset → engine.closed ≡ false → (stage job.job h.streams h.node engine.laid).fault ≡ None
     → HoldsWaits job h.streams number engine.claimed w → MayRise (shift (until_claimed engine.window (horizon_of w)) offset) h.whole (streams_at h.streams h.node.outputs)
-sets_rise job number engine h w offset role offset_is going good holds =
+sets_rise {laws} job number engine h w offset role offset_is going good holds =
     let role_is : role_of h.node.law ≡ SetsRole = sym h.set_up.role ∙ role in
     let outer = outer_role h.node.law role_is in
     let known = node_known job h.streams number h.node h.solves h.there in
@@ -106,10 +107,10 @@ under_one b u base [] same le r = absurd r
 under_one b u base (w ∷ []) same le r = ((r.0.packets ∙ same, le), tt)
 under_one b u base (w ∷ x ∷ ws) same le r = absurd r.1
 
-loop_rises_by : (job : LoggedJob) (number : ℕ) (engine : EngineView) (h : IsEngineOf job number engine) (w : Pending) → engine.role ≡ LoopRole → engine.closed ≡ false → HoldsWaits job h.streams number engine.claimed w
+loop_rises_by : {laws : Laws} (job : LoggedJob laws) (number : ℕ) (engine : EngineView) (h : IsEngineOf job number engine) (w : Pending) → engine.role ≡ LoopRole → engine.closed ≡ false → HoldsWaits job h.streams number engine.claimed w
     → MayRise (until_claimed engine.window (horizon_of w)) h.whole (streams_at h.streams h.node.outputs)
-loop_rises_by job number engine h (Sets inbox) role going holds = absurd (holds.0 (ap (λ (o : Option PlanNode). option_map (λ n. n.law) o) h.there ∙ ap Some (loop_law h.node.law (sym h.set_up.role ∙ role))))
-loop_rises_by job number engine h (Loop held) role going holds =
+loop_rises_by {laws} job number engine h (Sets inbox) role going holds = absurd (holds.0 (ap (λ (o : Option PlanNode). option_map (λ n. n.law) o) h.there ∙ ap Some (loop_law h.node.law (sym h.set_up.role ∙ role))))
+loop_rises_by {laws} job number engine h (Loop held) role going holds =
     let law : h.node.law ≡ Loopback = loop_law h.node.law (sym h.set_up.role ∙ role) in
     let b = until_claimed engine.window (reached held) in
     let main = main_of h.streams h.node in
@@ -143,7 +144,7 @@ going_by false o b e = (refl, e)
 some_same : (a b : ℕ) → Some a ≡ Some b → a ≡ b
 some_same a b e = cc
 
-module _ (job : LoggedJob) (number : ℕ) (engine : EngineView) (intake : IntakeView) (h : IsEngineOf job number engine) (i : IsIntakeOf job number intake) (going : engine.closed ≡ false) (good : (stage job.job h.streams h.node engine.laid).fault ≡ None) where
+module _ {laws : Laws} (job : LoggedJob laws) (number : ℕ) (engine : EngineView) (intake : IntakeView) (h : IsEngineOf job number engine) (i : IsIntakeOf job number intake) (going : engine.closed ≡ false) (good : (stage job.job h.streams h.node engine.laid).fault ≡ None) where
   holds_too : engine.claimed ≡ intake.claimed → HoldsWaits job h.streams number engine.claimed intake.waits
   holds_too agree =
       let same : i.streams ≡ h.streams = one_solution job.job i.streams h.streams i.solves.solution h.solves.solution in
@@ -169,19 +170,19 @@ module _ (job : LoggedJob) (number : ℕ) (engine : EngineView) (intake : Intake
       (loop_rises_by job number engine h intake.waits role going (holds_too agree))
   rise_by SetsRole b role agree is = sets_rise_by engine.offset b role refl agree is
 
-may_rise : (job : LoggedJob) (number : ℕ) (engine : EngineView) (intake : IntakeView) (b : ℕ) (h : IsEngineOf job number engine) → IsIntakeOf job number intake → Agree engine intake → advance_bound engine intake.waits ≡ Some b → MayRise b h.whole (streams_at h.streams h.node.outputs)
-may_rise job number engine intake b h i agree is =
+may_rise : {laws : Laws} (job : LoggedJob laws) (number : ℕ) (engine : EngineView) (intake : IntakeView) (b : ℕ) (h : IsEngineOf job number engine) → IsIntakeOf job number intake → Agree engine intake → advance_bound engine intake.waits ≡ Some b → MayRise b h.whole (streams_at h.streams h.node.outputs)
+may_rise {laws} job number engine intake b h i agree is =
     let goes = going_by (has_ended engine) (raised_by engine.role engine.offset (until_claimed engine.window (horizon_of intake.waits))) b is in
     let on = second_not engine.closed (is_some engine.fault) goes.0 in
     let good : (stage job.job h.streams h.node engine.laid).fault ≡ None =
     no_fault engine.fault (stage job.job h.streams h.node engine.laid).fault number on.1 (h.fault ∙ ap (λ (c : Bool). option_map (λ f. record { node = number; phase = f.phase; cause = f.cause }) (come_to job h.streams h.node engine.laid c).fault) on.0) in
     rise_by job number engine intake h i on.0 good engine.role b refl agree goes.1
 
-advanced_by : (job : LoggedJob) (number : ℕ) (engine : EngineView) (intake : IntakeView) (o : Option ℕ) → IsEngineOf job number engine → IsIntakeOf job number intake → Agree engine intake → advance_bound engine intake.waits ≡ o
+advanced_by : {laws : Laws} (job : LoggedJob laws) (number : ℕ) (engine : EngineView) (intake : IntakeView) (o : Option ℕ) → IsEngineOf job number engine → IsIntakeOf job number intake → Agree engine intake → advance_bound engine intake.waits ≡ o
     → IsEngineOf job number (record engine { outputs = map (raised_output o) engine.outputs })
-advanced_by job number engine intake None h i agree is = subst (λ (os : List (Backlog Plain)). IsEngineOf job number (with_outputs engine os)) (sym (raised_none engine.outputs)) h
-advanced_by job number engine intake (Some b) h i agree is = raised_engine job number engine b h (may_rise job number engine intake b h i agree is)
+advanced_by {laws} job number engine intake None h i agree is = subst (λ (os : List (Backlog Plain)). IsEngineOf job number (with_outputs engine os)) (sym (raised_none engine.outputs)) h
+advanced_by {laws} job number engine intake (Some b) h i agree is = raised_engine job number engine b h (may_rise job number engine intake b h i agree is)
 
-pub advance_lawful : (job : LoggedJob) (number : ℕ) (engine : EngineView) (intake : IntakeView) → LawfulEngine job (of_node number) engine → LawfulIntake job number intake → Agree engine intake → LawfulEngine job (of_node number) (advanced engine intake.waits)
+pub advance_lawful : {laws : Laws} (job : LoggedJob laws) (number : ℕ) (engine : EngineView) (intake : IntakeView) → LawfulEngine job (of_node number) engine → LawfulIntake job number intake → Agree engine intake → LawfulEngine job (of_node number) (advanced engine intake.waits)
 unfolding LawfulEngine LawfulIntake
-advance_lawful job number engine intake h i agree = advanced_by job number engine intake (advance_bound engine intake.waits) h i agree refl
+advance_lawful {laws} job number engine intake h i agree = advanced_by job number engine intake (advance_bound engine intake.waits) h i agree refl

@@ -14,6 +14,7 @@ use Rattle.mg_stream.specs.Pool.{Backlog, queue_of}
 use Rattle.mg_stream.proofs.QueueSteps.{stands_appended}
 use Rattle.mg_loopback.specs.Loopback.{Held, next_reply, replied}
 use Rattle.mg_loopback.proofs.Standing.{answer_counts}
+use Rattle.mg_calc.specs.Rules.{Laws}
 use Rattle.mg_calc.specs.declared.law.Law.{Law}
 use Rattle.mg_calc.specs.declared.law.Law.TheVariants.{Loopback}
 use Rattle.mg_calc.specs.declared.call.Call.{Call}
@@ -56,9 +57,9 @@ pub record LaysOne (engine : EngineView) (stream : StreamPrefix Plain) (main loo
   pub raised : AllZip IsRaised (answered (k + 1) main loop ∷ []) (w ∷ [])
   pub extended : AreExtendedBy (w ∷ []) (stream ∷ [])
 
-lays_packet : (job : LoggedJob) (engine : EngineView) (stream w main loop : StreamPrefix Plain) (k : ℕ) (r : Reply Plain) (p : Stamped Plain) → HasOne job engine stream w k main loop → GoesOn stream w p → slice_get (replies main loop) k ≡ Some r → packet_of r ≡ Some p
+lays_packet : {laws : Laws} (job : LoggedJob laws) (engine : EngineView) (stream w main loop : StreamPrefix Plain) (k : ℕ) (r : Reply Plain) (p : Stamped Plain) → HasOne job engine stream w k main loop → GoesOn stream w p → slice_get (replies main loop) k ≡ Some r → packet_of r ≡ Some p
     → LaysOne engine stream main loop (Some p) k
-lays_packet job engine stream w main loop k r p one go at is =
+lays_packet {laws} job engine stream w main loop k r p one go at is =
     let base = base_packet main loop k r p at is in
     record {
       w = appended w p;
@@ -74,9 +75,9 @@ lays_packet job engine stream w main loop k r p one go at is =
       extended = (go.extended, tt);
     }
 
-lays_nothing : (job : LoggedJob) (number : ℕ) (engine : EngineView) (stream w main loop : StreamPrefix Plain) (k : ℕ) (r : Reply Plain) → HasOne job engine stream w k main loop → (answered k main loop).bound ≤ w.bound → slice_get (replies main loop) k ≡ Some r → packet_of r ≡ None
+lays_nothing : {laws : Laws} (job : LoggedJob laws) (number : ℕ) (engine : EngineView) (stream w main loop : StreamPrefix Plain) (k : ℕ) (r : Reply Plain) → HasOne job engine stream w k main loop → (answered k main loop).bound ≤ w.bound → slice_get (replies main loop) k ≡ Some r → packet_of r ≡ None
     → LaysOne engine stream main loop None k
-lays_nothing job number engine stream w main loop k r one low at is =
+lays_nothing {laws} job number engine stream w main loop k r one low at is =
     let base = base_silent main loop k r at is in
     record {
       w = w;
@@ -101,8 +102,8 @@ calls_same law streams node m n is = subst (λ (l : Law). calls_before_by l stre
 count_replies : (law : Law) (job : Job) (streams : List (StreamPrefix Plain)) (node : PlanNode) → law ≡ Loopback → (outcome_by law job streams node).taken ≡ length (replies (main_of streams node) (loop_of streams node))
 count_replies law job streams node is = subst (λ (l : Law). (outcome_by l job streams node).taken ≡ length (replies (main_of streams node) (loop_of streams node))) (sym is) refl
 
-idle_on : (job : LoggedJob) (streams : List (StreamPrefix Plain)) (node : PlanNode) (laid : ℕ) (closed : Bool) → node.law ≡ Loopback → closed ≡ false → (context : ContextView) → IsIdle job streams node laid closed context → IsIdle job streams node (laid + 1) closed context
-idle_on job streams node laid closed law going context idle = record {
+idle_on : {laws : Laws} (job : LoggedJob laws) (streams : List (StreamPrefix Plain)) (node : PlanNode) (laid : ℕ) (closed : Bool) → node.law ≡ Loopback → closed ≡ false → (context : ContextView) → IsIdle job streams node laid closed context → IsIdle job streams node (laid + 1) closed context
+idle_on {laws} job streams node laid closed law going context idle = record {
   fits = idle.fits;
   places = idle.places;
   state = idle.state ∙ ap (λ (b : Bool). (come_to job streams node laid b).state) going ∙ stage_state node.law job.job streams node laid law ∙ sym (stage_state node.law job.job streams node (laid + 1) law) ∙ ap (λ (b : Bool). (come_to job streams node (laid + 1) b).state) (sym going);
@@ -110,10 +111,10 @@ idle_on job streams node laid closed law going context idle = record {
       ∙ ap (λ (b : Bool). log_after job node (calls_by streams node (laid + 1) b)) (sym going);
 }
 
-lays_by : (job : LoggedJob) (number : ℕ) (engine : EngineView) (held : Held Plain) (r : Reply Plain) (cell : IsLoopCell job number engine held)
+lays_by : {laws : Laws} (job : LoggedJob laws) (number : ℕ) (engine : EngineView) (held : Held Plain) (r : Reply Plain) (cell : IsLoopCell job number engine held)
     → slice_get (replies (main_of cell.engine_is.streams cell.engine_is.node) (loop_of cell.engine_is.streams cell.engine_is.node)) engine.laid ≡ Some r → (answer : Option (Stamped Plain)) → packet_of r ≡ answer
     → LaysOne engine (loopback (main_of cell.engine_is.streams cell.engine_is.node) (loop_of cell.engine_is.streams cell.engine_is.node)) (main_of cell.engine_is.streams cell.engine_is.node) (loop_of cell.engine_is.streams cell.engine_is.node) answer engine.laid
-lays_by job number engine held r cell at (Some p) is =
+lays_by {laws} job number engine held r cell at (Some p) is =
     let h = cell.engine_is in
     let main = main_of h.streams h.node in
     let loop = loop_of h.streams h.node in
@@ -121,16 +122,16 @@ lays_by job number engine held r cell at (Some p) is =
     let parts = parts_of (replies main loop) engine.laid r p at is in
     let go = follows (loopback main loop) one.0 p parts.0 (stream_is job number engine held cell) one.1.extended (parts.1 ∙ ap (λ (ps : List (Stamped Plain)). ps ++ p ∷ parts.0) (sym one.1.packets)) in
     lays_packet job engine (loopback main loop) one.0 main loop engine.laid r p one.1 go at is
-lays_by job number engine held r cell at None is =
+lays_by {laws} job number engine held r cell at None is =
     let h = cell.engine_is in
     let main = main_of h.streams h.node in
     let loop = loop_of h.streams h.node in
     let one = one_of job number engine held cell in
     lays_nothing job number engine (loopback main loop) one.0 main loop engine.laid r one.1 one.1.low at is
 
-answered_engine : (job : LoggedJob) (number : ℕ) (engine : EngineView) (held : Held Plain) (r : Reply Plain) (cell : IsLoopCell job number engine held) → next_reply held ≡ Some r
+answered_engine : {laws : Laws} (job : LoggedJob laws) (number : ℕ) (engine : EngineView) (held : Held Plain) (r : Reply Plain) (cell : IsLoopCell job number engine held) → next_reply held ≡ Some r
     → IsEngineOf job number (record engine { claimed = engine.claimed + 1; laid = engine.laid + 1; outputs = with_answer (packet_of r) engine.outputs })
-answered_engine job number engine held r cell next =
+answered_engine {laws} job number engine held r cell next =
     let h = cell.engine_is in
     let main = main_of h.streams h.node in
     let loop = loop_of h.streams h.node in
@@ -169,8 +170,8 @@ answered_engine job number engine held r cell next =
     }
 
 -- an intake that has answered
-answered_intake : (job : LoggedJob) (number : ℕ) (intake : IntakeView) (held : Held Plain) (r : Reply Plain) → IsIntakeOf job number intake → intake.waits ≡ Loop held → next_reply held ≡ Some r → IsIntakeOf job number (record { claimed = intake.claimed + 1; waits = Loop (replied held) })
-answered_intake job number intake held r i waits next =
+answered_intake : {laws : Laws} (job : LoggedJob laws) (number : ℕ) (intake : IntakeView) (held : Held Plain) (r : Reply Plain) → IsIntakeOf job number intake → intake.waits ≡ Loop held → next_reply held ≡ Some r → IsIntakeOf job number (record { claimed = intake.claimed + 1; waits = Loop (replied held) })
+answered_intake {laws} job number intake held r i waits next =
     let holds : HoldsWaits job i.streams number intake.claimed (Loop held) = subst (λ (w : Pending). HoldsWaits job i.streams number intake.claimed w) waits i.holds in
     let h = holds.1 in
     record {
@@ -180,10 +181,10 @@ answered_intake job number intake held r i waits next =
       holds = (holds.0, record { main = h.main; loop = h.loop; extended = h.extended; stands = answer_counts intake.claimed held h.main h.loop h.stands (ap is_some next) });
     }
 
-pub answered_lawful : (job : LoggedJob) (number : ℕ) (engine engine_now : EngineView) (intake intake_now : IntakeView) → LawfulEngine job (of_node number) engine → LawfulIntake job number intake → AgreeBy engine.role engine.claimed intake.claimed → MayClaim engine
+pub answered_lawful : {laws : Laws} (job : LoggedJob laws) (number : ℕ) (engine engine_now : EngineView) (intake intake_now : IntakeView) → LawfulEngine job (of_node number) engine → LawfulIntake job number intake → AgreeBy engine.role engine.claimed intake.claimed → MayClaim engine
     → TakesAnswer engine engine_now intake intake_now → LawfulEngine job (of_node number) engine_now × LawfulIntake job number intake_now
 unfolding LawfulEngine LawfulIntake
-answered_lawful job number engine engine_now intake intake_now h i agree may t = (
+answered_lawful {laws} job number engine engine_now intake intake_now h i agree may t = (
   subst (λ (e : EngineView). IsEngineOf job number e) (sym t.now) (answered_engine job number engine t.held t.reply (loop_cell_by job number engine intake t.held h i agree t.role t.waits may) t.next),
   subst (λ (v : IntakeView). IsIntakeOf job number v) (sym t.intake_is) (answered_intake job number intake t.held t.reply i t.waits t.next),
 )

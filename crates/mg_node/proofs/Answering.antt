@@ -12,6 +12,7 @@ use Rattle.mg_stream.specs.Queue.{Waiting, StandsFor, MayCome}
 use Rattle.mg_stream.specs.Pool.{Backlog, queue_of}
 use Rattle.mg_loopback.specs.Loopback.{Held, next_reply}
 use Rattle.mg_loopback.proofs.Standing.{next_is}
+use Rattle.mg_calc.specs.Rules.{Laws}
 use Rattle.mg_calc.specs.declared.law.Law.{Law}
 use Rattle.mg_calc.specs.declared.law.Law.TheVariants.{Count, SideOnce, Constants, Loopback}
 use Rattle.mg_calc.specs.declared.plan_node.PlanNode.{PlanNode}
@@ -31,7 +32,7 @@ use Rattle.mg_node.specs.Lawful.{is_close, HoldsLoop, HoldsWaits, LawfulIntake, 
 use Rattle.mg_node.specs.Claims.{MayClaim}
 use Rattle.mg_node.proofs.Delivering.{GoesOn, goes_on_by, counted}
 use Rattle.mg_node.proofs.NodeSolution.{node_streams}
-use Rattle.mg_node.proofs.Performing.{of_node as at_node}
+use Rattle.mg_node.proofs.HeldRules.{of_node as at_node}
 
 -- a role of loopbacks is the law's
 pub loop_law : (law : Law) → role_of law ≡ LoopRole → law ≡ Loopback
@@ -76,7 +77,7 @@ may_come_by q s p h may = record {
 }
 
 -- what a cell of a loopback is: nothing is claimed that isn't laid, and its output is the loopback's stream so far
-pub record IsLoopCell (job : LoggedJob) (number : ℕ) (engine : EngineView) (held : Held Plain) : Type 0 where
+pub record IsLoopCell {laws : Laws} (job : LoggedJob laws) (number : ℕ) (engine : EngineView) (held : Held Plain) : Type 0 where
   pub engine_is : IsEngineOf job number engine
   pub law : engine_is.node.law ≡ Loopback
   pub holds : HoldsLoop job engine_is.streams number engine.laid held
@@ -92,10 +93,10 @@ not_both : (a b : Bool) → (a || b) ≡ false → a ≡ false
 not_both false b e = refl
 not_both true b e = absurd cc
 
-pub loop_cell_by : (job : LoggedJob) (number : ℕ) (engine : EngineView) (intake : IntakeView) (held : Held Plain) → LawfulEngine job (of_node number) engine → LawfulIntake job number intake → AgreeBy engine.role engine.claimed intake.claimed → engine.role ≡ LoopRole → intake.waits ≡ Loop held → MayClaim engine
+pub loop_cell_by : {laws : Laws} (job : LoggedJob laws) (number : ℕ) (engine : EngineView) (intake : IntakeView) (held : Held Plain) → LawfulEngine job (of_node number) engine → LawfulIntake job number intake → AgreeBy engine.role engine.claimed intake.claimed → engine.role ≡ LoopRole → intake.waits ≡ Loop held → MayClaim engine
     → IsLoopCell job number engine held
 unfolding LawfulEngine LawfulIntake
-loop_cell_by job number engine intake held h i agree role waits may =
+loop_cell_by {laws} job number engine intake held h i agree role waits may =
     let law : h.node.law ≡ Loopback = loop_law h.node.law (sym h.set_up.role ∙ role) in
     let shape : IsShapeOf h.node.law h.node.shape = at_node (λ (m : PlanNode). IsShapeOf m.law m.shape) job.job.plan.nodes number h.node h.solves.is_job.plan.shapes h.there in
     let flight : FlightFits h.node = at_node FlightFits job.job.plan.nodes number h.node h.solves.is_job.plan.flights h.there in
@@ -125,7 +126,7 @@ pub loop_stage : (law : Law) (job : Job) (streams : List (StreamPrefix Plain)) (
 loop_stage law job streams node n is = subst (λ (l : Law). (stage_by l job streams node n).outputs ≡ answered n (main_of streams node) (loop_of streams node) ∷ []) (sym is) refl
 
 -- its one output
-pub record HasOne (job : LoggedJob) (engine : EngineView) (stream w : StreamPrefix Plain) (k : ℕ) (main loop : StreamPrefix Plain) : Type 0 where
+pub record HasOne {laws : Laws} (job : LoggedJob laws) (engine : EngineView) (stream w : StreamPrefix Plain) (k : ℕ) (main loop : StreamPrefix Plain) : Type 0 where
   pub output : Backlog Plain
   pub outputs : engine.outputs ≡ output ∷ []
   pub stands : StandsFor (queue_of 0 output) w
@@ -133,9 +134,9 @@ pub record HasOne (job : LoggedJob) (engine : EngineView) (stream w : StreamPref
   pub low : (answered k main loop).bound ≤ w.bound
   pub extended : IsExtendedBy w stream
 
-one_by : (job : LoggedJob) (engine : EngineView) (k : ℕ) (main loop stream : StreamPrefix Plain) (outputs : List (Backlog Plain)) (whole base into : List (StreamPrefix Plain)) → engine.outputs ≡ outputs → StandForAll outputs whole → AllZip IsRaised base whole → AreExtendedBy whole into
+one_by : {laws : Laws} (job : LoggedJob laws) (engine : EngineView) (k : ℕ) (main loop stream : StreamPrefix Plain) (outputs : List (Backlog Plain)) (whole base into : List (StreamPrefix Plain)) → engine.outputs ≡ outputs → StandForAll outputs whole → AllZip IsRaised base whole → AreExtendedBy whole into
     → base ≡ answered k main loop ∷ [] → into ≡ stream ∷ [] → (w : StreamPrefix Plain) × HasOne job engine stream w k main loop
-one_by job engine k main loop stream outputs whole base into is kept raised extended base_is into_is =
+one_by {laws} job engine k main loop stream outputs whole base into is kept raised extended base_is into_is =
     by_whole outputs whole is kept (subst (λ (bs : List (StreamPrefix Plain)). AllZip IsRaised bs whole) base_is raised) (subst (AreExtendedBy whole) into_is extended)
   where
     by_whole : (os : List (Backlog Plain)) (ws : List (StreamPrefix Plain)) → engine.outputs ≡ os → StandForAll os ws → AllZip IsRaised (answered k main loop ∷ []) ws → AreExtendedBy ws (stream ∷ []) → (w : StreamPrefix Plain) × HasOne job engine stream w k main loop
@@ -157,9 +158,9 @@ one_by job engine k main loop stream outputs whole base into is kept raised exte
     by_whole (o ∷ os) (w ∷ w2 ∷ ws) at kept raised extended = absurd raised.1
 
 -- the next answer, in the solution
-pub next_in : (job : LoggedJob) (number : ℕ) (engine : EngineView) (held : Held Plain) (r : Reply Plain) (cell : IsLoopCell job number engine held) → next_reply held ≡ Some r
+pub next_in : {laws : Laws} (job : LoggedJob laws) (number : ℕ) (engine : EngineView) (held : Held Plain) (r : Reply Plain) (cell : IsLoopCell job number engine held) → next_reply held ≡ Some r
     → slice_get (replies (main_of cell.engine_is.streams cell.engine_is.node) (loop_of cell.engine_is.streams cell.engine_is.node)) engine.laid ≡ Some r
-next_in job number engine held r cell next =
+next_in {laws} job number engine held r cell next =
     let h = cell.engine_is in
     let at : streams_at h.streams (ports_of job.job.plan number) ≡ inputs_of h.streams h.node =
     ap (λ (o : Option PlanNode). streams_at h.streams (unwrap_or (option_map (λ n. n.inputs) o) job.job.plan.outputs)) h.there in
@@ -192,33 +193,33 @@ first_stream : (streams : List (StreamPrefix Plain)) (stream : StreamPrefix Plai
 first_stream streams stream [] e = absurd cc
 first_stream streams stream (n ∷ ns) e = cc
 
-pub cell_base : (job : LoggedJob) (number : ℕ) (engine : EngineView) (held : Held Plain) (cell : IsLoopCell job number engine held)
+pub cell_base : {laws : Laws} (job : LoggedJob laws) (number : ℕ) (engine : EngineView) (held : Held Plain) (cell : IsLoopCell job number engine held)
     → (come_to job cell.engine_is.streams cell.engine_is.node engine.laid engine.closed).outputs ≡ answered engine.laid (main_of cell.engine_is.streams cell.engine_is.node) (loop_of cell.engine_is.streams cell.engine_is.node) ∷ []
-cell_base job number engine held cell =
+cell_base {laws} job number engine held cell =
     let h = cell.engine_is in
     ap (λ (b : Bool). (come_to job h.streams h.node engine.laid b).outputs) cell.going ∙ loop_stage h.node.law job.job h.streams h.node engine.laid cell.law
 
-pub into_is : (job : LoggedJob) (number : ℕ) (engine : EngineView) (held : Held Plain) (cell : IsLoopCell job number engine held)
+pub into_is : {laws : Laws} (job : LoggedJob laws) (number : ℕ) (engine : EngineView) (held : Held Plain) (cell : IsLoopCell job number engine held)
     → streams_at cell.engine_is.streams cell.engine_is.node.outputs ≡ loopback (main_of cell.engine_is.streams cell.engine_is.node) (loop_of cell.engine_is.streams cell.engine_is.node) ∷ []
-into_is job number engine held cell =
+into_is {laws} job number engine held cell =
     let h = cell.engine_is in
     node_streams job h.streams number h.node h.solves h.there ∙ loop_outcome h.node.law job.job h.streams h.node cell.law
 
-pub stream_is : (job : LoggedJob) (number : ℕ) (engine : EngineView) (held : Held Plain) (cell : IsLoopCell job number engine held) → IsPrefix (loopback (main_of cell.engine_is.streams cell.engine_is.node) (loop_of cell.engine_is.streams cell.engine_is.node))
-stream_is job number engine held cell =
+pub stream_is : {laws : Laws} (job : LoggedJob laws) (number : ℕ) (engine : EngineView) (held : Held Plain) (cell : IsLoopCell job number engine held) → IsPrefix (loopback (main_of cell.engine_is.streams cell.engine_is.node) (loop_of cell.engine_is.streams cell.engine_is.node))
+stream_is {laws} job number engine held cell =
     let h = cell.engine_is in
     let prefixes = solution_keeps job.job (job_known job.job h.solves.is_job) h.streams h.solves.solution in
     subst IsPrefix (first_stream h.streams (loopback (main_of h.streams h.node) (loop_of h.streams h.node)) h.node.outputs (into_is job number engine held cell)) (stream_is_prefix h.streams (get_or h.node.outputs 0 0) prefixes)
 
-pub one_of : (job : LoggedJob) (number : ℕ) (engine : EngineView) (held : Held Plain) (cell : IsLoopCell job number engine held)
+pub one_of : {laws : Laws} (job : LoggedJob laws) (number : ℕ) (engine : EngineView) (held : Held Plain) (cell : IsLoopCell job number engine held)
     → (w : StreamPrefix Plain) × HasOne job engine (loopback (main_of cell.engine_is.streams cell.engine_is.node) (loop_of cell.engine_is.streams cell.engine_is.node)) w engine.laid (main_of cell.engine_is.streams cell.engine_is.node) (loop_of cell.engine_is.streams cell.engine_is.node)
-one_of job number engine held cell =
+one_of {laws} job number engine held cell =
     let h = cell.engine_is in
     one_by job engine engine.laid (main_of h.streams h.node) (loop_of h.streams h.node) (loopback (main_of h.streams h.node) (loop_of h.streams h.node)) engine.outputs h.whole _ _ refl h.kept h.raised h.extended
     (cell_base job number engine held cell) (into_is job number engine held cell)
 
-may_answer_by : (job : LoggedJob) (number : ℕ) (engine : EngineView) (held : Held Plain) (r : Reply Plain) (p : Stamped Plain) → IsLoopCell job number engine held → next_reply held ≡ Some r → packet_of r ≡ Some p → MayAnswer engine p
-may_answer_by job number engine held r p cell next is =
+may_answer_by : {laws : Laws} (job : LoggedJob laws) (number : ℕ) (engine : EngineView) (held : Held Plain) (r : Reply Plain) (p : Stamped Plain) → IsLoopCell job number engine held → next_reply held ≡ Some r → packet_of r ≡ Some p → MayAnswer engine p
+may_answer_by {laws} job number engine held r p cell next is =
     let h = cell.engine_is in
     let one = one_of job number engine held cell in
     let parts = parts_of (replies (main_of h.streams h.node) (loop_of h.streams h.node)) engine.laid r p (next_in job number engine held r cell next) is in
@@ -229,10 +230,10 @@ may_answer_by job number engine held r p cell next is =
           (follows (loopback (main_of h.streams h.node) (loop_of h.streams h.node)) one.0 p parts.0 (stream_is job number engine held cell) one.1.extended (parts.1 ∙ ap (λ (ps : List (Stamped Plain)). ps ++ p ∷ parts.0) (sym one.1.packets))).may;
     }
 
-pub may_answer : (engine : EngineView) (intake : IntakeView) (held : Held Plain) (r : Reply Plain) (p : Stamped Plain) → AreCell engine intake → engine.role ≡ LoopRole → intake.waits ≡ Loop held → MayClaim engine → next_reply held ≡ Some r → packet_of r ≡ Some p → MayAnswer engine p
-may_answer engine intake held r p cell role waits may next is =
+pub may_answer : {laws : Laws} (engine : EngineView) (intake : IntakeView) (held : Held Plain) (r : Reply Plain) (p : Stamped Plain) → AreCell laws engine intake → engine.role ≡ LoopRole → intake.waits ≡ Loop held → MayClaim engine → next_reply held ≡ Some r → packet_of r ≡ Some p → MayAnswer engine p
+may_answer {laws} engine intake held r p cell role waits may next is =
     may_answer_by cell.job cell.number engine held r p (loop_cell_by cell.job cell.number engine intake held cell.lawful_engine cell.lawful_intake cell.agree role waits may) next is
 
 -- of a cell
-pub loop_cell : (engine : EngineView) (intake : IntakeView) (held : Held Plain) (cell : AreCell engine intake) → engine.role ≡ LoopRole → intake.waits ≡ Loop held → MayClaim engine → IsLoopCell cell.job cell.number engine held
-loop_cell engine intake held cell role waits may = loop_cell_by cell.job cell.number engine intake held cell.lawful_engine cell.lawful_intake cell.agree role waits may
+pub loop_cell : {laws : Laws} (engine : EngineView) (intake : IntakeView) (held : Held Plain) (cell : AreCell laws engine intake) → engine.role ≡ LoopRole → intake.waits ≡ Loop held → MayClaim engine → IsLoopCell cell.job cell.number engine held
+loop_cell {laws} engine intake held cell role waits may = loop_cell_by cell.job cell.number engine intake held cell.lawful_engine cell.lawful_intake cell.agree role waits may

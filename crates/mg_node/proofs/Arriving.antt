@@ -20,6 +20,7 @@ use Rattle.mg_node.specs.declared.pending.Pending.{Pending}
 use Rattle.mg_node.specs.declared.pending.Pending.TheVariants.{Sets, Loop}
 use Rattle.mg_node.specs.Ports.{ports_in, port_queue, with_port, with_room}
 use Rattle.mg_node.specs.Delivery.{missing, with_packets, delivered, AreOfOne}
+use Rattle.mg_calc.specs.Rules.{Laws}
 use Rattle.mg_calc.specs.declared.law.Law.TheVariants.{Loopback}
 use Rattle.mg_node.specs.Job.{LoggedJob, ports_of, law_of, streams_at}
 use Rattle.mg_node.specs.Lawful.{HoldsSets, HoldsLoop, HoldsWaits}
@@ -136,16 +137,16 @@ gone_same a b (x ∷ bs) zero q same = ap₂ (λ (n : ℕ) (ns : List ℕ). n �
 gone_same a b (x ∷ bs) (suc i) q same = ap (λ (ns : List ℕ). x.gone ∷ ns) (gone_same a b bs i q same)
 
 -- the stream at a port, and what came there
-pub record AtPort (job : LoggedJob) (streams : List (StreamPrefix Plain)) (consumer claimed port : ℕ) (w : Pending) : Type 0 where
+pub record AtPort {laws : Laws} (job : LoggedJob laws) (streams : List (StreamPrefix Plain)) (consumer claimed port : ℕ) (w : Pending) : Type 0 where
   pub came : StreamPrefix Plain
   pub stands : StandsFor (port_queue w port) came
   pub extended : IsExtendedBy came (get_or (streams_at streams (ports_of job.job.plan consumer)) port empty_prefix)
   pub keeps : (q : Waiting Plain) → Came (get_or (streams_at streams (ports_of job.job.plan consumer)) port empty_prefix) came (port_queue w port) q → HoldsWaits job streams consumer claimed (with_port w port q)
 
-sets_keep : (job : LoggedJob) (streams : List (StreamPrefix Plain)) (consumer claimed port : ℕ) (inbox : Gathered) (h : HoldsSets job streams consumer claimed inbox) → port < length inbox.pool.ports
+sets_keep : {laws : Laws} (job : LoggedJob laws) (streams : List (StreamPrefix Plain)) (consumer claimed port : ℕ) (inbox : Gathered) (h : HoldsSets job streams consumer claimed inbox) → port < length inbox.pool.ports
     → (q : Waiting Plain) → Came (get_or (streams_at streams (ports_of job.job.plan consumer)) port empty_prefix) (get_or h.came port empty_prefix) (queue_at inbox.pool port) q
     → HoldsSets job streams consumer claimed (record inbox { pool = with_queue inbox.pool port q })
-sets_keep job streams consumer claimed port inbox h there q c =
+sets_keep {laws} job streams consumer claimed port inbox h there q c =
     let ss = streams_at streams (ports_of job.job.plan consumer) in
     let now = set h.came port c.now in
     let here : port < length h.came = (let long = zip_long StandsFor (queues_of inbox.pool) h.came h.stands.each in let ports = length-map inbox.pool.ports (queue_of inbox.pool.spare) in omega (arith, there, long, ports)) in
@@ -165,9 +166,9 @@ sets_keep job streams consumer claimed port inbox h there q c =
     grow (x ∷ xs) zero y e = (e, all_by_themselves xs)
     grow (x ∷ xs) (suc i) y e = (extended_by_itself x, grow xs i y e)
 
-at_sets : (job : LoggedJob) (streams : List (StreamPrefix Plain)) (consumer claimed port : ℕ) (inbox : Gathered) → ¬ (law_of job.job.plan consumer ≡ Some Loopback) → HoldsSets job streams consumer claimed inbox → port < length inbox.pool.ports
+at_sets : {laws : Laws} (job : LoggedJob laws) (streams : List (StreamPrefix Plain)) (consumer claimed port : ℕ) (inbox : Gathered) → ¬ (law_of job.job.plan consumer ≡ Some Loopback) → HoldsSets job streams consumer claimed inbox → port < length inbox.pool.ports
     → AtPort job streams consumer claimed port (Sets inbox)
-at_sets job streams consumer claimed port inbox other h there =
+at_sets {laws} job streams consumer claimed port inbox other h there =
     let ss = streams_at streams (ports_of job.job.plan consumer) in
     let long = length-map inbox.pool.ports (queue_of inbox.pool.spare) in
     let in_queues : port < length (queues_of inbox.pool) = omega (arith, there, long) in
@@ -180,19 +181,19 @@ at_sets job streams consumer claimed port inbox other h there =
       keeps = (λ q c. (other, sets_keep job streams consumer claimed port inbox h there q c));
     }
 
-loop_keeps : (job : LoggedJob) (streams : List (StreamPrefix Plain)) (consumer claimed : ℕ) (held now : Held Plain) (h : HoldsLoop job streams consumer claimed held) (main loop : StreamPrefix Plain)
+loop_keeps : {laws : Laws} (job : LoggedJob laws) (streams : List (StreamPrefix Plain)) (consumer claimed : ℕ) (held now : Held Plain) (h : HoldsLoop job streams consumer claimed held) (main loop : StreamPrefix Plain)
     → StandsFor now.main main → StandsFor now.loop loop → IsExtendedBy h.main main → IsExtendedBy h.loop loop → now.main.gone ≡ held.main.gone → now.loop.gone ≡ held.loop.gone → now.previous ≡ held.previous
     → AreExtendedBy (loop ∷ main ∷ []) (streams_at streams (ports_of job.job.plan consumer)) → HoldsLoop job streams consumer claimed now
-loop_keeps job streams consumer claimed held now h main loop at_main at_loop wider more gone gone_there previous extended = record {
+loop_keeps {laws} job streams consumer claimed held now h main loop at_main at_loop wider more gone gone_there previous extended = record {
   main = main;
   loop = loop;
   extended = extended;
   stands = answers_keep claimed held now h.main main h.loop loop h.stands wider more at_main at_loop (record { main = gone; loop = gone_there; previous = previous });
 }
 
-at_loop : (job : LoggedJob) (streams : List (StreamPrefix Plain)) (consumer claimed port : ℕ) (held : Held Plain) → law_of job.job.plan consumer ≡ Some Loopback → HoldsLoop job streams consumer claimed held → port < 2
+at_loop : {laws : Laws} (job : LoggedJob laws) (streams : List (StreamPrefix Plain)) (consumer claimed port : ℕ) (held : Held Plain) → law_of job.job.plan consumer ≡ Some Loopback → HoldsLoop job streams consumer claimed held → port < 2
     → AtPort job streams consumer claimed port (Loop held)
-at_loop job streams consumer claimed zero held law h there =
+at_loop {laws} job streams consumer claimed zero held law h there =
     let ss = streams_at streams (ports_of job.job.plan consumer) in
     record {
       came = h.loop;
@@ -204,7 +205,7 @@ at_loop job streams consumer claimed zero held law h there =
             (zip_left IsExtendedBy (h.loop ∷ h.main ∷ []) ss 0 c.now empty_prefix h.extended (omega arith) c.extended),
       ));
     }
-at_loop job streams consumer claimed (suc zero) held law h there =
+at_loop {laws} job streams consumer claimed (suc zero) held law h there =
     let ss = streams_at streams (ports_of job.job.plan consumer) in
     record {
       came = h.main;
@@ -216,16 +217,16 @@ at_loop job streams consumer claimed (suc zero) held law h there =
             (zip_left IsExtendedBy (h.loop ∷ h.main ∷ []) ss 1 c.now empty_prefix h.extended (omega arith) c.extended),
       ));
     }
-at_loop job streams consumer claimed (suc (suc port)) held law h there = absurd (omega (arith, there))
+at_loop {laws} job streams consumer claimed (suc (suc port)) held law h there = absurd (omega (arith, there))
 
-pub at_port : (job : LoggedJob) (streams : List (StreamPrefix Plain)) (consumer claimed port : ℕ) (w : Pending) → HoldsWaits job streams consumer claimed w → port < ports_in w → AtPort job streams consumer claimed port w
-at_port job streams consumer claimed port (Sets inbox) h there = at_sets job streams consumer claimed port inbox h.0 h.1 there
-at_port job streams consumer claimed port (Loop held) h there = at_loop job streams consumer claimed port held h.0 h.1 there
+pub at_port : {laws : Laws} (job : LoggedJob laws) (streams : List (StreamPrefix Plain)) (consumer claimed port : ℕ) (w : Pending) → HoldsWaits job streams consumer claimed w → port < ports_in w → AtPort job streams consumer claimed port w
+at_port {laws} job streams consumer claimed port (Sets inbox) h there = at_sets job streams consumer claimed port inbox h.0 h.1 there
+at_port {laws} job streams consumer claimed port (Loop held) h there = at_loop job streams consumer claimed port held h.0 h.1 there
 
 -- there are as many ports as streams
-pub ports_long : (job : LoggedJob) (streams : List (StreamPrefix Plain)) (consumer claimed : ℕ) (w : Pending) → HoldsWaits job streams consumer claimed w → ports_in w ≡ length (ports_of job.job.plan consumer)
-ports_long job streams consumer claimed (Sets inbox) h =
+pub ports_long : {laws : Laws} (job : LoggedJob laws) (streams : List (StreamPrefix Plain)) (consumer claimed : ℕ) (w : Pending) → HoldsWaits job streams consumer claimed w → ports_in w ≡ length (ports_of job.job.plan consumer)
+ports_long {laws} job streams consumer claimed (Sets inbox) h =
     sym (length-map inbox.pool.ports (queue_of inbox.pool.spare)) ∙ zip_long StandsFor (queues_of inbox.pool) h.1.came h.1.stands.each
     ∙ zip_long IsExtendedBy h.1.came (streams_at streams (ports_of job.job.plan consumer)) h.1.extended ∙ length-map (ports_of job.job.plan consumer) (λ number. get_or streams number empty_prefix)
-ports_long job streams consumer claimed (Loop held) h =
+ports_long {laws} job streams consumer claimed (Loop held) h =
     zip_long IsExtendedBy (h.1.loop ∷ h.1.main ∷ []) (streams_at streams (ports_of job.job.plan consumer)) h.1.extended ∙ length-map (ports_of job.job.plan consumer) (λ number. get_or streams number empty_prefix)

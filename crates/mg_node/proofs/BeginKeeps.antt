@@ -16,10 +16,10 @@ use Rattle.mg_calc.specs.declared.plan.Plan.{Plan}
 use Rattle.mg_calc.specs.declared.plan_node.PlanNode.{PlanNode}
 use Rattle.mg_calc.specs.Plan.{IsValid, FlightFits}
 use Rattle.mg_calc.specs.Shape.{IsShapeOf}
-use Rattle.mg_calc.specs.Equations.{Job, sides_of}
+use Rattle.mg_calc.specs.Equations.{Job, sides_of, rules_at}
 use Rattle.mg_calc.specs.Outcome.{Outcome, opened}
 use Rattle.mg_calc.specs.Told.{with_call}
-use Rattle.mg_route.specs.HolderView.{HolderView}
+use Rattle.mg_route.specs.HolderView.{HolderView, held_rules}
 use Rattle.mg_calc.proofs.Jobs.{job_known}
 use Rattle.mg_calc.proofs.Outcomes.{opened_keeps}
 use Rattle.mg_node.specs.Views.{ContextView, EngineView}
@@ -31,11 +31,12 @@ use Rattle.mg_node.specs.Outputs.{kept_whole}
 use Rattle.mg_node.specs.Fresh.{own_told, context_of}
 use Rattle.mg_node.specs.Begun.{own_contexts, opened_node, HasOpened, IsUnbegun, HasBegun, IsHanded, LawfulUnbegun, IsNew}
 use Rattle.mg_node.proofs.Making.{some_same}
-use Rattle.mg_node.proofs.Performing.{of_node as at_node}
+use Rattle.mg_node.proofs.HeldRules.{of_node as at_node, rules_fit}
 use Rattle.mg_node.proofs.Stages.{kind_of, outer_stage, called_stage, called_offset}
 use Rattle.mg_node.proofs.StageStreams.{node_known, stage_extended}
 use Rattle.mg_node.proofs.Stateless.{KeepsNothing, several_keep_nothing, stage_empty}
 use Rattle.mg_calc.specs.Law.{rules_of}
+use Rattle.mg_calc.specs.Rules.{Laws, Rules}
 
 -- The outputs of a node have numbers that follow each other.
 
@@ -72,23 +73,30 @@ first_outputs plan number node valid there =
 
 -- What an opened node has come to is its first stage.
 
-loop_zero : (law : Law) (job : Job) (streams : List (StreamPrefix Plain)) (node : PlanNode) (offset : Option ℤ) (outputs : ℕ) (sides : List (Option Plain)) → law ≡ Loopback → outputs ≡ 1 → stage_by law job streams node 0 ≡ opened (rules_of law) offset outputs sides
+loop_zero : (law : Law) (job : Job) (streams : List (StreamPrefix Plain)) (node : PlanNode) (offset : Option ℤ) (outputs : ℕ) (sides : List (Option Plain)) → law ≡ Loopback → outputs ≡ 1 → stage_by law job streams node 0 ≡ opened (rules_of job.laws law) offset outputs sides
 loop_zero law job streams node offset outputs sides is one =
-    subst (λ (l : Law). stage_by l job streams node 0 ≡ opened (rules_of l) offset outputs sides) (sym is)
-    (subst (λ (k : ℕ). stage_by Loopback job streams node 0 ≡ opened (rules_of Loopback) offset k sides) (sym one) refl)
+    subst (λ (l : Law). stage_by l job streams node 0 ≡ opened (rules_of job.laws l) offset outputs sides) (sym is)
+    (subst (λ (k : ℕ). stage_by Loopback job streams node 0 ≡ opened (rules_of job.laws Loopback) offset k sides) (sym one) refl)
 
-zero_stage : (job : LoggedJob) (streams : List (StreamPrefix Plain)) (number : ℕ) (node : PlanNode) → Solves job streams → slice_get job.job.plan.nodes number ≡ Some node → stage job.job streams node 0 ≡ opened_node node (sides_of job.job node)
-zero_stage job streams number node solves there = elim (kind_of node.law) [
+zero_opened : {laws : Laws} (job : LoggedJob laws) (streams : List (StreamPrefix Plain)) (number : ℕ) (node : PlanNode) → Solves job streams → slice_get job.job.plan.nodes number ≡ Some node
+    → stage job.job streams node 0 ≡ opened (rules_at job.job node) node.shape.offset (length node.outputs) (sides_of job.job node)
+zero_opened {laws} job streams number node solves there = elim (kind_of node.law) [
   | inl is ↦ outer_stage node.law job.job streams node 0 is
   | inr (inl is) ↦
       (let shape : IsShapeOf node.law node.shape = at_node (λ (m : PlanNode). IsShapeOf m.law m.shape) job.job.plan.nodes number node solves.is_job.plan.shapes there in
       let offset : node.shape.offset ≡ None = shape.offset ∙ called_offset node.law is in
-      called_stage node.law job.job streams node 0 is ∙ ap (λ (o : Option ℤ). opened (rules_of node.law) o (length node.outputs) (sides_of job.job node)) (sym offset))
+      called_stage node.law job.job streams node 0 is ∙ ap (λ (o : Option ℤ). opened (rules_at job.job node) o (length node.outputs) (sides_of job.job node)) (sym offset))
   | inr (inr is) ↦
       (let one = at_node (λ (m : PlanNode). m.law ≡ Loopback → length m.outputs ≡ 1) job.job.plan.nodes number node
       (All-from_recursion (λ (m : PlanNode). m.law ≡ Loopback → length m.outputs ≡ 1) job.job.plan.nodes (job_known job.job solves.is_job).loops) there in
       loop_zero node.law job.job streams node node.shape.offset (length node.outputs) (sides_of job.job node) is (one is))
 ]
+
+zero_stage : {laws : Laws} (job : LoggedJob laws) (streams : List (StreamPrefix Plain)) (number : ℕ) (node : PlanNode) (told : HolderView) → Solves job streams → IsHanded job number node told
+    → stage job.job streams node 0 ≡ opened_node (held_rules laws told) node (sides_of job.job node)
+zero_stage {laws} job streams number node told solves handed =
+    zero_opened job streams number node solves handed.there
+    ∙ ap (λ (r : Rules). opened r node.shape.offset (length node.outputs) (sides_of job.job node)) (sym (rules_fit job number node told solves.is_job.plan handed.there handed.fits))
 
 zero_calls : (law : Law) (streams : List (StreamPrefix Plain)) (node : PlanNode) → calls_before_by law streams node 0 ≡ Begun ∷ []
 zero_calls Loopback streams node = refl
@@ -108,8 +116,8 @@ all_replicate : {X : Type 0} (P : X → Type 0) (n : ℕ) (x : X) → (0 < n →
 all_replicate P zero x is = tt
 all_replicate P (suc n) x is = (is (omega arith), all_replicate P n x (λ le. is (omega arith)))
 
-own_idle : (job : LoggedJob) (streams : List (StreamPrefix Plain)) (number : ℕ) (node : PlanNode) → Solves job streams → slice_get job.job.plan.nodes number ≡ Some node → 1 < node.in_flight → IsIdle job streams node 0 false (context_of node (own_told node))
-own_idle job streams number node solves there several =
+own_idle : {laws : Laws} (job : LoggedJob laws) (streams : List (StreamPrefix Plain)) (number : ℕ) (node : PlanNode) → Solves job streams → slice_get job.job.plan.nodes number ≡ Some node → 1 < node.in_flight → IsIdle job streams node 0 false (context_of node (own_told node))
+own_idle {laws} job streams number node solves there several =
     let nothing : KeepsNothing job node = several_keep_nothing job number node solves.is_job there several in
     let none : Option (Stamped Plain) = None in
     record {
@@ -119,27 +127,27 @@ own_idle job streams number node solves there several =
       log = sym (ap (option_map (λ before. before ++ (calls_before streams node 0 ++ []))) nothing.unlogged);
     }
 
-begun_idle : (job : LoggedJob) (streams : List (StreamPrefix Plain)) (number : ℕ) (node : PlanNode) (told now : HolderView) → Solves job streams → IsHanded job number node told → now.state ≡ (opened_node node (sides_of job.job node)).state
+begun_idle : {laws : Laws} (job : LoggedJob laws) (streams : List (StreamPrefix Plain)) (number : ℕ) (node : PlanNode) (told now : HolderView) → Solves job streams → IsHanded job number node told → now.state ≡ (opened_node (held_rules laws told) node (sides_of job.job node)).state
     → now.log ≡ with_call told.log Begun → now.law ≡ told.law → now.shape ≡ told.shape → now.handed ≡ told.handed → IsIdle job streams node 0 false (context_of node now)
-begun_idle job streams number node told now solves handed state log law shape same =
+begun_idle {laws} job streams number node told now solves handed state log law shape same =
     let none : Option (Stamped Plain) = None in
     record {
       fits = record { same_law = law ∙ handed.fits.same_law; same_shape = shape ∙ handed.fits.same_shape; same_handed = same ∙ handed.fits.same_handed };
       places = length-replicate (length node.inputs) none;
-      state = state ∙ sym (ap (λ (o : Outcome). o.state) (zero_stage job streams number node solves handed.there));
+      state = state ∙ sym (ap (λ (o : Outcome). o.state) (zero_stage job streams number node told solves handed));
       log = log ∙ ap (λ (l : Option (List Call)). with_call l Begun) handed.log ∙ ap (λ (calls : List Call). option_map (λ before. before ++ (calls ++ [])) (first_log job node)) (sym (zero_calls node.law streams node));
     }
 
-pub begun_lawful : (job : LoggedJob) (streams : List (StreamPrefix Plain)) (number : ℕ) (node : PlanNode) (told : HolderView) (view : EngineView) → Solves job streams → IsHanded job number node told → HasBegun node number told (sides_of job.job node) view
+pub begun_lawful : {laws : Laws} (job : LoggedJob laws) (streams : List (StreamPrefix Plain)) (number : ℕ) (node : PlanNode) (told : HolderView) (view : EngineView) → Solves job streams → IsHanded job number node told → HasBegun laws node number told (sides_of job.job node) view
     → LawfulEngine job (of_node number) view
 unfolding LawfulEngine
-begun_lawful job streams number node told view solves handed h =
+begun_lawful {laws} job streams number node told view solves handed h =
     let there = handed.there in
     let sides = sides_of job.job node in
-    let zero_is = zero_stage job streams number node solves there in
+    let zero_is = zero_stage job streams number node told solves handed in
     let flight : FlightFits node = at_node FlightFits job.job.plan.nodes number node solves.is_job.plan.flights there in
     let some = flight.some in
-    let prefixes = opened_keeps (rules_of node.law) node.shape.offset (length node.outputs) sides in
+    let prefixes = opened_keeps (held_rules laws told) node.shape.offset (length node.outputs) sides in
     let P : ContextView → Type 0 = IsIdle job streams node 0 false in
     let owns = own_contexts node in
     let told_context = context_of node h.now in
@@ -153,9 +161,9 @@ begun_lawful job streams number node told view solves handed h =
       claimed = omega arith;
       taken = omega arith;
       closed = (λ closed. absurd cc);
-      whole = (opened_node node sides).outputs;
-      kept = kept_stand (opened_node node sides).outputs prefixes;
-      raised = subst (λ (o : Outcome). AllZip IsRaised o.outputs (opened_node node sides).outputs) (sym zero_is) (raised_itself (opened_node node sides).outputs);
+      whole = (opened_node (held_rules laws told) node sides).outputs;
+      kept = kept_stand (opened_node (held_rules laws told) node sides).outputs prefixes;
+      raised = subst (λ (o : Outcome). AllZip IsRaised o.outputs (opened_node (held_rules laws told) node sides).outputs) (sym zero_is) (raised_itself (opened_node (held_rules laws told) node sides).outputs);
       extended = subst (λ (o : Outcome). AreExtendedBy o.outputs (streams_at streams node.outputs)) zero_is (stage_extended job streams number node 0 solves there (omega arith));
       fault = ap (λ (o : Outcome). option_map (λ f. (let g : NodeFault = record { node = number; phase = f.phase; cause = f.cause } in g)) o.fault) (sym zero_is);
       order = omega arith;
@@ -170,42 +178,42 @@ begun_lawful job streams number node told view solves handed h =
 
 -- One that isn't begun.
 
-pub record IsOfJob (job : LoggedJob) (number : ℕ) (node : PlanNode) (sides : List (Option Plain)) (view : EngineView) : Type 0 where
+pub record IsOfJob {laws : Laws} (job : LoggedJob laws) (number : ℕ) (node : PlanNode) (sides : List (Option Plain)) (view : EngineView) : Type 0 where
   pub told : HolderView
   pub handed : IsHanded job number node told
-  pub unbegun : IsUnbegun node number told sides view
+  pub unbegun : IsUnbegun laws node number told sides view
 
-pub unbegun_parts : (job : LoggedJob) (number : ℕ) (node : PlanNode) (sides : List (Option Plain)) (view : EngineView) → slice_get job.job.plan.nodes number ≡ Some node → sides ≡ sides_of job.job node → LawfulUnbegun job number view → IsOfJob job number node sides view
+pub unbegun_parts : {laws : Laws} (job : LoggedJob laws) (number : ℕ) (node : PlanNode) (sides : List (Option Plain)) (view : EngineView) → slice_get job.job.plan.nodes number ≡ Some node → sides ≡ sides_of job.job node → LawfulUnbegun job number view → IsOfJob job number node sides view
 unfolding LawfulUnbegun
-unbegun_parts job number node sides view there is h =
+unbegun_parts {laws} job number node sides view there is h =
     let same : h.node ≡ node = some_same (slice_get job.job.plan.nodes number) h.node node h.handed.there there in
     record {
       told = h.told;
       handed = subst (λ (n : PlanNode). IsHanded job number n h.told) same h.handed;
-      unbegun = subst (λ (l : List (Option Plain)). IsUnbegun node number h.told l view) (sym is) (subst (λ (n : PlanNode). IsUnbegun n number h.told (sides_of job.job n) view) same h.unbegun);
+      unbegun = subst (λ (l : List (Option Plain)). IsUnbegun laws node number h.told l view) (sym is) (subst (λ (n : PlanNode). IsUnbegun laws n number h.told (sides_of job.job n) view) same h.unbegun);
     }
 
-pub is_new : (job : LoggedJob) (number : ℕ) (node : PlanNode) (told : HolderView) → IsHanded job number node told → IsNew node told
-is_new job number node told handed = record { fits = record { same_law = handed.fits.same_law; same_shape = handed.fits.same_shape }; state = handed.state }
+pub is_new : {laws : Laws} (job : LoggedJob laws) (number : ℕ) (node : PlanNode) (told : HolderView) → IsHanded job number node told → IsNew node told
+is_new {laws} job number node told handed = record { fits = record { same_law = handed.fits.same_law; same_shape = handed.fits.same_shape } }
 
-pub still_unbegun : (job : LoggedJob) (number : ℕ) (node : PlanNode) (told : HolderView) (sides : List (Option Plain)) (view : EngineView) → sides ≡ sides_of job.job node → IsHanded job number node told → IsUnbegun node number told sides view → LawfulUnbegun job number view
+pub still_unbegun : {laws : Laws} (job : LoggedJob laws) (number : ℕ) (node : PlanNode) (told : HolderView) (sides : List (Option Plain)) (view : EngineView) → sides ≡ sides_of job.job node → IsHanded job number node told → IsUnbegun laws node number told sides view → LawfulUnbegun job number view
 unfolding LawfulUnbegun
-still_unbegun job number node told sides view is handed unbegun = record {
+still_unbegun {laws} job number node told sides view is handed unbegun = record {
   node = node;
   told = told;
   handed = handed;
-  unbegun = subst (λ (l : List (Option Plain)). IsUnbegun node number told l view) is unbegun;
+  unbegun = subst (λ (l : List (Option Plain)). IsUnbegun laws node number told l view) is unbegun;
 }
 
-pub begin_lawful : (job : LoggedJob) (streams : List (StreamPrefix Plain)) (number : ℕ) (node : PlanNode) (sides : List (Option Plain)) (before now : EngineView) → Solves job streams → slice_get job.job.plan.nodes number ≡ Some node → sides ≡ sides_of job.job node
-    → LawfulUnbegun job number before → ((told : HolderView) → IsNew node told → IsUnbegun node number told sides before → HasBegun node number told sides now) → LawfulEngine job (of_node number) now
-begin_lawful job streams number node sides before now solves there is unbegun begun =
+pub begin_lawful : {laws : Laws} (job : LoggedJob laws) (streams : List (StreamPrefix Plain)) (number : ℕ) (node : PlanNode) (sides : List (Option Plain)) (before now : EngineView) → Solves job streams → slice_get job.job.plan.nodes number ≡ Some node → sides ≡ sides_of job.job node
+    → LawfulUnbegun job number before → ((told : HolderView) → IsNew node told → IsUnbegun laws node number told sides before → HasBegun laws node number told sides now) → LawfulEngine job (of_node number) now
+begin_lawful {laws} job streams number node sides before now solves there is unbegun begun =
     let parts = unbegun_parts job number node sides before there is unbegun in
     begun_lawful job streams number node parts.told now solves parts.handed
-    (subst (λ (l : List (Option Plain)). HasBegun node number parts.told l now) is (begun parts.told (is_new job number node parts.told parts.handed) parts.unbegun))
+    (subst (λ (l : List (Option Plain)). HasBegun laws node number parts.told l now) is (begun parts.told (is_new job number node parts.told parts.handed) parts.unbegun))
 
-pub opened_unbegun : (job : LoggedJob) (number : ℕ) (node : PlanNode) (sides : List (Option Plain)) (before mid now : EngineView) → slice_get job.job.plan.nodes number ≡ Some node → sides ≡ sides_of job.job node → LawfulUnbegun job number before
-    → ((told : HolderView) → IsUnbegun node number told sides before → HasOpened node number told sides mid) → now ≡ mid → LawfulUnbegun job number now
-opened_unbegun job number node sides before mid now there is unbegun opened same =
+pub opened_unbegun : {laws : Laws} (job : LoggedJob laws) (number : ℕ) (node : PlanNode) (sides : List (Option Plain)) (before mid now : EngineView) → slice_get job.job.plan.nodes number ≡ Some node → sides ≡ sides_of job.job node → LawfulUnbegun job number before
+    → ((told : HolderView) → IsUnbegun laws node number told sides before → HasOpened laws node number told sides mid) → now ≡ mid → LawfulUnbegun job number now
+opened_unbegun {laws} job number node sides before mid now there is unbegun opened same =
     let parts = unbegun_parts job number node sides before there is unbegun in
-    still_unbegun job number node parts.told sides now is parts.handed (subst (λ (v : EngineView). IsUnbegun node number parts.told sides v) (sym same) (inr (opened parts.told parts.unbegun)))
+    still_unbegun job number node parts.told sides now is parts.handed (subst (λ (v : EngineView). IsUnbegun laws node number parts.told sides v) (sym same) (inr (opened parts.told parts.unbegun)))

@@ -16,6 +16,7 @@ use Rattle.mg_policy.specs.Inbox.{Gathered, HasPorts}
 use Rattle.mg_policy.proofs.Standing.{fresh_stands}
 use Rattle.mg_loopback.specs.Loopback.{Held, IsFresh as IsFreshLoop}
 use Rattle.mg_loopback.proofs.Standing.{fresh_stands as fresh_loop}
+use Rattle.mg_calc.specs.Rules.{Laws}
 use Rattle.mg_calc.specs.declared.law.Law.{Law}
 use Rattle.mg_calc.specs.declared.law.Law.TheVariants.{Mux, Loopback}
 use Rattle.mg_calc.specs.declared.plan.Plan.{Plan}
@@ -32,7 +33,7 @@ use Rattle.mg_node.specs.declared.pending.Pending.TheVariants.{Sets, Loop}
 use Rattle.mg_node.specs.Intakes.{HoldsNone}
 use Rattle.mg_node.specs.Job.{LoggedJob, Solves, ports_of, policy_of, law_of, streams_at}
 use Rattle.mg_node.specs.Lawful.{HoldsSets, HoldsLoop, HoldsWaits, LawfulIntake}
-use Rattle.mg_node.proofs.Performing.{of_node}
+use Rattle.mg_node.proofs.HeldRules.{of_node}
 
 -- a node has the ports that its policy asks for
 has_ports_by : (law : Law) (policy : Policy) (inputs : List PortKind) (n : ℕ) → MayHavePolicy law policy → ParametersFit law → HasInputs law inputs → n ≡ length inputs → HasPorts policy (record { ports = replicate n empty_backlog; spare = 0 })
@@ -70,9 +71,9 @@ none_came : (n : ℕ) → AllByRecursion (λ q. IsLike q empty_queue) (map (queu
 none_came zero = tt
 none_came (suc n) = (record { gone = refl; packets = refl; bound = refl }, none_came n)
 
-fresh_sets : (job : LoggedJob) (streams : List (StreamPrefix Plain)) (consumer : ℕ) (inbox : Gathered) → Solves job streams
+fresh_sets : {laws : Laws} (job : LoggedJob laws) (streams : List (StreamPrefix Plain)) (consumer : ℕ) (inbox : Gathered) → Solves job streams
     → inbox ≡ record { policy = policy_of job.job.plan consumer; pool = record { ports = replicate (length (ports_of job.job.plan consumer)) empty_backlog; spare = 0 } } → HoldsSets job streams consumer 0 inbox
-fresh_sets job streams consumer inbox solves is =
+fresh_sets {laws} job streams consumer inbox solves is =
     let ps = ports_of job.job.plan consumer in
     let n = length ps in
     let qs = map (queue_of 0) (replicate n (empty_backlog {X = Plain})) in
@@ -84,8 +85,8 @@ fresh_sets job streams consumer inbox solves is =
       stands = fresh_stands (policy_of job.job.plan consumer) n qs long (All-from_recursion (λ (q : Waiting Plain). IsLike q empty_queue) qs (none_came n));
     })
 
-fresh_held : (job : LoggedJob) (streams : List (StreamPrefix Plain)) (consumer : ℕ) (held : Held Plain) → Solves job streams → law_of job.job.plan consumer ≡ Some Loopback → IsFreshLoop held → HoldsLoop job streams consumer 0 held
-fresh_held job streams consumer held solves law fresh =
+fresh_held : {laws : Laws} (job : LoggedJob laws) (streams : List (StreamPrefix Plain)) (consumer : ℕ) (held : Held Plain) → Solves job streams → law_of job.job.plan consumer ≡ Some Loopback → IsFreshLoop held → HoldsLoop job streams consumer 0 held
+fresh_held {laws} job streams consumer held solves law fresh =
     let ps = ports_of job.job.plan consumer in
     let two : length ps ≡ 2 = two_ports job.job.plan consumer (slice_get job.job.plan.nodes consumer) solves.is_job.plan refl law in
     record {
@@ -95,14 +96,14 @@ fresh_held job streams consumer held solves law fresh =
       stands = fresh_loop held fresh;
     }
 
-fresh_waits : (job : LoggedJob) (streams : List (StreamPrefix Plain)) (consumer : ℕ) (w : Pending) → Solves job streams → HoldsNone job.job.plan consumer w → HoldsWaits job streams consumer 0 w
-fresh_waits job streams consumer (Sets inbox) solves h = (h.0, fresh_sets job streams consumer inbox solves h.1)
-fresh_waits job streams consumer (Loop held) solves h = (h.0, fresh_held job streams consumer held solves h.0 h.1)
+fresh_waits : {laws : Laws} (job : LoggedJob laws) (streams : List (StreamPrefix Plain)) (consumer : ℕ) (w : Pending) → Solves job streams → HoldsNone job.job.plan consumer w → HoldsWaits job streams consumer 0 w
+fresh_waits {laws} job streams consumer (Sets inbox) solves h = (h.0, fresh_sets job streams consumer inbox solves h.1)
+fresh_waits {laws} job streams consumer (Loop held) solves h = (h.0, fresh_held job streams consumer held solves h.0 h.1)
 
-pub fresh_lawful : (job : LoggedJob) (streams : List (StreamPrefix Plain)) (plan : Plan) (consumer : ℕ) (w : Pending) → HoldsNone plan consumer w → consumer ≤ length plan.nodes → job.job.plan ≡ plan → Solves job streams
+pub fresh_lawful : {laws : Laws} (job : LoggedJob laws) (streams : List (StreamPrefix Plain)) (plan : Plan) (consumer : ℕ) (w : Pending) → HoldsNone plan consumer w → consumer ≤ length plan.nodes → job.job.plan ≡ plan → Solves job streams
     → LawfulIntake job consumer (record { claimed = 0; waits = w })
 unfolding LawfulIntake
-fresh_lawful job streams plan consumer w fresh le same solves = record {
+fresh_lawful {laws} job streams plan consumer w fresh le same solves = record {
   streams = streams;
   solves = solves;
   is_there = subst (λ (p : Plan). consumer ≤ length p.nodes) (sym same) le;

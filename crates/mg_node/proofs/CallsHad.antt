@@ -11,35 +11,36 @@ use Rattle.mg_settled.specs.Settled.{TimedSet}
 use Rattle.mg_calc.specs.declared.call.Call.{Call}
 use Rattle.mg_calc.specs.declared.call.Call.TheVariants.{Begun, Shown, Finished}
 use Rattle.mg_calc.specs.declared.cause.Cause.{Cause}
-use Rattle.mg_calc.specs.declared.law.Law.{Law}
 use Rattle.mg_calc.specs.declared.node_fault.NodeFault.{NodeFault}
 use Rattle.mg_calc.specs.declared.node_fault.Phase.{Phase}
 use Rattle.mg_calc.specs.declared.node_fault.Phase.TheVariants.{Open, Call as SourceCall, Process, Close}
 use Rattle.mg_calc.specs.declared.plan_node.PlanNode.{PlanNode}
 use Rattle.mg_calc.specs.Answer.{Answer}
-use Rattle.mg_calc.specs.Law.{opening, step, finish, rules_of}
-use Rattle.mg_calc.specs.Laying.{after, laid_behind, all_raised}
-use Rattle.mg_calc.specs.Outcome.{Failure, Outcome, after_laying, after_call, unopened, opened, unless_failed, shown, after_close}
+use Rattle.mg_calc.specs.Law.{opening, step, finish}
+use Rattle.mg_calc.specs.Laying.{laid_behind, all_raised}
+use Rattle.mg_calc.specs.Outcome.{Failure, Outcome, after_laying, after_call, unopened, opened, unless_failed, shown, after_close, closed_with}
 use Rattle.mg_calc.specs.Shape.{IsOuter}
-use Rattle.mg_calc.specs.Equations.{Job, sides_of, inputs_of, outcome_of}
+use Rattle.mg_calc.specs.Equations.{Job, sides_of, inputs_of, outcome_of, rules_at}
 use Rattle.mg_calc.specs.Meaning.{last_call, log_of}
 use Rattle.mg_calc.specs.Plan.{FlightFits}
-use Rattle.mg_calc.specs.Told.{CalculatorTold, with_call}
-use Rattle.mg_route.specs.HolderView.{HolderView, told_by}
+use Rattle.mg_calc.specs.Told.{BoxTold, with_call}
+use Rattle.mg_calc.specs.Rules.{Rules, Laws}
+use Rattle.mg_route.specs.HolderView.{HolderView, told_by, held_rules}
 use Rattle.mg_node.specs.Views.{IntakeView, ContextView, EntryView, EngineView}
 use Rattle.mg_node.specs.Job.{LoggedJob, Solves, sets_of, stage, IsLastWork, first_log, log_after, calls_before}
-use Rattle.mg_node.specs.Lawful.{of_node, come_to, calls_by, IsIdle, IsEngineOf, LawfulEngine, LawfulIntake, Agree}
+use Rattle.mg_node.specs.Lawful.{of_node, come_to, calls_by, IsIdle, IsEngineOf, LawfulEngine, LawfulIntake, Agree, kept_after}
 use Rattle.mg_node.specs.Claims.{has_ended}
-use Rattle.mg_node.specs.WindingUp.{closes_despite, lacks_close, FinishesLast, WindsUp}
+use Rattle.mg_node.specs.WindingUp.{closes_despite, lacks_close, FinishesLast, WindsUp, closes_after}
 use Rattle.mg_node.specs.Leaving.{calculators_in, handed_told, first_handed}
 use Rattle.mg_node.specs.Resting.{IsResting, HasCome}
-use Rattle.mg_node.specs.Had.{HadCalls}
-use Rattle.mg_node.proofs.Performing.{of_node as at_node}
+use Rattle.mg_node.specs.Had.{HadCalls, opens_well, had_close, state_by}
+use Rattle.mg_node.proofs.HeldRules.{of_node as at_node, rules_fit}
 use Rattle.mg_node.proofs.OneCalculator.{one_handed, boxed_some, one_context}
 use Rattle.mg_node.proofs.RestingCounts.{HasBecome, rests_become}
 use Rattle.mg_node.proofs.RestingEnds.{of_these}
 use Rattle.mg_node.proofs.Stages.{outer_stage, outer_last}
 use Rattle.mg_node.proofs.TaskLogs.{shown_calls}
+use Rattle.mg_node.proofs.StatesKept.{come_state}
 
 -- In which phase a node fails: at a set or in Open it is before Close, and once it is closed in Close.
 
@@ -64,27 +65,31 @@ pub unless_not_in : (other : Phase) (fault : Option Failure) (o next : Outcome) 
 unless_not_in other (Some failure) o next before later = before
 unless_not_in other None o next before later = later
 
-set_not_in : (other : Phase) (law : Law) (offset : Option ℤ) (o : Outcome) (set : TimedSet Plain) → ((at : ℕ) → Process at ≡ other → ⊥) → IsNotIn other o.fault → IsNotIn other (shown (rules_of law) offset o set).fault
-set_not_in other law offset o set differs earlier =
+set_not_in : (other : Phase) (rules : Rules) (offset : Option ℤ) (o : Outcome) (set : TimedSet Plain) → ((at : ℕ) → Process at ≡ other → ⊥) → IsNotIn other o.fault → IsNotIn other (shown rules offset o set).fault
+set_not_in other rules offset o set differs earlier =
     let before : Outcome = record o { outputs = all_raised offset set.at o.outputs; taken = o.taken + 1 } in
-    let answer = step law o.state set.at set.set in
+    let answer = rules.step o.state set.at set.set in
     unless_not_in other o.fault o (after_call offset (Process set.at) before answer) earlier (call_not_in other offset (Process set.at) before answer (differs set.at) earlier)
 
-pub sets_not_in : (other : Phase) (law : Law) (offset : Option ℤ) (o : Outcome) (sets : List (TimedSet Plain)) → ((at : ℕ) → Process at ≡ other → ⊥) → IsNotIn other o.fault → IsNotIn other (fold (shown (rules_of law) offset) o sets).fault
-sets_not_in other law offset o [] differs before = before
-sets_not_in other law offset o (set ∷ sets) differs before = sets_not_in other law offset (shown (rules_of law) offset o set) sets differs (set_not_in other law offset o set differs before)
+pub sets_not_in : (other : Phase) (rules : Rules) (offset : Option ℤ) (o : Outcome) (sets : List (TimedSet Plain)) → ((at : ℕ) → Process at ≡ other → ⊥) → IsNotIn other o.fault → IsNotIn other (fold (shown rules offset) o sets).fault
+sets_not_in other rules offset o [] differs before = before
+sets_not_in other rules offset o (set ∷ sets) differs before = sets_not_in other rules offset (shown rules offset o set) sets differs (set_not_in other rules offset o set differs before)
 
 pub stage_earlier : (job : Job) (streams : List (StreamPrefix Plain)) (node : PlanNode) (n : ℕ) → IsOuter node.law → IsNotIn Close (stage job streams node n).fault
 stage_earlier job streams node n is =
     let offset = node.shape.offset in
     let sides = sides_of job node in
-    let begun = opened (rules_of node.law) offset (length node.outputs) sides in
+    let begun = opened (rules_at job node) offset (length node.outputs) sides in
     subst (λ (o : Outcome). IsNotIn Close o.fault) (sym (outer_stage node.law job streams node n is))
-    (sets_not_in Close node.law offset begun (take n (sets_of streams node)) (λ at e. absurd cc) (call_not_in Close offset Open (unopened (length node.outputs)) (opening node.law sides) (λ e. absurd cc) tt))
+    (sets_not_in Close (rules_at job node) offset begun (take n (sets_of streams node)) (λ at e. absurd cc) (call_not_in Close offset Open (unopened (length node.outputs)) ((rules_at job node).opening sides) (λ e. absurd cc) tt))
 
 close_fails : (o : Outcome) (r : Result (List (StreamPrefix Plain)) Cause) → o.fault ≡ None → IsOfClose (after_close o r).fault
 close_fails o (Ok outputs) good = subst IsOfClose (sym good) tt
 close_fails o (Err cause) good = refl
+
+closing_fails : (offset : Option ℤ) (o : Outcome) (answer : Answer) → o.fault ≡ None → IsOfClose (closed_with offset o answer).fault
+closing_fails offset o (Err cause) good = refl
+closing_fails offset o (Ok given) good = close_fails (record o { state = given.0 }) (laid_behind offset Close o.outputs given.1) good
 
 last_of_close : (job : Job) (streams : List (StreamPrefix Plain)) (node : PlanNode) (n : ℕ) → IsOuter node.law → IsLastWork job streams node n → IsOfClose (outcome_of job streams node).fault
 last_of_close job streams node n is last =
@@ -92,7 +97,7 @@ last_of_close job streams node n is last =
     let before = stage job streams node n in
     let up : Outcome = record before { outputs = all_raised offset done before.outputs } in
     subst (λ (o : Outcome). IsOfClose o.fault) (sym (outer_last job streams node n is last))
-    (close_fails up (after (finish node.law up.state) (λ given. laid_behind offset Close up.outputs given.1)) last.good)
+    (closing_fails offset up ((rules_at job node).finish up.state) last.good)
 
 -- So Close is had once, or by winding up, but where Open fails.
 
@@ -128,25 +133,25 @@ close_had closed number (Some f) close earlier = at_phase closed f.phase number 
 
 -- The one context of such a node is idle at rest.
 
-pub record HasOneContext (job : LoggedJob) (streams : List (StreamPrefix Plain)) (node : PlanNode) (engine : EngineView) : Type 0 where
+pub record HasOneContext {laws : Laws} (job : LoggedJob laws) (streams : List (StreamPrefix Plain)) (node : PlanNode) (engine : EngineView) : Type 0 where
   pub context : ContextView
   pub idle : engine.idle ≡ context ∷ []
   pub window : engine.window ≡ []
   pub is : IsIdle job streams node engine.laid engine.closed context
 
-pub boxed_one : (job : LoggedJob) (number : ℕ) (engine : EngineView) (h : IsEngineOf job number engine) → is_some h.node.box_number ≡ true → length engine.idle + length engine.window ≡ 1
-boxed_one job number engine h boxed =
+pub boxed_one : {laws : Laws} (job : LoggedJob laws) (number : ℕ) (engine : EngineView) (h : IsEngineOf job number engine) → is_some h.node.box_number ≡ true → length engine.idle + length engine.window ≡ 1
+boxed_one {laws} job number engine h boxed =
     let flight : FlightFits h.node = at_node FlightFits job.job.plan.nodes number h.node h.solves.is_job.plan.flights h.there in
     h.contexts ∙ h.set_up.in_flight ∙ flight.boxed (boxed_some h.node.box_number boxed)
 
-pub context_is : (job : LoggedJob) (number : ℕ) (engine : EngineView) (h : IsEngineOf job number engine) (context : ContextView) → engine.idle ≡ context ∷ [] → engine.window ≡ [] → HasOneContext job h.streams h.node engine
-context_is job number engine h context idle window =
+pub context_is : {laws : Laws} (job : LoggedJob laws) (number : ℕ) (engine : EngineView) (h : IsEngineOf job number engine) (context : ContextView) → engine.idle ≡ context ∷ [] → engine.window ≡ [] → HasOneContext job h.streams h.node engine
+context_is {laws} job number engine h context idle window =
     let P : ContextView → Type 0 = IsIdle job h.streams h.node engine.laid engine.closed in
     let all : AllByRecursion P (context ∷ []) = subst (AllByRecursion P) idle (recursion_from_All P engine.idle h.idle) in
     record { context = context; idle = idle; window = window; is = all.0 }
 
-pub one_idle : (job : LoggedJob) (number : ℕ) (engine : EngineView) (h : IsEngineOf job number engine) → is_some h.node.box_number ≡ true → (has_ended engine ≡ true) ⊎ (engine.window ≡ []) → HasOneContext job h.streams h.node engine
-one_idle job number engine h boxed rests = elim (one_context engine.idle engine.window (boxed_one job number engine h boxed)) [
+pub one_idle : {laws : Laws} (job : LoggedJob laws) (number : ℕ) (engine : EngineView) (h : IsEngineOf job number engine) → is_some h.node.box_number ≡ true → (has_ended engine ≡ true) ⊎ (engine.window ≡ []) → HasOneContext job h.streams h.node engine
+one_idle {laws} job number engine h boxed rests = elim (one_context engine.idle engine.window (boxed_one job number engine h boxed)) [
   | inl b ↦ context_is job number engine h b.0 b.1 b.2
   | inr e ↦ elim rests [
     | inl ended ↦ absurd (let some = h.ended ended in let none = ap length e.1 in omega (arith, some, none))
@@ -156,25 +161,25 @@ one_idle job number engine h boxed rests = elim (one_context engine.idle engine.
 
 -- The engine is wound up.
 
-pub record EndsAs (context : ContextView) (lacks : Bool) (now : EngineView) : Type 0 where
+pub record EndsAs (laws : Laws) (context : ContextView) (lacks : Bool) (now : EngineView) : Type 0 where
   pub told : HolderView
   pub found : first_handed now ≡ Some (told_by told)
   pub log : told.log ≡ option_map (λ calls. calls ++ finish_if lacks) context.told.log
-  pub state : told.state ≡ context.told.state
+  pub state : told.state ≡ (if lacks then kept_after ((held_rules laws context.told).finish context.told.state) context.told.state else context.told.state)
   pub law : told.law ≡ context.told.law
   pub shape : told.shape ≡ context.told.shape
 
 pub first_of : (engine : EngineView) (context : ContextView) → engine.idle ≡ context ∷ [] → engine.window ≡ [] → context.told.handed ≡ true → first_handed engine ≡ Some (told_by context.told)
 first_of engine context idle window handed =
     let only : calculators_in engine ≡ context.told ∷ [] = ap₂ (λ (bs : List ContextView) (es : List EntryView). calculators_in (record engine { idle = bs; window = es })) idle window in
-    ap (λ (hs : List HolderView). slice_get (filter_map handed_told hs) 0) only ∙ ap (λ (ts : List CalculatorTold). slice_get ts 0) (one_handed context.told handed)
+    ap (λ (hs : List HolderView). slice_get (filter_map handed_told hs) 0) only ∙ ap (λ (ts : List BoxTold). slice_get ts 0) (one_handed context.told handed)
 
 pub none_more : (log : Option (List Call)) → log ≡ option_map (λ calls. calls ++ []) log
 none_more None = refl
 none_more (Some calls) = ap Some (sym (append-nil calls))
 
-pub ends_as : (engine now : EngineView) (context : ContextView) (lacks : Bool) → lacks_close engine ≡ lacks → engine.idle ≡ context ∷ [] → engine.window ≡ [] → context.told.handed ≡ true → WindsUp engine now → EndsAs context lacks now
-ends_as engine now context false lacks idle window handed winds = record {
+pub ends_as : {laws : Laws} (engine now : EngineView) (context : ContextView) (lacks : Bool) → lacks_close engine ≡ lacks → engine.idle ≡ context ∷ [] → engine.window ≡ [] → context.told.handed ≡ true → WindsUp laws engine now → EndsAs laws context lacks now
+ends_as {laws} engine now context false lacks idle window handed winds = record {
   told = context.told;
   found = ap first_handed (winds.had_close lacks) ∙ first_of engine context idle window handed;
   log = none_more context.told.log;
@@ -182,9 +187,9 @@ ends_as engine now context false lacks idle window handed winds = record {
   law = refl;
   shape = refl;
 }
-ends_as engine now context true lacks idle window handed winds =
+ends_as {laws} engine now context true lacks idle window handed winds =
     let some : 0 < length engine.idle = (let one = ap length idle in omega (arith, one)) in
-    let f : FinishesLast engine now = winds.finishes lacks some in
+    let f : FinishesLast laws engine now = winds.finishes lacks some in
     let cut = same_from_push f.others [] f.context context (sym f.idle ∙ idle) in
     let last : f.finished.told.handed ≡ true = f.is_finished.same_handed ∙ ap (λ (b : ContextView). b.told.handed) cut.1 ∙ handed in
     let is : now ≡ record engine { idle = f.finished ∷ [] } = f.is ∙ ap (λ (bs : List ContextView). (let e : EngineView = record engine { idle = bs ++ f.finished ∷ [] } in e)) cut.0 in
@@ -192,23 +197,39 @@ ends_as engine now context true lacks idle window handed winds =
       told = f.finished.told;
       found = ap first_handed is ∙ first_of (record engine { idle = f.finished ∷ [] }) f.finished refl window last;
       log = f.is_finished.log ∙ ap (λ (b : ContextView). with_call b.told.log Finished) cut.1;
-      state = f.is_finished.state ∙ ap (λ (b : ContextView). b.told.state) cut.1;
+      state = f.is_finished.state ∙ ap (λ (b : ContextView). kept_after ((held_rules laws b.told).finish b.told.state) b.told.state) cut.1;
       law = f.is_finished.law ∙ ap (λ (b : ContextView). b.told.law) cut.1;
       shape = f.is_finished.shape ∙ ap (λ (b : ContextView). b.told.shape) cut.1;
     }
 
 -- All calls are had.
 
+-- what is kept in the end is what Close left, whether the node was closed or is wound up
+phase_state : (phase : Phase) (now kept before : List Plain) (rules : Rules) → (phase ≡ Close → ⊥) → now ≡ (if closes_after phase then kept_after (rules.finish kept) kept else kept) → kept ≡ before
+    → now ≡ (if opens_well phase then kept_after (rules.finish before) before else before)
+phase_state Open now kept before rules early is from = is ∙ from
+phase_state (SourceCall k) now kept before rules early is from = is ∙ ap (λ (s : List Plain). kept_after (rules.finish s) s) from
+phase_state (Process at) now kept before rules early is from = is ∙ ap (λ (s : List Plain). kept_after (rules.finish s) s) from
+phase_state Close now kept before rules early is from = absurd (early refl)
+
+had_state : (closed : Bool) (number : ℕ) (f : Option Failure) (now kept before : List Plain) (rules : Rules) → (closed ≡ true → IsOfClose f) → (closed ≡ false → IsNotIn Close f)
+    → now ≡ (if not closed && closes_despite (option_map (fault_with number) f) then kept_after (rules.finish kept) kept else kept) → kept ≡ (if closed then kept_after (rules.finish before) before else before)
+    → now ≡ (if had_close f then kept_after (rules.finish before) before else before)
+had_state true number None now kept before rules close early is from = is ∙ from
+had_state true number (Some f) now kept before rules close early is from = is ∙ from ∙ ap (λ (b : Bool). if b then kept_after (rules.finish before) before else before) (sym (ap opens_well (close refl)))
+had_state false number None now kept before rules close early is from = is ∙ ap (λ (s : List Plain). kept_after (rules.finish s) s) from
+had_state false number (Some f) now kept before rules close early is from = phase_state f.phase now kept before rules (early refl) is from
+
 pub more_calls : (log : Option (List Call)) (xs ys : List Call) → option_map (λ calls. calls ++ ys) (option_map (λ calls. calls ++ xs) log) ≡ option_map (λ calls. calls ++ (xs ++ ys)) log
 more_calls None xs ys = refl
 more_calls (Some calls) xs ys = ap Some (append_assoc calls xs ys)
 
-abbrev Holds : LoggedJob → List (StreamPrefix Plain) → PlanNode → EngineView → Type 0
-Holds job solution node now = (told : CalculatorTold) × (first_handed now ≡ Some told) × HadCalls job solution node told
+abbrev Holds : {laws : Laws} → LoggedJob laws → List (StreamPrefix Plain) → PlanNode → EngineView → Type 0
+Holds {laws} job solution node now = (told : BoxTold) × (first_handed now ≡ Some told) × HadCalls job solution node told
 
-had_by : (job : LoggedJob) (number : ℕ) (engine now : EngineView) (h : IsEngineOf job number engine) → is_some h.node.box_number ≡ true → IsOuter h.node.law → (has_ended engine ≡ true) ⊎ (engine.window ≡ [])
-    → HasBecome job h.streams number engine h.node → WindsUp engine now → Holds job h.streams h.node now
-had_by job number engine now h boxed outer rests become winds =
+had_by : {laws : Laws} (job : LoggedJob laws) (number : ℕ) (engine now : EngineView) (h : IsEngineOf job number engine) → is_some h.node.box_number ≡ true → IsOuter h.node.law → (has_ended engine ≡ true) ⊎ (engine.window ≡ [])
+    → HasBecome job h.streams number engine h.node → WindsUp laws engine now → Holds job h.streams h.node now
+had_by {laws} job number engine now h boxed outer rests become winds =
     let node = h.node in
     let streams = h.streams in
     let laid = engine.laid in
@@ -216,6 +237,7 @@ had_by job number engine now h boxed outer rests become winds =
     let fault = (outcome_of job.job streams node).fault in
     let lacks = not closed && closes_despite engine.fault in
     let one = one_idle job number engine h boxed rests in
+    let rules = rules_fit job number node one.context.told h.solves.is_job.plan h.there one.is.fits in
     let end = ends_as engine now one.context lacks (ap (λ (b : Bool). b && not closed && closes_despite engine.fault) h.begun) one.idle one.window (one.is.fits.same_handed ∙ boxed) winds in
     let early : closed ≡ false → IsNotIn Close fault = λ goes.
     same_not_in number (come_to job streams node laid closed).fault fault (sym h.fault ∙ become.fault) (subst (λ (b : Bool). IsNotIn Close (come_to job streams node laid b).fault) (sym goes) (stage_earlier job.job streams node laid outer)) in
@@ -229,7 +251,11 @@ had_by job number engine now h boxed outer rests become winds =
       told_by end.told,
       end.found,
       record {
-        state = end.state ∙ one.is.state ∙ become.state;
+        state = had_state closed number fault end.told.state one.context.told.state (stage job.job streams node laid).state (rules_at job.job node) (λ is. last_of_close job.job streams node laid outer (h.closed is)) early
+            (end.state ∙ ap (λ (r : Rules). if lacks then kept_after (r.finish one.context.told.state) one.context.told.state else one.context.told.state) rules
+            ∙ ap (λ (x : Option NodeFault). if not closed && closes_despite x then kept_after ((rules_at job.job node).finish one.context.told.state) one.context.told.state else one.context.told.state) become.fault)
+            (one.is.state ∙ come_state job streams node laid closed outer h.closed)
+            ∙ ap (λ (k : ℕ). state_by job.job streams node k (had_close fault)) become.count;
         log = end.log ∙ ap (option_map (λ calls. calls ++ finish_if lacks)) one.is.log ∙ more_calls (first_log job node) (calls_by streams node laid closed) (finish_if lacks) ∙ ap (log_after job node) all;
         fits = record { same_law = end.law ∙ one.is.fits.same_law; same_shape = end.shape ∙ one.is.fits.same_shape };
       },
@@ -241,11 +267,11 @@ resting_one engine intake rests = elim rests.claims [
   | inr goes ↦ inr goes.0
 ]
 
-pub had_calls : (job : LoggedJob) (number : ℕ) (node : PlanNode) (engine engine_now : EngineView) (intake : IntakeView) (solution : List (StreamPrefix Plain)) → Solves job solution → slice_get job.job.plan.nodes number ≡ Some node → is_some node.box_number ≡ true → IsOuter node.law
-    → LawfulEngine job (of_node number) engine → LawfulIntake job number intake → Agree engine intake → IsResting engine intake → HasCome intake (inputs_of solution node) → WindsUp engine engine_now
-    → (told : CalculatorTold) × (first_handed engine_now ≡ Some told) × HadCalls job solution node told
+pub had_calls : {laws : Laws} (job : LoggedJob laws) (number : ℕ) (node : PlanNode) (engine engine_now : EngineView) (intake : IntakeView) (solution : List (StreamPrefix Plain)) → Solves job solution → slice_get job.job.plan.nodes number ≡ Some node → is_some node.box_number ≡ true → IsOuter node.law
+    → LawfulEngine job (of_node number) engine → LawfulIntake job number intake → Agree engine intake → IsResting engine intake → HasCome intake (inputs_of solution node) → WindsUp laws engine engine_now
+    → (told : BoxTold) × (first_handed engine_now ≡ Some told) × HadCalls job solution node told
 unfolding LawfulEngine
-had_calls job number node engine engine_now intake solution solves there boxed outer h i agree rests came winds =
+had_calls {laws} job number node engine engine_now intake solution solves there boxed outer h i agree rests came winds =
     let become = rests_become job number node engine intake solution solves there h i agree rests came in
     of_these (λ ss m. is_some m.box_number ≡ true → IsOuter m.law → HasBecome job ss number engine m → Holds job ss m engine_now) job number node engine solution h solves there
     (λ b o become_too. had_by job number engine engine_now h b o (resting_one engine intake rests) become_too winds) boxed outer become

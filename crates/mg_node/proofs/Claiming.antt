@@ -22,6 +22,7 @@ use Rattle.mg_node.specs.Views.{IntakeView}
 use Rattle.mg_node.specs.Intakes.{SomeJobHasIntake, HasSet, ClaimsSet}
 use Rattle.mg_node.specs.Job.{LoggedJob, Solves, ports_of, streams_at}
 use Rattle.mg_node.specs.Lawful.{HoldsSets, HoldsWaits, IsIntakeOf, LawfulIntake}
+use Rattle.mg_calc.specs.Rules.{Laws}
 use Rattle.mg_calc.proofs.Solutions.{one_solution}
 
 -- there are at most as many rising times as there are below a bound
@@ -55,10 +56,10 @@ stays_at policy ss ts k e ext is =
     of_first (suc n) (y ∷ xs) (suc i) x h = of_first n xs i x h
 
 -- the next set is claimed
-pub claimed_sets : (job : LoggedJob) (streams : List (StreamPrefix Plain)) (consumer k : ℕ) (old new : Gathered) (set : List (Option (Stamped Plain))) (h : HoldsSets job streams consumer k old) → new.policy ≡ old.policy
+pub claimed_sets : {laws : Laws} (job : LoggedJob laws) (streams : List (StreamPrefix Plain)) (consumer k : ℕ) (old new : Gathered) (set : List (Option (Stamped Plain))) (h : HoldsSets job streams consumer k old) → new.policy ≡ old.policy
     → ((at : ℕ) × ShowsNext old.policy k h.came at set) × StandAfter old.policy (k + 1) (queues_of new.pool) h.came
     → HoldsSets job streams consumer (k + 1) new × ((k + 1 ≤ done) × HasSet job streams consumer k set)
-claimed_sets job streams consumer k old new set h policy c =
+claimed_sets {laws} job streams consumer k old new set h policy c =
     let ss = streams_at streams (ports_of job.job.plan consumer) in
     let e : TimedSet Plain = record { at = c.0.0; set = set } in
     let is : slice_get (settled_sets old.policy h.came) k ≡ Some e = c.0.1.next in
@@ -81,26 +82,26 @@ on_true true f a = f a
 on_true false f a = a
 
 -- of an intake, for its job
-claims_by : (job : LoggedJob) (consumer : ℕ) (view : IntakeView) (now : Pending) (set : List (Option (Stamped Plain))) (h : IsIntakeOf job consumer view) → ClaimsSet job h.streams consumer view.claimed now set → IsIntakeOf job consumer (record { claimed = view.claimed + 1; waits = now })
-claims_by job consumer view now set h c = record { streams = h.streams; solves = h.solves; is_there = h.is_there; holds = c.holds }
+claims_by : {laws : Laws} (job : LoggedJob laws) (consumer : ℕ) (view : IntakeView) (now : Pending) (set : List (Option (Stamped Plain))) (h : IsIntakeOf job consumer view) → ClaimsSet job h.streams consumer view.claimed now set → IsIntakeOf job consumer (record { claimed = view.claimed + 1; waits = now })
+claims_by {laws} job consumer view now set h c = record { streams = h.streams; solves = h.solves; is_there = h.is_there; holds = c.holds }
 
 abbrev ClaimsAll : Pending → Pending → List (Option (Stamped Plain)) → Type 0
-ClaimsAll old now set = (job : LoggedJob) (streams : List (StreamPrefix Plain)) (consumer k : ℕ) → HoldsWaits job streams consumer k old → ClaimsSet job streams consumer k now set
+ClaimsAll old now set = (laws : Laws) (job : LoggedJob laws) (streams : List (StreamPrefix Plain)) (consumer k : ℕ) → HoldsWaits job streams consumer k old → ClaimsSet job streams consumer k now set
 
-pub claim_lawful : (job : LoggedJob) (consumer : ℕ) (view : IntakeView) (now : Pending) (set : List (Option (Stamped Plain))) → ClaimsAll view.waits now set → LawfulIntake job consumer view → LawfulIntake job consumer (record { claimed = view.claimed + 1; waits = now })
+pub claim_lawful : {laws : Laws} (job : LoggedJob laws) (consumer : ℕ) (view : IntakeView) (now : Pending) (set : List (Option (Stamped Plain))) → ClaimsAll view.waits now set → LawfulIntake job consumer view → LawfulIntake job consumer (record { claimed = view.claimed + 1; waits = now })
 unfolding LawfulIntake
-claim_lawful job consumer view now set all h = claims_by job consumer view now set h (all job h.streams consumer view.claimed h.holds)
+claim_lawful {laws} job consumer view now set all h = claims_by job consumer view now set h (all laws job h.streams consumer view.claimed h.holds)
 
-claim_fits_by : (job : LoggedJob) (consumer : ℕ) (view : IntakeView) (now : Pending) (set : List (Option (Stamped Plain))) → ClaimsAll view.waits now set → LawfulIntake job consumer view → view.claimed + 1 ≤ done
+claim_fits_by : {laws : Laws} (job : LoggedJob laws) (consumer : ℕ) (view : IntakeView) (now : Pending) (set : List (Option (Stamped Plain))) → ClaimsAll view.waits now set → LawfulIntake job consumer view → view.claimed + 1 ≤ done
 unfolding LawfulIntake
-claim_fits_by job consumer view now set all i = (all job i.streams consumer view.claimed i.holds).few
+claim_fits_by {laws} job consumer view now set all i = (all laws job i.streams consumer view.claimed i.holds).few
 
 pub claim_fits : (view : IntakeView) (now : Pending) (set : List (Option (Stamped Plain))) → ClaimsAll view.waits now set → SomeJobHasIntake view → view.claimed + 1 ≤ done
 claim_fits view now set all h = claim_fits_by h.job h.consumer view now set all h.lawful
 
-pub claim_shows : (job : LoggedJob) (consumer : ℕ) (streams : List (StreamPrefix Plain)) (view : IntakeView) (now : Pending) (set : List (Option (Stamped Plain))) → ClaimsAll view.waits now set → Solves job streams → LawfulIntake job consumer view
+pub claim_shows : {laws : Laws} (job : LoggedJob laws) (consumer : ℕ) (streams : List (StreamPrefix Plain)) (view : IntakeView) (now : Pending) (set : List (Option (Stamped Plain))) → ClaimsAll view.waits now set → Solves job streams → LawfulIntake job consumer view
     → HasSet job streams consumer view.claimed set
 unfolding LawfulIntake
-claim_shows job consumer streams view now set all solves h =
+claim_shows {laws} job consumer streams view now set all solves h =
     let same : h.streams ≡ streams = one_solution job.job h.streams streams h.solves.solution solves.solution in
-    subst (λ (ss : List (StreamPrefix Plain)). HasSet job ss consumer view.claimed set) same (all job h.streams consumer view.claimed h.holds).shows
+    subst (λ (ss : List (StreamPrefix Plain)). HasSet job ss consumer view.claimed set) same (all laws job h.streams consumer view.claimed h.holds).shows

@@ -8,6 +8,7 @@ use Rattle.mg_settled.specs.Loopback.{packet_of}
 use Rattle.mg_settled.proofs.Lemmas.{appended_extends}
 use Rattle.mg_stream.specs.Queue.{MayCome}
 use Rattle.mg_stream.specs.Pool.{Backlog, queue_of, backlog_of, empty_backlog}
+use Rattle.mg_calc.specs.Rules.{Laws}
 use Rattle.mg_calc.specs.declared.node_fault.Phase.{Phase}
 use Rattle.mg_node.specs.declared.claimed.Claimed.{Claimed}
 use Rattle.mg_node.specs.declared.claimed.Claimed.TheVariants.{Work, Answered, NotReady, InFlightFull, Draining, Ended, OutOfMemory}
@@ -53,8 +54,8 @@ seen : (bs : List (Backlog Plain)) → map backlog_of (map (queue_of 0) bs) ≡ 
 seen [] = refl
 seen (b ∷ bs) = ap (λ (xs : List (Backlog Plain)). b ∷ xs) (seen bs)
 
-answered_grows : (engine engine_now : EngineView) (intake intake_now : IntakeView) → AreCell engine intake → MayClaim engine → TakesAnswer engine engine_now intake intake_now → CellGrows engine engine_now intake intake_now
-answered_grows engine engine_now intake intake_now cell may t =
+answered_grows : {laws : Laws} (engine engine_now : EngineView) (intake intake_now : IntakeView) → AreCell laws engine intake → MayClaim engine → TakesAnswer engine engine_now intake intake_now → CellGrows engine engine_now intake intake_now
+answered_grows {laws} engine engine_now intake intake_now cell may t =
     let comes : (b : Backlog Plain) (bs : List (Backlog Plain)) (p : Stamped Plain) → engine.outputs ≡ b ∷ bs → packet_of t.reply ≡ Some p → MayCome (queue_of 0 b) p.at =
     λ b bs p is packet.
     cell_lays engine intake (map (queue_of 0) engine.outputs) (queue_of 0 b) cell t.role may (seen engine.outputs)
@@ -69,17 +70,17 @@ answered_grows engine engine_now intake intake_now cell may t =
       };
     }
 
-pub claim_grows : {C : Type 0} (result : Claimed C) (engine engine_now : EngineView) (intake intake_now : IntakeView) → AreCell engine intake → Claims result engine engine_now intake intake_now → CellGrows engine engine_now intake intake_now
-claim_grows Ended engine engine_now intake intake_now cell c = both_same engine engine_now intake intake_now c.1
-claim_grows InFlightFull engine engine_now intake intake_now cell c = both_same engine engine_now intake intake_now c.3
-claim_grows Draining engine engine_now intake intake_now cell c = both_same engine engine_now intake intake_now c.3
-claim_grows NotReady engine engine_now intake intake_now cell c = both_same engine engine_now intake intake_now c.2
-claim_grows OutOfMemory engine engine_now intake intake_now cell c = both_same engine engine_now intake intake_now c.2
-claim_grows Answered engine engine_now intake intake_now cell c = answered_grows engine engine_now intake intake_now cell c.0 c.1
-claim_grows (Work work) engine engine_now intake intake_now cell (inl c) = record {
+pub claim_grows : {laws : Laws} {C : Type 0} (result : Claimed C) (engine engine_now : EngineView) (intake intake_now : IntakeView) → AreCell laws engine intake → Claims result engine engine_now intake intake_now → CellGrows engine engine_now intake intake_now
+claim_grows {laws} Ended engine engine_now intake intake_now cell c = both_same engine engine_now intake intake_now c.1
+claim_grows {laws} InFlightFull engine engine_now intake intake_now cell c = both_same engine engine_now intake intake_now c.3
+claim_grows {laws} Draining engine engine_now intake intake_now cell c = both_same engine engine_now intake intake_now c.3
+claim_grows {laws} NotReady engine engine_now intake intake_now cell c = both_same engine engine_now intake intake_now c.2
+claim_grows {laws} OutOfMemory engine engine_now intake intake_now cell c = both_same engine engine_now intake intake_now c.2
+claim_grows {laws} Answered engine engine_now intake intake_now cell c = answered_grows engine engine_now intake intake_now cell c.0 c.1
+claim_grows {laws} (Work work) engine engine_now intake intake_now cell (inl c) = record {
   engine_grows = subst (λ (v : EngineView). EngineGrows engine v) (sym c.1.now) (window_grows engine engine_now.window engine.idle);
   intake_grows = intake_same intake intake_now c.2;
 }
-claim_grows (Work work) engine engine_now intake intake_now cell (inr (may, inl c)) = record { engine_grows = hands_grow engine engine_now _ 1 _ c.0.hands; intake_grows = intake_same intake intake_now c.1 }
-claim_grows (Work work) engine engine_now intake intake_now cell (inr (may, inr (inl c))) = record { engine_grows = hands_grow engine engine_now _ 0 _ c.0.hands; intake_grows = intake_same intake intake_now c.1 }
-claim_grows (Work work) engine engine_now intake intake_now cell (inr (may, inr (inr c))) = record { engine_grows = hands_grow engine engine_now _ 1 _ c.hands; intake_grows = c.takes.grows }
+claim_grows {laws} (Work work) engine engine_now intake intake_now cell (inr (may, inl c)) = record { engine_grows = hands_grow engine engine_now _ 1 _ c.0.hands; intake_grows = intake_same intake intake_now c.1 }
+claim_grows {laws} (Work work) engine engine_now intake intake_now cell (inr (may, inr (inl c))) = record { engine_grows = hands_grow engine engine_now _ 0 _ c.0.hands; intake_grows = intake_same intake intake_now c.1 }
+claim_grows {laws} (Work work) engine engine_now intake intake_now cell (inr (may, inr (inr c))) = record { engine_grows = hands_grow engine engine_now _ 1 _ c.hands; intake_grows = c.takes.grows }

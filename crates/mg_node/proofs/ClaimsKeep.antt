@@ -16,6 +16,7 @@ use Rattle.mg_stream.specs.Pool.{queues_of}
 use Rattle.mg_policy.specs.Inbox.{next_set}
 use Rattle.mg_policy.specs.declared.readiness.Readiness.TheVariants.{Ready}
 use Rattle.mg_policy.proofs.Standing.{what_is_next}
+use Rattle.mg_calc.specs.Rules.{Laws}
 use Rattle.mg_calc.specs.declared.law.Law.{Law}
 use Rattle.mg_calc.specs.declared.law.Law.TheVariants.{Count, SideOnce, Constants, Loopback}
 use Rattle.mg_calc.specs.declared.node_fault.Phase.{Phase}
@@ -36,7 +37,7 @@ use Rattle.mg_node.specs.Claims.{MayClaim, TakesUnrun, Hands, TakesCall, TakesSe
 use Rattle.mg_node.proofs.Claiming.{stays_at}
 use Rattle.mg_node.proofs.FrontWaits.{set_waits}
 use Rattle.mg_node.proofs.Delivering.{last_have}
-use Rattle.mg_node.proofs.Performing.{of_node as at_node}
+use Rattle.mg_node.proofs.HeldRules.{of_node as at_node}
 use Rattle.mg_node.proofs.Handing.{handed_engine, handed_work, none_closes}
 
 not_first : (a b : Bool) → (a || b) ≡ false → a ≡ false
@@ -68,9 +69,9 @@ number_set (x ∷ window) (suc i) old new h same =
 abbrev out_of : EntryView → EntryView
 out_of entry = record { phase = entry.phase; outcome = None; committed = false }
 
-unrun_engine : (job : LoggedJob) (number : ℕ) (engine : EngineView) (place : ℕ) (entry : EntryView) → IsEngineOf job number engine → slice_get engine.window place ≡ Some entry
+unrun_engine : {laws : Laws} (job : LoggedJob laws) (number : ℕ) (engine : EngineView) (place : ℕ) (entry : EntryView) → IsEngineOf job number engine → slice_get engine.window place ≡ Some entry
     → IsEngineOf job number (record engine { window = set engine.window place (out_of entry) })
-unrun_engine job number engine place entry h there =
+unrun_engine {laws} job number engine place entry h there =
     let order = h.order in
     let contexts = h.contexts in
     record {
@@ -103,9 +104,9 @@ unrun_engine job number engine place entry h there =
       ended = h.ended;
     }
 
-unrun_work : (job : LoggedJob) (number : ℕ) (engine : EngineView) (place : ℕ) (entry : EntryView) (work : WorkView) → IsEngineOf job number engine → slice_get engine.window place ≡ Some entry → entry.outcome ≡ Some (record { work = work; answer = None }) → LawfulWork job work
+unrun_work : {laws : Laws} (job : LoggedJob laws) (number : ℕ) (engine : EngineView) (place : ℕ) (entry : EntryView) (work : WorkView) → IsEngineOf job number engine → slice_get engine.window place ≡ Some entry → entry.outcome ≡ Some (record { work = work; answer = None }) → LawfulWork job work
 unfolding LawfulWork LawfulOutcome
-unrun_work job number engine place entry work h there is =
+unrun_work {laws} job number engine place entry work h there is =
     let e = h.entries place entry there in
     let stands : IfSome (Some (record { work = work; answer = None })) (λ o. StandsAt job number (engine.laid + place) entry.phase o) = subst (λ (o : Option OutcomeView). IfSome o (λ p. StandsAt job number (engine.laid + place) entry.phase p)) is e.outcome in
     stands.lawful
@@ -127,9 +128,9 @@ count_sets Loopback streams node e = absurd cc
 count_sets law streams node e = refl
 
 -- the next set is that of its number in the solution
-next_there : (job : LoggedJob) (streams : List (StreamPrefix Plain)) (number claimed : ℕ) (w : Pending) (e : TimedSet Plain) → HoldsWaits job streams number claimed w → next_set_of w ≡ Some e
+next_there : {laws : Laws} (job : LoggedJob laws) (streams : List (StreamPrefix Plain)) (number claimed : ℕ) (w : Pending) (e : TimedSet Plain) → HoldsWaits job streams number claimed w → next_set_of w ≡ Some e
     → slice_get (settled_sets (policy_of job.job.plan number) (streams_at streams (ports_of job.job.plan number))) claimed ≡ Some e
-next_there job streams number claimed (Sets inbox) e holds next =
+next_there {laws} job streams number claimed (Sets inbox) e holds next =
     let h = holds.1 in
     let rest = what_is_next inbox.policy claimed (queues_of inbox.pool) h.came h.stands in
     let here : slice_get (settled_sets inbox.policy h.came) claimed ≡ Some e = at_drop claimed (settled_sets inbox.policy h.came) e (ap (λ (sets : List (TimedSet Plain)). slice_get sets 0) (sym rest) ∙ next) in
@@ -140,11 +141,11 @@ next_there job streams number claimed (Sets inbox) e holds next =
     at_drop zero xs x h = h
     at_drop (suc n) [] x h = absurd cc
     at_drop (suc n) (y ∷ xs) x h = at_drop n xs x h
-next_there job streams number claimed (Loop held) e holds next = absurd cc
+next_there {laws} job streams number claimed (Loop held) e holds next = absurd cc
 
-node_sets : (job : LoggedJob) (streams : List (StreamPrefix Plain)) (number : ℕ) (node : PlanNode) → slice_get job.job.plan.nodes number ≡ Some node
+node_sets : {laws : Laws} (job : LoggedJob laws) (streams : List (StreamPrefix Plain)) (number : ℕ) (node : PlanNode) → slice_get job.job.plan.nodes number ≡ Some node
     → settled_sets (policy_of job.job.plan number) (streams_at streams (ports_of job.job.plan number)) ≡ sets_of streams node
-node_sets job streams number node there = ap (λ (o : Option PlanNode). settled_sets (unwrap_or (option_map (λ n. n.policy) o) Default) (streams_at streams (unwrap_or (option_map (λ n. n.inputs) o) job.job.plan.outputs))) there
+node_sets {laws} job streams number node there = ap (λ (o : Option PlanNode). settled_sets (unwrap_or (option_map (λ n. n.policy) o) Default) (streams_at streams (unwrap_or (option_map (λ n. n.inputs) o) job.job.plan.outputs))) there
 
 -- what its time and its packets are
 next_is : (o : Option (TimedSet Plain)) (at : ℕ) (set : List (Option (Stamped Plain))) → IsSomeAnd o (λ e. e.at ≡ at) → IsSomeAnd o (λ e. set ≡ e.set) → o ≡ Some (record { at = at; set = set })
@@ -155,9 +156,9 @@ next_at : (w : Pending) (at : ℕ) (set : List (Option (Stamped Plain))) → IsN
 next_at (Sets inbox) at set next shown = next_is (next_set inbox.policy (queues_of inbox.pool)) at set next shown
 next_at (Loop held) at set next shown = absurd shown
 
-set_task : (job : LoggedJob) (number : ℕ) (engine : EngineView) (intake : IntakeView) (at : ℕ) (set : List (Option (Stamped Plain))) (h : IsEngineOf job number engine) → IsIntakeOf job number intake → engine.role ≡ SetsRole → engine.claimed ≡ intake.claimed
+set_task : {laws : Laws} (job : LoggedJob laws) (number : ℕ) (engine : EngineView) (intake : IntakeView) (at : ℕ) (set : List (Option (Stamped Plain))) (h : IsEngineOf job number engine) → IsIntakeOf job number intake → engine.role ≡ SetsRole → engine.claimed ≡ intake.claimed
     → IsNext intake.waits (Ready at) → IsSomeAnd (next_set_of intake.waits) (λ e. set ≡ e.set) → IsTask job.job h.streams h.node engine.claimed (Process at) set
-set_task job number engine intake at set h i role agree next shown =
+set_task {laws} job number engine intake at set h i role agree next shown =
     let same : i.streams ≡ h.streams = one_solution job.job i.streams h.streams i.solves.solution h.solves.solution in
     let there = next_there job i.streams number intake.claimed intake.waits (record { at = at; set = set }) i.holds (next_at intake.waits at set next shown) in
     let of_node_sets = node_sets job i.streams number h.node h.there in
@@ -166,8 +167,8 @@ set_task job number engine intake at set h i role agree next shown =
       ap (λ (k : ℕ). slice_get (sets_of h.streams h.node) k) agree ∙ ap (λ (ss : List (StreamPrefix Plain)). slice_get (sets_of ss h.node) intake.claimed) (sym same) ∙ here,
     )
 
-more_sets : (job : LoggedJob) (number : ℕ) (engine : EngineView) (at : ℕ) (set : List (Option (Stamped Plain))) (h : IsEngineOf job number engine) → engine.role ≡ SetsRole → IsTask job.job h.streams h.node engine.claimed (Process at) set → engine.claimed < count_of_all h.streams h.node
-more_sets job number engine at set h role task =
+more_sets : {laws : Laws} (job : LoggedJob laws) (number : ℕ) (engine : EngineView) (at : ℕ) (set : List (Option (Stamped Plain))) (h : IsEngineOf job number engine) → engine.role ≡ SetsRole → IsTask job.job h.streams h.node engine.claimed (Process at) set → engine.claimed < count_of_all h.streams h.node
+more_sets {laws} job number engine at set h role task =
     let within = slice_get_within (sets_of h.streams h.node) engine.claimed (record { at = at; set = set }) task.1 in
     let count = count_sets h.node.law h.streams h.node (sym h.set_up.role ∙ role) in
     omega (arith, within, count)
@@ -188,9 +189,9 @@ count_calls law streams node is = absurd is
 
 -- What a claim leaves.
 
-pub unrun_lawful : (job : LoggedJob) (number : ℕ) (engine engine_now : EngineView) (work : WorkView) → LawfulEngine job (of_node number) engine → TakesUnrun engine engine_now work → LawfulEngine job (of_node number) engine_now × LawfulWork job work
+pub unrun_lawful : {laws : Laws} (job : LoggedJob laws) (number : ℕ) (engine engine_now : EngineView) (work : WorkView) → LawfulEngine job (of_node number) engine → TakesUnrun engine engine_now work → LawfulEngine job (of_node number) engine_now × LawfulWork job work
 unfolding LawfulEngine
-unrun_lawful job number engine engine_now work h t =
+unrun_lawful {laws} job number engine engine_now work h t =
     let hands = t.hands in
     let now : engine_now ≡ record engine { window = set engine.window t.place (out_of hands.entry) } = t.now ∙ ap (λ (w : List EntryView). (let e : EngineView = record engine { window = w } in e)) hands.left in (
       subst (λ (e : EngineView). IsEngineOf job number e) (sym now) (unrun_engine job number engine t.place hands.entry h hands.there),
@@ -198,23 +199,23 @@ unrun_lawful job number engine engine_now work h t =
     )
 
 -- of a work that is handed out with a context
-pub hands_places : (job : LoggedJob) (number : ℕ) (engine engine_now : EngineView) (phase : Phase) (more : ℕ) (context : ContextView) (h : IsEngineOf job number engine) → Hands engine engine_now phase more context → length context.set ≡ length h.node.inputs
-hands_places job number engine engine_now phase more context h t =
+pub hands_places : {laws : Laws} (job : LoggedJob laws) (number : ℕ) (engine engine_now : EngineView) (phase : Phase) (more : ℕ) (context : ContextView) (h : IsEngineOf job number engine) → Hands engine engine_now phase more context → length context.set ≡ length h.node.inputs
+hands_places {laws} job number engine engine_now phase more context h t =
     let P : ContextView → Type 0 = IsIdle job h.streams h.node engine.laid engine.closed in
     let last : AllByRecursion P (context ∷ []) = last_have P engine_now.idle (context ∷ []) (subst (AllByRecursion P) t.idle (recursion_from_All P engine.idle h.idle)) in
     last.0.places
 
-pub hands_lawful : (job : LoggedJob) (number : ℕ) (engine engine_now : EngineView) (phase : Phase) (more : ℕ) (context : ContextView) (set : List (Option (Stamped Plain))) (work : WorkView) (h : IsEngineOf job number engine) → MayClaim engine → Hands engine engine_now phase more context
+pub hands_lawful : {laws : Laws} (job : LoggedJob laws) (number : ℕ) (engine engine_now : EngineView) (phase : Phase) (more : ℕ) (context : ContextView) (set : List (Option (Stamped Plain))) (work : WorkView) (h : IsEngineOf job number engine) → MayClaim engine → Hands engine engine_now phase more context
     → IsTask job.job h.streams h.node engine.claimed phase set → number_of (λ e. is_close e.phase) engine.window ≡ 0 → more + (if is_close phase then 1 else 0) ≡ 1 → (phase ≡ Close → engine.claimed ≡ engine.laid) → length set ≡ length h.node.inputs
     → work ≡ record { node = engine.node; number = engine.claimed; phase = phase; context = record { told = context.told; set = set } } → IsEngineOf job number engine_now × LawfulWork job work
-hands_lawful job number engine engine_now phase more context set work h may t task none one close places is = (
+hands_lawful {laws} job number engine engine_now phase more context set work h may t task none one close places is = (
   subst (λ (e : EngineView). IsEngineOf job number e) (sym t.now) (handed_engine job number engine phase more context engine_now.idle set h may.goes t.idle task none one close),
   subst (λ (w : WorkView). LawfulWork job w) (sym is) (handed_work job number engine phase context engine_now.idle set h t.idle (not_first engine.closed (is_some engine.fault) may.goes) may.room none places task),
 )
 
-pub call_lawful : (job : LoggedJob) (number : ℕ) (engine engine_now : EngineView) (work : WorkView) → LawfulEngine job (of_node number) engine → MayClaim engine → TakesCall engine engine_now work → LawfulEngine job (of_node number) engine_now × LawfulWork job work
+pub call_lawful : {laws : Laws} (job : LoggedJob laws) (number : ℕ) (engine engine_now : EngineView) (work : WorkView) → LawfulEngine job (of_node number) engine → MayClaim engine → TakesCall engine engine_now work → LawfulEngine job (of_node number) engine_now × LawfulWork job work
 unfolding LawfulEngine
-call_lawful job number engine engine_now work h may t =
+call_lawful {laws} job number engine engine_now work h may t =
     let law = source_law h.node.law t.calls engine.claimed (sym h.set_up.role ∙ t.role) t.more in
     let more = t.more in
     let count = count_calls h.node.law h.streams h.node law.0 in
@@ -223,10 +224,10 @@ call_lawful job number engine engine_now work h may t =
     hands_lawful job number engine engine_now (Call engine.claimed) 1 t.context t.context.set work h may t.hands (law.0, refl, omega (arith, more, calls)) none refl (λ e. absurd cc)
     (hands_places job number engine engine_now (Call engine.claimed) 1 t.context h t.hands) t.work_is
 
-pub set_lawful : (job : LoggedJob) (number : ℕ) (engine engine_now : EngineView) (intake intake_now : IntakeView) (work : WorkView) → LawfulEngine job (of_node number) engine → LawfulIntake job number intake → engine.claimed ≡ intake.claimed → MayClaim engine
+pub set_lawful : {laws : Laws} (job : LoggedJob laws) (number : ℕ) (engine engine_now : EngineView) (intake intake_now : IntakeView) (work : WorkView) → LawfulEngine job (of_node number) engine → LawfulIntake job number intake → engine.claimed ≡ intake.claimed → MayClaim engine
     → TakesSet engine engine_now intake intake_now work → LawfulEngine job (of_node number) engine_now × LawfulWork job work
 unfolding LawfulEngine LawfulIntake
-set_lawful job number engine engine_now intake intake_now work h i agree may t =
+set_lawful {laws} job number engine engine_now intake intake_now work h i agree may t =
     let task = set_task job number engine intake t.at work.context.set h i t.role agree t.next t.takes.shown in
     let none = none_closes job number engine h (more_sets job number engine t.at work.context.set h t.role task) in
     let long : length work.context.set ≡ length (inputs_of h.streams h.node) = set_long h.node h.streams engine.claimed t.at work.context.set task.1 in

@@ -19,6 +19,7 @@ use Rattle.mg_policy.proofs.Standing.{what_is_next, what_is_the_reach}
 use Rattle.mg_loopback.specs.Loopback.{Held}
 use Rattle.mg_loopback.specs.Standing.{StandsAfter}
 use Rattle.mg_loopback.proofs.Standing.{replies_grow}
+use Rattle.mg_calc.specs.Rules.{Laws}
 use Rattle.mg_calc.specs.declared.cause.Cause.{Cause}
 use Rattle.mg_calc.specs.declared.law.Law.{Law}
 use Rattle.mg_calc.specs.declared.law.Law.TheVariants.{Count, SideOnce, Constants, Loopback}
@@ -27,15 +28,16 @@ use Rattle.mg_calc.specs.declared.node_fault.Phase.TheVariants.{Open, Call as So
 use Rattle.mg_calc.specs.declared.node_fault.NodeFault.{NodeFault}
 use Rattle.mg_calc.specs.declared.plan_node.PlanNode.{PlanNode}
 use Rattle.mg_calc.specs.Answer.{Answer}
-use Rattle.mg_calc.specs.Law.{opening, call, rules_of}
+use Rattle.mg_calc.specs.Law.{call}
 use Rattle.mg_calc.specs.Laying.{laid_behind}
 use Rattle.mg_calc.specs.Outcome.{Failure, Outcome, after_laying, after_call, unopened, opened, unless_failed, called, source_outcome}
 use Rattle.mg_calc.specs.Shape.{calls_of}
-use Rattle.mg_calc.specs.Equations.{Job, inputs_of, sides_of, outcome_by}
+use Rattle.mg_calc.specs.Equations.{Job, inputs_of, sides_of, outcome_by, rules_at}
 use Rattle.mg_calc.specs.Meaning.{count_of}
 use Rattle.mg_calc.proofs.Jobs.{job_known}
 use Rattle.mg_calc.proofs.Rounds.{stream_extends, streams_are_prefixes, stream_is_prefix}
 use Rattle.mg_calc.proofs.Solutions.{solution_keeps, one_solution}
+use Rattle.mg_calc.specs.Rules.{Rules}
 use Rattle.mg_node.specs.declared.role.Role.{Role}
 use Rattle.mg_node.specs.declared.role.Role.TheVariants.{Input, Source, Loop as LoopRole, Sets as SetsRole}
 use Rattle.mg_node.specs.declared.pending.Pending.{Pending}
@@ -50,9 +52,9 @@ use Rattle.mg_node.proofs.Claimable.{never_input}
 use Rattle.mg_node.proofs.ClaimsKeep.{hands_lawful, hands_places}
 
 -- of sets: as many as are claimed, and their reach is the end of all times
-sets_over : (job : LoggedJob) (streams : List (StreamPrefix Plain)) (number k : ℕ) (inbox : Gathered) → Solves job streams → HoldsSets job streams number k inbox → IsOverInbox inbox.policy (queues_of inbox.pool)
+sets_over : {laws : Laws} (job : LoggedJob laws) (streams : List (StreamPrefix Plain)) (number k : ℕ) (inbox : Gathered) → Solves job streams → HoldsSets job streams number k inbox → IsOverInbox inbox.policy (queues_of inbox.pool)
     → (length (settled_sets inbox.policy (streams_at streams (ports_of job.job.plan number))) ≡ k) × (reach inbox.policy (streams_at streams (ports_of job.job.plan number)) ≡ done)
-sets_over job streams number k inbox solves h over =
+sets_over {laws} job streams number k inbox solves h over =
     let ss = streams_at streams (ports_of job.job.plan number) in
     let prefixes : All IsPrefix ss = All-from_recursion IsPrefix ss (streams_are_prefixes streams (ports_of job.job.plan number) (solution_keeps job.job (job_known job.job solves.is_job) streams solves.solution)) in
     let rest = what_is_next inbox.policy k (queues_of inbox.pool) h.came h.stands in
@@ -91,19 +93,19 @@ last_takes : (fault : Option Failure) (outcome next : Outcome) → next.taken �
 last_takes (Some failure) outcome next e = refl
 last_takes None outcome next e = e
 
-source_takes : (law : Law) (calls outputs : ℕ) (sides : List (Option Plain)) → (source_outcome law calls outputs sides).taken ≤ calls
-source_takes law calls outputs sides =
-    let begun = opened (rules_of law) None outputs sides in
+source_takes : (rules : Rules) (law : Law) (calls outputs : ℕ) (sides : List (Option Plain)) → (source_outcome rules law calls outputs sides).taken ≤ calls
+source_takes rules law calls outputs sides =
+    let begun = opened rules None outputs sides in
     let made = fold (called law) begun (range_with_len 0 calls) in
-    let first : begun.taken ≡ 0 = call_takes Open (unopened outputs) (opening law sides) in
+    let first : begun.taken ≡ 0 = call_takes Open (unopened outputs) (rules.opening sides) in
     let all = calls_take law begun (range_with_len 0 calls) in
     let last = last_takes made.fault made (record made { outputs = map closed made.outputs }) refl in
     omega (arith, first, all, last, length-range_with_len 0 calls)
 
 source_counts : (law : Law) (calls : ℕ) (job : Job) (streams : List (StreamPrefix Plain)) (node : PlanNode) → role_of law ≡ Source calls → (outcome_by law job streams node).taken ≤ calls_of node.law
-source_counts (Count count start step) calls job streams node e = source_takes node.law (calls_of node.law) (length node.outputs) (sides_of job node)
-source_counts (SideOnce at) calls job streams node e = source_takes node.law (calls_of node.law) (length node.outputs) (sides_of job node)
-source_counts Constants calls job streams node e = source_takes node.law (calls_of node.law) (length node.outputs) (sides_of job node)
+source_counts (Count count start step) calls job streams node e = source_takes (rules_at job node) node.law (calls_of node.law) (length node.outputs) (sides_of job node)
+source_counts (SideOnce at) calls job streams node e = source_takes (rules_at job node) node.law (calls_of node.law) (length node.outputs) (sides_of job node)
+source_counts Constants calls job streams node e = source_takes (rules_at job node) node.law (calls_of node.law) (length node.outputs) (sides_of job node)
 source_counts Loopback calls job streams node e = absurd cc
 source_counts law calls job streams node e = absurd cc
 
@@ -152,9 +154,9 @@ pub law_is_loop : (o : Option PlanNode) (node : PlanNode) → o ≡ Some node �
 law_is_loop None node is law = absurd cc
 law_is_loop (Some m) node is law = (let same : m ≡ node = cc in let here : m.law ≡ Loopback = cc in ap (λ (n : PlanNode). n.law) (sym same) ∙ here)
 
-sets_close : (job : LoggedJob) (number : ℕ) (streams : List (StreamPrefix Plain)) (node : PlanNode) (k : ℕ) (w : Pending) → Solves job streams → slice_get job.job.plan.nodes number ≡ Some node → role_of node.law ≡ SetsRole → HoldsWaits job streams number k w → IsNext w AtEnd
+sets_close : {laws : Laws} (job : LoggedJob laws) (number : ℕ) (streams : List (StreamPrefix Plain)) (node : PlanNode) (k : ℕ) (w : Pending) → Solves job streams → slice_get job.job.plan.nodes number ≡ Some node → role_of node.law ≡ SetsRole → HoldsWaits job streams number k w → IsNext w AtEnd
     → (k ≡ count_of_all streams node) × IsOverBy node.law streams node
-sets_close job number streams node k (Sets inbox) solves there role holds next =
+sets_close {laws} job number streams node k (Sets inbox) solves there role holds next =
     let h = holds.1 in
     let ended = sets_over job streams number k inbox solves h next in
     let policy : inbox.policy ≡ node.policy = h.policy ∙ ap (λ (o : Option PlanNode). unwrap_or (option_map (λ n. n.policy) o) Default) there in
@@ -162,13 +164,13 @@ sets_close job number streams node k (Sets inbox) solves there role holds next =
     let count : length (sets_of streams node) ≡ k = ap (λ (p : Policy). length (settled_sets p (inputs_of streams node))) (sym policy) ∙ ap (λ (ss : List (StreamPrefix Plain)). length (settled_sets inbox.policy ss)) (sym at) ∙ ended.0 in
     let reached : reach node.policy (inputs_of streams node) ≡ done = ap (λ (p : Policy). reach p (inputs_of streams node)) (sym policy) ∙ ap (λ (ss : List (StreamPrefix Plain)). reach inbox.policy ss) (sym at) ∙ ended.1 in
     sets_last node.law streams node k role count reached
-sets_close job number streams node k (Loop held) solves there role holds next =
+sets_close {laws} job number streams node k (Loop held) solves there role holds next =
     absurd (let role_is = subst (λ (l : Law). role_of l ≡ SetsRole) (law_is_loop (slice_get job.job.plan.nodes number) node there holds.0) role in cc)
 
-loop_close : (job : LoggedJob) (number : ℕ) (streams : List (StreamPrefix Plain)) (node : PlanNode) (k : ℕ) (w : Pending) → Solves job streams → slice_get job.job.plan.nodes number ≡ Some node → role_of node.law ≡ LoopRole → HoldsWaits job streams number k w → IsNext w AtEnd
+loop_close : {laws : Laws} (job : LoggedJob laws) (number : ℕ) (streams : List (StreamPrefix Plain)) (node : PlanNode) (k : ℕ) (w : Pending) → Solves job streams → slice_get job.job.plan.nodes number ≡ Some node → role_of node.law ≡ LoopRole → HoldsWaits job streams number k w → IsNext w AtEnd
     → (k ≡ count_of_all streams node) × IsOverBy node.law streams node
-loop_close job number streams node k (Sets inbox) solves there role holds next = absurd (holds.0 (ap (λ (o : Option PlanNode). option_map (λ n. n.law) o) there ∙ ap Some (loop_law node.law role)))
-loop_close job number streams node k (Loop held) solves there role holds next =
+loop_close {laws} job number streams node k (Sets inbox) solves there role holds next = absurd (holds.0 (ap (λ (o : Option PlanNode). option_map (λ n. n.law) o) there ∙ ap Some (loop_law node.law role)))
+loop_close {laws} job number streams node k (Loop held) solves there role holds next =
     let at : streams_at streams (ports_of job.job.plan number) ≡ inputs_of streams node = ap (λ (o : Option PlanNode). streams_at streams (unwrap_or (option_map (λ n. n.inputs) o) job.job.plan.outputs)) there in
     let came : List (StreamPrefix Plain) = holds.1.loop ∷ holds.1.main ∷ [] in
     let both : AreExtendedBy came (inputs_of streams node) = subst (AreExtendedBy came) at holds.1.extended in
@@ -177,24 +179,24 @@ loop_close job number streams node k (Loop held) solves there role holds next =
     let ended = loop_over k held holds.1.main holds.1.loop (main_of streams node) (loop_of streams node) wider holds.1.stands (stream_extends came (inputs_of streams node) 1 both) (stream_extends came (inputs_of streams node) 0 both) next.0 next.1 in
     loop_last node.law streams node k (loop_law node.law role) ended.0 (ended.1, ended.2)
 
-close_by : (job : LoggedJob) (number : ℕ) (engine : EngineView) (intake : IntakeView) (h : IsEngineOf job number engine) (i : IsIntakeOf job number intake) (r : Role) → engine.role ≡ r → AgreeBy r engine.claimed intake.claimed → engine.laid ≡ engine.claimed → IsOver r engine.claimed intake.waits
+close_by : {laws : Laws} (job : LoggedJob laws) (number : ℕ) (engine : EngineView) (intake : IntakeView) (h : IsEngineOf job number engine) (i : IsIntakeOf job number intake) (r : Role) → engine.role ≡ r → AgreeBy r engine.claimed intake.claimed → engine.laid ≡ engine.claimed → IsOver r engine.claimed intake.waits
     → (engine.claimed ≡ count_of_all h.streams h.node) × IsOverBy h.node.law h.streams h.node
-close_by job number engine intake h i (Source calls) role agree laid over =
+close_by {laws} job number engine intake h i (Source calls) role agree laid over =
     let role_is : role_of h.node.law ≡ Source calls = sym h.set_up.role ∙ role in
     let last = source_last h.node.law calls h.streams h.node role_is in
     let taken = h.taken in
     let most : count_of job.job h.streams h.node ≤ calls_of h.node.law = source_counts h.node.law calls job.job h.streams h.node role_is in
     let calls_is = source_calls h.node.law calls role_is in
     (omega (arith, taken, most, calls_is, laid, over, last.0), last.1)
-close_by job number engine intake h i LoopRole role agree laid over =
+close_by {laws} job number engine intake h i LoopRole role agree laid over =
     let same : i.streams ≡ h.streams = one_solution job.job i.streams h.streams i.solves.solution h.solves.solution in
     let holds : HoldsWaits job h.streams number engine.claimed intake.waits = subst (λ (k : ℕ). HoldsWaits job h.streams number k intake.waits) (sym agree) (subst (λ (ss : List (StreamPrefix Plain)). HoldsWaits job ss number intake.claimed intake.waits) same i.holds) in
     loop_close job number h.streams h.node engine.claimed intake.waits h.solves h.there (sym h.set_up.role ∙ role) holds over
-close_by job number engine intake h i SetsRole role agree laid over =
+close_by {laws} job number engine intake h i SetsRole role agree laid over =
     let same : i.streams ≡ h.streams = one_solution job.job i.streams h.streams i.solves.solution h.solves.solution in
     let holds : HoldsWaits job h.streams number engine.claimed intake.waits = subst (λ (k : ℕ). HoldsWaits job h.streams number k intake.waits) (sym agree) (subst (λ (ss : List (StreamPrefix Plain)). HoldsWaits job ss number intake.claimed intake.waits) same i.holds) in
     sets_close job number h.streams h.node engine.claimed intake.waits h.solves h.there (sym h.set_up.role ∙ role) holds over
-close_by job number engine intake h i Input role agree laid over = absurd (never_input h.node.law (sym h.set_up.role ∙ role))
+close_by {laws} job number engine intake h i Input role agree laid over = absurd (never_input h.node.law (sym h.set_up.role ∙ role))
 
 pub no_fault : (fault : Option NodeFault) (f : Option Failure) (number : ℕ) → is_some fault ≡ false → fault ≡ option_map (λ g. record { node = number; phase = g.phase; cause = g.cause }) f → f ≡ None
 no_fault fault None number none is = refl
@@ -205,10 +207,10 @@ pub second_not : (a b : Bool) → (a || b) ≡ false → (a ≡ false) × (b ≡
 second_not false b e = (refl, e)
 second_not true b e = absurd cc
 
-pub close_lawful : (job : LoggedJob) (number : ℕ) (engine engine_now : EngineView) (intake : IntakeView) (work : WorkView) → LawfulEngine job (of_node number) engine → LawfulIntake job number intake → AgreeBy engine.role engine.claimed intake.claimed → MayClaim engine
+pub close_lawful : {laws : Laws} (job : LoggedJob laws) (number : ℕ) (engine engine_now : EngineView) (intake : IntakeView) (work : WorkView) → LawfulEngine job (of_node number) engine → LawfulIntake job number intake → AgreeBy engine.role engine.claimed intake.claimed → MayClaim engine
     → TakesClose engine engine_now intake.waits work → LawfulEngine job (of_node number) engine_now × LawfulWork job work
 unfolding LawfulEngine LawfulIntake
-close_lawful job number engine engine_now intake work h i agree may t =
+close_lawful {laws} job number engine engine_now intake work h i agree may t =
     let order : engine.laid + 0 ≡ engine.claimed + 0 = subst (λ (w : List EntryView). engine.laid + length w ≡ engine.claimed + number_of (λ e. is_close e.phase) w) t.laid h.order in
     let none : number_of (λ (e : EntryView). is_close e.phase) engine.window ≡ 0 = ap (number_of (λ (e : EntryView). is_close e.phase)) t.laid in
     let laid : engine.laid ≡ engine.claimed = omega (arith, order) in

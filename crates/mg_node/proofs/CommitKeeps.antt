@@ -3,6 +3,7 @@ use Rattle.std.proofs.Common.{◌≡◌, ℕ, ◌+◌, ◌-◌, Bool, true, fals
 use Rattle.mg_value.specs.Payload.{Plain}
 use Rattle.mg_settled.specs.Prefix.{StreamPrefix}
 use Rattle.mg_stream.specs.Pool.{Backlog}
+use Rattle.mg_calc.specs.Rules.{Laws}
 use Rattle.mg_calc.specs.declared.node_fault.NodeFault.{NodeFault}
 use Rattle.mg_calc.specs.declared.plan_node.PlanNode.{PlanNode}
 use Rattle.mg_calc.specs.Outcome.{Failure}
@@ -28,7 +29,7 @@ ready_is : (committed : Bool) (o : Option OutcomeView) (p : PerformedView) → (
 ready_is true o p e = performed_is o p e
 ready_is false o p e = absurd cc
 
-module _ (job : LoggedJob) (streams : List (StreamPrefix Plain)) (number : ℕ) (node : PlanNode) (solves : Solves job streams) (there : slice_get job.job.plan.nodes number ≡ Some node) (claimed : ℕ) where
+module _ {laws : Laws} (job : LoggedJob laws) (streams : List (StreamPrefix Plain)) (number : ℕ) (node : PlanNode) (solves : Solves job streams) (there : slice_get job.job.plan.nodes number ≡ Some node) (claimed : ℕ) where
   first_done : (front : Front) (entry : EntryView) (entries : List EntryView) (p : PerformedView) → IsFrontOf job streams node number claimed front → front.window ≡ entry ∷ entries → ready_of entry ≡ Some p → IsDone job streams node front.laid entry.phase p.work.context p.answer
   first_done front entry entries p h window ready =
       let e = h.entries 0 entry (ap (λ (w : List EntryView). slice_get w 0) window) in
@@ -62,8 +63,8 @@ same_failure : (f : Option Failure) (number : ℕ) → option_map (λ (g : NodeF
 same_failure None number = refl
 same_failure (Some f) number = refl
 
-front_of_engine : (job : LoggedJob) (number : ℕ) (engine : EngineView) (window : List EntryView) (h : IsEngineOf job number engine) → HasWindow job h.streams h.node number engine window → IsFrontOf job h.streams h.node number engine.claimed (front_of engine window h.whole)
-front_of_engine job number engine window h has = record {
+front_of_engine : {laws : Laws} (job : LoggedJob laws) (number : ℕ) (engine : EngineView) (window : List EntryView) (h : IsEngineOf job number engine) → HasWindow job h.streams h.node number engine window → IsFrontOf job h.streams h.node number engine.claimed (front_of engine window h.whole)
+front_of_engine {laws} job number engine window h has = record {
   few = h.claimed;
   taken = h.taken;
   last = h.closed;
@@ -88,9 +89,9 @@ at_front engine outputs front = record engine {
   fault = option_map (fault_at engine.node) front.fault;
 }
 
-engine_of_front : (job : LoggedJob) (number : ℕ) (engine : EngineView) (outputs : List (Backlog Plain)) (front : Front) (h : IsEngineOf job number engine) → StandForAll outputs front.outputs → IsFrontOf job h.streams h.node number engine.claimed front
+engine_of_front : {laws : Laws} (job : LoggedJob laws) (number : ℕ) (engine : EngineView) (outputs : List (Backlog Plain)) (front : Front) (h : IsEngineOf job number engine) → StandForAll outputs front.outputs → IsFrontOf job h.streams h.node number engine.claimed front
     → (has_stopped front ≡ false → starts_ready front.window ≡ false) → IsEngineOf job number (at_front engine outputs front)
-engine_of_front job number engine outputs front h stand f waits = record {
+engine_of_front {laws} job number engine outputs front h stand f waits = record {
   streams = h.streams;
   solves = h.solves;
   node = h.node;
@@ -114,16 +115,16 @@ engine_of_front job number engine outputs front h stand f waits = record {
 }
 
 -- a work comes back to its window
-back_window : (job : LoggedJob) (number : ℕ) (engine : EngineView) (outcome : OutcomeView) → IsOut engine outcome.work → (h : IsEngineOf job number engine) → LawfulOutcome job outcome → HasWindow job h.streams h.node number engine (window_with engine outcome)
-back_window job number engine outcome out h o =
+back_window : {laws : Laws} (job : LoggedJob laws) (number : ℕ) (engine : EngineView) (outcome : OutcomeView) → IsOut engine outcome.work → (h : IsEngineOf job number engine) → LawfulOutcome job outcome → HasWindow job h.streams h.node number engine (window_with engine outcome)
+back_window {laws} job number engine outcome out h o =
     let laid = out.laid in
     entry_window job number engine (outcome.work.number - engine.laid) out.entry (committed_entry outcome) h out.there (sym out.phase_is) (λ c. (refl, c))
     (record { node_is = out.node_is ∙ h.set_up.number_is; number_is = omega (arith, laid); phase_is = refl; lawful = o })
 
-pub commit_lawful : (job : LoggedJob) (number : ℕ) (outcome : OutcomeView) (n : ℕ) (before now : EngineView)
+pub commit_lawful : {laws : Laws} (job : LoggedJob laws) (number : ℕ) (outcome : OutcomeView) (n : ℕ) (before now : EngineView)
     → IsOut before outcome.work → LawfulEngine job (of_node number) before → LawfulOutcome job outcome → Commits outcome n before now → LawfulEngine job (of_node number) now
 unfolding LawfulEngine
-commit_lawful job number outcome n before now out h o commits =
+commit_lawful {laws} job number outcome n before now out h o commits =
     let window = window_with before outcome in
     let has = commits.front h.whole h.kept in
     let front = front_of before window h.whole in
@@ -134,7 +135,7 @@ commit_lawful job number outcome n before now out h o commits =
     (engine_of_front job number before now.outputs (front_laid before.offset window front) h has.outputs laid (laid_waits before.offset window front refl))
 
 -- whatever a commit answers
-pub result_lawful : {E : Type 0} (job : LoggedJob) (number : ℕ) (outcome : OutcomeView) (result : Result ℕ E) (before now : EngineView)
+pub result_lawful : {laws : Laws} {E : Type 0} (job : LoggedJob laws) (number : ℕ) (outcome : OutcomeView) (result : Result ℕ E) (before now : EngineView)
     → IsOut before outcome.work → LawfulEngine job (of_node number) before → LawfulOutcome job outcome → IfOk result (λ n. Commits outcome n before now) → OnErr result (now ≡ before) → LawfulEngine job (of_node number) now
-result_lawful job number outcome (Ok n) before now out lawful o commits same = commit_lawful job number outcome n before now out lawful o commits
-result_lawful job number outcome (Err e) before now out lawful o commits same = subst (λ (v : EngineView). LawfulEngine job (of_node number) v) (sym same) lawful
+result_lawful {laws} job number outcome (Ok n) before now out lawful o commits same = commit_lawful job number outcome n before now out lawful o commits
+result_lawful {laws} job number outcome (Err e) before now out lawful o commits same = subst (λ (v : EngineView). LawfulEngine job (of_node number) v) (sym same) lawful

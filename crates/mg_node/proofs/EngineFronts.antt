@@ -7,6 +7,7 @@ use Rattle.mg_value.specs.Payload.{Plain}
 use Rattle.mg_settled.specs.Prefix.{StreamPrefix}
 use Rattle.mg_stream.specs.Queue.{Waiting, StandsFor}
 use Rattle.mg_stream.specs.Pool.{Backlog, backlog_of, queue_of}
+use Rattle.mg_calc.specs.Rules.{Laws}
 use Rattle.mg_calc.specs.declared.node_fault.NodeFault.{NodeFault}
 use Rattle.mg_calc.specs.declared.node_fault.Phase.{Phase}
 use Rattle.mg_calc.specs.declared.node_fault.Phase.TheVariants.{Open, Call, Process, Close}
@@ -138,12 +139,12 @@ counted_set [] i old new is phase = refl
 counted_set (e ∷ window) zero old new is phase = (let same : e ≡ old = cc in ap (λ (p : Phase). calls_in_phase p + counted_in window) (phase ∙ ap (λ (x : EntryView). x.phase) (sym same)))
 counted_set (e ∷ window) (suc i) old new is phase = ap (λ (n : ℕ). calls_in_phase e.phase + n) (counted_set window i old new is phase)
 
-few_by : (job : LoggedJob) (number : ℕ) (e : EngineView) → IsEngineOf job number e → e.laid + counted_in e.window ≤ e.claimed
-few_by job number e h = (let order = h.order in let all = counted_all e.window in omega (arith, order, all))
+few_by : {laws : Laws} (job : LoggedJob laws) (number : ℕ) (e : EngineView) → IsEngineOf job number e → e.laid + counted_in e.window ≤ e.claimed
+few_by {laws} job number e h = (let order = h.order in let all = counted_all e.window in omega (arith, order, all))
 
-pub whole_by : (job : LoggedJob) (number : ℕ) (e : EngineView) (window : List EntryView) → LawfulEngine job (of_node number) e → (e.laid + counted_in e.window ≤ e.claimed) × HasWhole (record e { window = window })
+pub whole_by : {laws : Laws} (job : LoggedJob laws) (number : ℕ) (e : EngineView) (window : List EntryView) → LawfulEngine job (of_node number) e → (e.laid + counted_in e.window ≤ e.claimed) × HasWhole (record e { window = window })
 unfolding LawfulEngine
-whole_by job number e window h = (
+whole_by {laws} job number e window h = (
   few_by job number e h,
   record { whole = h.whole; stand = h.kept; own = subst (λ (o : Option NodeFault). IfSome o (λ f. f.node ≡ e.node)) (sym h.fault) (named (come_to job h.streams h.node e.laid e.closed).fault (sym h.set_up.number_is)) },
 )
@@ -152,11 +153,11 @@ whole_by job number e window h = (
     named None same = tt
     named (Some f) same = same
 
-pub committed_whole : (e now : EngineView) (outcome : OutcomeView) → now ≡ record e { window = window_with e outcome } → SomeJobHasEngine e → HasWhole now
-committed_whole e now outcome is h = subst HasWhole (sym is) (whole_by h.job h.number e (window_with e outcome) h.lawful).1
+pub committed_whole : {laws : Laws} (e now : EngineView) (outcome : OutcomeView) → now ≡ record e { window = window_with e outcome } → SomeJobHasEngine laws e → HasWhole now
+committed_whole {laws} e now outcome is h = subst HasWhole (sym is) (whole_by h.job h.number e (window_with e outcome) h.lawful).1
 
-pub committed_few : (e now : EngineView) (outcome : OutcomeView) → now ≡ record e { window = window_with e outcome } → SomeJobHasEngine e → IsOut e outcome.work → now.claimed < 2 ^ 64 → now.laid + counted_in now.window < 2 ^ 64
-committed_few e now outcome is h out few =
+pub committed_few : {laws : Laws} (e now : EngineView) (outcome : OutcomeView) → now ≡ record e { window = window_with e outcome } → SomeJobHasEngine laws e → IsOut e outcome.work → now.claimed < 2 ^ 64 → now.laid + counted_in now.window < 2 ^ 64
+committed_few {laws} e now outcome is h out few =
     let all = (whole_by h.job h.number e (window_with e outcome) h.lawful).0 in
     let same : counted_in now.window ≡ counted_in e.window = ap (λ (v : EngineView). counted_in v.window) is ∙ counted_set e.window (outcome.work.number - e.laid) out.entry (committed_entry outcome) out.there (sym out.phase_is) in
     let laid : now.laid ≡ e.laid = ap (λ (v : EngineView). v.laid) is in
@@ -180,9 +181,9 @@ taken_back e now outcome taken number is out number_is found =
     let same : Some outcome ≡ Some taken = sym (ap (option_and_then (λ (x : EntryView). x.outcome)) (committed_at e now outcome number is out number_is)) ∙ found in
     sym cc
 
-out_entry : (job : LoggedJob) (number : ℕ) (e : EngineView) (work : WorkView) (out : IsOut e work) → LawfulEngine job (of_node number) e → out.entry ≡ record { phase = work.phase; outcome = None; committed = false }
+out_entry : {laws : Laws} (job : LoggedJob laws) (number : ℕ) (e : EngineView) (work : WorkView) (out : IsOut e work) → LawfulEngine job (of_node number) e → out.entry ≡ record { phase = work.phase; outcome = None; committed = false }
 unfolding LawfulEngine
-out_entry job number e work out h = by_committed out.entry.committed refl
+out_entry {laws} job number e work out h = by_committed out.entry.committed refl
   where
     by_committed : (b : Bool) → out.entry.committed ≡ b → out.entry ≡ record { phase = work.phase; outcome = None; committed = false }
     by_committed false is = λ i. record { phase = out.phase_is i; outcome = out.out i; committed = is i }
@@ -191,9 +192,9 @@ out_entry job number e work out h = by_committed out.entry.committed refl
         let none : IsSome (let o : Option OutcomeView = None in o) = subst IsSome out.out some in
         cc)
 
-pub back_again : (e now back : EngineView) (outcome : OutcomeView) (number : ℕ) (phase : Phase) → now ≡ record e { window = window_with e outcome } → SomeJobHasEngine e → IsOut e outcome.work → number ≡ outcome.work.number → phase ≡ outcome.work.phase
+pub back_again : {laws : Laws} (e now back : EngineView) (outcome : OutcomeView) (number : ℕ) (phase : Phase) → now ≡ record e { window = window_with e outcome } → SomeJobHasEngine laws e → IsOut e outcome.work → number ≡ outcome.work.number → phase ≡ outcome.work.phase
     → back ≡ record now { window = set now.window (number - now.laid) (record { phase = phase; outcome = None; committed = false }) } → back ≡ e
-back_again e now back outcome number phase is h out number_is phase_is back_is =
+back_again {laws} e now back outcome number phase is h out number_is phase_is back_is =
     let place = outcome.work.number - e.laid in
     let entry : EntryView = record { phase = outcome.work.phase; outcome = None; committed = false } in
     let there : slice_get e.window place ≡ Some entry = out.there ∙ ap Some (out_entry h.job h.number e outcome.work out h.lawful) in
@@ -217,8 +218,8 @@ front_others e now front h =
       fault = sym (ap (λ (v : EngineView). v.fault) h.others) i;
     })
 
-pub commits_by : (e mid now : EngineView) (outcome : OutcomeView) (n : ℕ) → mid ≡ record e { window = window_with e outcome } → SomeJobHasEngine e → LaysFront n mid now → Commits outcome n e now
-commits_by e mid now outcome n is some h =
+pub commits_by : {laws : Laws} (e mid now : EngineView) (outcome : OutcomeView) (n : ℕ) → mid ≡ record e { window = window_with e outcome } → SomeJobHasEngine laws e → LaysFront n mid now → Commits outcome n e now
+commits_by {laws} e mid now outcome n is some h =
     let middle : EngineView = record e { window = window_with e outcome } in
     let lays : LaysFront n middle now = subst (λ (v : EngineView). LaysFront n v now) is h in
     let has = (whole_by some.job some.number e (window_with e outcome) some.lawful).1 in

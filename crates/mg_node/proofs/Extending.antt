@@ -8,6 +8,7 @@ use Rattle.mg_settled.specs.Prefix.{StreamPrefix, IsPrefix, Ascends, first_time,
 use Rattle.mg_settled.proofs.Behind.{drop_is_prefix}
 use Rattle.mg_stream.specs.Queue.{Waiting, StandsFor, IsLike, IsQueue, cut_back}
 use Rattle.mg_stream.specs.Pool.{Backlog, backlog_of, queue_of, empty_backlog}
+use Rattle.mg_calc.specs.Rules.{Laws}
 use Rattle.mg_calc.proofs.Jobs.{job_known}
 use Rattle.mg_calc.proofs.Rounds.{stream_is_prefix}
 use Rattle.mg_calc.proofs.Solutions.{one_solution, solution_keeps}
@@ -102,10 +103,10 @@ one_longer [] s more stand is = absurd stand
 one_longer (b ∷ []) s more stand is = (longer_stands b s more stand.0 is, tt)
 one_longer (b ∷ c ∷ outputs) s more stand is = absurd stand.1
 
-pub extended_lawful : (job later : LoggedJob) (input : ℕ) (streams longer : List (StreamPrefix Plain)) (engine : EngineView) (more : StreamPrefix Plain) → LawfulEngine job (of_input input) engine → Solves job streams → Solves later longer
+pub extended_lawful : {laws : Laws} (job later : LoggedJob laws) (input : ℕ) (streams longer : List (StreamPrefix Plain)) (engine : EngineView) (more : StreamPrefix Plain) → LawfulEngine job (of_input input) engine → Solves job streams → Solves later longer
     → input < length later.job.plan.inputs → get_or longer input empty_prefix ≡ joined (get_or streams input empty_prefix) more → LawfulEngine later (of_input input) (extended engine more)
 unfolding LawfulEngine
-extended_lawful job later input streams longer engine more h solves further there is =
+extended_lawful {laws} job later input streams longer engine more h solves further there is =
     let same : h.streams ≡ streams = one_solution job.job h.streams streams h.solves.solution solves.solution in
     let stand : StandForAll engine.outputs (get_or streams input empty_prefix ∷ []) = subst (λ (ss : List (StreamPrefix Plain)). StandForAll engine.outputs (get_or ss input empty_prefix ∷ [])) same h.kept in
     let whole : IsPrefix (get_or longer input empty_prefix) = stream_is_prefix longer input (solution_keeps later.job (job_known later.job further.is_job) longer further.solution) in
@@ -134,32 +135,32 @@ nothing_behind (b ∷ []) s stand =
     ap (λ (c : Backlog Plain). c ∷ []) (same_backlog (lengthened b empty_prefix) b refl (append-nil b.packets) (omega (arith, opened, bound)))
 nothing_behind (b ∷ c ∷ outputs) s stand = absurd stand.1
 
-pub extended_by_nothing : (job : LoggedJob) (input : ℕ) (engine : EngineView) → LawfulEngine job (of_input input) engine → extended engine empty_prefix ≡ engine
+pub extended_by_nothing : {laws : Laws} (job : LoggedJob laws) (input : ℕ) (engine : EngineView) → LawfulEngine job (of_input input) engine → extended engine empty_prefix ≡ engine
 unfolding LawfulEngine
-extended_by_nothing job input engine h = ap (with_outputs engine) (nothing_behind engine.outputs (get_or h.streams input empty_prefix) h.kept)
+extended_by_nothing {laws} job input engine h = ap (with_outputs engine) (nothing_behind engine.outputs (get_or h.streams input empty_prefix) h.kept)
 
 -- the code's steps
 
-pub some_output : (engine : EngineView) (more : StreamPrefix Plain) (qs : List (Waiting Plain)) → map backlog_of qs ≡ engine.outputs → MayExtend engine more → 0 < length qs
-some_output engine more [] is may = absurd (let one = (input_known may.job may.input engine may.lawful).one in let none = ap length is in omega (arith, one, none))
-some_output engine more (q ∷ qs) is may = omega arith
+pub some_output : {laws : Laws} (engine : EngineView) (more : StreamPrefix Plain) (qs : List (Waiting Plain)) → map backlog_of qs ≡ engine.outputs → MayExtend laws engine more → 0 < length qs
+some_output {laws} engine more [] is may = absurd (let one = (input_known may.job may.input engine may.lawful).one in let none = ap length is in omega (arith, one, none))
+some_output {laws} engine more (q ∷ qs) is may = omega arith
 
 -- what the code makes
-pub made_longer : (engine : EngineView) (more : StreamPrefix Plain) (items : List (Waiting Plain)) (b q : Waiting Plain) → MayExtend engine more → map backlog_of items ≡ engine.outputs → b ≡ get_or items 0 b
+pub made_longer : {laws : Laws} (engine : EngineView) (more : StreamPrefix Plain) (items : List (Waiting Plain)) (b q : Waiting Plain) → MayExtend laws engine more → map backlog_of items ≡ engine.outputs → b ≡ get_or items 0 b
     → backlog_of q ≡ lengthened (backlog_of b) more → with_outputs engine (map backlog_of (set items 0 q)) ≡ extended engine more
-made_longer engine more [] b q may is first longer = absurd (let one = (input_known may.job may.input engine may.lawful).one in let none = ap length is in omega (arith, one, none))
-made_longer engine more (p ∷ []) b q may is first longer =
+made_longer {laws} engine more [] b q may is first longer = absurd (let one = (input_known may.job may.input engine may.lawful).one in let none = ap length is in omega (arith, one, none))
+made_longer {laws} engine more (p ∷ []) b q may is first longer =
     ap (with_outputs engine) (ap (λ (c : Backlog Plain). c ∷ []) (longer ∙ ap (λ (w : Waiting Plain). lengthened (backlog_of w) more) first) ∙ ap (map (λ c. lengthened c more)) is)
-made_longer engine more (p ∷ r ∷ items) b q may is first longer = absurd (let one = (input_known may.job may.input engine may.lawful).one in let two = ap length is in omega (arith, one, two))
+made_longer {laws} engine more (p ∷ r ∷ items) b q may is first longer = absurd (let one = (input_known may.job may.input engine may.lawful).one in let two = ap length is in omega (arith, one, two))
 
 pub made_same : (engine : EngineView) (items : List (Waiting Plain)) (b q : Waiting Plain) → map backlog_of items ≡ engine.outputs → b ≡ get_or items 0 b → backlog_of q ≡ backlog_of b
     → with_outputs engine (map backlog_of (set items 0 q)) ≡ engine
 made_same engine [] b q is first same = ap (with_outputs engine) is
 made_same engine (p ∷ items) b q is first same = ap (with_outputs engine) (ap (λ (c : Backlog Plain). c ∷ map backlog_of items) (same ∙ ap backlog_of first) ∙ is)
 
-pub may_lengthen : (engine : EngineView) (more : StreamPrefix Plain) (qs : List (Waiting Plain)) (b : Waiting Plain) → MayExtend engine more → map backlog_of qs ≡ engine.outputs → b ≡ get_or qs 0 b → MayLengthen b more
-may_lengthen engine more [] b may is first = absurd (let one = (input_known may.job may.input engine may.lawful).one in let none = ap length is in omega (arith, one, none))
-may_lengthen engine more (q ∷ qs) b may is first =
+pub may_lengthen : {laws : Laws} (engine : EngineView) (more : StreamPrefix Plain) (qs : List (Waiting Plain)) (b : Waiting Plain) → MayExtend laws engine more → map backlog_of qs ≡ engine.outputs → b ≡ get_or qs 0 b → MayLengthen b more
+may_lengthen {laws} engine more [] b may is first = absurd (let one = (input_known may.job may.input engine may.lawful).one in let none = ap length is in omega (arith, one, none))
+may_lengthen {laws} engine more (q ∷ qs) b may is first =
     let o = may.output in
     let stands : StandsFor (queue_of 0 (backlog_of q)) o.whole = subst (λ (bs : List (Backlog Plain)). StandsFor (queue_of 0 (get_or bs 0 empty_backlog)) o.whole) (sym is) o.stands in
     subst (λ (w : Waiting Plain). MayLengthen w more) (sym first)
@@ -182,8 +183,8 @@ record WasLonger (more : StreamPrefix Plain) (bound : ℕ) (before : EngineView)
   whole : StreamPrefix Plain
   stood : StandsFor (queue_of 0 b) whole
 
-was_longer : (more : StreamPrefix Plain) (bound : ℕ) (before now : EngineView) (items : List (Waiting Plain)) → WasExtended more bound before now → map backlog_of items ≡ now.outputs → WasLonger more bound before items
-was_longer more bound before now items was is =
+was_longer : {laws : Laws} (more : StreamPrefix Plain) (bound : ℕ) (before now : EngineView) (items : List (Waiting Plain)) → WasExtended laws more bound before now → map backlog_of items ≡ now.outputs → WasLonger more bound before items
+was_longer {laws} more bound before now items was is =
     by_lists before.outputs items refl (is ∙ ap (λ (v : EngineView). v.outputs) was.is) was.may.output.stands
   where
     by_lists : (bs : List (Backlog Plain)) (qs : List (Waiting Plain)) → before.outputs ≡ bs → map backlog_of qs ≡ map (λ c. lengthened c more) before.outputs → StandsFor (laid_at before 0) was.may.output.whole
@@ -203,21 +204,21 @@ was_longer more bound before now items was is =
       stood = subst (λ (cs : List (Backlog Plain)). StandsFor (queue_of 0 (get_or cs 0 empty_backlog)) was.may.output.whole) bs_are stood;
     }
 
-pub has_output : (more : StreamPrefix Plain) (bound : ℕ) (now : EngineView) (items : List (Waiting Plain)) → SomeExtended more bound now → map backlog_of items ≡ now.outputs → 0 < length items
-has_output more bound now items h is = (let w = was_longer more bound h.before now items h.was is in let one = ap length w.items_are in omega (arith, one))
+pub has_output : {laws : Laws} (more : StreamPrefix Plain) (bound : ℕ) (now : EngineView) (items : List (Waiting Plain)) → SomeExtended laws more bound now → map backlog_of items ≡ now.outputs → 0 < length items
+has_output {laws} more bound now items h is = (let w = was_longer more bound h.before now items h.was is in let one = ap length w.items_are in omega (arith, one))
 
-pub has_more : (more : StreamPrefix Plain) (bound : ℕ) (now : EngineView) (items : List (Waiting Plain)) (q : Waiting Plain) → SomeExtended more bound now → map backlog_of items ≡ now.outputs → q ≡ get_or items 0 q
+pub has_more : {laws : Laws} (more : StreamPrefix Plain) (bound : ℕ) (now : EngineView) (items : List (Waiting Plain)) (q : Waiting Plain) → SomeExtended laws more bound now → map backlog_of items ≡ now.outputs → q ≡ get_or items 0 q
     → length more.packets ≤ length q.packets
-has_more more bound now items q h is first =
+has_more {laws} more bound now items q h is first =
     let w = was_longer more bound h.before now items h.was is in
     let same : q ≡ w.q = first ∙ ap (λ (qs : List (Waiting Plain)). get_or qs 0 q) w.items_are in
     let long = ap (λ (r : Waiting Plain). length r.packets) same in
     let longer = ap (λ (c : Backlog Plain). length c.packets) w.longer in
     omega (arith, long, longer, length-append w.b.packets more.packets)
 
-pub is_left : (more : StreamPrefix Plain) (bound : ℕ) (now : EngineView) (items : List (Waiting Plain)) (q : Waiting Plain) → SomeExtended more bound now → map backlog_of items ≡ now.outputs → q ≡ get_or items 0 q
+pub is_left : {laws : Laws} (more : StreamPrefix Plain) (bound : ℕ) (now : EngineView) (items : List (Waiting Plain)) (q : Waiting Plain) → SomeExtended laws more bound now → map backlog_of items ≡ now.outputs → q ≡ get_or items 0 q
     → IsQueue (cut_back (length q.packets - length more.packets) bound q)
-is_left more bound now items q h is first =
+is_left {laws} more bound now items q h is first =
     let w = was_longer more bound h.before now items h.was is in
     let same : q ≡ w.q = first ∙ ap (λ (qs : List (Waiting Plain)). get_or qs 0 q) w.items_are in
     let again : backlog_of (cut_back (length q.packets - length more.packets) bound q) ≡ w.b = back_again w.b q more bound (ap backlog_of same ∙ w.longer) w.bound_was in
@@ -225,9 +226,9 @@ is_left more bound now items q h is first =
     (record { gone = ap (λ (c : Backlog Plain). c.gone) again; packets = ap (λ (c : Backlog Plain). c.packets) again; bound = ap (λ (c : Backlog Plain). c.bound) again })
     (stands_queue (queue_of 0 w.b) w.whole w.stood)
 
-pub made_again : (more : StreamPrefix Plain) (bound : ℕ) (before now : EngineView) (items : List (Waiting Plain)) (q r : Waiting Plain) → WasExtended more bound before now → map backlog_of items ≡ now.outputs → q ≡ get_or items 0 q
+pub made_again : {laws : Laws} (more : StreamPrefix Plain) (bound : ℕ) (before now : EngineView) (items : List (Waiting Plain)) (q r : Waiting Plain) → WasExtended laws more bound before now → map backlog_of items ≡ now.outputs → q ≡ get_or items 0 q
     → IsLike r (cut_back (length q.packets - length more.packets) bound q) → with_outputs now (map backlog_of (set items 0 r)) ≡ before
-made_again more bound before now items q r was is first like =
+made_again {laws} more bound before now items q r was is first like =
     let w = was_longer more bound before now items was is in
     let same : q ≡ w.q = first ∙ ap (λ (qs : List (Waiting Plain)). get_or qs 0 q) w.items_are in
     let again : backlog_of (cut_back (length q.packets - length more.packets) bound q) ≡ w.b = back_again w.b q more bound (ap backlog_of same ∙ w.longer) w.bound_was in

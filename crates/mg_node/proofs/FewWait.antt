@@ -1,4 +1,5 @@
 -- Few packets wait at a port: their times ascend from PreStream on, each below Done.
+use Rattle.mg_calc.specs.Rules.{Laws}
 use Rattle.std.proofs.Common.{ℕ, zero, suc, ◌+◌, ◌≤◌, ◌<◌, ◌^◌, ◌==◌, Bool, true, false, List, [], ◌∷◌, length, length-drop, map, get_or, if◌then◌else◌, ap, arith}
 use Rattle.std.specs.List.{AllZip, AllByRecursion}
 use Rattle.std.proofs.lemmas.List.Elements.{recursion_from_All}
@@ -47,10 +48,10 @@ held_few : (here : Bool) (loop main : Waiting Plain) → length loop.packets + 1
 held_few true loop main a b = a
 held_few false loop main a b = b
 
-waits_few : (job : LoggedJob) (streams : List (StreamPrefix Plain)) (consumer claimed : ℕ) (waits : Pending) (port : ℕ) → HoldsWaits job streams consumer claimed waits → length (port_queue waits port).packets + 1 < 2 ^ 64
-waits_few job streams consumer claimed (Sets inbox) port h = pool_few inbox.pool.spare inbox.pool.ports h.1.came port h.1.stands.each
-waits_few job streams consumer claimed (Loop held) port h = (let stands = h.1.stands in held_few (port == 0) held.loop held.main (stands_few held.loop h.1.loop stands.at_loop) (stands_few held.main h.1.main stands.at_main))
+waits_few : {laws : Laws} (job : LoggedJob laws) (streams : List (StreamPrefix Plain)) (consumer claimed : ℕ) (waits : Pending) (port : ℕ) → HoldsWaits job streams consumer claimed waits → length (port_queue waits port).packets + 1 < 2 ^ 64
+waits_few {laws} job streams consumer claimed (Sets inbox) port h = pool_few inbox.pool.spare inbox.pool.ports h.1.came port h.1.stands.each
+waits_few {laws} job streams consumer claimed (Loop held) port h = (let stands = h.1.stands in held_few (port == 0) held.loop held.main (stands_few held.loop h.1.loop stands.at_loop) (stands_few held.main h.1.main stands.at_main))
 
-pub few_packets : (job : LoggedJob) (consumer port : ℕ) (intake : IntakeView) → LawfulIntake job consumer intake → length (port_queue intake.waits port).packets + 1 < 2 ^ 64
+pub few_packets : {laws : Laws} (job : LoggedJob laws) (consumer port : ℕ) (intake : IntakeView) → LawfulIntake job consumer intake → length (port_queue intake.waits port).packets + 1 < 2 ^ 64
 unfolding LawfulIntake
-few_packets job consumer port intake h = waits_few job h.streams consumer intake.claimed intake.waits port h.holds
+few_packets {laws} job consumer port intake h = waits_few job h.streams consumer intake.claimed intake.waits port h.holds

@@ -8,6 +8,7 @@ use Rattle.mg_settled.specs.Prefix.{StreamPrefix, IsPrefix, Ascends, first_time,
 use Rattle.mg_settled.proofs.Lemmas.{appended_extends}
 use Rattle.mg_stream.specs.Queue.{Waiting, StandsFor, MayCome, IsLike, with_packet, popped, popped_at}
 use Rattle.mg_stream.specs.Pool.{Backlog, backlog_of, queue_of}
+use Rattle.mg_calc.specs.Rules.{Laws}
 use Rattle.mg_calc.specs.declared.plan.Plan.{Plan}
 use Rattle.mg_calc.specs.Plan.{IsValid}
 use Rattle.mg_node.specs.declared.role.Role.TheVariants.{Input}
@@ -70,10 +71,10 @@ pub same_backlog : (a b : Backlog Plain) → a.gone ≡ b.gone → a.packets ≡
 same_backlog a b gone packets bound = λ i. record { gone = gone i; packets = packets i; bound = bound i }
 
 -- the engine of a graph input is lawful
-pub input_lawful : (job : LoggedJob) (streams : List (StreamPrefix Plain)) (plan : Plan) (input : ℕ) (s : StreamPrefix Plain) → input < length plan.inputs → IsPrefix s → job.job.plan ≡ plan → Solves job streams
+pub input_lawful : {laws : Laws} (job : LoggedJob laws) (streams : List (StreamPrefix Plain)) (plan : Plan) (input : ℕ) (s : StreamPrefix Plain) → input < length plan.inputs → IsPrefix s → job.job.plan ≡ plan → Solves job streams
     → get_or streams input empty_prefix ≡ s → LawfulEngine job (of_input input) (input_engine input (get_or plan.inputs input 0) s)
 unfolding LawfulEngine
-input_lawful job streams plan input s there is same solves given =
+input_lawful {laws} job streams plan input s there is same solves given =
     let valid : IsValid plan = subst IsValid same solves.is_job.plan in
     record {
       streams = streams;

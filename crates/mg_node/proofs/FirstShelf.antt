@@ -1,4 +1,5 @@
 -- The first work that stands in a window as performed and not committed, and its number.
+use Rattle.mg_calc.specs.Rules.{Laws}
 use Rattle.std.proofs.Common.{◌≡◌, ℕ, ◌+◌, ◌-◌, ◌<◌, ◌^◌, Bool, false, length, None, IsSome, option_and_then, slice_get, nat_lt, ap, sym, subst, ◌∙◌, arith, if◌then◌else◌}
 use Rattle.std.proofs.lemmas.Bool.Decides.{nat_tests}
 use Rattle.mg_node.specs.Views.{EngineView}
@@ -16,5 +17,5 @@ found_under engine place there =
     subst IsSome (sym is) there
 
 -- its number fits
-pub number_fits : (engine : EngineView) (place : ℕ) → SomeJobHasEngine engine → place < length engine.window → engine.laid + place < 2 ^ 64
-number_fits engine place h there = (let few = place_small h.job h.number engine place h.lawful there in omega (arith, few))
+pub number_fits : {laws : Laws} (engine : EngineView) (place : ℕ) → SomeJobHasEngine laws engine → place < length engine.window → engine.laid + place < 2 ^ 64
+number_fits {laws} engine place h there = (let few = place_small h.job h.number engine place h.lawful there in omega (arith, few))

@@ -8,6 +8,7 @@ use Rattle.mg_settled.specs.Prefix.{StreamPrefix, IsPrefix, closed}
 use Rattle.mg_settled.specs.Extension.{IsExtendedBy, AreExtendedBy}
 use Rattle.mg_stream.specs.Queue.{Waiting, StandsFor}
 use Rattle.mg_stream.specs.Pool.{Backlog, queue_of}
+use Rattle.mg_calc.specs.Rules.{Laws}
 use Rattle.mg_calc.specs.declared.cause.Cause.{Cause}
 use Rattle.mg_calc.specs.declared.emission.Laid.{Laid}
 use Rattle.mg_calc.specs.declared.node_fault.Phase.{Phase}
@@ -141,26 +142,26 @@ front_grows before now n window whole laid stand h =
           (all_stand before.outputs now.outputs whole last.outputs stand h.outputs (front_longer before.offset window whole front (are_prefixes before.outputs whole stand) (as_long whole)));
     }
 
-pub commit_grows : {E : Type 0} (outcome : OutcomeView) (result : Result ℕ E) (before now : EngineView) → SomeJobHasEngine before → IfOk result (λ n. Commits outcome n before now) → OnErr result (now ≡ before) → EngineGrows before now
-commit_grows outcome (Ok n) before now some c same =
+pub commit_grows : {laws : Laws} {E : Type 0} (outcome : OutcomeView) (result : Result ℕ E) (before now : EngineView) → SomeJobHasEngine laws before → IfOk result (λ n. Commits outcome n before now) → OnErr result (now ≡ before) → EngineGrows before now
+commit_grows {laws} outcome (Ok n) before now some c same =
     (let w = committed_whole before (record before { window = window_with before outcome }) outcome refl some in
     front_grows before now n (window_with before outcome) w.whole c.counted w.stand (c.front w.whole w.stand))
-commit_grows outcome (Err e) before now some c same = engine_same before now same
+commit_grows {laws} outcome (Err e) before now some c same = engine_same before now same
 
 -- an engine that is begun: it is opened, and what that emits is laid
-pub opening_grows : (node : PlanNode) (number : ℕ) (told : HolderView) (sides : List (Option Plain)) (before mid : EngineView) → IsUnbegun node number told sides before → HasOpened node number told sides mid → EngineGrows before mid
-opening_grows node number told sides before mid (inl is) m =
+pub opening_grows : {laws : Laws} (node : PlanNode) (number : ℕ) (told : HolderView) (sides : List (Option Plain)) (before mid : EngineView) → IsUnbegun laws node number told sides before → HasOpened laws node number told sides mid → EngineGrows before mid
+opening_grows {laws} node number told sides before mid (inl is) m =
     let fresh = fresh_engine node number told in
     subst (λ (v : EngineView). EngineGrows v mid) (sym is)
     (subst (λ (v : EngineView). EngineGrows fresh v) (sym m.is) (window_grows fresh (opened_entry number (context_of node m.now) m.answer ∷ []) (own_contexts node)))
-opening_grows node number told sides before mid (inr h) m =
+opening_grows {laws} node number told sides before mid (inr h) m =
     let opened : EngineView = record (fresh_engine node number told) { window = opened_entry number (context_of node h.now) h.answer ∷ []; idle = own_contexts node } in
     subst (λ (v : EngineView). EngineGrows v mid) (sym h.is)
     (subst (λ (v : EngineView). EngineGrows opened v) (sym m.is) (window_grows opened (opened_entry number (context_of node m.now) m.answer ∷ []) (own_contexts node)))
 
-pub begin_grows : (node : PlanNode) (number : ℕ) (told : HolderView) (sides : List (Option Plain)) (before mid laid now : EngineView) (n : ℕ) → IsUnbegun node number told sides before → HasOpened node number told sides mid → LaysFront n mid laid → now ≡ with_begun laid
+pub begin_grows : {laws : Laws} (node : PlanNode) (number : ℕ) (told : HolderView) (sides : List (Option Plain)) (before mid laid now : EngineView) (n : ℕ) → IsUnbegun laws node number told sides before → HasOpened laws node number told sides mid → LaysFront n mid laid → now ≡ with_begun laid
     → EngineGrows before now
-begin_grows node number told sides before mid laid now n un m lays is =
+begin_grows {laws} node number told sides before mid laid now n un m lays is =
     let w = opened_whole node number told sides mid m in
     let grown = front_grows mid laid n mid.window w.whole lays.counted w.stand (lays.front w.whole w.stand) in
     engine_further before mid now (opening_grows node number told sides before mid un m)
@@ -168,8 +169,8 @@ begin_grows node number told sides before mid laid now n un m lays is =
 
 -- In words of a commit alone.
 
-pub commits_grow : (outcome : OutcomeView) (laid : ℕ) (before now : EngineView) → SomeJobHasEngine before → Commits outcome laid before now → EngineGrows before now
-commits_grow outcome laid before now some c = commit_grows {E = Unit {0}} outcome (Ok laid) before now some c tt
+pub commits_grow : {laws : Laws} (outcome : OutcomeView) (laid : ℕ) (before now : EngineView) → SomeJobHasEngine laws before → Commits outcome laid before now → EngineGrows before now
+commits_grow {laws} outcome laid before now some c = commit_grows {E = Unit {0}} outcome (Ok laid) before now some c tt
 
 pub commits_outputs : (outcome : OutcomeView) (laid : ℕ) (before now : EngineView) → Commits outcome laid before now → length now.outputs ≡ length before.outputs
 commits_outputs outcome laid before now c =

@@ -1,4 +1,5 @@
 -- An engine that gives up packets of an output stays lawful.
+use Rattle.mg_calc.specs.Rules.{Laws}
 use Rattle.std.proofs.Common.{◌≡◌, ℕ, ◌+◌, ◌-◌, ◌<◌, ◌≤◌, List, length, length-drop, drop, drop-drop, get_or, set, map, ap, sym, ◌∙◌, arith}
 use Rattle.std.proofs.lemmas.List.{length-map, get_or-map}
 use Rattle.mg_value.specs.Payload.{Plain}
@@ -30,8 +31,8 @@ kept_without outputs whole output got there le kept =
 abbrev pub given : EngineView → ℕ → ℕ → EngineView
 given engine output got = record engine { outputs = set engine.outputs output (without_first got (get_or engine.outputs output empty_backlog)) }
 
-given_node : (job : LoggedJob) (number : ℕ) (engine : EngineView) (output got : ℕ) → output < length engine.outputs → got ≤ count_at engine output → IsEngineOf job number engine → IsEngineOf job number (given engine output got)
-given_node job number engine output got there le h = record {
+given_node : {laws : Laws} (job : LoggedJob laws) (number : ℕ) (engine : EngineView) (output got : ℕ) → output < length engine.outputs → got ≤ count_at engine output → IsEngineOf job number engine → IsEngineOf job number (given engine output got)
+given_node {laws} job number engine output got there le h = record {
   streams = h.streams;
   solves = h.solves;
   node = h.node;
@@ -54,8 +55,8 @@ given_node job number engine output got there le h = record {
   ended = h.ended;
 }
 
-given_input : (job : LoggedJob) (number : ℕ) (engine : EngineView) (output got : ℕ) → output < length engine.outputs → got ≤ count_at engine output → IsInputOf job number engine → IsInputOf job number (given engine output got)
-given_input job number engine output got there le h = record {
+given_input : {laws : Laws} (job : LoggedJob laws) (number : ℕ) (engine : EngineView) (output got : ℕ) → output < length engine.outputs → got ≤ count_at engine output → IsInputOf job number engine → IsInputOf job number (given engine output got)
+given_input {laws} job number engine output got there le h = record {
   streams = h.streams;
   solves = h.solves;
   there = h.there;
@@ -70,10 +71,10 @@ given_input job number engine output got there le h = record {
   fault = h.fault;
 }
 
-pub giving_lawful : (job : LoggedJob) (owner : Owner) (engine : EngineView) (output got : ℕ) → output < length engine.outputs → got ≤ count_at engine output → LawfulEngine job owner engine → LawfulEngine job owner (given engine output got)
+pub giving_lawful : {laws : Laws} (job : LoggedJob laws) (owner : Owner) (engine : EngineView) (output got : ℕ) → output < length engine.outputs → got ≤ count_at engine output → LawfulEngine job owner engine → LawfulEngine job owner (given engine output got)
 unfolding LawfulEngine
-giving_lawful job (of_node number) engine output got there le h = given_node job number engine output got there le h
-giving_lawful job (of_input number) engine output got there le h = given_input job number engine output got there le h
+giving_lawful {laws} job (of_node number) engine output got there le h = given_node job number engine output got there le h
+giving_lawful {laws} job (of_input number) engine output got there le h = given_input job number engine output got there le h
 
 -- what the code leaves
 abbrev pub with_outputs : EngineView → List (Backlog Plain) → EngineView

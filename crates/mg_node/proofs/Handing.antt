@@ -6,6 +6,7 @@ use Rattle.std.proofs.lemmas.List.Elements.{recursion_from_All, All-from_recursi
 use Rattle.mg_value.specs.Payload.{Plain}
 use Rattle.mg_value.specs.Packet.{Stamped}
 use Rattle.mg_settled.specs.Prefix.{StreamPrefix}
+use Rattle.mg_calc.specs.Rules.{Laws}
 use Rattle.mg_calc.specs.declared.node_fault.Phase.{Phase}
 use Rattle.mg_calc.specs.declared.node_fault.Phase.TheVariants.{Open, Call as SourceCall, Process, Close}
 use Rattle.mg_calc.specs.declared.plan_node.PlanNode.{PlanNode}
@@ -54,11 +55,11 @@ none_number {X} p (x ∷ xs) h =
     not_here true never = absurd (never refl)
     not_here false never = refl
 
-close_task : (job : LoggedJob) (streams : List (StreamPrefix Plain)) (node : PlanNode) (number : ℕ) (phase : Phase) (set : List (Option (Stamped Plain))) → phase ≡ Close → IsTask job.job streams node number phase set → IsLastWork job.job streams node number
-close_task job streams node number phase set is task = subst (λ (p : Phase). IsTask job.job streams node number p set) is task
+close_task : {laws : Laws} (job : LoggedJob laws) (streams : List (StreamPrefix Plain)) (node : PlanNode) (number : ℕ) (phase : Phase) (set : List (Option (Stamped Plain))) → phase ≡ Close → IsTask job.job streams node number phase set → IsLastWork job.job streams node number
+close_task {laws} job streams node number phase set is task = subst (λ (p : Phase). IsTask job.job streams node number p set) is task
 
-pub none_closes : (job : LoggedJob) (number : ℕ) (engine : EngineView) (h : IsEngineOf job number engine) → engine.claimed < count_of_all h.streams h.node → number_of (λ e. is_close e.phase) engine.window ≡ 0
-none_closes job number engine h more = none_number (λ (e : EntryView). is_close e.phase) engine.window (λ i entry at closes.
+pub none_closes : {laws : Laws} (job : LoggedJob laws) (number : ℕ) (engine : EngineView) (h : IsEngineOf job number engine) → engine.claimed < count_of_all h.streams h.node → number_of (λ e. is_close e.phase) engine.window ≡ 0
+none_closes {laws} job number engine h more = none_number (λ (e : EntryView). is_close e.phase) engine.window (λ i entry at closes.
     (let e = h.entries i entry at in
     let is = close_is entry.phase closes in
     let last = close_task job h.streams h.node (engine.laid + i) entry.phase e.set is e.task in
@@ -71,10 +72,10 @@ none_closes job number engine h more = none_number (λ (e : EntryView). is_close
 abbrev pub handed : EngineView → Phase → ℕ → List ContextView → EngineView
 handed engine phase more idle = record engine { claimed = engine.claimed + more; window = engine.window ++ record { phase = phase; outcome = None; committed = false } ∷ []; idle = idle }
 
-pub handed_engine : (job : LoggedJob) (number : ℕ) (engine : EngineView) (phase : Phase) (more : ℕ) (context : ContextView) (idle : List ContextView) (set : List (Option (Stamped Plain))) (h : IsEngineOf job number engine)
+pub handed_engine : {laws : Laws} (job : LoggedJob laws) (number : ℕ) (engine : EngineView) (phase : Phase) (more : ℕ) (context : ContextView) (idle : List ContextView) (set : List (Option (Stamped Plain))) (h : IsEngineOf job number engine)
     → has_ended engine ≡ false → engine.idle ≡ idle ++ context ∷ [] → IsTask job.job h.streams h.node engine.claimed phase set → number_of (λ e. is_close e.phase) engine.window ≡ 0 → more + (if is_close phase then 1 else 0) ≡ 1 → (phase ≡ Close → engine.claimed ≡ engine.laid)
     → IsEngineOf job number (handed engine phase more idle)
-handed_engine job number engine phase more context idle set h goes_on idle_is task none one close =
+handed_engine {laws} job number engine phase more context idle set h goes_on idle_is task none one close =
     let e : EntryView = record { phase = phase; outcome = None; committed = false } in
     let order = h.order in
     let here : engine.laid + length engine.window ≡ engine.claimed = omega (arith, order, none) in
@@ -121,13 +122,13 @@ one_or_none : {X : Type 0} (xs : List X) → (xs ≡ []) ⊎ (0 < length xs)
 one_or_none [] = inl refl
 one_or_none (x ∷ xs) = inr (omega arith)
 
-pub record KeepsAll (job : LoggedJob) (streams : List (StreamPrefix Plain)) (node : PlanNode) (claimed : ℕ) (context : ContextView) : Type 0 where
+pub record KeepsAll {laws : Laws} (job : LoggedJob laws) (streams : List (StreamPrefix Plain)) (node : PlanNode) (claimed : ℕ) (context : ContextView) : Type 0 where
   pub state : context.told.state ≡ (stage job.job streams node claimed).state
   pub log : context.told.log ≡ log_after job node (calls_before streams node claimed)
 
-keeps_all : (job : LoggedJob) (number : ℕ) (engine : EngineView) (context : ContextView) (h : IsEngineOf job number engine) → engine.closed ≡ false → length engine.window < engine.in_flight → number_of (λ e. is_close e.phase) engine.window ≡ 0
+keeps_all : {laws : Laws} (job : LoggedJob laws) (number : ℕ) (engine : EngineView) (context : ContextView) (h : IsEngineOf job number engine) → engine.closed ≡ false → length engine.window < engine.in_flight → number_of (λ e. is_close e.phase) engine.window ≡ 0
     → IsIdle job h.streams h.node engine.laid engine.closed context → KeepsAll job h.streams h.node engine.claimed context
-keeps_all job number engine context h going room none idle =
+keeps_all {laws} job number engine context h going room none idle =
     let order = h.order in
     let state : context.told.state ≡ (stage job.job h.streams h.node engine.laid).state = idle.state ∙ ap (λ (b : Bool). (come_to job h.streams h.node engine.laid b).state) going in
     let log : context.told.log ≡ log_after job h.node (calls_before h.streams h.node engine.laid) =
@@ -150,11 +151,11 @@ keeps_all job number engine context h going room none idle =
           })
     ]
 
-pub handed_work : (job : LoggedJob) (number : ℕ) (engine : EngineView) (phase : Phase) (context : ContextView) (idle : List ContextView) (set : List (Option (Stamped Plain))) (h : IsEngineOf job number engine)
+pub handed_work : {laws : Laws} (job : LoggedJob laws) (number : ℕ) (engine : EngineView) (phase : Phase) (context : ContextView) (idle : List ContextView) (set : List (Option (Stamped Plain))) (h : IsEngineOf job number engine)
     → engine.idle ≡ idle ++ context ∷ [] → engine.closed ≡ false → length engine.window < engine.in_flight → number_of (λ e. is_close e.phase) engine.window ≡ 0 → length set ≡ length h.node.inputs → IsTask job.job h.streams h.node engine.claimed phase set
     → LawfulWork job (record { node = engine.node; number = engine.claimed; phase = phase; context = record { told = context.told; set = set } })
 unfolding LawfulWork
-handed_work job number engine phase context idle set h idle_is going room none places task =
+handed_work {laws} job number engine phase context idle set h idle_is going room none places task =
     let P : ContextView → Type 0 = IsIdle job h.streams h.node engine.laid engine.closed in
     let last : AllByRecursion P (context ∷ []) = last_have P idle (context ∷ []) (subst (AllByRecursion P) idle_is (recursion_from_All P engine.idle h.idle)) in
     let keeps = keeps_all job number engine context h going room none last.0 in

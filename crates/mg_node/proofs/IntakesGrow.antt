@@ -1,4 +1,5 @@
 -- The standing of an intake only grows: where packets come to a port, and where sets or answers leave.
+use Rattle.mg_calc.specs.Rules.{Laws}
 use Rattle.std.proofs.Common.{◌≡◌, ℕ, zero, suc, ◌+◌, ◌==◌, ◌≤◌, Bool, true, false, not, leb, ltb, List, [], ◌∷◌, length, length-append, map, filter, take, drop, get_or, set, Option, Some, None, option_map, slice_get, if◌then◌else◌, refl, ap, sym, subst, arith}
 use Rattle.std.specs.Bool.{OnTrue, OnFalse}
 use Rattle.std.specs.List.{AllZip}
@@ -107,11 +108,11 @@ set_leaves A B false policy k old new ss h next same port = subst (λ (g : Gathe
 
 -- a set is claimed of an intake
 abbrev PortsGrow : Pending → Pending → Type 0
-PortsGrow old now = (job : LoggedJob) (streams : List (StreamPrefix Plain)) (consumer k port : ℕ) → HoldsWaits job streams consumer k old → HasGrown (port_queue old port) (port_queue now port)
+PortsGrow old now = (laws : Laws) (job : LoggedJob laws) (streams : List (StreamPrefix Plain)) (consumer k port : ℕ) → HoldsWaits job streams consumer k old → HasGrown (port_queue old port) (port_queue now port)
 
-taking_grows_for : (job : LoggedJob) (consumer : ℕ) (view : IntakeView) (now : Pending) → LawfulIntake job consumer view → PortsGrow view.waits now → IntakeGrows view (record { claimed = view.claimed + 1; waits = now })
+taking_grows_for : {laws : Laws} (job : LoggedJob laws) (consumer : ℕ) (view : IntakeView) (now : Pending) → LawfulIntake job consumer view → PortsGrow view.waits now → IntakeGrows view (record { claimed = view.claimed + 1; waits = now })
 unfolding LawfulIntake
-taking_grows_for job consumer view now h grow = record { claimed = omega arith; ports = (λ port. grow job h.streams consumer view.claimed port h.holds) }
+taking_grows_for {laws} job consumer view now h grow = record { claimed = omega arith; ports = (λ port. grow laws job h.streams consumer view.claimed port h.holds) }
 
 pub taking_grows : (view : IntakeView) (now : Pending) → SomeJobHasIntake view → PortsGrow view.waits now → IntakeGrows view (record { claimed = view.claimed + 1; waits = now })
 taking_grows view now some grow = taking_grows_for some.job some.consumer view now some.lawful grow

@@ -6,6 +6,7 @@ use Rattle.mg_value.specs.Payload.{Plain}
 use Rattle.mg_value.specs.Packet.{Stamped}
 use Rattle.mg_settled.specs.Loopback.{packet_of}
 use Rattle.mg_stream.specs.Pool.{Backlog}
+use Rattle.mg_calc.specs.Rules.{Laws}
 use Rattle.mg_calc.specs.declared.node_fault.Phase.{Phase}
 use Rattle.mg_calc.specs.declared.node_fault.Phase.TheVariants.{Call, Process, Close}
 use Rattle.mg_node.specs.declared.pending.Pending.{Pending}
@@ -139,9 +140,9 @@ nothing_out e f none none_now = record {
   only = λ place entry at missing. absurd (nothing_at f.window place entry none_now at);
 }
 
-work_goes : (X : Type 0) (job : LoggedJob) (n : ℕ) (work : WorkView) (e f : EngineView) (i k : IntakeView) → LawfulEngine job (of_node n) e → LawfulEngine job (of_node n) f → IsOut f work
+work_goes : {laws : Laws} (X : Type 0) (job : LoggedJob laws) (n : ℕ) (work : WorkView) (e f : EngineView) (i k : IntakeView) → LawfulEngine job (of_node n) e → LawfulEngine job (of_node n) f → IsOut f work
     → Claims {C = X} (Work work) e f i k → GoesOut e f work
-work_goes X job n work e f i k h now out claims = elim claims [
+work_goes {laws} X job n work e f i k h now out claims = elim claims [
   | inl unrun ↦ unrun_goes job n e f work h unrun.1 out
   | inr further ↦ elim further.1 [
     | inl called ↦ (let t = called.0 in further_goes job n e f (Call e.claimed) 1 t.context work h now t.hands (ap (λ (w : WorkView). w.number) t.work_is) out)
@@ -152,31 +153,31 @@ work_goes X job n work e f i k h now out claims = elim claims [
   ]
 ]
 
-pub claim_puts_out : {X : Type 0} (r : Claimed X) (e f : EngineView) (i k : IntakeView) → AreCell e i → Claims {C = X} r e f i k → PutsOut r e f
-claim_puts_out {X} (Work work) e f i k cell c =
+pub claim_puts_out : {laws : Laws} {X : Type 0} (r : Claimed X) (e f : EngineView) (i k : IntakeView) → AreCell laws e i → Claims {C = X} r e f i k → PutsOut r e f
+claim_puts_out {laws} {X} (Work work) e f i k cell c =
     (let r : Claimed X = Work work in
     work_goes X cell.job cell.number work e f i k cell.lawful_engine (claim_lawful {C = X} cell.job cell.number r e f i k cell.lawful_engine cell.lawful_intake cell.agree c).lawful_engine
     (claim_out {C = X} r e f i k cell c) c)
-claim_puts_out Answered e f i k cell c =
+claim_puts_out {laws} Answered e f i k cell c =
     (let t = c.1 in
     let empty = (loop_cell_by cell.job cell.number e i t.held cell.lawful_engine cell.lawful_intake cell.agree t.role t.waits c.0).laid in
     nothing_out e f empty (ap (λ (v : EngineView). v.window) t.now ∙ empty))
-claim_puts_out NotReady e f i k cell c = out_same e f c.2.same_engine
-claim_puts_out InFlightFull e f i k cell c = out_same e f c.3.same_engine
-claim_puts_out Draining e f i k cell c = out_same e f c.3.same_engine
-claim_puts_out Ended e f i k cell c = out_same e f c.1.same_engine
-claim_puts_out OutOfMemory e f i k cell c = out_same e f c.2.same_engine
+claim_puts_out {laws} NotReady e f i k cell c = out_same e f c.2.same_engine
+claim_puts_out {laws} InFlightFull e f i k cell c = out_same e f c.3.same_engine
+claim_puts_out {laws} Draining e f i k cell c = out_same e f c.3.same_engine
+claim_puts_out {laws} Ended e f i k cell c = out_same e f c.1.same_engine
+claim_puts_out {laws} OutOfMemory e f i k cell c = out_same e f c.2.same_engine
 
-pub commit_back : {E : Type 0} (outcome : OutcomeView) (r : Result ℕ E) (e f : EngineView) → IsOut e outcome.work → SomeJobHasEngine e → IfOk r (λ n. Commits outcome n e f) → OnOk r (ComesBack e f outcome.work.number)
-commit_back outcome (Ok n) e f out some c = committed_back some.job some.number outcome n e f out some.lawful c
-commit_back outcome (Err x) e f out some c = tt
+pub commit_back : {laws : Laws} {E : Type 0} (outcome : OutcomeView) (r : Result ℕ E) (e f : EngineView) → IsOut e outcome.work → SomeJobHasEngine laws e → IfOk r (λ n. Commits outcome n e f) → OnOk r (ComesBack e f outcome.work.number)
+commit_back {laws} outcome (Ok n) e f out some c = committed_back some.job some.number outcome n e f out some.lawful c
+commit_back {laws} outcome (Err x) e f out some c = tt
 
-pub commits_back : (outcome : OutcomeView) (n : ℕ) (e f : EngineView) → IsOut e outcome.work → SomeJobHasEngine e → Commits outcome n e f → ComesBack e f outcome.work.number
-commits_back outcome n e f out some c = committed_back some.job some.number outcome n e f out some.lawful c
+pub commits_back : {laws : Laws} (outcome : OutcomeView) (n : ℕ) (e f : EngineView) → IsOut e outcome.work → SomeJobHasEngine laws e → Commits outcome n e f → ComesBack e f outcome.work.number
+commits_back {laws} outcome n e f out some c = committed_back some.job some.number outcome n e f out some.lawful c
 
-pub unshelve_out : (job : LoggedJob) (owner : ℕ) (r : Option PerformedView) (e f : EngineView) (number : ℕ) → r ≡ shelf_at e number → Unshelves r e f number → LawfulEngine job (of_node owner) e → IfSome r (λ p. GoesOut e f p.work)
-unshelve_out job owner None e f number found taken h = tt
-unshelve_out job owner (Some p) e f number found taken h = unshelved_out job owner e f number p h (sym found) taken
+pub unshelve_out : {laws : Laws} (job : LoggedJob laws) (owner : ℕ) (r : Option PerformedView) (e f : EngineView) (number : ℕ) → r ≡ shelf_at e number → Unshelves r e f number → LawfulEngine job (of_node owner) e → IfSome r (λ p. GoesOut e f p.work)
+unshelve_out {laws} job owner None e f number found taken h = tt
+unshelve_out {laws} job owner (Some p) e f number found taken h = unshelved_out job owner e f number p h (sym found) taken
 
 -- What is counted at the ports of the intake.
 

@@ -7,6 +7,7 @@ use Rattle.mg_settled.specs.Prefix.{empty_prefix}
 use Rattle.mg_settled.specs.Extension.{IsExtendedBy}
 use Rattle.mg_stream.specs.Queue.{StandsFor}
 use Rattle.mg_stream.specs.Pool.{queue_of}
+use Rattle.mg_calc.specs.Rules.{Laws}
 use Rattle.mg_calc.specs.declared.plan_node.PlanNode.{PlanNode}
 use Rattle.mg_calc.specs.Equations.{sides_of}
 use Rattle.mg_node.specs.Views.{IntakeView, EngineView}
@@ -21,13 +22,13 @@ use Rattle.mg_node.proofs.BeginKeeps.{unbegun_parts}
 use Rattle.mg_node.proofs.Making.{some_same}
 use Rattle.mg_node.proofs.Zips.{zip_long}
 
-pub engine_there : (job : LoggedJob) (number : ℕ) (engine : EngineView) → LawfulEngine job (of_node number) engine → number < length job.job.plan.nodes
+pub engine_there : {laws : Laws} (job : LoggedJob laws) (number : ℕ) (engine : EngineView) → LawfulEngine job (of_node number) engine → number < length job.job.plan.nodes
 unfolding LawfulEngine
-engine_there job number engine h = slice_get_within job.job.plan.nodes number h.node h.there
+engine_there {laws} job number engine h = slice_get_within job.job.plan.nodes number h.node h.there
 
-pub engine_known : (job : LoggedJob) (number : ℕ) (engine : EngineView) (node : PlanNode) → LawfulEngine job (of_node number) engine → slice_get job.job.plan.nodes number ≡ Some node → IsKnown node number engine
+pub engine_known : {laws : Laws} (job : LoggedJob laws) (number : ℕ) (engine : EngineView) (node : PlanNode) → LawfulEngine job (of_node number) engine → slice_get job.job.plan.nodes number ≡ Some node → IsKnown node number engine
 unfolding LawfulEngine
-engine_known job number engine node h there =
+engine_known {laws} job number engine node h there =
     subst (λ (n : PlanNode). IsKnown n number engine) (some_same (slice_get job.job.plan.nodes number) h.node node h.there there) (record {
       set_up = h.set_up;
       begun = h.begun;
@@ -37,13 +38,13 @@ engine_known job number engine node h there =
       contexts = h.contexts;
     })
 
-pub nothing_ready : (job : LoggedJob) (number : ℕ) (engine : EngineView) → LawfulEngine job (of_node number) engine → has_ended engine ≡ false → starts_ready engine.window ≡ false
+pub nothing_ready : {laws : Laws} (job : LoggedJob laws) (number : ℕ) (engine : EngineView) → LawfulEngine job (of_node number) engine → has_ended engine ≡ false → starts_ready engine.window ≡ false
 unfolding LawfulEngine
-nothing_ready job number engine h = h.waits
+nothing_ready {laws} job number engine h = h.waits
 
-pub input_known : (job : LoggedJob) (number : ℕ) (engine : EngineView) → LawfulEngine job (of_input number) engine → IsKnownInput job number engine
+pub input_known : {laws : Laws} (job : LoggedJob laws) (number : ℕ) (engine : EngineView) → LawfulEngine job (of_input number) engine → IsKnownInput job number engine
 unfolding LawfulEngine
-input_known job number engine h = record {
+input_known {laws} job number engine h = record {
   there = h.there;
   role = h.role;
   number_is = h.number_is;
@@ -56,11 +57,11 @@ input_known job number engine h = record {
   fault = h.fault;
 }
 
-pub intake_ports : (job : LoggedJob) (consumer : ℕ) (intake : IntakeView) → LawfulIntake job consumer intake → ports_in intake.waits ≡ length (ports_of job.job.plan consumer)
+pub intake_ports : {laws : Laws} (job : LoggedJob laws) (consumer : ℕ) (intake : IntakeView) → LawfulIntake job consumer intake → ports_in intake.waits ≡ length (ports_of job.job.plan consumer)
 unfolding LawfulIntake
-intake_ports job consumer intake h = ports_long job h.streams consumer intake.claimed intake.waits h.holds
+intake_ports {laws} job consumer intake h = ports_long job h.streams consumer intake.claimed intake.waits h.holds
 
-pub may_begin : (job : LoggedJob) (number : ℕ) (node : PlanNode) (sides : List (Option Plain)) (engine : EngineView) → LawfulUnbegun job number engine → slice_get job.job.plan.nodes number ≡ Some node → sides ≡ sides_of job.job node → SomeUnbegun sides engine
-may_begin job number node sides engine h there is =
+pub may_begin : {laws : Laws} (job : LoggedJob laws) (number : ℕ) (node : PlanNode) (sides : List (Option Plain)) (engine : EngineView) → LawfulUnbegun job number engine → slice_get job.job.plan.nodes number ≡ Some node → sides ≡ sides_of job.job node → SomeUnbegun laws sides engine
+may_begin {laws} job number node sides engine h there is =
     let parts = unbegun_parts job number node sides engine there is h in
     record { node = node; number = number; told = parts.told; unbegun = parts.unbegun }

@@ -7,6 +7,7 @@ use Rattle.std.proofs.lemmas.List.Sums.{sum_by-cons, count_by-le-length}
 use Rattle.mg_value.specs.Payload.{Plain}
 use Rattle.mg_settled.specs.Prefix.{StreamPrefix}
 use Rattle.mg_settled.specs.Extension.{AreExtendedBy}
+use Rattle.mg_calc.specs.Rules.{Laws}
 use Rattle.mg_calc.specs.declared.cause.Cause.{Cause}
 use Rattle.mg_calc.specs.declared.emission.Laid.{Laid}
 use Rattle.mg_calc.specs.declared.node_fault.Phase.{Phase}
@@ -20,7 +21,7 @@ use Rattle.mg_node.proofs.LayingAll.{outputs_at, comes_to}
 use Rattle.mg_node.proofs.Stateless.{KeepsNothing}
 use Rattle.mg_node.proofs.Turns.{IsDone, Turns}
 
-pub record IsFrontOf (job : LoggedJob) (streams : List (StreamPrefix Plain)) (node : PlanNode) (number claimed : ℕ) (front : Front) : Type 0 where
+pub record IsFrontOf {laws : Laws} (job : LoggedJob laws) (streams : List (StreamPrefix Plain)) (node : PlanNode) (number claimed : ℕ) (front : Front) : Type 0 where
   pub few : front.laid ≤ claimed
   pub taken : front.laid ≤ count_of job.job streams node
   pub last : front.closed ≡ true → IsLastWork job.job streams node front.laid
@@ -34,8 +35,8 @@ pub record IsFrontOf (job : LoggedJob) (streams : List (StreamPrefix Plain)) (no
   pub ended : has_stopped front ≡ true → 0 < length front.idle
 
 -- the entries behind the first
-next_entry : (job : LoggedJob) (streams : List (StreamPrefix Plain)) (node : PlanNode) (owner n m k : ℕ) (entry : EntryView) → n < k → IsEntry job streams node n k owner entry → IsEntry job streams node m k owner entry
-next_entry job streams node owner n m k entry later e = record {
+next_entry : {laws : Laws} (job : LoggedJob laws) (streams : List (StreamPrefix Plain)) (node : PlanNode) (owner n m k : ℕ) (entry : EntryView) → n < k → IsEntry job streams node n k owner entry → IsEntry job streams node m k owner entry
+next_entry {laws} job streams node owner n m k entry later e = record {
   set = e.set;
   task = e.task;
   outcome = e.outcome;
@@ -43,46 +44,46 @@ next_entry job streams node owner n m k entry later e = record {
   close = (λ c. absurd (let no = e.close c in omega (arith, no, later)));
 }
 
-entry_by : (job : LoggedJob) (streams : List (StreamPrefix Plain)) (node : PlanNode) (owner n i : ℕ) (phase : Phase) (context : ContextView) (answer : Result (List Laid) Cause) (entry : EntryView) (closes : Bool) → is_close phase ≡ closes → Turns job streams node n phase context answer
+entry_by : {laws : Laws} (job : LoggedJob laws) (streams : List (StreamPrefix Plain)) (node : PlanNode) (owner n i : ℕ) (phase : Phase) (context : ContextView) (answer : Result (List Laid) Cause) (entry : EntryView) (closes : Bool) → is_close phase ≡ closes → Turns job streams node n phase context answer
     → IsEntry job streams node n (n + suc i) owner entry → IsEntry job streams node (n + calls_in_phase phase) (n + calls_in_phase phase + i) owner entry
-entry_by job streams node owner n i phase context answer entry true is t e = absurd (t.none is (n + suc i) entry.phase e.set (omega arith) e.task)
-entry_by job streams node owner n i phase context answer entry false is t e =
+entry_by {laws} job streams node owner n i phase context answer entry true is t e = absurd (t.none is (n + suc i) entry.phase e.set (omega arith) e.task)
+entry_by {laws} job streams node owner n i phase context answer entry false is t e =
     let one : calls_in_phase phase + 0 ≡ 1 = subst (λ (b : Bool). calls_in_phase phase + (if b then 1 else 0) ≡ 1) is t.one in
     subst (λ (k : ℕ). IsEntry job streams node (n + calls_in_phase phase) k owner entry) (let same : n + suc i ≡ n + calls_in_phase phase + i = omega (arith, one) in same)
     (next_entry job streams node owner n (n + calls_in_phase phase) (n + suc i) entry (omega arith) e)
 
 -- the contexts that are free: the one that comes back, and the others, whose calculators keep nothing and have no log
-context_free : (job : LoggedJob) (streams : List (StreamPrefix Plain)) (node : PlanNode) (n : ℕ) (phase : Phase) (context : ContextView) (answer : Result (List Laid) Cause) → IsDone job streams node n phase context answer → Turns job streams node n phase context answer
+context_free : {laws : Laws} (job : LoggedJob laws) (streams : List (StreamPrefix Plain)) (node : PlanNode) (n : ℕ) (phase : Phase) (context : ContextView) (answer : Result (List Laid) Cause) → IsDone job streams node n phase context answer → Turns job streams node n phase context answer
     → IsIdle job streams node (n + calls_in_phase phase) (is_close phase) context
-context_free job streams node n phase context answer d t = record {
+context_free {laws} job streams node n phase context answer d t = record {
   fits = d.fits;
   places = d.places;
   state = t.state;
   log = d.log ∙ ap (log_after job node) t.log;
 }
 
-other_free : (job : LoggedJob) (streams : List (StreamPrefix Plain)) (node : PlanNode) (n : ℕ) (phase : Phase) (done other : ContextView) (answer : Result (List Laid) Cause) → Turns job streams node n phase done answer
+other_free : {laws : Laws} (job : LoggedJob laws) (streams : List (StreamPrefix Plain)) (node : PlanNode) (n : ℕ) (phase : Phase) (done other : ContextView) (answer : Result (List Laid) Cause) → Turns job streams node n phase done answer
     → node.shape.stateless ≡ true → first_log job node ≡ None → IsIdle job streams node n false other → IsIdle job streams node (n + calls_in_phase phase) (is_close phase) other
-other_free job streams node n phase done other answer t stateless none free = record {
+other_free {laws} job streams node n phase done other answer t stateless none free = record {
   fits = free.fits;
   places = free.places;
   state = free.state ∙ sym (t.nothing stateless);
   log = free.log ∙ ap (option_map (λ c. c ++ calls_by streams node n false)) none ∙ sym (ap (option_map (λ c. c ++ calls_by streams node (n + calls_in_phase phase) (is_close phase))) none);
 }
 
-others_free : (job : LoggedJob) (streams : List (StreamPrefix Plain)) (node : PlanNode) (n : ℕ) (phase : Phase) (done : ContextView) (answer : Result (List Laid) Cause) (idle : List ContextView) (works : ℕ) → Turns job streams node n phase done answer → (1 < node.in_flight → KeepsNothing job node)
+others_free : {laws : Laws} (job : LoggedJob laws) (streams : List (StreamPrefix Plain)) (node : PlanNode) (n : ℕ) (phase : Phase) (done : ContextView) (answer : Result (List Laid) Cause) (idle : List ContextView) (works : ℕ) → Turns job streams node n phase done answer → (1 < node.in_flight → KeepsNothing job node)
     → length idle + suc works ≡ node.in_flight → All (IsIdle job streams node n false) idle → All (IsIdle job streams node (n + calls_in_phase phase) (is_close phase)) idle
-others_free job streams node n phase done answer [] works t alone many free = All-nil (IsIdle job streams node (n + calls_in_phase phase) (is_close phase))
-others_free job streams node n phase done answer (b ∷ idle) works t alone many free =
+others_free {laws} job streams node n phase done answer [] works t alone many free = All-nil (IsIdle job streams node (n + calls_in_phase phase) (is_close phase))
+others_free {laws} job streams node n phase done answer (b ∷ idle) works t alone many free =
     let nothing = alone (omega (arith, many)) in
     All-weaker (IsIdle job streams node n false) (IsIdle job streams node (n + calls_in_phase phase) (is_close phase))
     (λ other. other_free job streams node n phase done other answer t nothing.stateless nothing.unlogged) (b ∷ idle) free
 
 -- the next front
-pub next_front : (job : LoggedJob) (streams : List (StreamPrefix Plain)) (node : PlanNode) (number claimed : ℕ) (front : Front) (entry : EntryView) (entries : List EntryView) (context : ContextView) (answer : Result (List Laid) Cause) → IsFrontOf job streams node number claimed front
+pub next_front : {laws : Laws} (job : LoggedJob laws) (streams : List (StreamPrefix Plain)) (node : PlanNode) (number claimed : ℕ) (front : Front) (entry : EntryView) (entries : List EntryView) (context : ContextView) (answer : Result (List Laid) Cause) → IsFrontOf job streams node number claimed front
     → front.window ≡ entry ∷ entries → front.closed ≡ false → (1 < node.in_flight → KeepsNothing job node) → IsDone job streams node front.laid entry.phase context answer → Turns job streams node front.laid entry.phase context answer
     → IsFrontOf job streams node number claimed (answer_laid node.shape.offset entry.phase context answer entries front)
-next_front job streams node number claimed front entry entries context answer h window going alone d t =
+next_front {laws} job streams node number claimed front entry entries context answer h window going alone d t =
     let n = front.laid in
     let phase = entry.phase in
     let offset = node.shape.offset in

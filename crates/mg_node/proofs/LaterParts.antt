@@ -1,4 +1,5 @@
 -- What is lawful for a job is lawful where more is handed in later.
+use mathlib.Core.Path.{contract'}
 use Rattle.std.proofs.Common.{◌≡◌, ℕ, ◌+◌, Bool, true, false, List, [], ◌∷◌, ◌++◌, length, Option, Some, None, option_map, Result, slice_get, refl, ap, sym, subst, ◌∙◌, if◌then◌else◌}
 use Rattle.std.specs.List.{AllZip}
 use Rattle.std.proofs.lemmas.List.{nil_from_length}
@@ -8,6 +9,7 @@ use Rattle.mg_value.specs.Payload.{Plain}
 use Rattle.mg_settled.specs.Prefix.{StreamPrefix}
 use Rattle.mg_settled.specs.Extension.{AreExtendedBy}
 use Rattle.mg_settled.proofs.Lemmas.{all_further}
+use Rattle.mg_calc.specs.Rules.{Laws}
 use Rattle.mg_calc.specs.declared.call.Call.{Call}
 use Rattle.mg_calc.specs.declared.call.Call.TheVariants.{Finished}
 use Rattle.mg_calc.specs.declared.cause.Cause.{Cause}
@@ -20,7 +22,7 @@ use Rattle.mg_calc.specs.declared.port_kind.PortKind.{PortKind}
 use Rattle.mg_calc.specs.Outcome.{Outcome}
 use Rattle.mg_calc.specs.Plan.{HasNumbers, node_sides}
 use Rattle.mg_calc.specs.Shape.{IsShapeOf, HasInputs}
-use Rattle.mg_calc.specs.Equations.{IsJob}
+use Rattle.mg_calc.specs.Equations.{IsJob, rules_at}
 use Rattle.mg_calc.proofs.FirstRound.{a_solution}
 use Rattle.mg_calc.proofs.Jobs.{job_known, solution_grows}
 use Rattle.mg_calc.proofs.Rounds.{streams_extend, streams_are_prefixes}
@@ -33,27 +35,27 @@ use Rattle.mg_node.specs.Lawful.{HoldsWaits, IsIntakeOf, LawfulIntake, HasAnswer
 use Rattle.mg_node.specs.Begun.{IsUnbegun, IsUnbegunOf, LawfulUnbegun}
 use Rattle.mg_node.specs.Batches.{Grows}
 use Rattle.mg_node.proofs.LaterStages.{GoesOn, Stood, stage_stays, calls_stay, last_stays, last_same, task_stays, taken_stood, taken_stays}
-use Rattle.mg_node.proofs.Performing.{of_node as at_node}
+use Rattle.mg_node.proofs.HeldRules.{of_node as at_node}
 use Rattle.mg_node.proofs.Stages.{IsCalled}
 use Rattle.mg_node.proofs.TaskLogs.{task_most}
 
 -- a job to which more is handed in
-abbrev with_inputs : LoggedJob → Inputs → LoggedJob
-with_inputs job more = record { job = record { plan = job.job.plan; inputs = more }; boxes = job.boxes }
+abbrev with_inputs : {laws : Laws} → LoggedJob laws → Inputs → LoggedJob laws
+with_inputs {laws} job more = record { job = record { plan = job.job.plan; inputs = more; laws = job.job.laws }; boxes = job.boxes; same = job.same }
 
-record IsMore (job : LoggedJob) (more : Inputs) : Type 0 where
+record IsMore {laws : Laws} (job : LoggedJob laws) (more : Inputs) : Type 0 where
   sides : job.job.inputs.sides ≡ more.sides
   is_job : IsJob (with_inputs job more).job
   extended : AreExtendedBy job.job.inputs.streams more.streams
 
 -- its solution, which extends that of the first job
-record IsLater (job : LoggedJob) (more : Inputs) (streams : List (StreamPrefix Plain)) : Type 0 where
+record IsLater {laws : Laws} (job : LoggedJob laws) (more : Inputs) (streams : List (StreamPrefix Plain)) : Type 0 where
   later : List (StreamPrefix Plain)
   solves : Solves (with_inputs job more) later
   extended : AreExtendedBy streams later
 
-later_solution : (job : LoggedJob) (more : Inputs) → IsMore job more → (streams : List (StreamPrefix Plain)) → Solves job streams → IsLater job more streams
-later_solution job more m streams solves =
+later_solution : {laws : Laws} (job : LoggedJob laws) (more : Inputs) → IsMore job more → (streams : List (StreamPrefix Plain)) → Solves job streams → IsLater job more streams
+later_solution {laws} job more m streams solves =
     let is = m.is_job in
     let found = a_solution (with_inputs job more).job (job_known (with_inputs job more).job is) is.plan is.inputs.streams in
     record {
@@ -70,13 +72,14 @@ called_inputs Constants ports is has = has
 called_inputs law ports is has = absurd is
 
 -- so each of its nodes goes on
-node_goes_on : (job : LoggedJob) (more : Inputs) (m : IsMore job more) (streams : List (StreamPrefix Plain)) (number : ℕ) (node : PlanNode) → Solves job streams → (l : IsLater job more streams) → slice_get job.job.plan.nodes number ≡ Some node
+node_goes_on : {laws : Laws} (job : LoggedJob laws) (more : Inputs) (m : IsMore job more) (streams : List (StreamPrefix Plain)) (number : ℕ) (node : PlanNode) → Solves job streams → (l : IsLater job more streams) → slice_get job.job.plan.nodes number ≡ Some node
     → GoesOn job.job (with_inputs job more).job streams l.later node
-node_goes_on job more m streams number node solves l there =
+node_goes_on {laws} job more m streams number node solves l there =
     let nodes = job.job.plan.nodes in
     let shape : IsShapeOf node.law node.shape = at_node (λ (n : PlanNode). IsShapeOf n.law n.shape) nodes number node solves.is_job.plan.shapes there in
     let has : HasNumbers node = at_node HasNumbers nodes number node solves.is_job.plan.ports there in
     record {
+      rules = refl;
       sides = ap (λ (ss : List (Option Plain)). node_sides job.job.plan ss node) m.sides;
       prefixes = streams_are_prefixes l.later node.inputs (solution_keeps (with_inputs job more).job (job_known (with_inputs job more).job m.is_job) l.later l.solves.solution);
       extended = streams_extend streams l.later node.inputs l.extended;
@@ -85,8 +88,8 @@ node_goes_on job more m streams number node solves l there =
 
 -- Intakes.
 
-waits_later : (job : LoggedJob) (more : Inputs) (streams : List (StreamPrefix Plain)) (consumer claimed : ℕ) (w : Pending) (l : IsLater job more streams) → HoldsWaits job streams consumer claimed w → HoldsWaits (with_inputs job more) l.later consumer claimed w
-waits_later job more streams consumer claimed (Sets inbox) l h =
+waits_later : {laws : Laws} (job : LoggedJob laws) (more : Inputs) (streams : List (StreamPrefix Plain)) (consumer claimed : ℕ) (w : Pending) (l : IsLater job more streams) → HoldsWaits job streams consumer claimed w → HoldsWaits (with_inputs job more) l.later consumer claimed w
+waits_later {laws} job more streams consumer claimed (Sets inbox) l h =
     let ports = ports_of job.job.plan consumer in (
       h.0,
       record {
@@ -96,7 +99,7 @@ waits_later job more streams consumer claimed (Sets inbox) l h =
         stands = h.1.stands;
       },
     )
-waits_later job more streams consumer claimed (Loop held) l h =
+waits_later {laws} job more streams consumer claimed (Loop held) l h =
     let ports = ports_of job.job.plan consumer in (
       h.0,
       record {
@@ -107,8 +110,8 @@ waits_later job more streams consumer claimed (Loop held) l h =
       },
     )
 
-intake_later : (job : LoggedJob) (more : Inputs) → IsMore job more → (consumer : ℕ) (view : IntakeView) → IsIntakeOf job consumer view → IsIntakeOf (with_inputs job more) consumer view
-intake_later job more m consumer view h =
+intake_later : {laws : Laws} (job : LoggedJob laws) (more : Inputs) → IsMore job more → (consumer : ℕ) (view : IntakeView) → IsIntakeOf job consumer view → IsIntakeOf (with_inputs job more) consumer view
+intake_later {laws} job more m consumer view h =
     let l = later_solution job more m h.streams h.solves in
     record {
       streams = l.later;
@@ -119,17 +122,17 @@ intake_later job more m consumer view h =
 
 -- Works.
 
-at_work_later : (job : LoggedJob) (more : Inputs) (streams later : List (StreamPrefix Plain)) (node : PlanNode) (work : WorkView) (answer : Option (Result (List Laid) Cause))
+at_work_later : {laws : Laws} (job : LoggedJob laws) (more : Inputs) (streams later : List (StreamPrefix Plain)) (node : PlanNode) (work : WorkView) (answer : Option (Result (List Laid) Cause))
     → stage job.job streams node work.number ≡ stage (with_inputs job more).job later node work.number → calls_before streams node work.number ≡ calls_before later node work.number
     → IsAtWork job streams node work answer → IsAtWork (with_inputs job more) later node work answer
-at_work_later job more streams later node work None same calls h = (h.0 ∙ ap (λ (o : Outcome). o.state) same, h.1 ∙ ap (λ (cs : List Call). log_after job node cs) calls)
-at_work_later job more streams later node work (Some answer) same calls h = (
-  subst (λ (o : Outcome). HasAnswered answer o.state work.context.told.state (answer_in node.law o.state work.phase work.context.set)) same h.0,
+at_work_later {laws} job more streams later node work None same calls h = (h.0 ∙ ap (λ (o : Outcome). o.state) same, h.1 ∙ ap (λ (cs : List Call). log_after job node cs) calls)
+at_work_later {laws} job more streams later node work (Some answer) same calls h = (
+  subst (λ (o : Outcome). HasAnswered answer o.state work.context.told.state (answer_in (rules_at job.job node) node.law o.state work.phase work.context.set)) same h.0,
   h.1 ∙ ap (λ (cs : List Call). log_after job node (cs ++ calls_in work.phase work.context.set)) calls,
 )
 
-work_later : (job : LoggedJob) (more : Inputs) → IsMore job more → (view : OutcomeView) → IsWorkOf job view → IsWorkOf (with_inputs job more) view
-work_later job more m view h =
+work_later : {laws : Laws} (job : LoggedJob laws) (more : Inputs) → IsMore job more → (view : OutcomeView) → IsWorkOf job view → IsWorkOf (with_inputs job more) view
+work_later {laws} job more m view h =
     let l = later_solution job more m h.streams h.solves in
     let on = node_goes_on job more m h.streams view.work.node h.node h.solves l h.there in
     let most = task_most job h.streams h.node view.work.number view.work.phase view.work.context.set h.task in
@@ -147,7 +150,7 @@ work_later job more m view h =
 
 -- Engines.
 
-module _ {job : LoggedJob} {more : Inputs} (m : IsMore job more) {streams later : List (StreamPrefix Plain)} {node : PlanNode} (on : GoesOn job.job (with_inputs job more).job streams later node) where
+module _ {laws : Laws} {job : LoggedJob laws} {more : Inputs} (m : IsMore job more) {streams later : List (StreamPrefix Plain)} {node : PlanNode} (on : GoesOn job.job (with_inputs job more).job streams later node) where
   comes_to_later : (n : ℕ) (closed : Bool) → Stood on n → (closed ≡ true → IsLastWork job.job streams node n) → come_to job streams node n closed ≡ come_to (with_inputs job more) later node n closed
   comes_to_later n true stood last = last_same on n (last refl)
   comes_to_later n false stood last = stage_stays on n stood
@@ -182,8 +185,8 @@ module _ {job : LoggedJob} {more : Inputs} (m : IsMore job more) {streams later 
     close = h.close;
   }
 
-engine_later : (job : LoggedJob) (more : Inputs) → IsMore job more → (number : ℕ) (view : EngineView) → IsEngineOf job number view → IsEngineOf (with_inputs job more) number view
-engine_later job more m number view h =
+engine_later : {laws : Laws} (job : LoggedJob laws) (more : Inputs) → IsMore job more → (number : ℕ) (view : EngineView) → IsEngineOf job number view → IsEngineOf (with_inputs job more) number view
+engine_later {laws} job more m number view h =
     let l = later_solution job more m h.streams h.solves in
     let on = node_goes_on job more m h.streams number h.node h.solves l h.there in
     let stood = taken_stood on view.laid h.taken in
@@ -213,53 +216,55 @@ engine_later job more m number view h =
       ended = h.ended;
     }
 
-unbegun_later : (job : LoggedJob) (more : Inputs) → IsMore job more → (number : ℕ) (view : EngineView) → IsUnbegunOf job number view → IsUnbegunOf (with_inputs job more) number view
-unbegun_later job more m number view h = record {
+unbegun_later : {laws : Laws} (job : LoggedJob laws) (more : Inputs) → IsMore job more → (number : ℕ) (view : EngineView) → IsUnbegunOf job number view → IsUnbegunOf (with_inputs job more) number view
+unbegun_later {laws} job more m number view h = record {
   node = h.node;
   told = h.told;
-  handed = record { there = h.handed.there; fits = h.handed.fits; state = h.handed.state; log = h.handed.log; kept = h.handed.kept };
-  unbegun = subst (λ (ss : List (Option Plain)). IsUnbegun h.node number h.told ss view) (ap (λ (ss : List (Option Plain)). node_sides job.job.plan ss h.node) m.sides) h.unbegun;
+  handed = record { there = h.handed.there; fits = h.handed.fits; log = h.handed.log; kept = h.handed.kept };
+  unbegun = subst (λ (ss : List (Option Plain)). IsUnbegun laws h.node number h.told ss view) (ap (λ (ss : List (Option Plain)). node_sides job.job.plan ss h.node) m.sides) h.unbegun;
 }
 
 -- A job that goes on.
 
-is_later : (first later : LoggedJob) → Grows first later → later ≡ with_inputs first later.job.inputs
-is_later first later g = λ i. record { job = record { plan = g.plan i; inputs = later.job.inputs }; boxes = g.boxes i }
+is_later : {laws : Laws} (first later : LoggedJob laws) → Grows first later → later ≡ with_inputs first later.job.inputs
+is_later {laws} first later g =
+    let laws_are = sym (contract' later.same) ∙ contract' first.same in
+    λ i. record { job = record { plan = g.plan i; inputs = later.job.inputs; laws = (laws_are i).0 }; boxes = g.boxes i; same = (laws_are i).1 }
 
-is_more : (first later : LoggedJob) → Grows first later → IsMore first later.job.inputs
-is_more first later g = record {
+is_more : {laws : Laws} (first later : LoggedJob laws) → Grows first later → IsMore first later.job.inputs
+is_more {laws} first later g = record {
   sides = g.sides;
-  is_job = subst (λ (j : LoggedJob). IsJob j.job) (is_later first later g) g.is_job;
+  is_job = subst (λ (j : LoggedJob laws). IsJob j.job) (is_later first later g) g.is_job;
   extended = g.extended;
 }
 
 -- what holds of the first job's parts holds of those of the later one
-by_growing : (P : LoggedJob → Type 0) (first later : LoggedJob) → Grows first later → P (with_inputs first later.job.inputs) → P later
-by_growing P first later g h = subst P (sym (is_later first later g)) h
+by_growing : {laws : Laws} (P : LoggedJob laws → Type 0) (first later : LoggedJob laws) → Grows first later → P (with_inputs first later.job.inputs) → P later
+by_growing {laws} P first later g h = subst P (sym (is_later first later g)) h
 
-pub intake_stays : (first later : LoggedJob) (consumer : ℕ) (view : IntakeView) → Grows first later → LawfulIntake first consumer view → LawfulIntake later consumer view
+pub intake_stays : {laws : Laws} (first later : LoggedJob laws) (consumer : ℕ) (view : IntakeView) → Grows first later → LawfulIntake first consumer view → LawfulIntake later consumer view
 unfolding LawfulIntake
-intake_stays first later consumer view g h = by_growing (λ j. IsIntakeOf j consumer view) first later g (intake_later first later.job.inputs (is_more first later g) consumer view h)
+intake_stays {laws} first later consumer view g h = by_growing (λ j. IsIntakeOf j consumer view) first later g (intake_later first later.job.inputs (is_more first later g) consumer view h)
 
-pub engine_stays : (first later : LoggedJob) (number : ℕ) (view : EngineView) → Grows first later → LawfulEngine first (of_node number) view → LawfulEngine later (of_node number) view
+pub engine_stays : {laws : Laws} (first later : LoggedJob laws) (number : ℕ) (view : EngineView) → Grows first later → LawfulEngine first (of_node number) view → LawfulEngine later (of_node number) view
 unfolding LawfulEngine
-engine_stays first later number view g h = by_growing (λ j. IsEngineOf j number view) first later g (engine_later first later.job.inputs (is_more first later g) number view h)
+engine_stays {laws} first later number view g h = by_growing (λ j. IsEngineOf j number view) first later g (engine_later first later.job.inputs (is_more first later g) number view h)
 
-outcome_by_growing : (first later : LoggedJob) (view : OutcomeView) → Grows first later → IsWorkOf first view → IsWorkOf later view
-outcome_by_growing first later view g h = by_growing (λ j. IsWorkOf j view) first later g (work_later first later.job.inputs (is_more first later g) view h)
+outcome_by_growing : {laws : Laws} (first later : LoggedJob laws) (view : OutcomeView) → Grows first later → IsWorkOf first view → IsWorkOf later view
+outcome_by_growing {laws} first later view g h = by_growing (λ j. IsWorkOf j view) first later g (work_later first later.job.inputs (is_more first later g) view h)
 
-pub work_stays : (first later : LoggedJob) (view : WorkView) → Grows first later → LawfulWork first view → LawfulWork later view
+pub work_stays : {laws : Laws} (first later : LoggedJob laws) (view : WorkView) → Grows first later → LawfulWork first view → LawfulWork later view
 unfolding LawfulWork
-work_stays first later view g h = outcome_by_growing first later (record { work = view; answer = None }) g h
+work_stays {laws} first later view g h = outcome_by_growing first later (record { work = view; answer = None }) g h
 
-pub performed_stays : (first later : LoggedJob) (view : PerformedView) → Grows first later → LawfulPerformed first view → LawfulPerformed later view
+pub performed_stays : {laws : Laws} (first later : LoggedJob laws) (view : PerformedView) → Grows first later → LawfulPerformed first view → LawfulPerformed later view
 unfolding LawfulPerformed
-performed_stays first later view g h = outcome_by_growing first later (record { work = view.work; answer = Some view.answer }) g h
+performed_stays {laws} first later view g h = outcome_by_growing first later (record { work = view.work; answer = Some view.answer }) g h
 
-pub outcome_stays : (first later : LoggedJob) (view : OutcomeView) → Grows first later → LawfulOutcome first view → LawfulOutcome later view
+pub outcome_stays : {laws : Laws} (first later : LoggedJob laws) (view : OutcomeView) → Grows first later → LawfulOutcome first view → LawfulOutcome later view
 unfolding LawfulOutcome
-outcome_stays first later view g h = outcome_by_growing first later view g h
+outcome_stays {laws} first later view g h = outcome_by_growing first later view g h
 
-pub unbegun_stays : (first later : LoggedJob) (number : ℕ) (view : EngineView) → Grows first later → LawfulUnbegun first number view → LawfulUnbegun later number view
+pub unbegun_stays : {laws : Laws} (first later : LoggedJob laws) (number : ℕ) (view : EngineView) → Grows first later → LawfulUnbegun first number view → LawfulUnbegun later number view
 unfolding LawfulUnbegun
-unbegun_stays first later number view g h = by_growing (λ j. IsUnbegunOf j number view) first later g (unbegun_later first later.job.inputs (is_more first later g) number view h)
+unbegun_stays {laws} first later number view g h = by_growing (λ j. IsUnbegunOf j number view) first later g (unbegun_later first later.job.inputs (is_more first later g) number view h)

@@ -20,15 +20,15 @@ use Rattle.mg_calc.specs.declared.node_fault.Phase.TheVariants.{Open, Call as So
 use Rattle.mg_calc.specs.declared.plan_node.PlanNode.{PlanNode}
 use Rattle.mg_calc.specs.Outcome.{Failure, Outcome, opened, shown_all, ended, called, with_last_call}
 use Rattle.mg_calc.specs.Shape.{IsOuter, calls_of}
-use Rattle.mg_calc.specs.Equations.{Job, stream_of, inputs_of, sides_of, outcome_by, outcome_of}
+use Rattle.mg_calc.specs.Equations.{Job, stream_of, inputs_of, sides_of, outcome_by, outcome_of, rules_at}
 use Rattle.mg_calc.specs.Meaning.{count_of}
 use Rattle.mg_calc.proofs.Counting.{shown_as_counted}
 use Rattle.mg_calc.proofs.Rounds.{stream_extends, stream_is_prefix}
+use Rattle.mg_calc.specs.Rules.{Rules}
 use Rattle.mg_node.specs.Job.{sets_of, main_of, loop_of, count_by, count_of_all, IsOverBy, stage_by, stage, IsLastWork, IsTask, calls_before_by, calls_before}
 use Rattle.mg_node.proofs.Claiming.{stays_at}
 use Rattle.mg_node.proofs.StageCounts.{one_more_counted}
 use Rattle.mg_node.proofs.Stages.{IsCalled, kind_of, outer_stage, outer_outcome, outer_count, outer_over, calls_made, called_stage, called_outcome, called_count, failed_is_all}
-use Rattle.mg_calc.specs.Law.{rules_of}
 
 -- the first of a list's elements, where it stands first in another
 same_first : {X : Type 0} (n : ℕ) (xs ys : List X) → n ≤ length xs → take (length xs) ys ≡ xs → take n xs ≡ take n ys
@@ -72,6 +72,7 @@ calls_of_loop law streams more node n is = subst (λ (l : Law). calls_before_by 
 -- what is known of a node in two jobs: its side packets are the same, what comes at its ports in the second extends what comes in the
 -- first, and a source has no ports
 pub record GoesOn (job later : Job) (streams more : List (StreamPrefix Plain)) (node : PlanNode) : Type 0 where
+  pub rules : rules_at job node ≡ rules_at later node
   pub sides : sides_of job node ≡ sides_of later node
   pub prefixes : AllByRecursion IsPrefix (inputs_of more node)
   pub extended : AreExtendedBy (inputs_of streams node) (inputs_of more node)
@@ -99,11 +100,12 @@ module _ {job later : Job} {streams more : List (StreamPrefix Plain)} {node : Pl
   outer_stays : (n : ℕ) → IsOuter node.law → n ≤ length (sets_of streams node) → stage job streams node n ≡ stage later more node n
   outer_stays n is few =
       outer_stage node.law job streams node n is
-      ∙ ap₂ (λ (ss : List (Option Plain)) (es : List (TimedSet Plain)). shown_all (rules_of node.law) node.shape.offset (length node.outputs) ss es) on.sides (same_first n (sets_of streams node) (sets_of more node) few sets_stay)
+      ∙ ap₂ (λ (ss : List (Option Plain)) (es : List (TimedSet Plain)). shown_all (rules_at job node) node.shape.offset (length node.outputs) ss es) on.sides (same_first n (sets_of streams node) (sets_of more node) few sets_stay)
+      ∙ ap (λ (r : Rules). shown_all r node.shape.offset (length node.outputs) (sides_of later node) (take n (sets_of more node))) on.rules
       ∙ sym (outer_stage node.law later more node n is)
 
   calls_stay_made : (n : ℕ) → calls_made job node n ≡ calls_made later node n
-  calls_stay_made n = ap (λ (ss : List (Option Plain)). fold (called node.law) (opened (rules_of node.law) None (length node.outputs) ss) (range_with_len 0 n)) on.sides
+  calls_stay_made n = ap₂ (λ (r : Rules) (ss : List (Option Plain)). fold (called node.law) (opened r None (length node.outputs) ss) (range_with_len 0 n)) on.rules on.sides
 
   called_stays : (n : ℕ) → IsCalled node.law → stage job streams node n ≡ stage later more node n
   called_stays n is = called_stage node.law job streams node n is ∙ calls_stay_made n ∙ sym (called_stage node.law later more node n is)
@@ -163,12 +165,13 @@ module _ {job later : Job} {streams more : List (StreamPrefix Plain)} {node : Pl
       let most = reach-most node.policy now prefixes in
       let reached : reach node.policy now ≡ done = omega (arith, end, rises, most) in
       let sets : sets_of more node ≡ sets_of streams node = sets-end node.policy before now prefixes on.extended end in
-      let shows : List (Option Plain) → List (TimedSet Plain) → Outcome = λ ss es. shown_all (rules_of law) node.shape.offset (length node.outputs) ss es in (
+      let shows : List (Option Plain) → List (TimedSet Plain) → Outcome = λ ss es. shown_all (rules_at later node) node.shape.offset (length node.outputs) ss es in (
         outer_count law more node is ∙ ap length sets ∙ sym (outer_count law streams node is),
         over_outer law more node is reached,
         outer_outcome law job streams node is
-            ∙ ap₂ (λ (r : ℕ) (ss : List (Option Plain)). ended (rules_of law) node.shape.offset r (shows ss (sets_of streams node))) (end ∙ sym reached) on.sides
-            ∙ ap (λ (es : List (TimedSet Plain)). ended (rules_of law) node.shape.offset (reach node.policy now) (shows (sides_of later node) es)) (sym sets)
+            ∙ ap (λ (r : Rules). ended r node.shape.offset (reach node.policy before) (shown_all r node.shape.offset (length node.outputs) (sides_of job node) (sets_of streams node))) on.rules
+            ∙ ap₂ (λ (r : ℕ) (ss : List (Option Plain)). ended (rules_at later node) node.shape.offset r (shows ss (sets_of streams node))) (end ∙ sym reached) on.sides
+            ∙ ap (λ (es : List (TimedSet Plain)). ended (rules_at later node) node.shape.offset (reach node.policy now) (shows (sides_of later node) es)) (sym sets)
             ∙ sym (outer_outcome law later more node is),
       )
 

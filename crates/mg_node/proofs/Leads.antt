@@ -9,6 +9,7 @@ use Rattle.mg_settled.specs.Extension.{IsExtendedBy}
 use Rattle.mg_settled.proofs.Lemmas.{extended_by_itself}
 use Rattle.mg_stream.specs.Queue.{Waiting, StandsFor, count_of}
 use Rattle.mg_stream.specs.Pool.{Backlog, empty_backlog, queue_of, backlog_of}
+use Rattle.mg_calc.specs.Rules.{Laws}
 use Rattle.mg_calc.specs.declared.edge.Edge.{Edge}
 use Rattle.mg_calc.specs.Equations.{stream_of}
 use Rattle.mg_calc.proofs.Jobs.{job_known}
@@ -33,15 +34,15 @@ row_at a (suc n) zero le = omega arith
 row_at a (suc n) (suc i) le = row_at (a + 1) n i (omega (arith, le)) ∙ omega arith
 
 -- what was laid at an output is a prefix that the solution's stream extends
-pub record HasLaid (job : LoggedJob) (engine : EngineView) (e : Edge) : Type 0 where
+pub record HasLaid {laws : Laws} (job : LoggedJob laws) (engine : EngineView) (e : Edge) : Type 0 where
   pub streams : List (StreamPrefix Plain)
   pub solves : Solves job streams
   pub laid : StreamPrefix Plain
   pub stands : StandsFor (output_at engine e) laid
   pub extended : IsExtendedBy laid (stream_of streams e.stream)
 
-of_engine : (job : LoggedJob) (number : ℕ) (engine : EngineView) (e : Edge) → IsEngineOf job number engine → HasStream engine e → HasLaid job engine e
-of_engine job number engine e h has =
+of_engine : {laws : Laws} (job : LoggedJob laws) (number : ℕ) (engine : EngineView) (e : Edge) → IsEngineOf job number engine → HasStream engine e → HasLaid job engine e
+of_engine {laws} job number engine e h has =
     let i = e.stream - engine.first in
     let from = has.from in
     let below = has.below in
@@ -62,8 +63,8 @@ of_engine job number engine e h has =
           (zip_at IsExtendedBy h.whole (streams_at h.streams h.node.outputs) i empty_prefix empty_prefix h.extended in_whole);
     }
 
-of_graph_input : (job : LoggedJob) (number : ℕ) (engine : EngineView) (e : Edge) → IsInputOf job number engine → HasStream engine e → HasLaid job engine e
-of_graph_input job number engine e h has =
+of_graph_input : {laws : Laws} (job : LoggedJob laws) (number : ℕ) (engine : EngineView) (e : Edge) → IsInputOf job number engine → HasStream engine e → HasLaid job engine e
+of_graph_input {laws} job number engine e h has =
     let s = stream_of h.streams number in
     let from = has.from in
     let below = has.below in
@@ -80,25 +81,25 @@ of_graph_input job number engine e h has =
       extended = subst (λ (k : ℕ). IsExtendedBy s (stream_of h.streams k)) (sym same) (extended_by_itself s);
     }
 
-has_laid : (job : LoggedJob) (owner : Owner) (engine : EngineView) (e : Edge) → LawfulEngine job owner engine → HasStream engine e → HasLaid job engine e
+has_laid : {laws : Laws} (job : LoggedJob laws) (owner : Owner) (engine : EngineView) (e : Edge) → LawfulEngine job owner engine → HasStream engine e → HasLaid job engine e
 unfolding LawfulEngine
-has_laid job (of_node number) engine e h has = of_engine job number engine e h has
-has_laid job (of_input number) engine e h has = of_graph_input job number engine e h has
+has_laid {laws} job (of_node number) engine e h has = of_engine job number engine e h has
+has_laid {laws} job (of_input number) engine e h has = of_graph_input job number engine e h has
 
 -- an output is there
 output_there : (engine : EngineView) (e : Edge) → HasStream engine e → e.stream - engine.first < length engine.outputs
 output_there engine e has = (let from = has.from in let below = has.below in omega (arith, from, below))
 
 -- what came to a port of a lawful intake, with the solution's stream there
-pub record HasCome (job : LoggedJob) (engine : EngineView) (e : Edge) (intake : IntakeView) : Type 0 where
+pub record HasCome {laws : Laws} (job : LoggedJob laws) (engine : EngineView) (e : Edge) (intake : IntakeView) : Type 0 where
   pub is_intake : IsIntakeOf job e.node intake
   pub there : e.port < ports_in intake.waits
   pub at : AtPort job is_intake.streams e.node intake.claimed e.port intake.waits
   pub stream_is : get_or (streams_at is_intake.streams (ports_of job.job.plan e.node)) e.port empty_prefix ≡ stream_of is_intake.streams e.stream
 
-has_come : (job : LoggedJob) (engine : EngineView) (e : Edge) (intake : IntakeView) → LawfulIntake job e.node intake → slice_get (ports_of job.job.plan e.node) e.port ≡ Some e.stream → HasCome job engine e intake
+has_come : {laws : Laws} (job : LoggedJob laws) (engine : EngineView) (e : Edge) (intake : IntakeView) → LawfulIntake job e.node intake → slice_get (ports_of job.job.plan e.node) e.port ≡ Some e.stream → HasCome job engine e intake
 unfolding LawfulIntake
-has_come job engine e intake h stream =
+has_come {laws} job engine e intake h stream =
     let ports = ports_of job.job.plan e.node in
     let within : e.port < length ports = slice_get_within ports e.port e.stream stream in
     let there : e.port < ports_in intake.waits = (let long = ports_long job h.streams e.node intake.claimed intake.waits h.holds in omega (arith, within, long)) in
@@ -110,9 +111,9 @@ has_come job engine e intake h stream =
     }
 
 -- they are of one stream
-abbrev of_one : (job : LoggedJob) (engine : EngineView) (e : Edge) (intake : IntakeView) (laid : HasLaid job engine e) (come : HasCome job engine e intake) → (output_at engine e).gone ≤ count_of (port_queue intake.waits e.port)
+abbrev of_one : {laws : Laws} (job : LoggedJob laws) (engine : EngineView) (e : Edge) (intake : IntakeView) (laid : HasLaid job engine e) (come : HasCome job engine e intake) → (output_at engine e).gone ≤ count_of (port_queue intake.waits e.port)
     → (stream : StreamPrefix Plain) → get_or (streams_at come.is_intake.streams (ports_of job.job.plan e.node)) e.port empty_prefix ≡ stream → AreOfOne (output_at engine e) (port_queue intake.waits e.port)
-of_one job engine e intake laid come held stream is =
+of_one {laws} job engine e intake laid come held stream is =
     let same : laid.streams ≡ come.is_intake.streams = one_solution job.job laid.streams come.is_intake.streams laid.solves.solution come.is_intake.solves.solution in
     let whole : IsPrefix (stream_of come.is_intake.streams e.stream) =
     stream_is_prefix come.is_intake.streams e.stream (solution_keeps job.job (job_known job.job come.is_intake.solves.is_job) come.is_intake.streams come.is_intake.solves.solution) in
@@ -128,29 +129,29 @@ of_one job engine e intake laid come held stream is =
       held = held;
     }
 
-pub leads_port : (engine : EngineView) (e : Edge) (intake : IntakeView) → Leads engine e intake → e.port < ports_in intake.waits
-leads_port engine e intake h = (has_come h.job engine e intake h.lawful_intake h.stream).there
+pub leads_port : {laws : Laws} (engine : EngineView) (e : Edge) (intake : IntakeView) → Leads laws engine e intake → e.port < ports_in intake.waits
+leads_port {laws} engine e intake h = (has_come h.job engine e intake h.lawful_intake h.stream).there
 
-pub leads_one : (engine : EngineView) (e : Edge) (intake : IntakeView) → Leads engine e intake → AreOfOne (output_at engine e) (port_queue intake.waits e.port)
-leads_one engine e intake h =
+pub leads_one : {laws : Laws} (engine : EngineView) (e : Edge) (intake : IntakeView) → Leads laws engine e intake → AreOfOne (output_at engine e) (port_queue intake.waits e.port)
+leads_one {laws} engine e intake h =
     of_one h.job engine e intake (has_laid h.job h.owner engine e h.lawful_engine h.leaves) (has_come h.job engine e intake h.lawful_intake h.stream) h.held _ refl
 
 -- what a delivery leaves is lawful
 same_view : (a b : IntakeView) → a.claimed ≡ b.claimed → a.waits ≡ b.waits → a ≡ b
 same_view a b claimed waits = λ i. record { claimed = claimed i; waits = waits i }
 
-keeps_lawful : (job : LoggedJob) (engine : EngineView) (e : Edge) (before now : IntakeView) (come : HasCome job engine e before) (q : Waiting Plain)
+keeps_lawful : {laws : Laws} (job : LoggedJob laws) (engine : EngineView) (e : Edge) (before now : IntakeView) (come : HasCome job engine e before) (q : Waiting Plain)
     → Came (get_or (streams_at come.is_intake.streams (ports_of job.job.plan e.node)) e.port empty_prefix) come.at.came (port_queue before.waits e.port) q
     → now.waits ≡ with_port before.waits e.port q → now.claimed ≡ before.claimed → LawfulIntake job e.node now
 unfolding LawfulIntake
-keeps_lawful job engine e before now come q c is claimed =
+keeps_lawful {laws} job engine e before now come q c is claimed =
     subst (λ (v : IntakeView). IsIntakeOf job e.node v) (sym (same_view now (record { claimed = before.claimed; waits = with_port before.waits e.port q }) claimed is))
     (record { streams = come.is_intake.streams; solves = come.is_intake.solves; is_there = come.is_intake.is_there; holds = come.at.keeps q c })
 
-came_by : (job : LoggedJob) (engine : EngineView) (e : Edge) (before now : IntakeView) (most : ℕ) (result : Delivered) (come : HasCome job engine e before) (one : AreOfOne (output_at engine e) (port_queue before.waits e.port))
+came_by : {laws : Laws} (job : LoggedJob laws) (engine : EngineView) (e : Edge) (before now : IntakeView) (most : ℕ) (result : Delivered) (come : HasCome job engine e before) (one : AreOfOne (output_at engine e) (port_queue before.waits e.port))
     → one.stream ≡ get_or (streams_at come.is_intake.streams (ports_of job.job.plan e.node)) e.port empty_prefix → one.came ≡ come.at.came
     → Delivers result (output_at engine e) e.port most before.waits now.waits → now.claimed ≡ before.claimed → LawfulIntake job e.node now
-came_by job engine e before now most (Moved packets raised) come one stream came d claimed =
+came_by {laws} job engine e before now most (Moved packets raised) come one stream came d claimed =
     let o = output_at engine e in
     let q = port_queue before.waits e.port in
     let within : packets ≤ length (missing o q) = (let count = d.0 in omega (arith, count)) in
@@ -159,7 +160,7 @@ came_by job engine e before now most (Moved packets raised) come one stream came
     keeps_lawful job engine e before now come (with_room (delivered o q packets) spare)
     (subst (λ (s : StreamPrefix Plain). Came s come.at.came q (with_room (delivered o q packets) spare)) stream (subst (λ (s : StreamPrefix Plain). Came one.stream s q (with_room (delivered o q packets) spare)) came c))
     d.1 claimed
-came_by job engine e before now most (OutOfMemory packets) come one stream came d claimed =
+came_by {laws} job engine e before now most (OutOfMemory packets) come one stream came d claimed =
     let o = output_at engine e in
     let q = port_queue before.waits e.port in
     let within : packets ≤ length (missing o q) = (let count = d.0 in omega (arith, count)) in
@@ -170,10 +171,10 @@ came_by job engine e before now most (OutOfMemory packets) come one stream came 
     (subst (λ (s : StreamPrefix Plain). Came s come.at.came q (with_room last spare)) stream (subst (λ (s : StreamPrefix Plain). Came one.stream s q (with_room last spare)) came c))
     d.1 claimed
 
-pub delivery_lawful : (job : LoggedJob) (owner : Owner) (engine : EngineView) (e : Edge) (before now : IntakeView) (most : ℕ) (result : Delivered) → HasStream engine e → (output_at engine e).gone ≤ count_of (port_queue before.waits e.port)
+pub delivery_lawful : {laws : Laws} (job : LoggedJob laws) (owner : Owner) (engine : EngineView) (e : Edge) (before now : IntakeView) (most : ℕ) (result : Delivered) → HasStream engine e → (output_at engine e).gone ≤ count_of (port_queue before.waits e.port)
     → LawfulEngine job owner engine → LawfulIntake job e.node before → slice_get (ports_of job.job.plan e.node) e.port ≡ Some e.stream
     → Delivers result (output_at engine e) e.port most before.waits now.waits → now.claimed ≡ before.claimed → LawfulIntake job e.node now
-delivery_lawful job owner engine e before now most result has held from into stream d claimed =
+delivery_lawful {laws} job owner engine e before now most result has held from into stream d claimed =
     let come = has_come job engine e before into stream in
     let one = of_one job engine e before (has_laid job owner engine e from has) come held _ refl in
     came_by job engine e before now most result come one refl refl d claimed

@@ -47,4 +47,4 @@ pub use Rattle.mg_node.proofs.Frames.{get_drop, get_first, get_other, put_there,
 pub use Rattle.mg_node.proofs.ClaimsKeep.{set_get}
 pub use Rattle.mg_node.proofs.ShelfLaws.{get_set}
 pub use Rattle.mg_node.proofs.Making.{read_at, some_same}
-pub use Rattle.mg_node.proofs.Performing.{of_node as at_each}
+pub use Rattle.mg_node.proofs.HeldRules.{of_node as at_each, rules_fit}

@@ -81,3 +81,4 @@ pub mod FrontsHad
 pub mod ClosesHad
 pub mod ShownAtOnce
 pub mod AtOnceKeeps
+pub mod HeldRules

@@ -15,6 +15,7 @@ use Rattle.mg_stream.specs.Queue.{Waiting, StandsFor, MayCome}
 use Rattle.mg_stream.specs.Pool.{Backlog, queue_of, backlog_of}
 use Rattle.mg_policy.specs.declared.readiness.Readiness.TheVariants.{Close as AtEnd, NotReady as NotYet}
 use Rattle.mg_loopback.specs.Loopback.{Held, next_reply}
+use Rattle.mg_calc.specs.Rules.{Laws}
 use Rattle.mg_calc.specs.declared.plan_node.PlanNode.{PlanNode}
 use Rattle.mg_node.specs.declared.role.Role.{Role}
 use Rattle.mg_node.specs.declared.role.Role.TheVariants.{Loop as LoopRole}
@@ -33,16 +34,16 @@ use Rattle.mg_node.proofs.Giving.{with_outputs}
 use Rattle.mg_node.proofs.Zips.{zip_long}
 
 -- an intake of a loopback's node is a loopback's
-has_loop_by : (job : LoggedJob) (number : ℕ) (engine : EngineView) (h : IsEngineOf job number engine) (streams : List (StreamPrefix Plain)) (claimed : ℕ) (w : Pending) → engine.role ≡ LoopRole → HoldsWaits job streams number claimed w → HasLoop w
-has_loop_by job number engine h streams claimed (Sets inbox) role holds = absurd (holds.0 (ap (λ (o : Option PlanNode). option_map (λ n. n.law) o) h.there ∙ ap Some (loop_law h.node.law (sym h.set_up.role ∙ role))))
-has_loop_by job number engine h streams claimed (Loop held) role holds = tt
+has_loop_by : {laws : Laws} (job : LoggedJob laws) (number : ℕ) (engine : EngineView) (h : IsEngineOf job number engine) (streams : List (StreamPrefix Plain)) (claimed : ℕ) (w : Pending) → engine.role ≡ LoopRole → HoldsWaits job streams number claimed w → HasLoop w
+has_loop_by {laws} job number engine h streams claimed (Sets inbox) role holds = absurd (holds.0 (ap (λ (o : Option PlanNode). option_map (λ n. n.law) o) h.there ∙ ap Some (loop_law h.node.law (sym h.set_up.role ∙ role))))
+has_loop_by {laws} job number engine h streams claimed (Loop held) role holds = tt
 
-cell_loop_by : (job : LoggedJob) (number : ℕ) (engine : EngineView) (intake : IntakeView) → LawfulEngine job (of_node number) engine → LawfulIntake job number intake → engine.role ≡ LoopRole → HasLoop intake.waits
+cell_loop_by : {laws : Laws} (job : LoggedJob laws) (number : ℕ) (engine : EngineView) (intake : IntakeView) → LawfulEngine job (of_node number) engine → LawfulIntake job number intake → engine.role ≡ LoopRole → HasLoop intake.waits
 unfolding LawfulEngine LawfulIntake
-cell_loop_by job number engine intake h i role = has_loop_by job number engine h i.streams intake.claimed intake.waits role i.holds
+cell_loop_by {laws} job number engine intake h i role = has_loop_by job number engine h i.streams intake.claimed intake.waits role i.holds
 
-pub cell_loop : (engine : EngineView) (intake : IntakeView) → AreCell engine intake → engine.role ≡ LoopRole → HasLoop intake.waits
-cell_loop engine intake cell role = cell_loop_by cell.job cell.number engine intake cell.lawful_engine cell.lawful_intake role
+pub cell_loop : {laws : Laws} (engine : EngineView) (intake : IntakeView) → AreCell laws engine intake → engine.role ≡ LoopRole → HasLoop intake.waits
+cell_loop {laws} engine intake cell role = cell_loop_by cell.job cell.number engine intake cell.lawful_engine cell.lawful_intake role
 
 held_of : (w : Pending) → HasLoop w → (held : Held Plain) × (w ≡ Loop held)
 held_of (Sets inbox) h = absurd h
@@ -60,34 +61,34 @@ few_packets s is =
     let long = length-map s.packets (λ (p : Stamped Plain). p.at) in
     omega (arith, few, long)
 
-few_by : (job : LoggedJob) (streams : List (StreamPrefix Plain)) (number claimed : ℕ) (held : Held Plain) → HoldsLoop job streams number claimed held → claimed + 1 ≤ done
-few_by job streams number claimed held h =
+few_by : {laws : Laws} (job : LoggedJob laws) (streams : List (StreamPrefix Plain)) (number claimed : ℕ) (held : Held Plain) → HoldsLoop job streams number claimed held → claimed + 1 ≤ done
+few_by {laws} job streams number claimed held h =
     let answered = h.stands.answered in
     let most = replies-most h.main h.loop in
     let few = few_packets h.main h.stands.at_main.prefix in
     omega (arith, answered, most, few)
 
-few_waits : (job : LoggedJob) (streams : List (StreamPrefix Plain)) (number claimed : ℕ) (w : Pending) → HasLoop w → HoldsWaits job streams number claimed w → claimed + 1 ≤ done
-few_waits job streams number claimed (Sets inbox) has holds = absurd has
-few_waits job streams number claimed (Loop held) has holds = few_by job streams number claimed held holds.1
+few_waits : {laws : Laws} (job : LoggedJob laws) (streams : List (StreamPrefix Plain)) (number claimed : ℕ) (w : Pending) → HasLoop w → HoldsWaits job streams number claimed w → claimed + 1 ≤ done
+few_waits {laws} job streams number claimed (Sets inbox) has holds = absurd has
+few_waits {laws} job streams number claimed (Loop held) has holds = few_by job streams number claimed held holds.1
 
-cell_few_by : (job : LoggedJob) (number : ℕ) (intake : IntakeView) → LawfulIntake job number intake → HasLoop intake.waits → intake.claimed + 1 ≤ done
+cell_few_by : {laws : Laws} (job : LoggedJob laws) (number : ℕ) (intake : IntakeView) → LawfulIntake job number intake → HasLoop intake.waits → intake.claimed + 1 ≤ done
 unfolding LawfulIntake
-cell_few_by job number intake i has = few_waits job i.streams number intake.claimed intake.waits has i.holds
+cell_few_by {laws} job number intake i has = few_waits job i.streams number intake.claimed intake.waits has i.holds
 
-pub cell_few : (engine : EngineView) (intake : IntakeView) → AreCell engine intake → engine.role ≡ LoopRole → intake.claimed + 1 ≤ done
-cell_few engine intake cell role = cell_few_by cell.job cell.number intake cell.lawful_intake (cell_loop engine intake cell role)
+pub cell_few : {laws : Laws} (engine : EngineView) (intake : IntakeView) → AreCell laws engine intake → engine.role ≡ LoopRole → intake.claimed + 1 ≤ done
+cell_few {laws} engine intake cell role = cell_few_by cell.job cell.number intake cell.lawful_intake (cell_loop engine intake cell role)
 
 -- the counts of the engine
-pub cell_counts : (engine : EngineView) (intake : IntakeView) → AreCell engine intake → engine.role ≡ LoopRole → MayClaim engine → (engine.claimed ≡ intake.claimed) × (engine.laid ≡ engine.claimed)
-cell_counts engine intake cell role may =
+pub cell_counts : {laws : Laws} (engine : EngineView) (intake : IntakeView) → AreCell laws engine intake → engine.role ≡ LoopRole → MayClaim engine → (engine.claimed ≡ intake.claimed) × (engine.laid ≡ engine.claimed)
+cell_counts {laws} engine intake cell role may =
     let held = held_of intake.waits (cell_loop engine intake cell role) in
     let it = loop_cell engine intake held.0 cell role held.1 may in
     (subst (λ (r : Role). AgreeBy r engine.claimed intake.claimed) role cell.agree, it.all)
 
 -- one output, where the packet may come
-pub cell_one : (engine : EngineView) (intake : IntakeView) → AreCell engine intake → engine.role ≡ LoopRole → MayClaim engine → length engine.outputs ≡ 1
-cell_one engine intake cell role may =
+pub cell_one : {laws : Laws} (engine : EngineView) (intake : IntakeView) → AreCell laws engine intake → engine.role ≡ LoopRole → MayClaim engine → length engine.outputs ≡ 1
+cell_one {laws} engine intake cell role may =
     let held = held_of intake.waits (cell_loop engine intake cell role) in
     let it = loop_cell engine intake held.0 cell role held.1 may in
     let h = it.engine_is in
@@ -95,8 +96,8 @@ cell_one engine intake cell role may =
     zip_long (λ (o : Backlog Plain) (s : StreamPrefix Plain). StandsFor (queue_of 0 o) s) engine.outputs h.whole h.kept
     ∙ sym (zip_long IsRaised (come_to cell.job h.streams h.node engine.laid engine.closed).outputs h.whole h.raised) ∙ ap length base
 
-pub cell_lays : (engine : EngineView) (intake : IntakeView) (items : List (Waiting Plain)) (q : Waiting Plain) → AreCell engine intake → engine.role ≡ LoopRole → MayClaim engine → map backlog_of items ≡ engine.outputs → q ≡ get_or items 0 q → MayLay q intake.waits
-cell_lays engine intake items q cell role may is first = λ held r p waits next packet.
+pub cell_lays : {laws : Laws} (engine : EngineView) (intake : IntakeView) (items : List (Waiting Plain)) (q : Waiting Plain) → AreCell laws engine intake → engine.role ≡ LoopRole → MayClaim engine → map backlog_of items ≡ engine.outputs → q ≡ get_or items 0 q → MayLay q intake.waits
+cell_lays {laws} engine intake items q cell role may is first = λ held r p waits next packet.
     (let a = may_answer engine intake held r p cell role waits may next packet in
     first_may items q a.output p.at (is ∙ a.outputs) first a.may_come)
   where
@@ -122,26 +123,26 @@ early role w held is waits none not_over =
     subst (λ (r : Role). IsEarly r w) (sym is) (subst (λ (v : Pending). (¬ IsNext v AtEnd) → IsNext v NotYet) (sym waits) (λ no. (none, no)) not_over)
 
 -- The engine, after each of its answers.
-pub item_one : (engine : EngineView) (intake : IntakeView) (items : List (Waiting Plain)) → AreCell engine intake → engine.role ≡ LoopRole → MayClaim engine → map backlog_of items ≡ engine.outputs → length items ≡ 1
-item_one engine intake items cell role may is = sym (length-map items backlog_of) ∙ ap length is ∙ cell_one engine intake cell role may
+pub item_one : {laws : Laws} (engine : EngineView) (intake : IntakeView) (items : List (Waiting Plain)) → AreCell laws engine intake → engine.role ≡ LoopRole → MayClaim engine → map backlog_of items ≡ engine.outputs → length items ≡ 1
+item_one {laws} engine intake items cell role may is = sym (length-map items backlog_of) ∙ ap length is ∙ cell_one engine intake cell role may
 
-pub none_laid : (engine : EngineView) (intake : IntakeView) (items : List (Waiting Plain)) (q r : Waiting Plain) → AreCell engine intake → engine.role ≡ LoopRole → MayClaim engine → map backlog_of items ≡ engine.outputs → q ≡ get_or items 0 q → backlog_of r ≡ backlog_of q
+pub none_laid : {laws : Laws} (engine : EngineView) (intake : IntakeView) (items : List (Waiting Plain)) (q r : Waiting Plain) → AreCell laws engine intake → engine.role ≡ LoopRole → MayClaim engine → map backlog_of items ≡ engine.outputs → q ≡ get_or items 0 q → backlog_of r ≡ backlog_of q
     → with_outputs engine (map backlog_of (set items 0 r)) ≡ engine
-none_laid engine intake items q r cell role may is here same = ap (with_outputs engine) (one_same items q r (item_one engine intake items cell role may is) here same ∙ is)
+none_laid {laws} engine intake items q r cell role may is here same = ap (with_outputs engine) (one_same items q r (item_one engine intake items cell role may is) here same ∙ is)
 
 abbrev pub with_laid : EngineView → List (Backlog Plain) → EngineView
 with_laid engine outputs = record engine { claimed = engine.claimed + 1; laid = engine.laid + 1; outputs = outputs }
 
-pub not_yet : (engine engine_now : EngineView) (intake intake_now : IntakeView) (items : List (Waiting Plain)) (q r : Waiting Plain) → AreCell engine intake → engine.role ≡ LoopRole → MayClaim engine → map backlog_of items ≡ engine.outputs → q ≡ get_or items 0 q
+pub not_yet : {laws : Laws} (engine engine_now : EngineView) (intake intake_now : IntakeView) (items : List (Waiting Plain)) (q r : Waiting Plain) → AreCell laws engine intake → engine.role ≡ LoopRole → MayClaim engine → map backlog_of items ≡ engine.outputs → q ≡ get_or items 0 q
     → engine_now ≡ with_outputs engine (map backlog_of (set items 0 r)) → ¬ IsNext intake.waits AtEnd → TellsNone q r intake intake_now → IsEarly engine.role intake.waits × AreSame engine intake engine_now intake_now
-not_yet engine engine_now intake intake_now items q r cell role may is here now not_over t = (
+not_yet {laws} engine engine_now intake intake_now items q r cell role may is here now not_over t = (
   early engine.role intake.waits t.held role t.waits t.none not_over,
   record { same_engine = now ∙ none_laid engine intake items q r cell role may is here t.same; same_intake = t.intake_is },
 )
 
-pub now_laid : (engine engine_now : EngineView) (intake intake_now : IntakeView) (items : List (Waiting Plain)) (q r : Waiting Plain) → AreCell engine intake → engine.role ≡ LoopRole → MayClaim engine → map backlog_of items ≡ engine.outputs → q ≡ get_or items 0 q
+pub now_laid : {laws : Laws} (engine engine_now : EngineView) (intake intake_now : IntakeView) (items : List (Waiting Plain)) (q r : Waiting Plain) → AreCell laws engine intake → engine.role ≡ LoopRole → MayClaim engine → map backlog_of items ≡ engine.outputs → q ≡ get_or items 0 q
     → engine_now ≡ with_laid engine (map backlog_of (set items 0 r)) → LaysReply q r intake intake_now → TakesAnswer engine engine_now intake intake_now
-now_laid engine engine_now intake intake_now items q r cell role may is here now t = record {
+now_laid {laws} engine engine_now intake intake_now items q r cell role may is here now t = record {
   role = role;
   held = t.held;
   waits = t.waits;

@@ -3,6 +3,7 @@ use Rattle.std.proofs.Common.{◌≡◌, ℕ, ◌-◌, ◌<◌, List, [], ◌∷
 use Rattle.mg_value.specs.Payload.{Plain}
 use Rattle.mg_value.specs.Packet.{Stamped}
 use Rattle.mg_stream.specs.Pool.{Backlog, empty_backlog}
+use Rattle.mg_calc.specs.Rules.{Laws}
 use Rattle.mg_calc.specs.declared.plan_node.PlanNode.{PlanNode}
 use Rattle.mg_route.specs.HolderView.{HolderView}
 use Rattle.mg_calc.proofs.Earlier.{get_or_some}
@@ -57,6 +58,6 @@ engine_made node planned number told role first inputs outs outputs window idle 
     made ∙ ap (λ (n : PlanNode). fresh_engine n number told) same
 
 -- it is one that isn't begun, for each job that has its calculator
-pub fresh_unbegun : (job : LoggedJob) (number : ℕ) (node : PlanNode) (told : HolderView) (view : EngineView) → IsHanded job number node told → view ≡ fresh_engine node number told → LawfulUnbegun job number view
+pub fresh_unbegun : {laws : Laws} (job : LoggedJob laws) (number : ℕ) (node : PlanNode) (told : HolderView) (view : EngineView) → IsHanded job number node told → view ≡ fresh_engine node number told → LawfulUnbegun job number view
 unfolding LawfulUnbegun
-fresh_unbegun job number node told view handed is = record { node = node; told = told; handed = handed; unbegun = inl is }
+fresh_unbegun {laws} job number node told view handed is = record { node = node; told = told; handed = handed; unbegun = inl is }

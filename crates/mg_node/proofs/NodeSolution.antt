@@ -5,6 +5,7 @@ use Rattle.std.proofs.lemmas.List.{length-map}
 use Rattle.std.proofs.lemmas.List.Concat.{flat_map-cons}
 use Rattle.mg_value.specs.Payload.{Plain}
 use Rattle.mg_settled.specs.Prefix.{StreamPrefix, IsPrefix, empty_prefix}
+use Rattle.mg_calc.specs.Rules.{Laws}
 use Rattle.mg_calc.specs.declared.plan_node.PlanNode.{PlanNode}
 use Rattle.mg_calc.specs.Equations.{Job, stream_of, outcome_of}
 use Rattle.mg_calc.specs.declared.law.Law.TheVariants.{Loopback}
@@ -77,8 +78,8 @@ all_long : (job : Job) (streams : List (StreamPrefix Plain)) (nodes : List PlanN
 all_long job streams [] ones is = tt
 all_long job streams (node ∷ nodes) ones is = (outcome_has_outputs job node streams ones.0 is, all_long job streams nodes ones.1 is)
 
-pub node_streams : (job : LoggedJob) (streams : List (StreamPrefix Plain)) (number : ℕ) (node : PlanNode) → Solves job streams → slice_get job.job.plan.nodes number ≡ Some node → streams_at streams node.outputs ≡ (outcome_of job.job streams node).outputs
-node_streams job streams number node solves there =
+pub node_streams : {laws : Laws} (job : LoggedJob laws) (streams : List (StreamPrefix Plain)) (number : ℕ) (node : PlanNode) → Solves job streams → slice_get job.job.plan.nodes number ≡ Some node → streams_at streams node.outputs ≡ (outcome_of job.job streams node).outputs
+node_streams {laws} job streams number node solves there =
     let plan = job.job.plan in
     let known = job_known job.job solves.is_job in
     let prefixes = solution_keeps job.job known streams solves.solution in

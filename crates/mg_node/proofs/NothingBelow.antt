@@ -21,6 +21,7 @@ use Rattle.mg_loopback.specs.Loopback.{Held, reached}
 use Rattle.mg_loopback.specs.Standing.{StandsAfter, after_replies}
 use Rattle.mg_loopback.proofs.Standing.{reached_is}
 use Rattle.mg_loopback.proofs.Streams.{first_stay, told_extended}
+use Rattle.mg_calc.specs.Rules.{Laws}
 use Rattle.mg_calc.specs.declared.law.Law.{Law}
 use Rattle.mg_calc.specs.declared.law.Law.TheVariants.{Count, SideOnce}
 use Rattle.mg_calc.specs.declared.node_fault.Phase.{Phase}
@@ -79,15 +80,15 @@ none_waits_below policy k qs came ss prefixes extended stands =
     (omega (arith, within, rises), next_ahead k r sets (settled_sets policy ss) (sets-stay policy came ss extended) stands.gone.claimed further)
 
 -- of a node
-pub none_comes_below : (job : LoggedJob) (number : ℕ) (streams : List (StreamPrefix Plain)) (node : PlanNode) (k : ℕ) (w : Pending) → All IsPrefix (inputs_of streams node) → slice_get job.job.plan.nodes number ≡ Some node → role_of node.law ≡ SetsRole → HoldsWaits job streams number k w
+pub none_comes_below : {laws : Laws} (job : LoggedJob laws) (number : ℕ) (streams : List (StreamPrefix Plain)) (node : PlanNode) (k : ℕ) (w : Pending) → All IsPrefix (inputs_of streams node) → slice_get job.job.plan.nodes number ≡ Some node → role_of node.law ≡ SetsRole → HoldsWaits job streams number k w
     → NoneBelow (horizon_of w) k node.policy (inputs_of streams node)
-none_comes_below job number streams node k (Sets inbox) prefixes there role holds =
+none_comes_below {laws} job number streams node k (Sets inbox) prefixes there role holds =
     let h = holds.1 in
     let policy : inbox.policy ≡ node.policy = h.policy ∙ ap (λ (o : Option PlanNode). unwrap_or (option_map (λ n. n.policy) o) Default) there in
     let at : streams_at streams (ports_of job.job.plan number) ≡ inputs_of streams node = ap (λ (o : Option PlanNode). streams_at streams (unwrap_or (option_map (λ n. n.inputs) o) job.job.plan.outputs)) there in
     let extended : AreExtendedBy h.came (inputs_of streams node) = subst (AreExtendedBy h.came) at h.extended in
     subst (λ (p : Policy). NoneBelow (horizon_of (Sets inbox)) k p (inputs_of streams node)) policy (none_waits_below inbox.policy k (queues_of inbox.pool) h.came (inputs_of streams node) prefixes extended h.stands)
-none_comes_below job number streams node k (Loop held) prefixes there role holds =
+none_comes_below {laws} job number streams node k (Loop held) prefixes there role holds =
     absurd (let role_is = subst (λ (l : Law). role_of l ≡ SetsRole) (law_is_loop (slice_get job.job.plan.nodes number) node there holds.0) role in cc)
 
 -- Of sets that are claimed: the first of them is the first that isn't laid.
@@ -114,20 +115,20 @@ module _ (job : Job) (streams : List (StreamPrefix Plain)) (node : PlanNode) (ou
       let all = task.all in
       subst (λ (o : Option (TimedSet Plain)). IfSome o (λ e. t ≤ e.at)) (sym (slice_get_past (sets_of streams node) n (omega (arith, count, all)))) tt
 
-none_claimed_below : (job : LoggedJob) (streams : List (StreamPrefix Plain)) (node : PlanNode) (laid owner t : ℕ) (window : List EntryView) → IsOuter node.law
+none_claimed_below : {laws : Laws} (job : LoggedJob laws) (streams : List (StreamPrefix Plain)) (node : PlanNode) (laid owner t : ℕ) (window : List EntryView) → IsOuter node.law
     → ((i : ℕ) (entry : EntryView) → slice_get window i ≡ Some entry → IsEntry job streams node laid (laid + i) owner entry) → (window ≡ [] → IfSome (slice_get (sets_of streams node) laid) (λ e. t ≤ e.at))
     → IfSome (slice_get (sets_of streams node) laid) (λ e. until_claimed window t ≤ e.at)
-none_claimed_below job streams node laid owner t [] outer entries none = none refl
-none_claimed_below job streams node laid owner t (entry ∷ window) outer entries none =
+none_claimed_below {laws} job streams node laid owner t [] outer entries none = none refl
+none_claimed_below {laws} job streams node laid owner t (entry ∷ window) outer entries none =
     let first = entries 0 entry refl in
     let same : laid + 0 ≡ laid = omega arith in
     none_at_phase job.job streams node outer laid t entry.phase first.set (subst (λ (n : ℕ). IsTask job.job streams node n entry.phase first.set) same first.task)
 
 -- no set that isn't laid stands below
-pub none_left_below : (job : LoggedJob) (streams : List (StreamPrefix Plain)) (node : PlanNode) (laid owner t : ℕ) (window : List EntryView) → IsOuter node.law
+pub none_left_below : {laws : Laws} (job : LoggedJob laws) (streams : List (StreamPrefix Plain)) (node : PlanNode) (laid owner t : ℕ) (window : List EntryView) → IsOuter node.law
     → ((i : ℕ) (entry : EntryView) → slice_get window i ≡ Some entry → IsEntry job streams node laid (laid + i) owner entry) → t ≤ reach node.policy (inputs_of streams node)
     → (window ≡ [] → IfSome (slice_get (sets_of streams node) laid) (λ e. t ≤ e.at)) → NoneBelow (until_claimed window t) laid node.policy (inputs_of streams node)
-none_left_below job streams node laid owner t window outer entries le none =
+none_left_below {laws} job streams node laid owner t window outer entries le none =
     (let least = until_least window t in omega (arith, least, le), none_claimed_below job streams node laid owner t window outer entries none)
 
 -- Of a loopback: its answers tell its stream as far as it is reached.

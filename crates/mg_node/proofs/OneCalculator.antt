@@ -2,10 +2,11 @@
 use Rattle.std.proofs.Common.{rules, ◌≡◌, ℕ, zero, suc, ◌+◌, ◌-◌, Bool, true, List, [], ◌∷◌, ◌++◌, length, map, replicate, All, Option, Some, None, IfSome, IsSome, is_some, slice_get, ◌⊎◌, inl, inr, refl, ap, ap₂, subst, ◌∙◌, arith, if◌then◌else◌}
 use Rattle.std.specs.List.{AllByRecursion, filter_map, cons_option}
 use Rattle.std.proofs.lemmas.List.Elements.{recursion_from_All}
+use Rattle.mg_calc.specs.Rules.{Laws}
 use Rattle.mg_calc.specs.declared.plan_node.PlanNode.{PlanNode}
 use Rattle.mg_calc.specs.Equations.{sides_of}
 use Rattle.mg_calc.specs.Plan.{FlightFits}
-use Rattle.mg_calc.specs.Told.{CalculatorTold}
+use Rattle.mg_calc.specs.Told.{BoxTold}
 use Rattle.mg_route.specs.HolderView.{HolderView, FitsHolder, told_by}
 use Rattle.mg_node.specs.Views.{ContextView, OutcomeView, EntryView, EngineView}
 use Rattle.mg_node.specs.Job.{LoggedJob}
@@ -14,11 +15,11 @@ use Rattle.mg_node.specs.Fresh.{own_told, context_of}
 use Rattle.mg_node.specs.Begun.{IsUnbegun, IsHanded, IsUnbegunOf, LawfulUnbegun}
 use Rattle.mg_node.specs.Leaving.{calculator_in, calculators_in, handed_told, handed_in, NoneOut, HasCalculator, HasHanded}
 use Rattle.mg_node.proofs.Making.{some_same}
-use Rattle.mg_node.proofs.Performing.{of_node as at_node}
+use Rattle.mg_node.proofs.HeldRules.{of_node as at_node}
 
 -- one that was handed in
 pub one_handed : (held : HolderView) → held.handed ≡ true → filter_map handed_told (held ∷ []) ≡ told_by held ∷ []
-one_handed held is = ap (λ (b : Bool). cons_option (let o : Option CalculatorTold = if b then Some (told_by held) else None in o) []) is
+one_handed held is = ap (λ (b : Bool). cons_option (let o : Option BoxTold = if b then Some (told_by held) else None in o) []) is
 
 pub boxed_some : (o : Option ℕ) → is_some o ≡ true → IsSome o
 boxed_some None is = absurd cc
@@ -41,17 +42,17 @@ outcome_there : (P : OutcomeView → Type 0) (o : Option OutcomeView) → is_som
 outcome_there P None some h = absurd cc
 outcome_there P (Some x) some h = (x, refl, h)
 
-fits_outcome : (job : LoggedJob) (number n : ℕ) (node : PlanNode) (e : EntryView) (o : OutcomeView) → StandsAt job number n e.phase o → slice_get job.job.plan.nodes number ≡ Some node → FitsHolder node o.work.context.told
+fits_outcome : {laws : Laws} (job : LoggedJob laws) (number n : ℕ) (node : PlanNode) (e : EntryView) (o : OutcomeView) → StandsAt job number n e.phase o → slice_get job.job.plan.nodes number ≡ Some node → FitsHolder node o.work.context.told
 unfolding LawfulOutcome
-fits_outcome job number n node e o stands there =
+fits_outcome {laws} job number n node e o stands there =
     let w : IsWorkOf job o = stands.lawful in
     let same : w.node ≡ node = some_same (slice_get job.job.plan.nodes o.work.node) w.node node w.there (ap (λ (k : ℕ). slice_get job.job.plan.nodes k) stands.node_is ∙ there) in
     subst (λ (m : PlanNode). FitsHolder m o.work.context.told) same w.fits
 
-pub calculator_there : (job : LoggedJob) (number : ℕ) (node : PlanNode) (engine : EngineView) → LawfulEngine job (of_node number) engine → slice_get job.job.plan.nodes number ≡ Some node → is_some node.box_number ≡ true → NoneOut engine
+pub calculator_there : {laws : Laws} (job : LoggedJob laws) (number : ℕ) (node : PlanNode) (engine : EngineView) → LawfulEngine job (of_node number) engine → slice_get job.job.plan.nodes number ≡ Some node → is_some node.box_number ≡ true → NoneOut engine
     → HasCalculator job node engine
 unfolding LawfulEngine
-calculator_there job number node engine lawful there boxed none_out =
+calculator_there {laws} job number node engine lawful there boxed none_out =
     let h : IsEngineOf job number engine = lawful in
     let same : h.node ≡ node = some_same (slice_get job.job.plan.nodes number) h.node node h.there there in
     let flight : FlightFits node = at_node FlightFits job.job.plan.nodes number node h.solves.is_job.plan.flights there in
@@ -98,13 +99,13 @@ own_only : (n : ℕ) (node : PlanNode) (rest : List HolderView) → filter_map h
 own_only zero node rest = refl
 own_only (suc n) node rest = own_only n node rest
 
-pub handed_there : (job : LoggedJob) (number : ℕ) (node : PlanNode) (engine : EngineView) → LawfulUnbegun job number engine → slice_get job.job.plan.nodes number ≡ Some node → is_some node.box_number ≡ true → HasHanded job number node engine
+pub handed_there : {laws : Laws} (job : LoggedJob laws) (number : ℕ) (node : PlanNode) (engine : EngineView) → LawfulUnbegun job number engine → slice_get job.job.plan.nodes number ≡ Some node → is_some node.box_number ≡ true → HasHanded job number node engine
 unfolding LawfulUnbegun
-handed_there job number node engine lawful there boxed =
+handed_there {laws} job number node engine lawful there boxed =
     let h : IsUnbegunOf job number engine = lawful in
     let same : h.node ≡ node = some_same (slice_get job.job.plan.nodes number) h.node node h.handed.there there in
     let handed : IsHanded job number node h.told = subst (λ (m : PlanNode). IsHanded job number m h.told) same h.handed in
-    let unbegun : IsUnbegun node number h.told (sides_of job.job node) engine = subst (λ (m : PlanNode). IsUnbegun m number h.told (sides_of job.job m) engine) same h.unbegun in
+    let unbegun : IsUnbegun laws node number h.told (sides_of job.job node) engine = subst (λ (m : PlanNode). IsUnbegun laws m number h.told (sides_of job.job m) engine) same h.unbegun in
     elim unbegun [
       | inl fresh ↦ record {
         told = h.told;

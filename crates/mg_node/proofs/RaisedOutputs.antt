@@ -1,4 +1,5 @@
 -- An engine of which the outputs are raised stays lawful, where nothing further stands below.
+use Rattle.mg_calc.specs.Rules.{Laws}
 use Rattle.std.proofs.Common.{◌≡◌, ℕ, ◌≤◌, max, List, [], ◌∷◌, ◌++◌, map, Some, ap, subst, sym, ◌∙◌, arith}
 use Rattle.std.specs.List.{AllZip, AllByRecursion}
 use Rattle.std.proofs.lemmas.List.Elements.{All-from_recursion, recursion_from_All}
@@ -72,9 +73,9 @@ pub record MayRise (b : ℕ) (whole streams : List (StreamPrefix Plain)) : Type 
   pub within : b ≤ done
   pub extended : AreExtendedBy (map (λ s. raised s b) whole) streams
 
-pub raised_engine : (job : LoggedJob) (number : ℕ) (engine : EngineView) (b : ℕ) (h : IsEngineOf job number engine) → MayRise b h.whole (streams_at h.streams h.node.outputs)
+pub raised_engine : {laws : Laws} (job : LoggedJob laws) (number : ℕ) (engine : EngineView) (b : ℕ) (h : IsEngineOf job number engine) → MayRise b h.whole (streams_at h.streams h.node.outputs)
     → IsEngineOf job number (record engine { outputs = map (raised_output (Some b)) engine.outputs })
-raised_engine job number engine b h may = record {
+raised_engine {laws} job number engine b h may = record {
   streams = h.streams;
   solves = h.solves;
   node = h.node;

@@ -20,13 +20,14 @@ use Rattle.mg_policy.proofs.Standing.{gone_of, all_prefixes, rests-left, what_is
 use Rattle.mg_loopback.specs.Loopback.{Held, reached}
 use Rattle.mg_loopback.specs.Standing.{StandsAfter, after_replies}
 use Rattle.mg_loopback.proofs.Standing.{all_told, told_stream}
+use Rattle.mg_calc.specs.Rules.{Laws}
 use Rattle.mg_calc.specs.declared.law.Law.{Law}
 use Rattle.mg_calc.specs.declared.law.Law.TheVariants.{Count, SideOnce, Constants, Loopback}
 use Rattle.mg_calc.specs.declared.plan_node.PlanNode.{PlanNode}
 use Rattle.mg_calc.specs.Laying.{all_raised}
 use Rattle.mg_calc.specs.Outcome.{Outcome, shown_all, ended, with_reach, node_outcome}
 use Rattle.mg_calc.specs.Shape.{IsOuter}
-use Rattle.mg_calc.specs.Equations.{Job, inputs_of, sides_of, outcome_by, outcome_of}
+use Rattle.mg_calc.specs.Equations.{Job, inputs_of, sides_of, outcome_by, outcome_of, rules_at}
 use Rattle.mg_calc.proofs.NodeStreams.{node_follows}
 use Rattle.mg_calc.proofs.Outcomes.{goes_on}
 use Rattle.mg_calc.proofs.Rounds.{stream_extends, stream_is_prefix}
@@ -51,7 +52,6 @@ use Rattle.mg_node.proofs.NodeSolution.{node_streams}
 use Rattle.mg_node.proofs.Stages.{IsCalled, kind_of, outer_stage, outer_outcome, called_outcome}
 use Rattle.mg_node.proofs.StageStreams.{IsKnownNode, node_known}
 use Rattle.mg_calc.specs.Rules.{Rules}
-use Rattle.mg_calc.specs.Law.{rules_of}
 
 -- What becomes of a node follows what comes.
 loop_follows : (law : Law) (job : Job) (streams more : List (StreamPrefix Plain)) (node : PlanNode) → law ≡ Loopback → IsPrefix (main_of more node) → AreExtendedBy (inputs_of streams node) (inputs_of more node)
@@ -64,10 +64,10 @@ outcome_follows : (job : Job) (streams more : List (StreamPrefix Plain)) (node :
     → AreExtendedBy (outcome_of job streams node).outputs (outcome_of job more node).outputs
 outcome_follows job streams more node known prefixes wider e = elim (kind_of node.law) [
   | inl is ↦ (
-      let shows : List (StreamPrefix Plain) → Outcome = λ ss. node_outcome (rules_of node.law) node.shape.offset node.policy (length node.outputs) (sides_of job node) ss in
+      let shows : List (StreamPrefix Plain) → Outcome = λ ss. node_outcome (rules_at job node) node.shape.offset node.policy (length node.outputs) (sides_of job node) ss in
       subst (λ (o : Outcome). AreExtendedBy o.outputs (outcome_of job more node).outputs) (sym (outer_outcome node.law job streams node is))
       (subst (λ (o : Outcome). AreExtendedBy (shows (inputs_of streams node)).outputs o.outputs) (sym (outer_outcome node.law job more node is))
-      (node_follows (rules_of node.law) node.shape.offset node.policy (length node.outputs) (sides_of job node) (inputs_of streams node) (inputs_of more node)
+      (node_follows (rules_at job node) node.shape.offset node.policy (length node.outputs) (sides_of job node) (inputs_of streams node) (inputs_of more node)
       (All-from_recursion IsPrefix (inputs_of streams node) prefixes) known.inputs e)))
   | inr (inl is) ↦ subst (λ (o : Outcome). AreExtendedBy (outcome_of job streams node).outputs o.outputs) (called_outcome node.law job streams node is ∙ sym (called_outcome node.law job more node is)) (all_by_themselves (outcome_of job streams node).outputs)
   | inr (inr is) ↦ loop_follows node.law job streams more node is wider e
@@ -109,10 +109,10 @@ outer_at_rest job streams more node k is e all early good =
     let offset = node.shape.offset in
     let reached = reach node.policy (inputs_of streams node) in
     let before = stage job more node k in
-    let shows : List (TimedSet Plain) → Outcome = λ sets. shown_all (rules_of node.law) offset (length node.outputs) (sides_of job node) sets in
+    let shows : List (TimedSet Plain) → Outcome = λ sets. shown_all (rules_at job node) offset (length node.outputs) (sides_of job node) sets in
     let at : before ≡ shows (sets_of streams node) =
     outer_stage node.law job more node k is ∙ ap shows (ap (λ (n : ℕ). take n (sets_of more node)) (sym all) ∙ sets-stay node.policy (inputs_of streams node) (inputs_of more node) e) in
-    outer_outcome node.law job streams node is ∙ ap (ended (rules_of node.law) offset reached) (sym at) ∙ goes_on before.fault before (with_reach (rules_of node.law) offset reached before) good ∙ not_at_end (rules_of node.law) offset reached before early
+    outer_outcome node.law job streams node is ∙ ap (ended (rules_at job node) offset reached) (sym at) ∙ goes_on before.fault before (with_reach (rules_at job node) offset reached before) good ∙ not_at_end (rules_at job node) offset reached before early
 
 -- Who is early.
 outer_is : (law : Law) → IsOuter law → role_of law ≡ SetsRole
@@ -129,14 +129,14 @@ never_early Constants w is early = early
 never_early law w is early = absurd is
 
 -- an engine that goes on, with all laid that is claimed, and outputs that what waits doesn't raise
-pub record Waited (job : LoggedJob) (number : ℕ) (engine : EngineView) (h : IsEngineOf job number engine) (w : Pending) : Type 0 where
+pub record Waited {laws : Laws} (job : LoggedJob laws) (number : ℕ) (engine : EngineView) (h : IsEngineOf job number engine) (w : Pending) : Type 0 where
   pub going : engine.closed ≡ false
   pub good : (stage job.job h.streams h.node engine.claimed).fault ≡ None
   pub all : engine.laid ≡ engine.claimed
   pub told : (b : ℕ) → raised_by engine.role engine.offset (horizon_of w) ≡ Some b → AllByRecursion (λ (o : Backlog Plain). b ≤ o.bound) engine.outputs
 
-pub waited : (job : LoggedJob) (number : ℕ) (engine : EngineView) (h : IsEngineOf job number engine) (w : Pending) → has_ended engine ≡ false → engine.window ≡ [] → is_advanced engine w ≡ false → Waited job number engine h w
-waited job number engine h w goes empty raised =
+pub waited : {laws : Laws} (job : LoggedJob laws) (number : ℕ) (engine : EngineView) (h : IsEngineOf job number engine) (w : Pending) → has_ended engine ≡ false → engine.window ≡ [] → is_advanced engine w ≡ false → Waited job number engine h w
+waited {laws} job number engine h w goes empty raised =
     let on = second_not engine.closed (is_some engine.fault) goes in
     let order = subst (λ (es : List EntryView). engine.laid + length es ≡ engine.claimed + number_of (λ (e : EntryView). is_close e.phase) es) empty h.order in
     let all : engine.laid ≡ engine.claimed = omega (arith, order) in
@@ -153,7 +153,7 @@ waited job number engine h w goes empty raised =
           none_moved b engine.outputs (ap (λ (o : Option ℕ). any_moved_by o engine.outputs) (sym bound) ∙ raised));
     }
 
-module _ (job : LoggedJob) (number : ℕ) (engine : EngineView) (h : IsEngineOf job number engine) (streams : List (StreamPrefix Plain)) (e : AreExtendedBy (inputs_of streams h.node) (inputs_of h.streams h.node)) where
+module _ {laws : Laws} (job : LoggedJob laws) (number : ℕ) (engine : EngineView) (h : IsEngineOf job number engine) (streams : List (StreamPrefix Plain)) (e : AreExtendedBy (inputs_of streams h.node) (inputs_of h.streams h.node)) where
   base_is : (w : Pending) → Waited job number engine h w → AllZip IsRaised (stage job.job h.streams h.node engine.claimed).outputs h.whole
   base_is w at = subst (λ (n : ℕ). AllZip IsRaised (stage job.job h.streams h.node n).outputs h.whole) at.all (subst (λ (c : Bool). AllZip IsRaised (come_to job h.streams h.node engine.laid c).outputs h.whole) at.going h.raised)
 
@@ -262,9 +262,9 @@ module _ (job : LoggedJob) (number : ℕ) (engine : EngineView) (h : IsEngineOf 
       (λ is holds early_too. loop_rests intake.waits is wider at holds came.ports came.stands early_too)
 
 -- A cell at rest.
-rests_by : (job : LoggedJob) (number : ℕ) (engine : EngineView) (intake : IntakeView) (streams laid : List (StreamPrefix Plain)) (h : IsEngineOf job number engine) → IsIntakeOf job number intake → Agree engine intake → IsResting engine intake
+rests_by : {laws : Laws} (job : LoggedJob laws) (number : ℕ) (engine : EngineView) (intake : IntakeView) (streams laid : List (StreamPrefix Plain)) (h : IsEngineOf job number engine) → IsIntakeOf job number intake → Agree engine intake → IsResting engine intake
     → HasCarried job h.streams streams h.node engine intake laid → AreExtendedBy (outcome_of job.job streams h.node).outputs laid
-rests_by job number engine intake streams laid h i agree r c =
+rests_by {laws} job number engine intake streams laid h i agree r c =
     let known = node_known job h.streams number h.node h.solves h.there in
     let wider : IsPrefix (main_of h.streams h.node) = stream_is_prefix (inputs_of h.streams h.node) 1 (recursion_from_All IsPrefix (inputs_of h.streams h.node) known.inputs) in
     let prefixes = each_prefix (inputs_of streams h.node) (λ port there. (c.came.stands port there).prefix) in
@@ -279,9 +279,9 @@ rests_by job number engine intake streams laid h i agree r c =
       ]
     ])
 
-pub meets_its_equation : (job : LoggedJob) (number : ℕ) (node : PlanNode) (engine : EngineView) (intake : IntakeView) (solution streams laid : List (StreamPrefix Plain)) → slice_get job.job.plan.nodes number ≡ Some node
+pub meets_its_equation : {laws : Laws} (job : LoggedJob laws) (number : ℕ) (node : PlanNode) (engine : EngineView) (intake : IntakeView) (solution streams laid : List (StreamPrefix Plain)) → slice_get job.job.plan.nodes number ≡ Some node
     → LawfulEngine job (of_node number) engine → LawfulIntake job number intake → Agree engine intake → IsResting engine intake → HasCarried job solution streams node engine intake laid
     → AreExtendedBy (outcome_of job.job streams node).outputs laid
 unfolding LawfulEngine LawfulIntake
-meets_its_equation job number node engine intake solution streams laid there h i agree r c =
+meets_its_equation {laws} job number node engine intake solution streams laid there h i agree r c =
     of_these (λ ss m. HasCarried job ss streams m engine intake laid → AreExtendedBy (outcome_of job.job streams m).outputs laid) job number node engine solution h c.solves there (rests_by job number engine intake streams laid h i agree r) c

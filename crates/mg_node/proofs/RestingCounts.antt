@@ -8,6 +8,7 @@ use Rattle.mg_settled.specs.Loopback.{replies}
 use Rattle.mg_settled.proofs.Lemmas.{all_by_themselves}
 use Rattle.mg_stream.specs.Queue.{StandsFor}
 use Rattle.mg_loopback.proofs.Standing.{all_told}
+use Rattle.mg_calc.specs.Rules.{Laws}
 use Rattle.mg_calc.specs.declared.law.Law.{Law}
 use Rattle.mg_calc.specs.declared.law.Law.TheVariants.{Loopback}
 use Rattle.mg_calc.specs.declared.node_fault.NodeFault.{NodeFault}
@@ -31,7 +32,7 @@ use Rattle.mg_node.proofs.RestingEnds.{has_all, most_counted, of_these}
 use Rattle.mg_node.proofs.Stages.{outer_count}
 
 -- an engine has the count of all that becomes of its node, and its fault; and what is laid gives the state
-pub record HasBecome (job : LoggedJob) (streams : List (StreamPrefix Plain)) (number : ℕ) (engine : EngineView) (node : PlanNode) : Type 0 where
+pub record HasBecome {laws : Laws} (job : LoggedJob laws) (streams : List (StreamPrefix Plain)) (number : ℕ) (engine : EngineView) (node : PlanNode) : Type 0 where
   pub count : engine.laid ≡ count_of job.job streams node
   pub fault : engine.fault ≡ fault_of job.job streams (number, node)
   pub state : (come_to job streams node engine.laid engine.closed).state ≡ (outcome_of job.job streams node).state
@@ -49,7 +50,7 @@ none_there : (fault : Option NodeFault) → is_some fault ≡ false → fault �
 none_there None none = refl
 none_there (Some f) none = absurd cc
 
-module _ (job : LoggedJob) (number : ℕ) (engine : EngineView) (h : IsEngineOf job number engine) where
+module _ {laws : Laws} (job : LoggedJob laws) (number : ℕ) (engine : EngineView) (h : IsEngineOf job number engine) where
   -- where no further work is there, and none of them failed
   become_by : (w : Pending) → has_ended engine ≡ false → Waited job number engine h w → count_by h.node.law h.streams h.node ≡ engine.claimed → (outcome_of job.job h.streams h.node).fault ≡ None
       → (stage job.job h.streams h.node engine.claimed).state ≡ (outcome_of job.job h.streams h.node).state → HasBecome job h.streams number engine h.node
@@ -99,16 +100,16 @@ module _ (job : LoggedJob) (number : ℕ) (engine : EngineView) (h : IsEngineOf 
     ]
   ]
 
-pub rests_become : (job : LoggedJob) (number : ℕ) (node : PlanNode) (engine : EngineView) (intake : IntakeView) (solution : List (StreamPrefix Plain)) → Solves job solution → slice_get job.job.plan.nodes number ≡ Some node → LawfulEngine job (of_node number) engine
+pub rests_become : {laws : Laws} (job : LoggedJob laws) (number : ℕ) (node : PlanNode) (engine : EngineView) (intake : IntakeView) (solution : List (StreamPrefix Plain)) → Solves job solution → slice_get job.job.plan.nodes number ≡ Some node → LawfulEngine job (of_node number) engine
     → LawfulIntake job number intake → Agree engine intake → IsResting engine intake → HasCome intake (inputs_of solution node) → HasBecome job solution number engine node
 unfolding LawfulEngine LawfulIntake
-rests_become job number node engine intake solution solves there h i agree r came =
+rests_become {laws} job number node engine intake solution solves there h i agree r came =
     of_these (λ ss m. HasCome intake (inputs_of ss m) → HasBecome job ss number engine m) job number node engine solution h solves there (has_become job number engine h intake i agree r) came
 
-pub rests_count : (job : LoggedJob) (number : ℕ) (node : PlanNode) (engine : EngineView) (intake : IntakeView) (solution : List (StreamPrefix Plain)) → Solves job solution → slice_get job.job.plan.nodes number ≡ Some node → LawfulEngine job (of_node number) engine
+pub rests_count : {laws : Laws} (job : LoggedJob laws) (number : ℕ) (node : PlanNode) (engine : EngineView) (intake : IntakeView) (solution : List (StreamPrefix Plain)) → Solves job solution → slice_get job.job.plan.nodes number ≡ Some node → LawfulEngine job (of_node number) engine
     → LawfulIntake job number intake → Agree engine intake → IsResting engine intake → HasCome intake (inputs_of solution node) → engine.laid ≡ count_of job.job solution node
-rests_count job number node engine intake solution solves there h i agree r came = (rests_become job number node engine intake solution solves there h i agree r came).count
+rests_count {laws} job number node engine intake solution solves there h i agree r came = (rests_become job number node engine intake solution solves there h i agree r came).count
 
-pub rests_fault : (job : LoggedJob) (number : ℕ) (node : PlanNode) (engine : EngineView) (intake : IntakeView) (solution : List (StreamPrefix Plain)) → Solves job solution → slice_get job.job.plan.nodes number ≡ Some node → LawfulEngine job (of_node number) engine
+pub rests_fault : {laws : Laws} (job : LoggedJob laws) (number : ℕ) (node : PlanNode) (engine : EngineView) (intake : IntakeView) (solution : List (StreamPrefix Plain)) → Solves job solution → slice_get job.job.plan.nodes number ≡ Some node → LawfulEngine job (of_node number) engine
     → LawfulIntake job number intake → Agree engine intake → IsResting engine intake → HasCome intake (inputs_of solution node) → engine.fault ≡ fault_of job.job solution (number, node)
-rests_fault job number node engine intake solution solves there h i agree r came = (rests_become job number node engine intake solution solves there h i agree r came).fault
+rests_fault {laws} job number node engine intake solution solves there h i agree r came = (rests_become job number node engine intake solution solves there h i agree r came).fault

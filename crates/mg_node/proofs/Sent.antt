@@ -10,7 +10,7 @@ use Rattle.mg_value.proofs.payload_list.PayloadList.TheLaws.TheKnot.{crosses as 
 use Rattle.mg_value.specs.contracts.packet.Packet as Packet
 use Rattle.mg_settled.specs.contracts.input_set.InputSet as InputSet
 use Rattle.mg_stream.specs.contracts.queue.Queue as Queue
-use Rattle.mg_calc.specs.declared.calculator.Calculator.{Ghosts}
+use Rattle.mg_calc.specs.declared.node_calculator.NodeCalculator.{Ghosts}
 use Rattle.mg_calc.proofs.node_fault.Phase.TheSendSync.{the_field_send as phase}
 use Rattle.mg_calc.proofs.node_fault.NodeFault.TheSendSync.{the_field_send as fault}
 use Rattle.mg_calc.proofs.cause.Cause.TheSendSync.{the_field_send as cause}

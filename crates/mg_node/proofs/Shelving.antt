@@ -4,6 +4,7 @@ use Rattle.std.proofs.lemmas.List.{length-set}
 use Rattle.std.proofs.lemmas.Bool.Decides.{nat_tests}
 use Rattle.mg_value.specs.Payload.{Plain}
 use Rattle.mg_settled.specs.Prefix.{StreamPrefix}
+use Rattle.mg_calc.specs.Rules.{Laws}
 use Rattle.mg_calc.specs.declared.cause.Cause.{Cause}
 use Rattle.mg_calc.specs.declared.emission.Laid.{Laid}
 use Rattle.mg_calc.specs.declared.node_fault.Phase.{Phase}
@@ -16,16 +17,16 @@ use Rattle.mg_node.proofs.ClaimsKeep.{set_get, number_set}
 use Rattle.mg_node.proofs.FrontWaits.{set_waits}
 
 -- what a window has in place of an engine's
-pub record HasWindow (job : LoggedJob) (streams : List (StreamPrefix Plain)) (node : PlanNode) (number : ℕ) (engine : EngineView) (window : List EntryView) : Type 0 where
+pub record HasWindow {laws : Laws} (job : LoggedJob laws) (streams : List (StreamPrefix Plain)) (node : PlanNode) (number : ℕ) (engine : EngineView) (window : List EntryView) : Type 0 where
   pub order : engine.laid + length window ≡ engine.claimed + number_of (λ e. is_close e.phase) window
   pub entries : (i : ℕ) (entry : EntryView) → slice_get window i ≡ Some entry → IsEntry job streams node engine.laid (engine.laid + i) number entry
   pub contexts : length engine.idle + length window ≡ engine.in_flight
 
 -- an entry is put in place of one of the same phase: its outcome, if there is one, stands there, and it is committed only with an
 -- answer
-pub entry_window : (job : LoggedJob) (number : ℕ) (engine : EngineView) (place : ℕ) (entry now : EntryView) (h : IsEngineOf job number engine) → slice_get engine.window place ≡ Some entry → now.phase ≡ entry.phase → (now.committed ≡ true → IsSome now.outcome × IfSome now.outcome (λ o. IsSome o.answer))
+pub entry_window : {laws : Laws} (job : LoggedJob laws) (number : ℕ) (engine : EngineView) (place : ℕ) (entry now : EntryView) (h : IsEngineOf job number engine) → slice_get engine.window place ≡ Some entry → now.phase ≡ entry.phase → (now.committed ≡ true → IsSome now.outcome × IfSome now.outcome (λ o. IsSome o.answer))
     → IfSome now.outcome (λ o. StandsAt job number (engine.laid + place) now.phase o) → HasWindow job h.streams h.node number engine (set engine.window place now)
-entry_window job number engine place entry now h there phase committed stands =
+entry_window {laws} job number engine place entry now h there phase committed stands =
     let order = h.order in
     let contexts = h.contexts in
     record {
@@ -49,9 +50,9 @@ entry_window job number engine place entry now h there phase committed stands =
     }
 
 -- and isn't committed
-pub entry_engine : (job : LoggedJob) (number : ℕ) (engine : EngineView) (place : ℕ) (entry now : EntryView) → IsEngineOf job number engine → slice_get engine.window place ≡ Some entry → now.phase ≡ entry.phase → now.committed ≡ false
+pub entry_engine : {laws : Laws} (job : LoggedJob laws) (number : ℕ) (engine : EngineView) (place : ℕ) (entry now : EntryView) → IsEngineOf job number engine → slice_get engine.window place ≡ Some entry → now.phase ≡ entry.phase → now.committed ≡ false
     → IfSome now.outcome (λ o. StandsAt job number (engine.laid + place) now.phase o) → IsEngineOf job number (record engine { window = set engine.window place now })
-entry_engine job number engine place entry now h there phase open_yet stands =
+entry_engine {laws} job number engine place entry now h there phase open_yet stands =
     let has = entry_window job number engine place entry now h there phase (λ c. absurd (let clash : true ≡ false = sym c ∙ open_yet in cc)) stands in
     record {
       streams = h.streams;
@@ -76,9 +77,9 @@ entry_engine job number engine place entry now h there phase open_yet stands =
       ended = h.ended;
     }
 
-pub shelved_lawful : (job : LoggedJob) (number : ℕ) (engine : EngineView) (outcome : OutcomeView) → IsOut engine outcome.work → LawfulEngine job (of_node number) engine → LawfulOutcome job outcome → LawfulEngine job (of_node number) (shelved engine outcome)
+pub shelved_lawful : {laws : Laws} (job : LoggedJob laws) (number : ℕ) (engine : EngineView) (outcome : OutcomeView) → IsOut engine outcome.work → LawfulEngine job (of_node number) engine → LawfulOutcome job outcome → LawfulEngine job (of_node number) (shelved engine outcome)
 unfolding LawfulEngine
-shelved_lawful job number engine outcome out h o =
+shelved_lawful {laws} job number engine outcome out h o =
     let laid = out.laid in
     entry_engine job number engine (outcome.work.number - engine.laid) out.entry (back outcome) h out.there (sym out.phase_is) refl
     (record { node_is = out.node_is ∙ h.set_up.number_is; number_is = omega (arith, laid); phase_is = refl; lawful = o })
@@ -120,10 +121,10 @@ found_at engine number p e = by_low (nat_lt number engine.laid) refl e
     by_low true is f = absurd (let g : None ≡ Some p = rw is at f in cc)
     by_low false is f = (let g : option_and_then shelf_of (slice_get engine.window (number - engine.laid)) ≡ Some p = rw is at f in let it = by_entry _ g in (grind (arith, nat_tests, is), it.0, it.1, it.2))
 
-pub unshelved_lawful : (job : LoggedJob) (owner : ℕ) (engine engine_now : EngineView) (number : ℕ) (p : PerformedView) → shelf_at engine number ≡ Some p → Unshelves (Some p) engine engine_now number → LawfulEngine job (of_node owner) engine
+pub unshelved_lawful : {laws : Laws} (job : LoggedJob laws) (owner : ℕ) (engine engine_now : EngineView) (number : ℕ) (p : PerformedView) → shelf_at engine number ≡ Some p → Unshelves (Some p) engine engine_now number → LawfulEngine job (of_node owner) engine
     → LawfulEngine job (of_node owner) engine_now × LawfulPerformed job p
 unfolding LawfulEngine LawfulPerformed LawfulOutcome
-unshelved_lawful job owner engine engine_now number p found now h =
+unshelved_lawful {laws} job owner engine engine_now number p found now h =
     let it = found_at engine number p found in
     let stands : StandsAt job owner (engine.laid + (number - engine.laid)) it.1.phase it.3.outcome =
     subst (λ (o : Option OutcomeView). IfSome o (λ x. StandsAt job owner (engine.laid + (number - engine.laid)) it.1.phase x)) it.3.there (h.entries (number - engine.laid) it.1 it.2).outcome in
@@ -132,10 +133,10 @@ unshelved_lawful job owner engine engine_now number p found now h =
       subst (λ (o : OutcomeView). IsWorkOf job o) it.3.performed stands.lawful,
     )
 
-pub unshelved_all : (job : LoggedJob) (owner : ℕ) (engine engine_now : EngineView) (number : ℕ) (r : Option PerformedView) → r ≡ shelf_at engine number → Unshelves r engine engine_now number → LawfulEngine job (of_node owner) engine
+pub unshelved_all : {laws : Laws} (job : LoggedJob laws) (owner : ℕ) (engine engine_now : EngineView) (number : ℕ) (r : Option PerformedView) → r ≡ shelf_at engine number → Unshelves r engine engine_now number → LawfulEngine job (of_node owner) engine
     → LawfulEngine job (of_node owner) engine_now × IfSome r (λ p. LawfulPerformed job p)
-unshelved_all job owner engine engine_now number None found now h = (subst (λ (v : EngineView). LawfulEngine job (of_node owner) v) (sym now) h, tt)
-unshelved_all job owner engine engine_now number (Some p) found now h = unshelved_lawful job owner engine engine_now number p (sym found) now h
+unshelved_all {laws} job owner engine engine_now number None found now h = (subst (λ (v : EngineView). LawfulEngine job (of_node owner) v) (sym now) h, tt)
+unshelved_all {laws} job owner engine engine_now number (Some p) found now h = unshelved_lawful job owner engine engine_now number p (sym found) now h
 
 -- The steps of the code.
 

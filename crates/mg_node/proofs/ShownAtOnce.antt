@@ -9,6 +9,7 @@ use Rattle.mg_stream.specs.Pool.{Backlog, backlog_of, queues_of}
 use Rattle.mg_policy.specs.declared.readiness.Readiness.{Readiness}
 use Rattle.mg_policy.specs.declared.readiness.Readiness.TheVariants.{Ready, Close, NotReady as NoneYet}
 use Rattle.mg_policy.proofs.Readinesses.{one_readiness}
+use Rattle.mg_calc.specs.Rules.{Laws}
 use Rattle.mg_calc.specs.declared.cause.Cause.{Cause}
 use Rattle.mg_calc.specs.declared.cause.CalcFault.TheVariants.{Fault, OutOfMemory}
 use Rattle.mg_calc.specs.declared.emission.Laid.{Laid}
@@ -50,16 +51,16 @@ snoc_same {X} (z ∷ xs) (w ∷ ys) x y e =
 
 -- What an engine has before.
 
-room_by : (job : LoggedJob) (number : ℕ) (e : EngineView) → LawfulEngine job (of_node number) e → 0 < length e.idle → length e.window < e.in_flight
+room_by : {laws : Laws} (job : LoggedJob laws) (number : ℕ) (e : EngineView) → LawfulEngine job (of_node number) e → 0 < length e.idle → length e.window < e.in_flight
 unfolding LawfulEngine
-room_by job number e h some = (let contexts = h.contexts in omega (arith, contexts, some))
+room_by {laws} job number e h some = (let contexts = h.contexts in omega (arith, contexts, some))
 
-show_room : (e : EngineView) (i : IntakeView) → AreCell e i → MayShow e → length e.window < e.in_flight
-show_room e i cell may = room_by cell.job cell.number e cell.lawful_engine may.context
+show_room : {laws : Laws} (e : EngineView) (i : IntakeView) → AreCell laws e i → MayShow e → length e.window < e.in_flight
+show_room {laws} e i cell may = room_by cell.job cell.number e cell.lawful_engine may.context
 
-all_laid : (job : LoggedJob) (number : ℕ) (e : EngineView) → LawfulEngine job (of_node number) e → e.window ≡ [] → e.laid ≡ e.claimed
+all_laid : {laws : Laws} (job : LoggedJob laws) (number : ℕ) (e : EngineView) → LawfulEngine job (of_node number) e → e.window ≡ [] → e.laid ≡ e.claimed
 unfolding LawfulEngine
-all_laid job number e h none =
+all_laid {laws} job number e h none =
     let order = h.order in
     let long : length e.window ≡ 0 = ap length none in
     let closes : number_of (λ (x : EntryView). is_close x.phase) e.window ≡ 0 = ap (number_of (λ (x : EntryView). is_close x.phase)) none in
@@ -71,8 +72,8 @@ all_laid job number e h none =
 abbrev pub with_context : EngineView → List ContextView → ContextView → EngineView
 with_context e rest context = record e { idle = rest ++ context ∷ [] }
 
-pub shown_whole : (e e1 : EngineView) (i : IntakeView) (rest : List ContextView) (context : ContextView) → AreCell e i → e1 ≡ with_context e rest context → HasWhole e1
-shown_whole e e1 i rest context cell is =
+pub shown_whole : {laws : Laws} (e e1 : EngineView) (i : IntakeView) (rest : List ContextView) (context : ContextView) → AreCell laws e i → e1 ≡ with_context e rest context → HasWhole e1
+shown_whole {laws} e e1 i rest context cell is =
     let has = (whole_by cell.job cell.number e e.window cell.lawful_engine).1 in
     let here : HasWhole (with_context e rest context) = record { whole = has.whole; stand = has.stand; own = has.own } in
     subst HasWhole (sym is) here
@@ -80,15 +81,15 @@ shown_whole e e1 i rest context cell is =
 pub shown_goes : (e e1 : EngineView) (rest : List ContextView) (context : ContextView) → MayShow e → e1 ≡ with_context e rest context → e1.fault ≡ None
 shown_goes e e1 rest context may is = ap (λ (v : EngineView). v.fault) is ∙ (not_ended e.closed e.fault may.goes).1
 
-pub shown_laid : (e e1 : EngineView) (i : IntakeView) (rest : List ContextView) (context : ContextView) → AreCell e i → MayShow e → e1 ≡ with_context e rest context → e1.laid ≤ e1.claimed
-shown_laid e e1 i rest context cell may is =
+pub shown_laid : {laws : Laws} (e e1 : EngineView) (i : IntakeView) (rest : List ContextView) (context : ContextView) → AreCell laws e i → MayShow e → e1 ≡ with_context e rest context → e1.laid ≤ e1.claimed
+shown_laid {laws} e e1 i rest context cell may is =
     let all = all_laid cell.job cell.number e cell.lawful_engine may.none in
     let laid : e1.laid ≡ e.laid = ap (λ (v : EngineView). v.laid) is in
     let claimed : e1.claimed ≡ e.claimed = ap (λ (v : EngineView). v.claimed) is in
     omega (arith, all, laid, claimed)
 
-pub shown_few : (e e1 : EngineView) (i : IntakeView) (at : ℕ) (rest : List ContextView) (context : ContextView) → AreCell e i → MayShow e → IsNext i.waits (Ready at) → e1 ≡ with_context e rest context → e1.claimed + 1 < 2 ^ 64
-shown_few e e1 i at rest context cell may next is =
+pub shown_few : {laws : Laws} (e e1 : EngineView) (i : IntakeView) (at : ℕ) (rest : List ContextView) (context : ContextView) → AreCell laws e i → MayShow e → IsNext i.waits (Ready at) → e1 ≡ with_context e rest context → e1.claimed + 1 < 2 ^ 64
+shown_few {laws} e e1 i at rest context cell may next is =
     let few : e.claimed + 1 ≤ done = cell_fits e i at cell may.role next in
     let claimed : e1.claimed ≡ e.claimed = ap (λ (v : EngineView). v.claimed) is in
     omega (arith, few, claimed)
@@ -99,8 +100,8 @@ shown_context e e1 rest context is =
     let more = length-append rest (context ∷ []) in
     omega (arith, long, more)
 
-pub shown_room : (e e1 : EngineView) (i : IntakeView) (rest : List ContextView) (context : ContextView) → AreCell e i → MayShow e → e1 ≡ with_context e rest context → length e1.window < e1.in_flight
-shown_room e e1 i rest context cell may is = subst (λ (v : EngineView). length v.window < v.in_flight) (sym is) (show_room e i cell may)
+pub shown_room : {laws : Laws} (e e1 : EngineView) (i : IntakeView) (rest : List ContextView) (context : ContextView) → AreCell laws e i → MayShow e → e1 ≡ with_context e rest context → length e1.window < e1.in_flight
+shown_room {laws} e e1 i rest context cell may is = subst (λ (v : EngineView). length v.window < v.in_flight) (sym is) (show_room e i cell may)
 
 -- The claim.
 
@@ -111,7 +112,7 @@ out_entry at = record { phase = Process at; outcome = None; committed = false }
 abbrev pub between_of : EngineView → ℕ → List ContextView → EngineView
 between_of e at rest = record e { claimed = e.claimed + 1; window = e.window ++ out_entry at ∷ []; idle = rest }
 
-module _ (C : Type 0) (e : EngineView) (i i1 : IntakeView) (at : ℕ) (rest : List ContextView) (context filled : ContextView) (cell : AreCell e i) (may : MayShow e) (next : IsNext i.waits (Ready at)) (idle : e.idle ≡ rest ++ context ∷ [])
+module _ {laws : Laws} (C : Type 0) (e : EngineView) (i i1 : IntakeView) (at : ℕ) (rest : List ContextView) (context filled : ContextView) (cell : AreCell laws e i) (may : MayShow e) (next : IsNext i.waits (Ready at)) (idle : e.idle ≡ rest ++ context ∷ [])
     (told : filled.told ≡ context.told) (takes : Takes i i1 filled.set) where
   abbrev claimed_work : WorkView
   claimed_work = work_at e.node e.claimed at filled
@@ -154,21 +155,21 @@ handed e e1 e2 at rest context work is h =
       h.work_is ∙ ap (λ (v : EngineView). work_of v (Process at) work.context) is ∙ ap (work_at e.node e.claimed at) (sym ends.1),
     )
 
-pub handed_claims : (C : Type 0) (e e1 e2 : EngineView) (i i1 : IntakeView) (at : ℕ) (work : WorkView) → AreCell e i → MayShow e → IsNext i.waits (Ready at) → Shows None at e e1 i i1 → HandsShown at work e1 e2 → Claims {C = C} (Work work) e e2 i i1
-handed_claims C e e1 e2 i i1 at work cell may next s h =
+pub handed_claims : {laws : Laws} (C : Type 0) (e e1 e2 : EngineView) (i i1 : IntakeView) (at : ℕ) (work : WorkView) → AreCell laws e i → MayShow e → IsNext i.waits (Ready at) → Shows laws None at e e1 i i1 → HandsShown at work e1 e2 → Claims {C = C} (Work work) e e2 i i1
+handed_claims {laws} C e e1 e2 i i1 at work cell may next s h =
     let is = handed e e1 e2 at s.rest s.context_now work s.now_is h in
     let claims = shown_claims C e i i1 at s.rest s.context s.filled cell may next s.idle s.told s.takes in
     subst (λ (w : WorkView). Claims {C = C} (Work w) e e2 i i1) (sym (is.1 ∙ ap (work_at e.node e.claimed at) s.unchanged))
     (subst (λ (v : EngineView). Claims {C = C} (Work (work_at e.node e.claimed at s.filled)) e v i i1) (sym is.0) claims)
 
-module _ (C : Type 0) (answer : Result (List Laid) Cause) (e e1 : EngineView) (i i1 : IntakeView) (at : ℕ) (cell : AreCell e i) (may : MayShow e) (next : IsNext i.waits (Ready at)) (s : Shows (Some answer) at e e1 i i1) where
+module _ {laws : Laws} (C : Type 0) (answer : Result (List Laid) Cause) (e e1 : EngineView) (i i1 : IntakeView) (at : ℕ) (cell : AreCell laws e i) (may : MayShow e) (next : IsNext i.waits (Ready at)) (s : Shows laws (Some answer) at e e1 i i1) where
   abbrev done_work : WorkView
   done_work = work_at e.node e.claimed at s.context_now
 
   abbrev done_of : PerformedView
   done_of = record { work = done_work; answer = answer }
 
-  abbrev done_between : (number : ℕ) → number ≡ e.claimed → IsDoneBetween C number e (between_of e at s.rest) i i1
+  abbrev done_between : (number : ℕ) → number ≡ e.claimed → IsDoneBetween laws C number e (between_of e at s.rest) i i1
   done_between number is = record {
     work = work_at e.node e.claimed at s.filled;
     claims = shown_claims C e i i1 at s.rest s.context s.filled cell may next s.idle s.told s.takes;
@@ -187,7 +188,7 @@ module _ (C : Type 0) (answer : Result (List Laid) Cause) (e e1 : EngineView) (i
       subst (λ (w : WorkView). IsOut e2 w) (sym (is ∙ it.1)) (subst (λ (x : EngineView). IsOut x done_work) (sym it.0) out_at)
 
   pub left_performed : (v e2 e3 : EngineView) (work : WorkView) (outcome : OutcomeView) (number : ℕ) → number ≡ e.claimed → v ≡ e1 → HandsShown at work v e2 → outcome ≡ outcome_of (record { work = work; answer = answer }) → e3 ≡ shelved e2 outcome
-      → IsLeftPerformed C number e e3 i i1
+      → IsLeftPerformed laws C number e e3 i i1
   left_performed v e2 e3 work outcome number number_is same h is e3_is =
       let it = handed e v e2 at s.rest s.context_now work (same ∙ s.now_is) h in
       let outcome_is : outcome ≡ outcome_of done_of = is ∙ ap (λ (w : WorkView). outcome_of (record { work = w; answer = answer })) it.1 in
@@ -219,7 +220,7 @@ module _ (C : Type 0) (answer : Result (List Laid) Cause) (e e1 : EngineView) (i
       ap (λ (w : List EntryView). front_laid e.offset w (front_of (between_of e at s.rest) w whole)) window_is
       ∙ ap₂ (λ (c : Bool) (f : Option NodeFault). front_laid e.offset (ready ∷ []) (start whole c (option_map (λ g. (let h : Failure = record { phase = g.phase; cause = g.cause } in h)) f))) goes_on.0 goes_on.1
 
-  pub left_committed : (e3 : EngineView) (number : ℕ) → number ≡ e.claimed → LaysAnswer at answer e1 e3 → IsLeftCommitted C number e e3 i i1
+  pub left_committed : (e3 : EngineView) (number : ℕ) → number ≡ e.claimed → LaysAnswer at answer e1 e3 → IsLeftCommitted laws C number e e3 i i1
   left_committed e3 number number_is lays =
       let l : LaysAnswer at answer (with_context e s.rest s.context_now) e3 = subst (λ (v : EngineView). LaysAnswer at answer v e3) s.now_is lays in
       let mid = between_of e at s.rest in
@@ -281,8 +282,8 @@ pub answered_by : (work : WorkView) (a b : Result (List Laid) Cause) → a ≡ b
 answered_by work a b same = ap (λ (x : Result (List Laid) Cause). outcome_of (record { work = work; answer = x })) same
 
 -- No set can be told yet.
-pub none_shown : (C : Type 0) (e : EngineView) (i : IntakeView) → AreCell e i → MayShow e → IsNext i.waits NoneYet → Claims {C = C} NotReady e e i i
-none_shown C e i cell may next = (
+pub none_shown : {laws : Laws} (C : Type 0) (e : EngineView) (i : IntakeView) → AreCell laws e i → MayShow e → IsNext i.waits NoneYet → Claims {C = C} NotReady e e i i
+none_shown {laws} C e i cell may next = (
   record { goes = may.goes; none = ap (first_unrun 0) may.none; room = show_room e i cell may },
   subst (λ (r : Role). IsEarly r i.waits) (sym may.role) next,
   record { same_engine = refl; same_intake = refl },
@@ -299,15 +300,15 @@ IsOfNone Close = ⊤
 IsOfNone NoneYet = ⊤
 
 -- where there is no set, none is next
-pub no_next : (e : EngineView) (i : IntakeView) (at : ℕ) (readiness : Readiness) → AreCell e i → MayShow e → IsNext i.waits readiness → IsNext i.waits (Ready at) → IsOfNone readiness → ⊥
-no_next e i at readiness cell may is next none = subst IsOfNone (one_next i.waits readiness (Ready at) (cell_sets e i cell may.role) is next) none
+pub no_next : {laws : Laws} (e : EngineView) (i : IntakeView) (at : ℕ) (readiness : Readiness) → AreCell laws e i → MayShow e → IsNext i.waits readiness → IsNext i.waits (Ready at) → IsOfNone readiness → ⊥
+no_next {laws} e i at readiness cell may is next none = subst IsOfNone (one_next i.waits readiness (Ready at) (cell_sets e i cell may.role) is next) none
 
 -- A context's calculator is shown the set that lies there.
-pub shown_well : (at : ℕ) (emission : List Laid) (before now : ContextView) → MayRun (Process at) before → HasRun (Ok emission) (Process at) before now → HasShown at (Ok emission) before now
-shown_well at emission before now may run = λ node number. performed_well (work_at node number at before) (work_at node number at now) emission may run refl
+pub shown_well : {laws : Laws} (at : ℕ) (emission : List Laid) (before now : ContextView) → MayRun (Process at) before → HasRun laws (Ok emission) (Process at) before now → HasShown laws at (Ok emission) before now
+shown_well {laws} at emission before now may run = λ node number. performed_well (work_at node number at before) (work_at node number at now) emission may run refl
 
-pub shown_fault : (at : ℕ) (cause : Cause) (before now : ContextView) → MayRun (Process at) before → HasRun (Err (Fault cause)) (Process at) before now → HasShown at (Err cause) before now
-shown_fault at cause before now may run = λ node number. performed_fault (work_at node number at before) (work_at node number at now) cause may run refl
+pub shown_fault : {laws : Laws} (at : ℕ) (cause : Cause) (before now : ContextView) → MayRun (Process at) before → HasRun laws (Err (Fault cause)) (Process at) before now → HasShown laws at (Err cause) before now
+shown_fault {laws} at cause before now may run = λ node number. performed_fault (work_at node number at before) (work_at node number at now) cause may run refl
 
-pub shown_none : (at : ℕ) (before now : ContextView) → MayRun (Process at) before → HasRun (Err OutOfMemory) (Process at) before now → now ≡ before
-shown_none at before now may run = ap (λ (w : WorkView). w.context) (unchanged (work_at 0 0 at before) (work_at 0 0 at now) may run refl)
+pub shown_none : {laws : Laws} (at : ℕ) (before now : ContextView) → MayRun (Process at) before → HasRun laws (Err OutOfMemory) (Process at) before now → now ≡ before
+shown_none {laws} at before now may run = ap (λ (w : WorkView). w.context) (unchanged (work_at 0 0 at before) (work_at 0 0 at now) may run refl)

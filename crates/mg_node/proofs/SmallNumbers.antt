@@ -10,6 +10,7 @@ use Rattle.mg_settled.specs.Prefix.{StreamPrefix, IsPrefix, empty_prefix}
 use Rattle.mg_settled.proofs.Lemmas.{replies-most}
 use Rattle.mg_stream.specs.Queue.{Waiting, StandsFor, count_of}
 use Rattle.mg_stream.specs.Pool.{Backlog, queue_of, empty_backlog}
+use Rattle.mg_calc.specs.Rules.{Laws}
 use Rattle.mg_calc.specs.declared.law.Law.{Law}
 use Rattle.mg_calc.specs.declared.law.Law.TheVariants.{Count, SideOnce, Loopback}
 use Rattle.mg_calc.specs.declared.plan_node.PlanNode.{PlanNode}
@@ -28,7 +29,7 @@ use Rattle.mg_node.specs.Lawful.{HoldsWaits, LawfulIntake, StandForAll, is_close
 use Rattle.mg_node.proofs.Claiming.{few_sets}
 use Rattle.mg_node.proofs.Delivering.{counted}
 use Rattle.mg_node.proofs.FewWait.{prefix_few}
-use Rattle.mg_node.proofs.Performing.{of_node as at_node}
+use Rattle.mg_node.proofs.HeldRules.{of_node as at_node}
 use Rattle.mg_node.proofs.RestingEnds.{most_counted, of_these}
 use Rattle.mg_node.proofs.Stages.{kind_of, outer_count, called_count}
 use Rattle.mg_node.proofs.TaskLogs.{task_within, task_most}
@@ -46,8 +47,8 @@ few_replies law streams node is few =
     let most = replies-most (main_of streams node) (loop_of streams node) in
     subst (λ (l : Law). count_by l streams node ≤ done) (sym is) (omega (arith, most, few))
 
-few_counted : (job : LoggedJob) (streams : List (StreamPrefix Plain)) (number : ℕ) (node : PlanNode) → Solves job streams → slice_get job.job.plan.nodes number ≡ Some node → count_of_all streams node ≤ done
-few_counted job streams number node solves there =
+few_counted : {laws : Laws} (job : LoggedJob laws) (streams : List (StreamPrefix Plain)) (number : ℕ) (node : PlanNode) → Solves job streams → slice_get job.job.plan.nodes number ≡ Some node → count_of_all streams node ≤ done
+few_counted {laws} job streams number node solves there =
     let prefixes : AllByRecursion IsPrefix (inputs_of streams node) = streams_are_prefixes streams node.inputs (solution_keeps job.job (job_known job.job solves.is_job) streams solves.solution) in
     elim (kind_of node.law) [
       | inl is ↦
@@ -80,8 +81,8 @@ one_number p (y ∷ xs) (suc i) x there passes =
     omega (arith, later, step)
 
 -- no more are claimed than there are: the last entry is the work of the last number, or Close behind it
-most_claimed : (job : LoggedJob) (number : ℕ) (engine : EngineView) (h : IsEngineOf job number engine) → engine.claimed ≤ count_of_all h.streams h.node
-most_claimed job number engine h = by_long (length engine.window) refl
+most_claimed : {laws : Laws} (job : LoggedJob laws) (number : ℕ) (engine : EngineView) (h : IsEngineOf job number engine) → engine.claimed ≤ count_of_all h.streams h.node
+most_claimed {laws} job number engine h = by_long (length engine.window) refl
   where
     by_long : (n : ℕ) → length engine.window ≡ n → engine.claimed ≤ count_of_all h.streams h.node
     by_long zero none =
@@ -101,29 +102,29 @@ most_claimed job number engine h = by_long (length engine.window) refl
           | inr more ↦ (let less = task_within job h.streams h.node (engine.laid + n) last.0.phase e.set more e.task in omega (arith, order, some, less))
         ]
 
-few_claimed : (job : LoggedJob) (number : ℕ) (engine : EngineView) (h : IsEngineOf job number engine) → engine.claimed < 2 ^ 64
-few_claimed job number engine h =
+few_claimed : {laws : Laws} (job : LoggedJob laws) (number : ℕ) (engine : EngineView) (h : IsEngineOf job number engine) → engine.claimed < 2 ^ 64
+few_claimed {laws} job number engine h =
     let most = most_claimed job number engine h in
     let few = few_counted job h.streams number h.node h.solves h.there in
     omega (arith, most, few)
 
-pub claims_small : (job : LoggedJob) (owner : Owner) (engine : EngineView) → LawfulEngine job owner engine → engine.claimed < 2 ^ 64
+pub claims_small : {laws : Laws} (job : LoggedJob laws) (owner : Owner) (engine : EngineView) → LawfulEngine job owner engine → engine.claimed < 2 ^ 64
 unfolding LawfulEngine
-claims_small job (of_node number) engine h = few_claimed job number engine h
-claims_small job (of_input number) engine h = (let none = h.claimed in omega (arith, none))
+claims_small {laws} job (of_node number) engine h = few_claimed job number engine h
+claims_small {laws} job (of_input number) engine h = (let none = h.claimed in omega (arith, none))
 
 -- the number of an entry, Close too
-place_few : (job : LoggedJob) (number : ℕ) (engine : EngineView) (place : ℕ) → IsEngineOf job number engine → place < length engine.window → engine.laid + place ≤ done
-place_few job number engine place h there =
+place_few : {laws : Laws} (job : LoggedJob laws) (number : ℕ) (engine : EngineView) (place : ℕ) → IsEngineOf job number engine → place < length engine.window → engine.laid + place ≤ done
+place_few {laws} job number engine place h there =
     let it = entry_at engine.window place there in
     let e = h.entries place it.0 it.1 in
     let most = task_most job h.streams h.node (engine.laid + place) it.0.phase e.set e.task in
     let few = few_counted job h.streams number h.node h.solves h.there in
     omega (arith, most, few)
 
-pub place_small : (job : LoggedJob) (number : ℕ) (engine : EngineView) (place : ℕ) → LawfulEngine job (of_node number) engine → place < length engine.window → engine.laid + place ≤ done
+pub place_small : {laws : Laws} (job : LoggedJob laws) (number : ℕ) (engine : EngineView) (place : ℕ) → LawfulEngine job (of_node number) engine → place < length engine.window → engine.laid + place ≤ done
 unfolding LawfulEngine
-place_small job number engine place h there = place_few job number engine place h there
+place_small {laws} job number engine place h there = place_few job number engine place h there
 
 -- the bounds of outputs
 bounds_by : (outputs : List (Backlog Plain)) (whole : List (StreamPrefix Plain)) → StandForAll outputs whole → AllByRecursion (λ b. b.bound ≤ done) outputs
@@ -132,24 +133,24 @@ bounds_by [] (s ∷ whole) h = absurd h
 bounds_by (b ∷ outputs) [] h = absurd h
 bounds_by (b ∷ outputs) (s ∷ whole) h = ((let within = h.0.prefix.within in let same = h.0.bound in omega (arith, within, same)), bounds_by outputs whole h.1)
 
-pub bounds_small : (job : LoggedJob) (owner : Owner) (engine : EngineView) → LawfulEngine job owner engine → All (λ b. b.bound ≤ done) engine.outputs
+pub bounds_small : {laws : Laws} (job : LoggedJob laws) (owner : Owner) (engine : EngineView) → LawfulEngine job owner engine → All (λ b. b.bound ≤ done) engine.outputs
 unfolding LawfulEngine
-bounds_small job (of_node number) engine h = All-from_recursion (λ (b : Backlog Plain). b.bound ≤ done) engine.outputs (bounds_by engine.outputs h.whole h.kept)
-bounds_small job (of_input number) engine h = All-from_recursion (λ (b : Backlog Plain). b.bound ≤ done) engine.outputs (bounds_by engine.outputs (get_or h.streams number empty_prefix ∷ []) h.kept)
+bounds_small {laws} job (of_node number) engine h = All-from_recursion (λ (b : Backlog Plain). b.bound ≤ done) engine.outputs (bounds_by engine.outputs h.whole h.kept)
+bounds_small {laws} job (of_input number) engine h = All-from_recursion (λ (b : Backlog Plain). b.bound ≤ done) engine.outputs (bounds_by engine.outputs (get_or h.streams number empty_prefix ∷ []) h.kept)
 
 -- no more are claimed than are counted, and in flight
-claimed_by : (job : LoggedJob) (number : ℕ) (engine : EngineView) (h : IsEngineOf job number engine) → engine.claimed ≤ count_of_node job.job h.streams h.node + h.node.in_flight
-claimed_by job number engine h =
+claimed_by : {laws : Laws} (job : LoggedJob laws) (number : ℕ) (engine : EngineView) (h : IsEngineOf job number engine) → engine.claimed ≤ count_of_node job.job h.streams h.node + h.node.in_flight
+claimed_by {laws} job number engine h =
     let order = h.order in
     let taken = h.taken in
     let contexts = h.contexts in
     let flight = h.set_up.in_flight in
     omega (arith, order, taken, contexts, flight)
 
-pub claims_counted : (job : LoggedJob) (number : ℕ) (node : PlanNode) (engine : EngineView) (solution : List (StreamPrefix Plain)) → Solves job solution → slice_get job.job.plan.nodes number ≡ Some node → LawfulEngine job (of_node number) engine
+pub claims_counted : {laws : Laws} (job : LoggedJob laws) (number : ℕ) (node : PlanNode) (engine : EngineView) (solution : List (StreamPrefix Plain)) → Solves job solution → slice_get job.job.plan.nodes number ≡ Some node → LawfulEngine job (of_node number) engine
     → engine.claimed ≤ count_of_node job.job solution node + node.in_flight
 unfolding LawfulEngine
-claims_counted job number node engine solution solves there h = of_these (λ ss m. engine.claimed ≤ count_of_node job.job ss m + m.in_flight) job number node engine solution h solves there (claimed_by job number engine h)
+claims_counted {laws} job number node engine solution solves there h = of_these (λ ss m. engine.claimed ≤ count_of_node job.job ss m + m.in_flight) job number node engine solution h solves there (claimed_by job number engine h)
 
 -- Intakes.
 
@@ -177,17 +178,17 @@ held_small : (here : Bool) (loop main : Waiting Plain) → IsSmall loop → IsSm
 held_small true loop main a b = a
 held_small false loop main a b = b
 
-waits_small : (job : LoggedJob) (streams : List (StreamPrefix Plain)) (consumer claimed : ℕ) (waits : Pending) (port : ℕ) → HoldsWaits job streams consumer claimed waits → IsSmall (port_queue waits port)
-waits_small job streams consumer claimed (Sets inbox) port h = pool_small inbox.pool.spare inbox.pool.ports h.1.came port h.1.stands.each
-waits_small job streams consumer claimed (Loop held) port h =
+waits_small : {laws : Laws} (job : LoggedJob laws) (streams : List (StreamPrefix Plain)) (consumer claimed : ℕ) (waits : Pending) (port : ℕ) → HoldsWaits job streams consumer claimed waits → IsSmall (port_queue waits port)
+waits_small {laws} job streams consumer claimed (Sets inbox) port h = pool_small inbox.pool.spare inbox.pool.ports h.1.came port h.1.stands.each
+waits_small {laws} job streams consumer claimed (Loop held) port h =
     (let stands = h.1.stands in held_small (port == 0) held.loop held.main (stands_small held.loop h.1.loop stands.at_loop) (stands_small held.main h.1.main stands.at_main))
 
-port_small : (job : LoggedJob) (consumer port : ℕ) (intake : IntakeView) → LawfulIntake job consumer intake → IsSmall (port_queue intake.waits port)
+port_small : {laws : Laws} (job : LoggedJob laws) (consumer port : ℕ) (intake : IntakeView) → LawfulIntake job consumer intake → IsSmall (port_queue intake.waits port)
 unfolding LawfulIntake
-port_small job consumer port intake h = waits_small job h.streams consumer intake.claimed intake.waits port h.holds
+port_small {laws} job consumer port intake h = waits_small job h.streams consumer intake.claimed intake.waits port h.holds
 
-pub counts_small : (job : LoggedJob) (consumer port : ℕ) (intake : IntakeView) → LawfulIntake job consumer intake → count_of (port_queue intake.waits port) < 2 ^ 64
-counts_small job consumer port intake h = (port_small job consumer port intake h).count
+pub counts_small : {laws : Laws} (job : LoggedJob laws) (consumer port : ℕ) (intake : IntakeView) → LawfulIntake job consumer intake → count_of (port_queue intake.waits port) < 2 ^ 64
+counts_small {laws} job consumer port intake h = (port_small job consumer port intake h).count
 
-pub port_bounds_small : (job : LoggedJob) (consumer port : ℕ) (intake : IntakeView) → LawfulIntake job consumer intake → (port_queue intake.waits port).bound ≤ done
-port_bounds_small job consumer port intake h = (port_small job consumer port intake h).bound
+pub port_bounds_small : {laws : Laws} (job : LoggedJob laws) (consumer port : ℕ) (intake : IntakeView) → LawfulIntake job consumer intake → (port_queue intake.waits port).bound ≤ done
+port_bounds_small {laws} job consumer port intake h = (port_small job consumer port intake h).bound

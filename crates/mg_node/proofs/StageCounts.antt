@@ -10,11 +10,11 @@ use Rattle.mg_calc.specs.declared.law.Law.{Law}
 use Rattle.mg_calc.specs.declared.law.Law.TheVariants.{Loopback}
 use Rattle.mg_calc.specs.declared.node_fault.Phase.TheVariants.{Open, Call as SourceCall, Process}
 use Rattle.mg_calc.specs.declared.plan_node.PlanNode.{PlanNode}
-use Rattle.mg_calc.specs.Law.{opening, step, call, rules_of}
+use Rattle.mg_calc.specs.Law.{opening, step, call}
 use Rattle.mg_calc.specs.Laying.{all_raised}
 use Rattle.mg_calc.specs.Outcome.{Failure, Outcome, after_call, unopened, opened, shown, shown_all, called}
 use Rattle.mg_calc.specs.Shape.{IsOuter, calls_of}
-use Rattle.mg_calc.specs.Equations.{Job, inputs_of, sides_of, outcome_by}
+use Rattle.mg_calc.specs.Equations.{Job, inputs_of, sides_of, outcome_by, rules_at}
 use Rattle.mg_calc.specs.Meaning.{count_of}
 use Rattle.mg_calc.proofs.Outcomes.{goes_on, failed_stays}
 use Rattle.mg_calc.proofs.Counting.{call_counts, end_counts, end_counts_by}
@@ -66,10 +66,10 @@ none_opened rules offset outputs sides = call_counts offset Open (unopened outpu
 outer_taken : (job : Job) (streams : List (StreamPrefix Plain)) (node : PlanNode) (n : ℕ) → IsOuter node.law → n ≤ count_of_all streams node → (stage job streams node n).fault ≡ None → (stage job streams node n).taken ≡ n
 outer_taken job streams node n is le good =
     let at = outer_stage node.law job streams node n is in
-    let begun = opened (rules_of node.law) node.shape.offset (length node.outputs) (sides_of job node) in
-    let go = shown (rules_of node.law) node.shape.offset in
-    let all = all_counted go (failed_stays (rules_of node.law) node.shape.offset) (set_counts (rules_of node.law) node.shape.offset) begun (take n (sets_of streams node)) (ap (λ (o : Outcome). o.fault) (sym at) ∙ good) in
-    let none = none_opened (rules_of node.law) node.shape.offset (length node.outputs) (sides_of job node) in
+    let begun = opened (rules_at job node) node.shape.offset (length node.outputs) (sides_of job node) in
+    let go = shown (rules_at job node) node.shape.offset in
+    let all = all_counted go (failed_stays (rules_at job node) node.shape.offset) (set_counts (rules_at job node) node.shape.offset) begun (take n (sets_of streams node)) (ap (λ (o : Outcome). o.fault) (sym at) ∙ good) in
+    let none = none_opened (rules_at job node) node.shape.offset (length node.outputs) (sides_of job node) in
     let many = length-take n (sets_of streams node) in
     let count = outer_count node.law streams node is in
     ap (λ (o : Outcome). o.taken) at ∙ omega (arith, all, none, many, count, le)
@@ -77,9 +77,9 @@ outer_taken job streams node n is le good =
 called_taken : (job : Job) (streams : List (StreamPrefix Plain)) (node : PlanNode) (n : ℕ) → IsCalled node.law → (stage job streams node n).fault ≡ None → (stage job streams node n).taken ≡ n
 called_taken job streams node n is good =
     let at = called_stage node.law job streams node n is in
-    let begun = opened (rules_of node.law) None (length node.outputs) (sides_of job node) in
+    let begun = opened (rules_at job node) None (length node.outputs) (sides_of job node) in
     let all = all_counted (called node.law) (calls_stay node.law) (one_called node.law) begun (range_with_len 0 n) (ap (λ (o : Outcome). o.fault) (sym at) ∙ good) in
-    let none = none_opened (rules_of node.law) None (length node.outputs) (sides_of job node) in
+    let none = none_opened (rules_at job node) None (length node.outputs) (sides_of job node) in
     let many = length-range_with_len 0 n in
     ap (λ (o : Outcome). o.taken) at ∙ omega (arith, all, none, many)
 
@@ -89,15 +89,15 @@ outer_further job streams node n is less good =
     let offset = node.shape.offset in
     let sets = sets_of streams node in
     let at = outer_stage node.law job streams node n is in
-    let first = shown_all (rules_of node.law) offset (length node.outputs) (sides_of job node) (take n sets) in
-    let whole = shown_all (rules_of node.law) offset (length node.outputs) (sides_of job node) sets in
+    let first = shown_all (rules_at job node) offset (length node.outputs) (sides_of job node) (take n sets) in
+    let whole = shown_all (rules_at job node) offset (length node.outputs) (sides_of job node) sets in
     let count = outer_count node.law streams node is in
     let taken = outer_taken job streams node n is (omega (arith, less)) good in
     let here = ap (λ (o : Outcome). o.taken) at in
     let many = length-drop n sets in
-    let more = one_further (shown (rules_of node.law) offset) (failed_stays (rules_of node.law) offset) (set_counts (rules_of node.law) offset) first (drop n sets) (ap (λ (o : Outcome). o.fault) (sym at) ∙ good) (omega (arith, many, less, count)) in
-    let parts = ap (λ (o : Outcome). o.taken) (sets_in_parts (rules_of node.law) offset (length node.outputs) (sides_of job node) sets n) in
-    let end = ap (λ (o : Outcome). o.taken) (outer_outcome node.law job streams node is) ∙ end_counts (rules_of node.law) offset (reach node.policy (inputs_of streams node)) whole in
+    let more = one_further (shown (rules_at job node) offset) (failed_stays (rules_at job node) offset) (set_counts (rules_at job node) offset) first (drop n sets) (ap (λ (o : Outcome). o.fault) (sym at) ∙ good) (omega (arith, many, less, count)) in
+    let parts = ap (λ (o : Outcome). o.taken) (sets_in_parts (rules_at job node) offset (length node.outputs) (sides_of job node) sets n) in
+    let end = ap (λ (o : Outcome). o.taken) (outer_outcome node.law job streams node is) ∙ end_counts (rules_at job node) offset (reach node.policy (inputs_of streams node)) whole in
     omega (arith, taken, here, more, parts, end)
 
 called_further : (job : Job) (streams : List (StreamPrefix Plain)) (node : PlanNode) (n : ℕ) → IsCalled node.law → n < count_of_all streams node → (stage job streams node n).fault ≡ None → n + 1 ≤ count_of job streams node

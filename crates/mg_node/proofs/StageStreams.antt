@@ -11,13 +11,14 @@ use Rattle.mg_settled.specs.Extension.{IsExtendedBy, AreExtendedBy}
 use Rattle.mg_settled.specs.Loopback.{packet_of, replies, loopback}
 use Rattle.mg_settled.specs.Settled.{TimedSet, reach}
 use Rattle.mg_settled.proofs.Lemmas.{all_further, Rises, times-rise, below-reach, reach-most, loopback_is_prefix}
+use Rattle.mg_calc.specs.Rules.{Laws}
 use Rattle.mg_calc.specs.declared.law.Law.{Law}
 use Rattle.mg_calc.specs.declared.law.Law.TheVariants.{Loopback}
 use Rattle.mg_calc.specs.declared.plan_node.PlanNode.{PlanNode}
 use Rattle.mg_calc.specs.Laying.{all_raised}
 use Rattle.mg_calc.specs.Outcome.{Outcome, opened, shown, shown_all, ended, with_last_call}
 use Rattle.mg_calc.specs.Shape.{IsOuter, ParametersFit, calls_of}
-use Rattle.mg_calc.specs.Equations.{Job, inputs_of, sides_of, outcome_by, outcome_of}
+use Rattle.mg_calc.specs.Equations.{Job, inputs_of, sides_of, outcome_by, outcome_of, rules_at}
 use Rattle.mg_calc.proofs.Counting.{all_of_first}
 use Rattle.mg_calc.proofs.Jobs.{job_known}
 use Rattle.mg_calc.proofs.Outcomes.{Further, opened_keeps, sets_keep, sets_extend, end_extends, raised_extends_end, calls_keep, calls_extend, last_call_extends}
@@ -26,16 +27,15 @@ use Rattle.mg_calc.proofs.Solutions.{solution_keeps, empties_extend}
 use Rattle.mg_node.specs.Job.{LoggedJob, Solves, streams_at, sets_of, main_of, loop_of, count_of_all, answered, stage_by, stage}
 use Rattle.mg_node.proofs.Answering.{follows}
 use Rattle.mg_node.proofs.NodeSolution.{node_streams}
-use Rattle.mg_node.proofs.Performing.{of_node}
+use Rattle.mg_node.proofs.HeldRules.{of_node}
 use Rattle.mg_node.proofs.Stages.{IsCalled, kind_of, outer_stage, outer_outcome, calls_made, called_stage, called_outcome, called_count, sets_in_parts, calls_in_parts}
-use Rattle.mg_calc.specs.Law.{rules_of}
 
 -- What is known of a node of a job: its inputs are prefixes.
 pub record IsKnownNode (streams : List (StreamPrefix Plain)) (node : PlanNode) : Type 0 where
   pub inputs : All IsPrefix (inputs_of streams node)
 
-pub node_known : (job : LoggedJob) (streams : List (StreamPrefix Plain)) (number : ℕ) (node : PlanNode) → Solves job streams → slice_get job.job.plan.nodes number ≡ Some node → IsKnownNode streams node
-node_known job streams number node solves there = record {
+pub node_known : {laws : Laws} (job : LoggedJob laws) (streams : List (StreamPrefix Plain)) (number : ℕ) (node : PlanNode) → Solves job streams → slice_get job.job.plan.nodes number ≡ Some node → IsKnownNode streams node
+node_known {laws} job streams number node solves there = record {
   inputs = All-from_recursion IsPrefix (inputs_of streams node) (streams_are_prefixes streams node.inputs (solution_keeps job.job (job_known job.job solves.is_job) streams solves.solution));
 }
 
@@ -48,38 +48,38 @@ module _ (job : Job) (streams : List (StreamPrefix Plain)) (node : PlanNode) (kn
       recursion_from_All (λ (set : TimedSet Plain). set.at ≤ done) (sets_of streams node)
       (All-weaker (λ (set : TimedSet Plain). set.at < reach node.policy inputs) (λ (set : TimedSet Plain). set.at ≤ done) (λ set below. omega (arith, below, most)) (sets_of streams node) (below-reach node.policy inputs known.inputs))
 
-  first_kept : (n : ℕ) → AllByRecursion IsPrefix (shown_all (rules_of node.law) node.shape.offset (length node.outputs) (sides_of job node) (take n (sets_of streams node))).outputs
+  first_kept : (n : ℕ) → AllByRecursion IsPrefix (shown_all (rules_at job node) node.shape.offset (length node.outputs) (sides_of job node) (take n (sets_of streams node))).outputs
   first_kept n =
-      sets_keep (rules_of node.law) node.shape.offset (opened (rules_of node.law) node.shape.offset (length node.outputs) (sides_of job node)) (take n (sets_of streams node))
-      (all_of_first (λ (set : TimedSet Plain). set.at ≤ done) n (sets_of streams node) set_times_end) (opened_keeps (rules_of node.law) node.shape.offset (length node.outputs) (sides_of job node))
+      sets_keep (rules_at job node) node.shape.offset (opened (rules_at job node) node.shape.offset (length node.outputs) (sides_of job node)) (take n (sets_of streams node))
+      (all_of_first (λ (set : TimedSet Plain). set.at ≤ done) n (sets_of streams node) set_times_end) (opened_keeps (rules_at job node) node.shape.offset (length node.outputs) (sides_of job node))
 
-  all_kept : AllByRecursion IsPrefix (shown_all (rules_of node.law) node.shape.offset (length node.outputs) (sides_of job node) (sets_of streams node)).outputs
+  all_kept : AllByRecursion IsPrefix (shown_all (rules_at job node) node.shape.offset (length node.outputs) (sides_of job node) (sets_of streams node)).outputs
   all_kept =
-      sets_keep (rules_of node.law) node.shape.offset (opened (rules_of node.law) node.shape.offset (length node.outputs) (sides_of job node)) (sets_of streams node) set_times_end
-      (opened_keeps (rules_of node.law) node.shape.offset (length node.outputs) (sides_of job node))
+      sets_keep (rules_at job node) node.shape.offset (opened (rules_at job node) node.shape.offset (length node.outputs) (sides_of job node)) (sets_of streams node) set_times_end
+      (opened_keeps (rules_at job node) node.shape.offset (length node.outputs) (sides_of job node))
 
   outer_extended : (n : ℕ) → IsOuter node.law → AreExtendedBy (stage job streams node n).outputs (outcome_of job streams node).outputs
   outer_extended n is =
       let offset = node.shape.offset in
       let reached = reach node.policy (inputs_of streams node) in
       let sets = sets_of streams node in
-      let first = shown_all (rules_of node.law) offset (length node.outputs) (sides_of job node) (take n sets) in
-      let whole = shown_all (rules_of node.law) offset (length node.outputs) (sides_of job node) sets in
-      let parts : fold (shown (rules_of node.law) offset) first (drop n sets) ≡ whole = sym (sets_in_parts (rules_of node.law) offset (length node.outputs) (sides_of job node) sets n) in
-      let shown_more : AreExtendedBy first.outputs whole.outputs = subst (λ (o : Outcome). AreExtendedBy first.outputs o.outputs) parts (sets_extend (rules_of node.law) offset first (drop n sets)) in
-      let to_end : AreExtendedBy whole.outputs (ended (rules_of node.law) offset reached whole).outputs = end_extends (rules_of node.law) offset reached whole (reach-most node.policy (inputs_of streams node) known.inputs) all_kept in
+      let first = shown_all (rules_at job node) offset (length node.outputs) (sides_of job node) (take n sets) in
+      let whole = shown_all (rules_at job node) offset (length node.outputs) (sides_of job node) sets in
+      let parts : fold (shown (rules_at job node) offset) first (drop n sets) ≡ whole = sym (sets_in_parts (rules_at job node) offset (length node.outputs) (sides_of job node) sets n) in
+      let shown_more : AreExtendedBy first.outputs whole.outputs = subst (λ (o : Outcome). AreExtendedBy first.outputs o.outputs) parts (sets_extend (rules_at job node) offset first (drop n sets)) in
+      let to_end : AreExtendedBy whole.outputs (ended (rules_at job node) offset reached whole).outputs = end_extends (rules_at job node) offset reached whole (reach-most node.policy (inputs_of streams node) known.inputs) all_kept in
       subst (λ (o : Outcome). AreExtendedBy o.outputs (outcome_of job streams node).outputs) (sym (outer_stage node.law job streams node n is))
       (subst (λ (o : Outcome). AreExtendedBy first.outputs o.outputs) (sym (outer_outcome node.law job streams node is)) (all_further first.outputs whole.outputs _ shown_more to_end))
 
 -- Of a source.
 called_extended : (job : Job) (streams : List (StreamPrefix Plain)) (node : PlanNode) (n : ℕ) → IsCalled node.law → n ≤ calls_of node.law → AreExtendedBy (stage job streams node n).outputs (outcome_of job streams node).outputs
 called_extended job streams node n is le =
-    let begun = opened (rules_of node.law) None (length node.outputs) (sides_of job node) in
+    let begun = opened (rules_at job node) None (length node.outputs) (sides_of job node) in
     let first = calls_made job node n in
     let whole = calls_made job node (calls_of node.law) in
     let more : AreExtendedBy first.outputs whole.outputs =
     subst (λ (o : Outcome). AreExtendedBy first.outputs o.outputs) (sym (calls_in_parts job node n (calls_of node.law) le)) (calls_extend node.law first (range_with_len n (calls_of node.law - n))) in
-    let kept : AllByRecursion IsPrefix whole.outputs = calls_keep node.law begun (range_with_len 0 (calls_of node.law)) (opened_keeps (rules_of node.law) None (length node.outputs) (sides_of job node)) in
+    let kept : AllByRecursion IsPrefix whole.outputs = calls_keep node.law begun (range_with_len 0 (calls_of node.law)) (opened_keeps (rules_at job node) None (length node.outputs) (sides_of job node)) in
     subst (λ (o : Outcome). AreExtendedBy o.outputs (outcome_of job streams node).outputs) (sym (called_stage node.law job streams node n is))
     (subst (λ (o : Outcome). AreExtendedBy first.outputs o.outputs) (sym (called_outcome node.law job streams node is))
     (all_further first.outputs whole.outputs (with_last_call whole).outputs more (last_call_extends whole.fault whole kept)))
@@ -104,9 +104,9 @@ loop_extended law job streams node n is main =
     subst (λ (l : Law). AreExtendedBy (stage_by l job streams node n).outputs (outcome_by l job streams node).outputs) (sym is) (answered_extended n (main_of streams node) (loop_of streams node) main, tt)
 
 -- the solution's streams extend each stage
-pub stage_extended : (job : LoggedJob) (streams : List (StreamPrefix Plain)) (number : ℕ) (node : PlanNode) (n : ℕ) → Solves job streams → slice_get job.job.plan.nodes number ≡ Some node → n ≤ count_of_all streams node
+pub stage_extended : {laws : Laws} (job : LoggedJob laws) (streams : List (StreamPrefix Plain)) (number : ℕ) (node : PlanNode) (n : ℕ) → Solves job streams → slice_get job.job.plan.nodes number ≡ Some node → n ≤ count_of_all streams node
     → AreExtendedBy (stage job.job streams node n).outputs (streams_at streams node.outputs)
-stage_extended job streams number node n solves there le =
+stage_extended {laws} job streams number node n solves there le =
     let known = node_known job streams number node solves there in
     subst (AreExtendedBy (stage job.job streams node n).outputs) (sym (node_streams job streams number node solves there))
     (elim (kind_of node.law) [
@@ -135,24 +135,24 @@ none_at_end t r (e ∷ sets) le above below end = absurd (let low = above.0 in l
 
 -- where a node that is shown sets hasn't failed, nothing further stands below its outputs, raised to a time that is at most that of
 -- its next set, if it has one, and at most how far its sets reach
-pub raised_stage_extended : (job : LoggedJob) (streams : List (StreamPrefix Plain)) (number : ℕ) (node : PlanNode) (n t : ℕ) → Solves job streams → slice_get job.job.plan.nodes number ≡ Some node → IsOuter node.law
+pub raised_stage_extended : {laws : Laws} (job : LoggedJob laws) (streams : List (StreamPrefix Plain)) (number : ℕ) (node : PlanNode) (n t : ℕ) → Solves job streams → slice_get job.job.plan.nodes number ≡ Some node → IsOuter node.law
     → (stage job.job streams node n).fault ≡ None → t ≤ reach node.policy (inputs_of streams node) → IfSome (slice_get (sets_of streams node) n) (λ e. t ≤ e.at)
     → AreExtendedBy (all_raised node.shape.offset t (stage job.job streams node n).outputs) (streams_at streams node.outputs)
-raised_stage_extended job streams number node n t solves there is good le next =
+raised_stage_extended {laws} job streams number node n t solves there is good le next =
     let known = node_known job streams number node solves there in
     let offset = node.shape.offset in
     let inputs = inputs_of streams node in
     let reached = reach node.policy inputs in
     let sets = sets_of streams node in
-    let first = shown_all (rules_of node.law) offset (length node.outputs) (sides_of job.job node) (take n sets) in
+    let first = shown_all (rules_at job.job node) offset (length node.outputs) (sides_of job.job node) (take n sets) in
     let most = reach-most node.policy inputs known.inputs in
     let at : stage job.job streams node n ≡ first = outer_stage node.law job.job streams node n is in
-    let parts = sets_in_parts (rules_of node.law) offset (length node.outputs) (sides_of job.job node) sets n in
+    let parts = sets_in_parts (rules_at job.job node) offset (length node.outputs) (sides_of job.job node) sets n in
     let above = all_above_from 0 t n sets (times-rise node.policy inputs known.inputs) next in
     let below = recursion_from_All (λ (e : TimedSet Plain). e.at < reached) (drop n sets) (All-drop (λ (e : TimedSet Plain). e.at < reached) n sets (below-reach node.policy inputs known.inputs)) in
     let further : Further t reached (drop n sets) = record { rises = le; within = most; above = above; none = none_at_end t reached (drop n sets) most above below } in
-    let raised = raised_extends_end (rules_of node.law) offset t reached first (drop n sets) further (first_kept job.job streams node known n)
+    let raised = raised_extends_end (rules_at job.job node) offset t reached first (drop n sets) further (first_kept job.job streams node known n)
     (subst (λ (o : Outcome). AllByRecursion IsPrefix o.outputs) parts (all_kept job.job streams node known)) (ap (λ (o : Outcome). o.fault) (sym at) ∙ good) in
     subst (λ (o : Outcome). AreExtendedBy (all_raised offset t o.outputs) (streams_at streams node.outputs)) (sym at)
     (subst (AreExtendedBy (all_raised offset t first.outputs)) (sym (node_streams job streams number node solves there))
-    (subst (λ (o : Outcome). AreExtendedBy (all_raised offset t first.outputs) o.outputs) (sym (outer_outcome node.law job.job streams node is ∙ ap (ended (rules_of node.law) offset reached) parts)) raised))
+    (subst (λ (o : Outcome). AreExtendedBy (all_raised offset t first.outputs) o.outputs) (sym (outer_outcome node.law job.job streams node is ∙ ap (ended (rules_at job.job node) offset reached) parts)) raised))

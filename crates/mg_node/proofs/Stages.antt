@@ -23,15 +23,15 @@ use Rattle.mg_calc.specs.declared.plan_node.PlanNode.{PlanNode}
 use Rattle.mg_calc.specs.Answer.{Answer}
 use Rattle.mg_calc.specs.Law.{call, finish, rules_of}
 use Rattle.mg_calc.specs.Laying.{after, laid_behind, all_raised}
-use Rattle.mg_calc.specs.Outcome.{Failure, Outcome, after_laying, after_call, opened, unless_failed, shown, shown_all, after_close, finished, with_reach, ended, called, with_last_call}
+use Rattle.mg_calc.specs.Outcome.{Failure, Outcome, after_laying, after_call, opened, unless_failed, shown, shown_all, after_close, closed_with, finished, with_reach, ended, called, with_last_call}
 use Rattle.mg_calc.specs.Shape.{IsOuter, IsSource, IsShapeOf, calls_of, offset_of}
-use Rattle.mg_calc.specs.Equations.{Job, inputs_of, sides_of, outcome_by, outcome_of}
+use Rattle.mg_calc.specs.Equations.{Job, inputs_of, sides_of, outcome_by, outcome_of, rules_at}
 use Rattle.mg_calc.proofs.Outcomes.{goes_on, stays, failed_stays}
 use Rattle.mg_node.specs.Job.{LoggedJob, Solves, sets_of, main_of, loop_of, count_by, count_of_all, IsOverBy, answered, stage_by, stage, IsLastWork, IsTask}
 use Rattle.mg_node.specs.Lawful.{HasAnswered, answer_in, is_close}
 use Rattle.mg_node.specs.Commits.{raised_before, closed_after, laid_by, outputs_by, failure_by}
-use Rattle.mg_node.proofs.Performing.{of_node}
-use Rattle.mg_calc.specs.Rules.{Rules}
+use Rattle.mg_node.proofs.HeldRules.{of_node}
+use Rattle.mg_calc.specs.Rules.{Rules, Laws}
 
 -- By the kind of law: it is shown sets, or it is called, or it is a loopback.
 
@@ -61,7 +61,7 @@ called_offset Constants is = refl
 called_offset law is = absurd is
 
 pub outer_stage : (law : Law) (job : Job) (streams : List (StreamPrefix Plain)) (node : PlanNode) (n : ℕ) → IsOuter law
-    → stage_by law job streams node n ≡ shown_all (rules_of node.law) node.shape.offset (length node.outputs) (sides_of job node) (take n (sets_of streams node))
+    → stage_by law job streams node n ≡ shown_all (rules_at job node) node.shape.offset (length node.outputs) (sides_of job node) (take n (sets_of streams node))
 outer_stage (Count count start apart) job streams node n is = absurd is
 outer_stage (SideOnce at) job streams node n is = absurd is
 outer_stage Constants job streams node n is = absurd is
@@ -69,7 +69,7 @@ outer_stage Loopback job streams node n is = absurd is
 outer_stage law job streams node n is = refl
 
 pub outer_outcome : (law : Law) (job : Job) (streams : List (StreamPrefix Plain)) (node : PlanNode) → IsOuter law
-    → outcome_by law job streams node ≡ ended (rules_of node.law) node.shape.offset (reach node.policy (inputs_of streams node)) (shown_all (rules_of node.law) node.shape.offset (length node.outputs) (sides_of job node) (sets_of streams node))
+    → outcome_by law job streams node ≡ ended (rules_at job node) node.shape.offset (reach node.policy (inputs_of streams node)) (shown_all (rules_at job node) node.shape.offset (length node.outputs) (sides_of job node) (sets_of streams node))
 outer_outcome (Count count start apart) job streams node is = absurd is
 outer_outcome (SideOnce at) job streams node is = absurd is
 outer_outcome Constants job streams node is = absurd is
@@ -92,7 +92,7 @@ outer_over law streams node is over = over
 
 -- a source's calls, the first ones, a number of them
 abbrev pub calls_made : Job → PlanNode → ℕ → Outcome
-calls_made job node n = fold (called node.law) (opened (rules_of node.law) None (length node.outputs) (sides_of job node)) (range_with_len 0 n)
+calls_made job node n = fold (called node.law) (opened (rules_at job node) None (length node.outputs) (sides_of job node)) (range_with_len 0 n)
 
 pub called_stage : (law : Law) (job : Job) (streams : List (StreamPrefix Plain)) (node : PlanNode) (n : ℕ) → IsCalled law → stage_by law job streams node n ≡ calls_made job node n
 called_stage (Count count start apart) job streams node n is = refl
@@ -131,25 +131,25 @@ next_set rules offset outputs sides sets n e there =
 
 next_call : (job : Job) (node : PlanNode) (n : ℕ) → calls_made job node (n + 1) ≡ called node.law (calls_made job node n) n
 next_call job node n =
-    let begun = opened (rules_of node.law) None (length node.outputs) (sides_of job node) in
+    let begun = opened (rules_at job node) None (length node.outputs) (sides_of job node) in
     let numbers : range_with_len 0 (n + 1) ≡ range_with_len 0 n ++ n ∷ [] = range_parts 0 n 1 ∙ ap (λ (k : ℕ). range_with_len 0 n ++ k ∷ []) (let e : 0 + n ≡ n = omega arith in e) in
     ap (fold (called node.law) begun) numbers ∙ fold-append (called node.law) begun (range_with_len 0 n) (n ∷ [])
 
 -- a node goes on by the answer of a work
-abbrev pub next_by : PlanNode → Outcome → Phase → List (Option (Stamped Plain)) → Outcome
-next_by node before phase set =
+abbrev pub next_by : Rules → PlanNode → Outcome → Phase → List (Option (Stamped Plain)) → Outcome
+next_by rules node before phase set =
     unless_failed before.fault before
-    (after_call node.shape.offset phase (record before { outputs = raised_before node.shape.offset phase before.outputs; taken = before.taken + 1 }) (answer_in node.law before.state phase set))
+    (after_call node.shape.offset phase (record before { outputs = raised_before node.shape.offset phase before.outputs; taken = before.taken + 1 }) (answer_in rules node.law before.state phase set))
 
-pub next_stage : (job : LoggedJob) (streams : List (StreamPrefix Plain)) (number : ℕ) (node : PlanNode) (n : ℕ) (phase : Phase) (set : List (Option (Stamped Plain))) → Solves job streams → slice_get job.job.plan.nodes number ≡ Some node
-    → IsTask job.job streams node n phase set → is_close phase ≡ false → stage job.job streams node (n + 1) ≡ next_by node (stage job.job streams node n) phase set
-next_stage job streams number node n Open set solves there task more = absurd task
-next_stage job streams number node n Close set solves there task more = absurd cc
-next_stage job streams number node n (Process at) set solves there task more =
+pub next_stage : {laws : Laws} (job : LoggedJob laws) (streams : List (StreamPrefix Plain)) (number : ℕ) (node : PlanNode) (n : ℕ) (phase : Phase) (set : List (Option (Stamped Plain))) → Solves job streams → slice_get job.job.plan.nodes number ≡ Some node
+    → IsTask job.job streams node n phase set → is_close phase ≡ false → stage job.job streams node (n + 1) ≡ next_by (rules_at job.job node) node (stage job.job streams node n) phase set
+next_stage {laws} job streams number node n Open set solves there task more = absurd task
+next_stage {laws} job streams number node n Close set solves there task more = absurd cc
+next_stage {laws} job streams number node n (Process at) set solves there task more =
     outer_stage node.law job.job streams node (n + 1) task.0
-    ∙ next_set (rules_of node.law) node.shape.offset (length node.outputs) (sides_of job.job node) (sets_of streams node) n (record { at = at; set = set }) task.1
-    ∙ ap (λ (o : Outcome). shown (rules_of node.law) node.shape.offset o (record { at = at; set = set })) (sym (outer_stage node.law job.job streams node n task.0))
-next_stage job streams number node n (SourceCall call_number) set solves there task more =
+    ∙ next_set (rules_at job.job node) node.shape.offset (length node.outputs) (sides_of job.job node) (sets_of streams node) n (record { at = at; set = set }) task.1
+    ∙ ap (λ (o : Outcome). shown (rules_at job.job node) node.shape.offset o (record { at = at; set = set })) (sym (outer_stage node.law job.job streams node n task.0))
+next_stage {laws} job streams number node n (SourceCall call_number) set solves there task more =
     let is = source_called node.law task.0 in
     let shape : IsShapeOf node.law node.shape = of_node (λ (m : PlanNode). IsShapeOf m.law m.shape) job.job.plan.nodes number node solves.is_job.plan.shapes there in
     let offset : node.shape.offset ≡ None = shape.offset ∙ called_offset node.law is in
@@ -173,7 +173,7 @@ sets_in_parts rules offset outputs sides sets n =
 
 pub calls_in_parts : (job : Job) (node : PlanNode) (n calls : ℕ) → n ≤ calls → calls_made job node calls ≡ fold (called node.law) (calls_made job node n) (range_with_len n (calls - n))
 calls_in_parts job node n calls le =
-    let begun = opened (rules_of node.law) None (length node.outputs) (sides_of job node) in
+    let begun = opened (rules_at job node) None (length node.outputs) (sides_of job node) in
     let all : range_with_len 0 calls ≡ range_with_len 0 n ++ range_with_len n (calls - n) =
     ap (range_with_len 0) (let e : calls ≡ n + (calls - n) = omega (arith, le) in e) ∙ range_parts 0 n (calls - n) ∙ ap (λ (k : ℕ). range_with_len 0 n ++ range_with_len k (calls - n)) (let e : 0 + n ≡ n = omega arith in e) in
     ap (fold (called node.law) begun) all ∙ fold-append (called node.law) begun (range_with_len 0 n) (range_with_len n (calls - n))
@@ -194,12 +194,12 @@ failed_is_all job streams node n failure le failed =
     failed_sets is =
         let offset = node.shape.offset in
         let reached = reach node.policy (inputs_of streams node) in
-        let first = shown_all (rules_of node.law) offset (length node.outputs) (sides_of job node) (take n (sets_of streams node)) in
+        let first = shown_all (rules_at job node) offset (length node.outputs) (sides_of job node) (take n (sets_of streams node)) in
         let at : stage job streams node n ≡ first = outer_stage node.law job streams node n is in
         let fault : first.fault ≡ Some failure = ap (λ (o : Outcome). o.fault) (sym at) ∙ failed in
-        let all : shown_all (rules_of node.law) offset (length node.outputs) (sides_of job node) (sets_of streams node) ≡ first =
-        sets_in_parts (rules_of node.law) offset (length node.outputs) (sides_of job node) (sets_of streams node) n ∙ failed_stays (rules_of node.law) offset first failure (drop n (sets_of streams node)) fault in
-        outer_outcome node.law job streams node is ∙ ap (ended (rules_of node.law) offset reached) all ∙ stays first.fault first (with_reach (rules_of node.law) offset reached first) failure fault ∙ sym at
+        let all : shown_all (rules_at job node) offset (length node.outputs) (sides_of job node) (sets_of streams node) ≡ first =
+        sets_in_parts (rules_at job node) offset (length node.outputs) (sides_of job node) (sets_of streams node) n ∙ failed_stays (rules_at job node) offset first failure (drop n (sets_of streams node)) fault in
+        outer_outcome node.law job streams node is ∙ ap (ended (rules_at job node) offset reached) all ∙ stays first.fault first (with_reach (rules_at job node) offset reached first) failure fault ∙ sym at
 
     failed_calls : IsCalled node.law → outcome_of job streams node ≡ stage job streams node n
     failed_calls is =
@@ -239,22 +239,22 @@ answer_laid offset phase before given (Err cause) now more good has =
     (record { outputs = refl; fault = refl; state_is = sym has.1 })
 
 -- the stage after a work that was answered
-pub stage_laid : (job : LoggedJob) (streams : List (StreamPrefix Plain)) (number : ℕ) (node : PlanNode) (n : ℕ) (phase : Phase) (set : List (Option (Stamped Plain))) (answer : Result (List Laid) Cause) (now : List Plain)
+pub stage_laid : {laws : Laws} (job : LoggedJob laws) (streams : List (StreamPrefix Plain)) (number : ℕ) (node : PlanNode) (n : ℕ) (phase : Phase) (set : List (Option (Stamped Plain))) (answer : Result (List Laid) Cause) (now : List Plain)
     → Solves job streams → slice_get job.job.plan.nodes number ≡ Some node → IsTask job.job streams node n phase set → is_close phase ≡ false → (stage job.job streams node n).fault ≡ None
-    → HasAnswered answer (stage job.job streams node n).state now (answer_in node.law (stage job.job streams node n).state phase set)
+    → HasAnswered answer (stage job.job streams node n).state now (answer_in (rules_at job.job node) node.law (stage job.job streams node n).state phase set)
     → IsLaid phase (raised_before node.shape.offset phase (stage job.job streams node n).outputs)
     (laid_by node.shape.offset phase (raised_before node.shape.offset phase (stage job.job streams node n).outputs) answer) now (stage job.job streams node (n + 1))
-stage_laid job streams number node n phase set answer now solves there task more good has =
+stage_laid {laws} job streams number node n phase set answer now solves there task more good has =
     let offset = node.shape.offset in
     let before = stage job.job streams node n in
     let raised = raised_before offset phase before.outputs in
     let up : Outcome = record before { outputs = raised; taken = before.taken + 1 } in
-    let given = answer_in node.law before.state phase set in
+    let given = answer_in (rules_at job.job node) node.law before.state phase set in
     subst (IsLaid phase raised (laid_by offset phase raised answer) now)
     (sym (next_stage job streams number node n phase set solves there task more ∙ goes_on before.fault before (after_call offset phase up given) good))
     (answer_laid offset phase up given answer now more good has)
 
--- Close keeps the state, and all laws but the one that is written down emit nothing there.
+-- Close of a law of the table keeps the state, and all but the one that is written down emit nothing there.
 finish_keeps : (law : Law) (state : List Plain) (given : List Plain × List Laid) → finish law state ≡ Ok given → state ≡ given.0
 finish_keeps (Scripted offset first steps last) state given is = cc
 finish_keeps law state given is = cc
@@ -263,32 +263,32 @@ pub state_stays : (law : Law) (state now : List Plain) (answer : Result (List La
 state_stays law state now (Ok emission) has = finish_keeps law state (now, emission) has
 state_stays law state now (Err cause) has = sym has.1
 
-close_after : (before : Outcome) (laid : Result (List (StreamPrefix Plain)) Cause) (now : List Plain) → before.fault ≡ None → before.state ≡ now
-    → IsLaid Close before.outputs (after laid (λ longer. Ok (map closed longer))) now (after_close before laid)
-close_after before (Ok longer) now good same = record { outputs = refl; fault = good; state_is = same }
-close_after before (Err cause) now good same = record { outputs = refl; fault = refl; state_is = same }
+close_after : (before : Outcome) (laid : Result (List (StreamPrefix Plain)) Cause) (now : List Plain) → before.fault ≡ None
+    → IsLaid Close before.outputs (after laid (λ longer. Ok (map closed longer))) now (after_close (record before { state = now }) laid)
+close_after before (Ok longer) now good = record { outputs = refl; fault = good; state_is = refl }
+close_after before (Err cause) now good = record { outputs = refl; fault = refl; state_is = refl }
 
-close_laid : (offset : Option ℤ) (before : Outcome) (given : Answer) (answer : Result (List Laid) Cause) (now : List Plain) → before.fault ≡ None → before.state ≡ now → HasAnswered answer before.state now given
-    → IsLaid Close before.outputs (laid_by offset Close before.outputs answer) now (after_close before (after given (λ g. laid_behind offset Close before.outputs g.1)))
-close_laid offset before given (Ok emission) now good same has =
-    subst (λ (g : Answer). IsLaid Close before.outputs (laid_by offset Close before.outputs (Ok emission)) now (after_close before (after g (λ x. laid_behind offset Close before.outputs x.1)))) (sym has)
-    (close_after before (laid_behind offset Close before.outputs emission) now good same)
-close_laid offset before given (Err cause) now good same has =
-    subst (λ (g : Answer). IsLaid Close before.outputs (laid_by offset Close before.outputs (Err cause)) now (after_close before (after g (λ x. laid_behind offset Close before.outputs x.1)))) (sym has.0)
-    (record { outputs = refl; fault = refl; state_is = same })
+close_laid : (offset : Option ℤ) (before : Outcome) (given : Answer) (answer : Result (List Laid) Cause) (now : List Plain) → before.fault ≡ None → HasAnswered answer before.state now given
+    → IsLaid Close before.outputs (laid_by offset Close before.outputs answer) now (closed_with offset before given)
+close_laid offset before given (Ok emission) now good has =
+    subst (λ (g : Answer). IsLaid Close before.outputs (laid_by offset Close before.outputs (Ok emission)) now (closed_with offset before g)) (sym has)
+    (close_after before (laid_behind offset Close before.outputs emission) now good)
+close_laid offset before given (Err cause) now good has =
+    subst (λ (g : Answer). IsLaid Close before.outputs (laid_by offset Close before.outputs (Err cause)) now (closed_with offset before g)) (sym has.0)
+    (record { outputs = refl; fault = refl; state_is = sym has.1 })
 
 -- of a node that is shown sets
 pub outer_last : (job : Job) (streams : List (StreamPrefix Plain)) (node : PlanNode) (n : ℕ) → IsOuter node.law → IsLastWork job streams node n
-    → outcome_of job streams node ≡ finished (rules_of node.law) node.shape.offset (record (stage job streams node n) { outputs = all_raised node.shape.offset done (stage job streams node n).outputs })
+    → outcome_of job streams node ≡ finished (rules_at job node) node.shape.offset (record (stage job streams node n) { outputs = all_raised node.shape.offset done (stage job streams node n).outputs })
 outer_last job streams node n is last =
     let offset = node.shape.offset in
     let reached = reach node.policy (inputs_of streams node) in
     let sets = sets_of streams node in
     let before = stage job streams node n in
     let many : length sets ≤ n = (let all = last.all in let count = outer_count node.law streams node is in omega (arith, all, count)) in
-    let at : before ≡ shown_all (rules_of node.law) offset (length node.outputs) (sides_of job node) sets = outer_stage node.law job streams node n is ∙ ap (shown_all (rules_of node.law) offset (length node.outputs) (sides_of job node)) (take_all n sets many) in
-    outer_outcome node.law job streams node is ∙ ap (ended (rules_of node.law) offset reached) (sym at) ∙ goes_on before.fault before (with_reach (rules_of node.law) offset reached before) last.good
-    ∙ ap (λ (r : ℕ). with_reach (rules_of node.law) offset r before) (outer_over node.law streams node is last.over)
+    let at : before ≡ shown_all (rules_at job node) offset (length node.outputs) (sides_of job node) sets = outer_stage node.law job streams node n is ∙ ap (shown_all (rules_at job node) offset (length node.outputs) (sides_of job node)) (take_all n sets many) in
+    outer_outcome node.law job streams node is ∙ ap (ended (rules_at job node) offset reached) (sym at) ∙ goes_on before.fault before (with_reach (rules_at job node) offset reached before) last.good
+    ∙ ap (λ (r : ℕ). with_reach (rules_at job node) offset r before) (outer_over node.law streams node is last.over)
 
 -- of a source, and of a loopback: its outputs close
 abbrev closes : Outcome → Outcome
@@ -313,31 +313,31 @@ loop_last law job streams node n is =
     ap₂ (λ (s : StreamPrefix Plain) (k : ℕ). (let o : Outcome = record { state = []; outputs = s ∷ []; taken = k; fault = None } in o)) (all_answered n (main_of streams node) (loop_of streams node) all over.0 over.1) (sym all))
 
 -- where nothing is emitted in Close
-silent_close : (offset : Option ℤ) (law : Law) (before next : Outcome) (answer : Result (List Laid) Cause) (now : List Plain) → offset ≡ None → finish law before.state ≡ Ok (before.state, []) → next ≡ closes before → before.fault ≡ None
-    → HasAnswered answer before.state now (finish law before.state) → IsLaid Close (all_raised offset done before.outputs) (laid_by offset Close (all_raised offset done before.outputs) answer) now next
-silent_close offset law before next answer now none silent is good has =
+silent_close : (offset : Option ℤ) (before next : Outcome) (given : Answer) (answer : Result (List Laid) Cause) (now : List Plain) → offset ≡ None → given ≡ Ok (before.state, []) → next ≡ closes before → before.fault ≡ None
+    → HasAnswered answer before.state now given → IsLaid Close (all_raised offset done before.outputs) (laid_by offset Close (all_raised offset done before.outputs) answer) now next
+silent_close offset before next given answer now none silent is good has =
     subst (IsLaid Close (all_raised offset done before.outputs) (laid_by offset Close (all_raised offset done before.outputs) answer) now) (sym is)
     (subst (λ (off : Option ℤ). IsLaid Close (all_raised off done before.outputs) (laid_by off Close (all_raised off done before.outputs) answer) now (closes before)) (sym none)
-    (close_laid None before (Ok (before.state, [])) answer now good (state_stays law before.state now answer has) (subst (HasAnswered answer before.state now) silent has)))
+    (close_laid None before (Ok (before.state, [])) answer now good (subst (HasAnswered answer before.state now) silent has)))
 
-called_finish : (law : Law) (state : List Plain) → IsCalled law → finish law state ≡ Ok (state, [])
-called_finish (Count count start apart) state is = refl
-called_finish (SideOnce at) state is = refl
-called_finish Constants state is = refl
-called_finish law state is = absurd is
+called_finish : (laws : Laws) (law : Law) (state : List Plain) → IsCalled law → (rules_of laws law).finish state ≡ Ok (state, [])
+called_finish laws (Count count start apart) state is = refl
+called_finish laws (SideOnce at) state is = refl
+called_finish laws Constants state is = refl
+called_finish laws law state is = absurd is
 
 -- the outcome after Close that was answered
-pub closed_stage : (job : LoggedJob) (streams : List (StreamPrefix Plain)) (number : ℕ) (node : PlanNode) (n : ℕ) (answer : Result (List Laid) Cause) (now : List Plain) → Solves job streams → slice_get job.job.plan.nodes number ≡ Some node → IsLastWork job.job streams node n
-    → HasAnswered answer (stage job.job streams node n).state now (finish node.law (stage job.job streams node n).state)
+pub closed_stage : {laws : Laws} (job : LoggedJob laws) (streams : List (StreamPrefix Plain)) (number : ℕ) (node : PlanNode) (n : ℕ) (answer : Result (List Laid) Cause) (now : List Plain) → Solves job streams → slice_get job.job.plan.nodes number ≡ Some node → IsLastWork job.job streams node n
+    → HasAnswered answer (stage job.job streams node n).state now ((rules_at job.job node).finish (stage job.job streams node n).state)
     → IsLaid Close (raised_before node.shape.offset Close (stage job.job streams node n).outputs)
     (laid_by node.shape.offset Close (raised_before node.shape.offset Close (stage job.job streams node n).outputs) answer) now (outcome_of job.job streams node)
-closed_stage job streams number node n answer now solves there last has =
+closed_stage {laws} job streams number node n answer now solves there last has =
     let offset = node.shape.offset in
     let before = stage job.job streams node n in
     let shape : IsShapeOf node.law node.shape = of_node (λ (m : PlanNode). IsShapeOf m.law m.shape) job.job.plan.nodes number node solves.is_job.plan.shapes there in
     elim (kind_of node.law) [
       | inl is ↦ subst (IsLaid Close (all_raised offset done before.outputs) (laid_by offset Close (all_raised offset done before.outputs) answer) now) (sym (outer_last job.job streams node n is last))
-          (close_laid offset (record before { outputs = all_raised offset done before.outputs }) (finish node.law before.state) answer now last.good (state_stays node.law before.state now answer has) has)
-      | inr (inl is) ↦ silent_close offset node.law before (outcome_of job.job streams node) answer now (shape.offset ∙ called_offset node.law is) (called_finish node.law before.state is) (called_last job.job streams node n is last) last.good has
-      | inr (inr is) ↦ silent_close offset node.law before (outcome_of job.job streams node) answer now (shape.offset ∙ ap offset_of is) (ap (λ (l : Law). finish l before.state) is) (loop_last node.law job.job streams node n is last.all last.over) last.good has
+          (close_laid offset (record before { outputs = all_raised offset done before.outputs }) ((rules_at job.job node).finish before.state) answer now last.good has)
+      | inr (inl is) ↦ silent_close offset before (outcome_of job.job streams node) ((rules_at job.job node).finish before.state) answer now (shape.offset ∙ called_offset node.law is) (called_finish job.job.laws node.law before.state is) (called_last job.job streams node n is last) last.good has
+      | inr (inr is) ↦ silent_close offset before (outcome_of job.job streams node) ((rules_at job.job node).finish before.state) answer now (shape.offset ∙ ap offset_of is) (ap (λ (l : Law). (rules_of job.job.laws l).finish before.state) is) (loop_last node.law job.job streams node n is last.all last.over) last.good has
     ]

@@ -7,26 +7,29 @@ use Rattle.mg_value.specs.Payload.{Plain}
 use Rattle.mg_settled.specs.Prefix.{StreamPrefix}
 use Rattle.mg_settled.specs.Settled.{TimedSet, settled_sets}
 use Rattle.mg_settled.proofs.Lemmas.{sets-places}
+use Rattle.mg_calc.specs.Rules.{Laws}
 use Rattle.mg_calc.specs.declared.cause.Cause.{Cause}
 use Rattle.mg_calc.specs.declared.emission.Laid.{Laid}
 use Rattle.mg_calc.specs.declared.law.Law.{Law}
-use Rattle.mg_calc.specs.declared.law.Law.TheVariants.{Cloner, Thin, Running, Count, SideOnce, Constants, Loopback, Tally, Scripted, BeginLoop, EndLoop}
+use Rattle.mg_calc.specs.declared.law.Law.TheVariants.{Cloner, Thin, Running, Count, SideOnce, Constants, Loopback, Tally, Scripted, BeginLoop, EndLoop, Stated}
 use Rattle.mg_calc.specs.declared.node_fault.Phase.{Phase}
 use Rattle.mg_calc.specs.declared.node_fault.Phase.TheVariants.{Open, Process}
 use Rattle.mg_calc.specs.declared.plan_node.PlanNode.{PlanNode}
 use Rattle.mg_calc.specs.declared.shape.Shape.{Shape}
 use Rattle.mg_calc.specs.Answer.{Answer}
-use Rattle.mg_calc.specs.Law.{opening, step, rules_of}
+use Rattle.mg_calc.specs.Law.{opening, step, table_rules}
 use Rattle.mg_calc.specs.Laying.{laid_behind, all_raised}
 use Rattle.mg_calc.specs.Outcome.{Failure, Outcome, after_laying, after_call, unopened, opened, unless_failed, shown, shown_all}
 use Rattle.mg_calc.specs.Plan.{HasNumbers, FlightFits}
-use Rattle.mg_calc.specs.Shape.{IsShapeOf, FitsInputs, is_stateless}
+use Rattle.mg_calc.specs.Shape.{IsShapeOf, FitsInputs, IsStated, is_stateless}
 use Rattle.mg_calc.specs.State.{IsStateOf}
-use Rattle.mg_calc.specs.Equations.{Job, IsJob, inputs_of, sides_of, stream_of}
+use Rattle.mg_calc.specs.Equations.{Job, IsJob, inputs_of, sides_of, stream_of, rules_at}
 use Rattle.mg_calc.proofs.Counting.{all_of_first}
 use Rattle.mg_calc.proofs.LawCases.{stepped}
+use Rattle.mg_calc.specs.Rules.{Rules}
+use Rattle.mg_calc.proofs.TableRules.{by_table}
 use Rattle.mg_node.specs.Job.{LoggedJob, Solves, sets_of, stage_by, stage, first_log}
-use Rattle.mg_node.proofs.Performing.{of_node}
+use Rattle.mg_node.proofs.HeldRules.{of_node}
 
 -- such a law's states are empty
 form_empty : (law : Law) (state : List Plain) → is_stateless law ≡ true → IsStateOf law state → state ≡ []
@@ -74,27 +77,38 @@ if_given P (Ok g) given h e = (let same : g ≡ given = cc in subst (λ (x : Lis
 if_given P (Err cause) given h e = absurd cc
 
 module _ (law : Law) (shape : Shape) (is : is_stateless law ≡ true) (of_law : IsShapeOf law shape) where
-  shown_empty : (offset : Option ℤ) (outcome : Outcome) (set : TimedSet Plain) → FitsInputs shape set.set → outcome.state ≡ [] → (shown (rules_of law) offset outcome set).state ≡ []
+  shown_empty : (offset : Option ℤ) (outcome : Outcome) (set : TimedSet Plain) → FitsInputs shape set.set → outcome.state ≡ [] → (shown (table_rules law) offset outcome set).state ≡ []
   shown_empty offset outcome set fits empty =
       let before : Outcome = record outcome { outputs = all_raised offset set.at outcome.outputs; taken = outcome.taken + 1 } in
       unless_state (λ (s : List Plain). s ≡ []) outcome.fault outcome (after_call offset (Process set.at) before (step law outcome.state set.at set.set)) empty
       (call_state (λ (s : List Plain). s ≡ []) offset (Process set.at) before (step law outcome.state set.at set.set) empty (λ given e.
       form_empty law given.0 is (if_given (IsStateOf law) (step law outcome.state set.at set.set) given (stepped law shape outcome.state set.at set.set of_law fits (empty_form law outcome.state is empty)) e)))
 
-  all_empty : (offset : Option ℤ) (outcome : Outcome) (sets : List (TimedSet Plain)) → AllByRecursion (λ e. FitsInputs shape e.set) sets → outcome.state ≡ [] → (fold (shown (rules_of law) offset) outcome sets).state ≡ []
+  all_empty : (offset : Option ℤ) (outcome : Outcome) (sets : List (TimedSet Plain)) → AllByRecursion (λ e. FitsInputs shape e.set) sets → outcome.state ≡ [] → (fold (shown (table_rules law) offset) outcome sets).state ≡ []
   all_empty offset outcome [] fits empty = empty
-  all_empty offset outcome (set ∷ sets) fits empty = all_empty offset (shown (rules_of law) offset outcome set) sets fits.1 (shown_empty offset outcome set fits.0 empty)
+  all_empty offset outcome (set ∷ sets) fits empty = all_empty offset (shown (table_rules law) offset outcome set) sets fits.1 (shown_empty offset outcome set fits.0 empty)
 
 stage_sets : (law : Law) (job : Job) (streams : List (StreamPrefix Plain)) (node : PlanNode) (n : ℕ) → is_stateless law ≡ true
-    → stage_by law job streams node n ≡ shown_all (rules_of node.law) node.shape.offset (length node.outputs) (sides_of job node) (take n (sets_of streams node))
+    → stage_by law job streams node n ≡ shown_all (rules_at job node) node.shape.offset (length node.outputs) (sides_of job node) (take n (sets_of streams node))
 stage_sets (Count count start apart) job streams node n is = absurd cc
 stage_sets (SideOnce at) job streams node n is = absurd cc
 stage_sets Constants job streams node n is = absurd cc
 stage_sets Loopback job streams node n is = absurd cc
 stage_sets law job streams node n is = refl
 
-pub stage_empty : (job : LoggedJob) (streams : List (StreamPrefix Plain)) (number : ℕ) (node : PlanNode) (n : ℕ) → Solves job streams → slice_get job.job.plan.nodes number ≡ Some node → node.shape.stateless ≡ true → (stage job.job streams node n).state ≡ []
-stage_empty job streams number node n solves there stateless =
+-- a law that keeps no state isn't stated
+stateless_unstated : (law : Law) → is_stateless law ≡ true → IsStated law → ⊥
+stateless_unstated (Stated number parameters offset) is stated = absurd cc
+stateless_unstated law is stated = stated
+
+-- so such a node has the table's rules
+pub stateless_rules : (job : Job) (number : ℕ) (node : PlanNode) → IsJob job → slice_get job.plan.nodes number ≡ Some node → node.shape.stateless ≡ true → rules_at job node ≡ table_rules node.law
+stateless_rules job number node is_job there stateless =
+    let shape : IsShapeOf node.law node.shape = of_node (λ (m : PlanNode). IsShapeOf m.law m.shape) job.plan.nodes number node is_job.plan.shapes there in
+    by_table job.laws node.law (stateless_unstated node.law (sym shape.stateless ∙ stateless))
+
+pub stage_empty : {laws : Laws} (job : LoggedJob laws) (streams : List (StreamPrefix Plain)) (number : ℕ) (node : PlanNode) (n : ℕ) → Solves job streams → slice_get job.job.plan.nodes number ≡ Some node → node.shape.stateless ≡ true → (stage job.job streams node n).state ≡ []
+stage_empty {laws} job streams number node n solves there stateless =
     let shape : IsShapeOf node.law node.shape = of_node (λ (m : PlanNode). IsShapeOf m.law m.shape) job.job.plan.nodes number node solves.is_job.plan.shapes there in
     let has : HasNumbers node = of_node HasNumbers job.job.plan.nodes number node solves.is_job.plan.ports there in
     let is : is_stateless node.law ≡ true = sym shape.stateless ∙ stateless in
@@ -102,10 +116,11 @@ stage_empty job streams number node n solves there stateless =
     let long : length inputs ≡ length node.shape.inputs = length-map node.inputs (stream_of streams) ∙ has.inputs in
     let fits : AllByRecursion (λ (e : TimedSet Plain). FitsInputs node.shape e.set) (settled_sets node.policy inputs) =
     subst (λ (k : ℕ). AllByRecursion (λ (e : TimedSet Plain). length e.set ≡ k) (settled_sets node.policy inputs)) long (recursion_from_All (λ (e : TimedSet Plain). length e.set ≡ length inputs) (settled_sets node.policy inputs) (sets-places node.policy inputs)) in
-    let begun = opened (rules_of node.law) node.shape.offset (length node.outputs) (sides_of job.job node) in
+    let begun = opened (table_rules node.law) node.shape.offset (length node.outputs) (sides_of job.job node) in
     let first : begun.state ≡ [] =
     call_state (λ (s : List Plain). s ≡ []) node.shape.offset Open (unopened (length node.outputs)) (opening node.law (sides_of job.job node)) refl (λ given e. opens_empty node.law (sides_of job.job node) given is e) in
     ap (λ (o : Outcome). o.state) (stage_sets node.law job.job streams node n is)
+    ∙ ap (λ (r : Rules). (shown_all r node.shape.offset (length node.outputs) (sides_of job.job node) (take n (sets_of streams node))).state) (stateless_rules job.job number node solves.is_job there stateless)
     ∙ all_empty node.law node.shape is shape node.shape.offset begun (take n (sets_of streams node)) (all_of_first (λ (e : TimedSet Plain). FitsInputs node.shape e.set) n (sets_of streams node) fits) first
 
 -- Several works are in flight only where a node's calculators keep nothing, have no logs, and weren't handed in.
@@ -117,13 +132,13 @@ stateless_by : (b : Bool) → (b ≡ false → ⊥) → b ≡ true
 stateless_by true never = refl
 stateless_by false never = absurd (never refl)
 
-pub record KeepsNothing (job : LoggedJob) (node : PlanNode) : Type 0 where
+pub record KeepsNothing {laws : Laws} (job : LoggedJob laws) (node : PlanNode) : Type 0 where
   pub stateless : node.shape.stateless ≡ true
   pub unlogged : first_log job node ≡ None
   pub unboxed : node.box_number ≡ None
 
-pub several_keep_nothing : (job : LoggedJob) (number : ℕ) (node : PlanNode) → IsJob job.job → slice_get job.job.plan.nodes number ≡ Some node → 1 < node.in_flight → KeepsNothing job node
-several_keep_nothing job number node is_job there several =
+pub several_keep_nothing : {laws : Laws} (job : LoggedJob laws) (number : ℕ) (node : PlanNode) → IsJob job.job → slice_get job.job.plan.nodes number ≡ Some node → 1 < node.in_flight → KeepsNothing job node
+several_keep_nothing {laws} job number node is_job there several =
     let flight : FlightFits node = of_node FlightFits job.job.plan.nodes number node is_job.plan.flights there in
     let box : node.box_number ≡ None = no_box node.box_number (λ s. (let one = flight.boxed s in omega (arith, one, several))) in
     record {

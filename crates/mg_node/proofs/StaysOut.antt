@@ -5,6 +5,7 @@ use Rattle.std.proofs.lemmas.Option.{none-some, slice_get_within}
 use Rattle.mg_value.specs.Payload.{Plain}
 use Rattle.mg_value.specs.Packet.{Stamped}
 use Rattle.mg_settled.specs.Prefix.{StreamPrefix}
+use Rattle.mg_calc.specs.Rules.{Laws}
 use Rattle.mg_calc.specs.declared.node_fault.Phase.{Phase}
 use Rattle.mg_calc.specs.declared.node_fault.Phase.TheVariants.{Open, Call, Process, Close}
 use Rattle.mg_calc.specs.declared.plan_node.PlanNode.{PlanNode}
@@ -99,9 +100,9 @@ out_behind before now work y node laid window number_is out = record {
 }
 
 -- What is found in its window is out once it is taken.
-pub unshelved_out : (job : LoggedJob) (owner : ℕ) (engine engine_now : EngineView) (number : ℕ) (p : PerformedView) → LawfulEngine job (of_node owner) engine → shelf_at engine number ≡ Some p → Unshelves (Some p) engine engine_now number
+pub unshelved_out : {laws : Laws} (job : LoggedJob laws) (owner : ℕ) (engine engine_now : EngineView) (number : ℕ) (p : PerformedView) → LawfulEngine job (of_node owner) engine → shelf_at engine number ≡ Some p → Unshelves (Some p) engine engine_now number
     → GoesOut engine engine_now p.work
-unshelved_out job owner engine engine_now number p h found now =
+unshelved_out {laws} job owner engine engine_now number p h found now =
     let it = found_at engine number p found in
     let from = it.0 in
     let number_is = result_numbered job owner engine number (Some p) (sym found) h in
@@ -110,14 +111,14 @@ unshelved_out job owner engine engine_now number p h found now =
     (result_out job owner engine engine_now number (Some p) (sym found) now h)
 
 -- Close stands behind all others, so each entry before another is counted.
-by_phase : (job : LoggedJob) (streams : List (StreamPrefix Plain)) (node : PlanNode) (n m : ℕ) (phase : Phase) (set : List (Option (Stamped Plain))) → n < m → m ≤ count_of_all streams node → IsTask job.job streams node n phase set → calls_in_phase phase ≡ 1
-by_phase job streams node n m Open set less most t = absurd t
-by_phase job streams node n m (Call k) set less most t = refl
-by_phase job streams node n m (Process at) set less most t = refl
-by_phase job streams node n m Close set less most t = (let all = t.all in absurd (omega (arith, all, less, most)))
+by_phase : {laws : Laws} (job : LoggedJob laws) (streams : List (StreamPrefix Plain)) (node : PlanNode) (n m : ℕ) (phase : Phase) (set : List (Option (Stamped Plain))) → n < m → m ≤ count_of_all streams node → IsTask job.job streams node n phase set → calls_in_phase phase ≡ 1
+by_phase {laws} job streams node n m Open set less most t = absurd t
+by_phase {laws} job streams node n m (Call k) set less most t = refl
+by_phase {laws} job streams node n m (Process at) set less most t = refl
+by_phase {laws} job streams node n m Close set less most t = (let all = t.all in absurd (omega (arith, all, less, most)))
 
-counted_before : (job : LoggedJob) (number : ℕ) (engine : EngineView) (i j : ℕ) (e f : EntryView) → IsEngineOf job number engine → slice_get engine.window i ≡ Some e → slice_get engine.window j ≡ Some f → i < j → calls_in_phase e.phase ≡ 1
-counted_before job number engine i j e f h at at_j less =
+counted_before : {laws : Laws} (job : LoggedJob laws) (number : ℕ) (engine : EngineView) (i j : ℕ) (e f : EntryView) → IsEngineOf job number engine → slice_get engine.window i ≡ Some e → slice_get engine.window j ≡ Some f → i < j → calls_in_phase e.phase ≡ 1
+counted_before {laws} job number engine i j e f h at at_j less =
     let one = h.entries i e at in
     let two = h.entries j f at_j in
     by_phase job h.streams h.node (engine.laid + i) (engine.laid + j) e.phase one.set (omega (arith, less)) (task_most job h.streams h.node (engine.laid + j) f.phase two.set two.task) one.task
@@ -131,9 +132,9 @@ phase_at window place i x y e there same at = elim (cases_eq i place) [
   | inr other ↦ (e, sym (get_other window place i y other) ∙ at, refl)
 ]
 
-counted_in : (job : LoggedJob) (number : ℕ) (engine : EngineView) (place i j : ℕ) (x y e f : EntryView) → IsEngineOf job number engine → slice_get engine.window place ≡ Some x → y.phase ≡ x.phase
+counted_in : {laws : Laws} (job : LoggedJob laws) (number : ℕ) (engine : EngineView) (place i j : ℕ) (x y e f : EntryView) → IsEngineOf job number engine → slice_get engine.window place ≡ Some x → y.phase ≡ x.phase
     → slice_get (set engine.window place y) i ≡ Some e → slice_get (set engine.window place y) j ≡ Some f → i < j → calls_in_phase e.phase ≡ 1
-counted_in job number engine place i j x y e f h there same at at_j less =
+counted_in {laws} job number engine place i j x y e f h there same at at_j less =
     let one = phase_at engine.window place i x y e there same at in
     let two = phase_at engine.window place j x y f there same at_j in
     subst (λ (p : Phase). calls_in_phase p ≡ 1) one.2 (counted_before job number engine i j one.0 two.0 h one.1 two.1 less)
@@ -193,9 +194,9 @@ lays_first offset [] front window = lays_none [] front window
 lays_first offset (entry ∷ entries) front window = lays_next offset entry entries front window (λ next w. lays_first offset entries next w) (has_stopped front) (ready_of entry) refl
 
 -- A work that is committed: all others that are out stay out, whatever is laid.
-pub committed_back : (job : LoggedJob) (number : ℕ) (outcome : OutcomeView) (n : ℕ) (before now : EngineView) → IsOut before outcome.work → LawfulEngine job (of_node number) before → Commits outcome n before now → ComesBack before now outcome.work.number
+pub committed_back : {laws : Laws} (job : LoggedJob laws) (number : ℕ) (outcome : OutcomeView) (n : ℕ) (before now : EngineView) → IsOut before outcome.work → LawfulEngine job (of_node number) before → Commits outcome n before now → ComesBack before now outcome.work.number
 unfolding LawfulEngine
-committed_back job number outcome n before now out h c =
+committed_back {laws} job number outcome n before now out h c =
     let place = outcome.work.number - before.laid in
     let low_own = out.laid in
     let entries = window_with before outcome in
@@ -245,9 +246,9 @@ committed_back job number outcome n before now out h c =
     }
 
 -- What a claim hands out.
-pub unrun_goes : (job : LoggedJob) (number : ℕ) (engine engine_now : EngineView) (work : WorkView) → LawfulEngine job (of_node number) engine → TakesUnrun engine engine_now work → IsOut engine_now work → GoesOut engine engine_now work
+pub unrun_goes : {laws : Laws} (job : LoggedJob laws) (number : ℕ) (engine engine_now : EngineView) (work : WorkView) → LawfulEngine job (of_node number) engine → TakesUnrun engine engine_now work → IsOut engine_now work → GoesOut engine engine_now work
 unfolding LawfulEngine
-unrun_goes job number engine engine_now work h t out =
+unrun_goes {laws} job number engine engine_now work h t out =
     let hands = t.hands in
     let o : OutcomeView = record { work = work; answer = None } in
     let stands : StandsAt job number (engine.laid + t.place) hands.entry.phase o =
@@ -261,10 +262,10 @@ counted_open (Call n) is = refl
 counted_open (Process at) is = refl
 counted_open Close is = absurd (omega (arith, is))
 
-pub further_goes : (job : LoggedJob) (number : ℕ) (engine engine_now : EngineView) (phase : Phase) (more : ℕ) (context : ContextView) (work : WorkView) → LawfulEngine job (of_node number) engine → LawfulEngine job (of_node number) engine_now
+pub further_goes : {laws : Laws} (job : LoggedJob laws) (number : ℕ) (engine engine_now : EngineView) (phase : Phase) (more : ℕ) (context : ContextView) (work : WorkView) → LawfulEngine job (of_node number) engine → LawfulEngine job (of_node number) engine_now
     → Hands engine engine_now phase more context → work.number ≡ engine.claimed → IsOut engine_now work → GoesOut engine engine_now work
 unfolding LawfulEngine
-further_goes job number engine engine_now phase more context work h now t number_is out =
+further_goes {laws} job number engine engine_now phase more context work h now t number_is out =
     let y : EntryView = record { phase = phase; outcome = None; committed = false } in
     let window : engine_now.window ≡ engine.window ++ y ∷ [] = ap (λ (v : EngineView). v.window) t.now in
     let last : slice_get engine_now.window (length engine.window) ≡ Some y = ap (λ (w : List EntryView). slice_get w (length engine.window)) window ∙ behind engine.window [] y in

@@ -9,6 +9,7 @@ use Rattle.mg_value.specs.declared.policy.Policy.{Policy}
 use Rattle.mg_value.specs.declared.policy.Policy.TheVariants.{Default, Mux}
 use Rattle.mg_settled.specs.Prefix.{StreamPrefix}
 use Rattle.mg_settled.specs.Settled.{TimedSet, settled_sets}
+use Rattle.mg_calc.specs.Rules.{Laws}
 use Rattle.mg_calc.specs.declared.call.Call.{Call}
 use Rattle.mg_calc.specs.declared.call.Call.TheVariants.{Begun, Shown}
 use Rattle.mg_calc.specs.declared.law.Law.{Law}
@@ -23,7 +24,7 @@ use Rattle.mg_calc.specs.Equations.{stream_of}
 use Rattle.mg_node.specs.Job.{LoggedJob, Solves, sets_of, count_of_all, IsTask, calls_before_by, calls_before}
 use Rattle.mg_node.specs.Lawful.{is_close}
 use Rattle.mg_node.proofs.ClaimsKeep.{count_calls}
-use Rattle.mg_node.proofs.Performing.{of_node}
+use Rattle.mg_node.proofs.HeldRules.{of_node}
 use Rattle.mg_node.proofs.Stages.{outer_count}
 
 -- The logs.
@@ -60,8 +61,8 @@ none_long : {X : Type 0} (xs : List X) → length xs ≡ 0 → xs ≡ []
 none_long [] e = refl
 none_long (x ∷ xs) e = absurd (omega (arith, e))
 
-pub call_logged : (job : LoggedJob) (streams : List (StreamPrefix Plain)) (number : ℕ) (node : PlanNode) (n : ℕ) → Solves job streams → slice_get job.job.plan.nodes number ≡ Some node → IsSource node.law → calls_before streams node n ++ [] ≡ calls_before streams node (n + 1) ++ []
-call_logged job streams number node n solves there is =
+pub call_logged : {laws : Laws} (job : LoggedJob laws) (streams : List (StreamPrefix Plain)) (number : ℕ) (node : PlanNode) (n : ℕ) → Solves job streams → slice_get job.job.plan.nodes number ≡ Some node → IsSource node.law → calls_before streams node n ++ [] ≡ calls_before streams node (n + 1) ++ []
+call_logged {laws} job streams number node n solves there is =
     let shape : IsShapeOf node.law node.shape = of_node (λ (m : PlanNode). IsShapeOf m.law m.shape) job.job.plan.nodes number node solves.is_job.plan.shapes there in
     let has : HasNumbers node = of_node HasNumbers job.job.plan.nodes number node solves.is_job.plan.ports there in
     let ports : length node.inputs ≡ 0 = has.inputs ∙ ap length (source_inputs node.law node.shape.inputs is shape.inputs) in
@@ -72,15 +73,15 @@ call_logged job streams number node n solves there is =
     ap (λ (cs : List Call). cs ++ []) (calls n ∙ sym (calls (n + 1)))
 
 -- The number of a work.
-pub task_within : (job : LoggedJob) (streams : List (StreamPrefix Plain)) (node : PlanNode) (n : ℕ) (phase : Phase) (set : List (Option (Stamped Plain))) → is_close phase ≡ false → IsTask job.job streams node n phase set → n < count_of_all streams node
-task_within job streams node n Open set more task = absurd task
-task_within job streams node n Close set more task = absurd cc
-task_within job streams node n (SourceCall call) set more task = (let less = task.2 in let count = count_calls node.law streams node task.0 in omega (arith, less, count))
-task_within job streams node n (Process at) set more task =
+pub task_within : {laws : Laws} (job : LoggedJob laws) (streams : List (StreamPrefix Plain)) (node : PlanNode) (n : ℕ) (phase : Phase) (set : List (Option (Stamped Plain))) → is_close phase ≡ false → IsTask job.job streams node n phase set → n < count_of_all streams node
+task_within {laws} job streams node n Open set more task = absurd task
+task_within {laws} job streams node n Close set more task = absurd cc
+task_within {laws} job streams node n (SourceCall call) set more task = (let less = task.2 in let count = count_calls node.law streams node task.0 in omega (arith, less, count))
+task_within {laws} job streams node n (Process at) set more task =
     let within = slice_get_within (sets_of streams node) n (record { at = at; set = set }) task.1 in
     let count = outer_count node.law streams node task.0 in
     omega (arith, within, count)
 
-pub task_most : (job : LoggedJob) (streams : List (StreamPrefix Plain)) (node : PlanNode) (n : ℕ) (phase : Phase) (set : List (Option (Stamped Plain))) → IsTask job.job streams node n phase set → n ≤ count_of_all streams node
-task_most job streams node n Close set task = (let all = task.all in omega (arith, all))
-task_most job streams node n phase set task = (let less = task_within job streams node n phase set refl task in omega (arith, less))
+pub task_most : {laws : Laws} (job : LoggedJob laws) (streams : List (StreamPrefix Plain)) (node : PlanNode) (n : ℕ) (phase : Phase) (set : List (Option (Stamped Plain))) → IsTask job.job streams node n phase set → n ≤ count_of_all streams node
+task_most {laws} job streams node n Close set task = (let all = task.all in omega (arith, all))
+task_most {laws} job streams node n phase set task = (let less = task_within job streams node n phase set refl task in omega (arith, less))

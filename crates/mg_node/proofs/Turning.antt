@@ -8,6 +8,7 @@ use Rattle.mg_settled.specs.Prefix.{StreamPrefix}
 use Rattle.mg_settled.specs.Settled.{TimedSet}
 use Rattle.mg_settled.specs.Extension.{AreExtendedBy}
 use Rattle.mg_settled.proofs.Lemmas.{all_by_themselves, all_further}
+use Rattle.mg_calc.specs.Rules.{Laws}
 use Rattle.mg_calc.specs.declared.cause.Cause.{Cause}
 use Rattle.mg_calc.specs.declared.emission.Laid.{Laid}
 use Rattle.mg_calc.specs.declared.law.Law.{Law}
@@ -18,23 +19,23 @@ use Rattle.mg_calc.specs.declared.plan_node.PlanNode.{PlanNode}
 use Rattle.mg_calc.specs.Laying.{all_raised}
 use Rattle.mg_calc.specs.Outcome.{Outcome, after_call}
 use Rattle.mg_calc.specs.Shape.{IsShapeOf, offset_of}
-use Rattle.mg_calc.specs.Equations.{outcome_of}
+use Rattle.mg_calc.specs.Equations.{outcome_of, rules_at}
 use Rattle.mg_calc.proofs.Outcomes.{call_extends, goes_on}
 use Rattle.mg_node.specs.Views.{ContextView}
 use Rattle.mg_node.specs.Job.{LoggedJob, Solves, streams_at, sets_of, stage, IsLastWork, IsTask, calls_before, calls_in}
-use Rattle.mg_node.specs.Lawful.{answer_in, is_close, calls_by}
+use Rattle.mg_node.specs.Lawful.{answer_in, is_close, calls_by, HasAnswered}
 use Rattle.mg_node.specs.Commits.{raised_before, calls_in_phase}
 use Rattle.mg_node.proofs.NodeSolution.{node_streams}
-use Rattle.mg_node.proofs.Performing.{of_node}
+use Rattle.mg_node.proofs.HeldRules.{of_node}
 use Rattle.mg_node.proofs.StageCounts.{one_more_counted}
 use Rattle.mg_node.proofs.Stages.{kind_of, IsCalled, called_offset, outer_count, outer_over, next_stage, failed_is_all, stage_laid, closed_stage, state_stays}
 use Rattle.mg_node.proofs.StageStreams.{stage_extended, raised_stage_extended}
-use Rattle.mg_node.proofs.Stateless.{stage_empty}
+use Rattle.mg_node.proofs.Stateless.{stage_empty, stateless_rules}
 use Rattle.mg_node.proofs.TaskLogs.{set_logged, call_logged, task_within, task_most}
 use Rattle.mg_node.proofs.Turns.{behind_work, IsDone, Turns}
-use Rattle.mg_calc.specs.Law.{rules_of}
+use Rattle.mg_calc.specs.Rules.{Rules}
 
-module _ (job : LoggedJob) (streams : List (StreamPrefix Plain)) (number : ℕ) (node : PlanNode) (n : ℕ) (solves : Solves job streams) (there : slice_get job.job.plan.nodes number ≡ Some node) (good : (stage job.job streams node n).fault ≡ None) where
+module _ {laws : Laws} (job : LoggedJob laws) (streams : List (StreamPrefix Plain)) (number : ℕ) (node : PlanNode) (n : ℕ) (solves : Solves job streams) (there : slice_get job.job.plan.nodes number ≡ Some node) (good : (stage job.job streams node n).fault ≡ None) where
   -- A set or a call: the outputs that are raised before it come first in those of the next stage.
   raised_next : (phase : Phase) (set : List (Option (Stamped Plain))) → IsTask job.job streams node n phase set → is_close phase ≡ false
       → AreExtendedBy (raised_before node.shape.offset phase (stage job.job streams node n).outputs) (stage job.job streams node (n + 1)).outputs
@@ -42,7 +43,7 @@ module _ (job : LoggedJob) (streams : List (StreamPrefix Plain)) (number : ℕ) 
       let before = stage job.job streams node n in
       let raised = raised_before node.shape.offset phase before.outputs in
       let up : Outcome = record before { outputs = raised; taken = before.taken + 1 } in
-      let given = answer_in node.law before.state phase set in
+      let given = answer_in (rules_at job.job node) node.law before.state phase set in
       let next : stage job.job streams node (n + 1) ≡ after_call node.shape.offset phase up given =
       next_stage job streams number node n phase set solves there task more ∙ goes_on before.fault before (after_call node.shape.offset phase up given) good in
       subst (λ (o : Outcome). AreExtendedBy raised o.outputs) (sym next) (call_extends node.shape.offset phase up given)
@@ -109,7 +110,8 @@ module _ (job : LoggedJob) (streams : List (StreamPrefix Plain)) (number : ℕ) 
         fault = laid.fault;
         state = sym laid.state_is;
         log = ap (λ (k : ℕ). calls_by streams node k true) same;
-        nothing = (λ stateless. laid.state_is ∙ sym (state_stays node.law (stage job.job streams node n).state context.told.state answer d.answered));
+        nothing = (λ stateless. laid.state_is ∙ sym (state_stays node.law (stage job.job streams node n).state context.told.state answer
+            (subst (λ (r : Rules). HasAnswered answer (stage job.job streams node n).state context.told.state (r.finish (stage job.job streams node n).state)) (stateless_rules job.job number node solves.is_job there stateless) d.answered)));
         taken = (λ le. omega (arith, le));
         last = (λ closes. subst (IsLastWork job.job streams node) same last);
         none = (λ closes k f set later task. (let all = last.all in let most = task_most job streams node k f set task in omega (arith, all, most, later)));
@@ -122,6 +124,6 @@ module _ (job : LoggedJob) (streams : List (StreamPrefix Plain)) (number : ℕ) 
   turns_by (SourceCall number_of_call) context answer d = further (SourceCall number_of_call) context answer d refl refl refl (call_logged job streams number node n solves there d.task.0) refl
   turns_by (Process at) context answer d = further (Process at) context answer d refl refl refl (set_logged streams node n (record { at = at; set = context.set }) d.task.0 d.task.1) refl
 
-pub work_turns : (job : LoggedJob) (streams : List (StreamPrefix Plain)) (number : ℕ) (node : PlanNode) (n : ℕ) (phase : Phase) (context : ContextView) (answer : Result (List Laid) Cause) → Solves job streams → slice_get job.job.plan.nodes number ≡ Some node
+pub work_turns : {laws : Laws} (job : LoggedJob laws) (streams : List (StreamPrefix Plain)) (number : ℕ) (node : PlanNode) (n : ℕ) (phase : Phase) (context : ContextView) (answer : Result (List Laid) Cause) → Solves job streams → slice_get job.job.plan.nodes number ≡ Some node
     → (stage job.job streams node n).fault ≡ None → IsDone job streams node n phase context answer → Turns job streams node n phase context answer
-work_turns job streams number node n phase context answer solves there good d = turns_by job streams number node n solves there good phase context answer d
+work_turns {laws} job streams number node n phase context answer solves there good d = turns_by job streams number node n solves there good phase context answer d

@@ -4,6 +4,7 @@ use Rattle.mg_value.specs.Payload.{Plain}
 use Rattle.mg_value.specs.Packet.{Stamped}
 use Rattle.mg_settled.specs.Prefix.{StreamPrefix}
 use Rattle.mg_settled.specs.Extension.{AreExtendedBy}
+use Rattle.mg_calc.specs.Rules.{Laws}
 use Rattle.mg_calc.specs.declared.cause.Cause.{Cause}
 use Rattle.mg_calc.specs.declared.emission.Laid.{Laid}
 use Rattle.mg_calc.specs.declared.node_fault.Phase.{Phase}
@@ -12,6 +13,7 @@ use Rattle.mg_calc.specs.Outcome.{Failure, Outcome}
 use Rattle.mg_calc.specs.Meaning.{count_of}
 use Rattle.mg_route.specs.HolderView.{FitsHolder}
 use Rattle.mg_calc.proofs.Solutions.{one_solution}
+use Rattle.mg_calc.specs.Equations.{rules_at}
 use Rattle.mg_node.specs.Views.{ContextView, PerformedView}
 use Rattle.mg_node.specs.Job.{LoggedJob, Solves, streams_at, stage, IsLastWork, IsTask, log_after, calls_before, calls_in}
 use Rattle.mg_node.specs.Lawful.{HasAnswered, answer_in, IsWorkOf, LawfulOutcome, StandsAt, is_close, come_to, calls_by}
@@ -19,22 +21,22 @@ use Rattle.mg_node.specs.Commits.{raised_before, calls_in_phase}
 use Rattle.mg_node.proofs.LayingAll.{outputs_at, failure_at}
 
 -- what a node has come to behind its work of a number
-abbrev pub behind_work : LoggedJob → List (StreamPrefix Plain) → PlanNode → ℕ → Phase → Outcome
-behind_work job streams node n phase = come_to job streams node (n + calls_in_phase phase) (is_close phase)
+abbrev pub behind_work : {laws : Laws} → LoggedJob laws → List (StreamPrefix Plain) → PlanNode → ℕ → Phase → Outcome
+behind_work {laws} job streams node n phase = come_to job streams node (n + calls_in_phase phase) (is_close phase)
 
 -- a node's work of a number was performed, with an answer, in a context
-pub record IsDone (job : LoggedJob) (streams : List (StreamPrefix Plain)) (node : PlanNode) (n : ℕ) (phase : Phase) (context : ContextView) (answer : Result (List Laid) Cause) : Type 0 where
+pub record IsDone {laws : Laws} (job : LoggedJob laws) (streams : List (StreamPrefix Plain)) (node : PlanNode) (n : ℕ) (phase : Phase) (context : ContextView) (answer : Result (List Laid) Cause) : Type 0 where
   pub fits : FitsHolder node context.told
   pub places : length context.set ≡ length node.inputs
   pub task : IsTask job.job streams node n phase context.set
-  pub answered : HasAnswered answer (stage job.job streams node n).state context.told.state (answer_in node.law (stage job.job streams node n).state phase context.set)
+  pub answered : HasAnswered answer (stage job.job streams node n).state context.told.state (answer_in (rules_at job.job node) node.law (stage job.job streams node n).state phase context.set)
   pub log : context.told.log ≡ log_after job node (calls_before streams node n ++ calls_in phase context.set)
 
 -- so was one that stands in a window as performed
-pub done_by : (job : LoggedJob) (streams : List (StreamPrefix Plain)) (number : ℕ) (node : PlanNode) (n : ℕ) (phase : Phase) (p : PerformedView) → Solves job streams → slice_get job.job.plan.nodes number ≡ Some node
+pub done_by : {laws : Laws} (job : LoggedJob laws) (streams : List (StreamPrefix Plain)) (number : ℕ) (node : PlanNode) (n : ℕ) (phase : Phase) (p : PerformedView) → Solves job streams → slice_get job.job.plan.nodes number ≡ Some node
     → StandsAt job number n phase (record { work = p.work; answer = Some p.answer }) → IsDone job streams node n phase p.work.context p.answer
 unfolding LawfulOutcome
-done_by job streams number node n phase p solves there stands =
+done_by {laws} job streams number node n phase p solves there stands =
     let w : IsWorkOf job (record { work = p.work; answer = Some p.answer }) = stands.lawful in
     let same : w.streams ≡ streams = one_solution job.job w.streams streams w.solves.solution solves.solution in
     let node_is : w.node ≡ node =
@@ -48,7 +50,7 @@ done_by job streams number node n phase p solves there stands =
     (record { fits = w.fits; places = w.places; task = w.task; answered = w.at_work.0; log = w.at_work.1 }))))
 
 -- what such a work makes of the node
-pub record Turns (job : LoggedJob) (streams : List (StreamPrefix Plain)) (node : PlanNode) (n : ℕ) (phase : Phase) (context : ContextView) (answer : Result (List Laid) Cause) : Type 0 where
+pub record Turns {laws : Laws} (job : LoggedJob laws) (streams : List (StreamPrefix Plain)) (node : PlanNode) (n : ℕ) (phase : Phase) (context : ContextView) (answer : Result (List Laid) Cause) : Type 0 where
   -- the solution's streams extend the outputs as they are raised before it, and as they are behind it; after a fault they are those
   pub before : AreExtendedBy (raised_before node.shape.offset phase (stage job.job streams node n).outputs) (streams_at streams node.outputs)
   pub extended : AreExtendedBy (behind_work job streams node n phase).outputs (streams_at streams node.outputs)

@@ -11,6 +11,7 @@ use Rattle.mg_settled.specs.Prefix.{StreamPrefix, IsPrefix, empty_prefix}
 use Rattle.mg_settled.specs.Left.{AreGone, MayBeGone, goes, leads}
 use Rattle.mg_settled.specs.Settled.{port_of}
 use Rattle.mg_settled.proofs.Lemmas.{extended_by_itself, all_by_themselves, none-gone, empty_is_prefix}
+use Rattle.mg_calc.specs.Rules.{Laws}
 use Rattle.mg_calc.specs.declared.emission.Laid.{Laid}
 use Rattle.mg_calc.specs.declared.law.Law.TheVariants.{Pass}
 use Rattle.mg_calc.specs.declared.node_fault.Phase.TheVariants.{Process, Close}
@@ -63,18 +64,18 @@ seven = record { at = five; value = int (pos 7) }
 abbrev whole : StreamPrefix Plain
 whole = record { packets = seven ∷ []; bound = done }
 
-abbrev job : LoggedJob
-job = record { job = record { plan = plan; inputs = record { streams = whole ∷ []; sides = []; ended = true } }; boxes = [] }
+abbrev job : (laws : Laws) → LoggedJob laws
+job laws = record { job = record { plan = plan; inputs = record { streams = whole ∷ []; sides = []; ended = true }; laws = laws }; boxes = []; same = refl }
 
 abbrev streams : List (StreamPrefix Plain)
 streams = whole ∷ whole ∷ []
 
 -- the second round is the solution's
-reached : streams ≡ round job.job 2
-reached = refl
+reached : (laws : Laws) → streams ≡ round (job laws).job 2
+reached laws = refl
 
-meets : next_round job.job streams ≡ streams
-meets = refl
+meets : (laws : Laws) → next_round (job laws).job streams ≡ streams
+meets laws = refl
 
 all : {X : Type 0} (P : X → Type 0) (xs : List X) → AllByRecursion P xs → All P xs
 all P xs a = All-from_recursion P xs a
@@ -160,8 +161,8 @@ raised_to_five = record {
   alone = whole_is.alone;
 }
 
-module _ (solves : Solves job streams) where
-  came_lawful : LawfulIntake job 0 (intake 0 0 (seven ∷ []))
+module _ {laws : Laws} (solves : Solves (job laws) streams) where
+  came_lawful : LawfulIntake (job laws) 0 (intake 0 0 (seven ∷ []))
   unfolding LawfulIntake
   came_lawful = record {
     streams = streams;
@@ -178,7 +179,7 @@ module _ (solves : Solves job streams) where
     );
   }
 
-  claimed_lawful : LawfulIntake job 0 (intake 1 1 [])
+  claimed_lawful : LawfulIntake (job laws) 0 (intake 1 1 [])
   unfolding LawfulIntake
   claimed_lawful = record {
     streams = streams;
@@ -195,16 +196,16 @@ module _ (solves : Solves job streams) where
     );
   }
 
-  work_lawful : LawfulWork job work
+  work_lawful : LawfulWork (job laws) work
   unfolding LawfulWork
   work_lawful = record { streams = streams; solves = solves; node = node; there = refl; fits = record { same_law = refl; same_shape = refl; same_handed = refl }; places = refl; task = (tt, refl); at_work = (refl, refl) }
 
-  performed_lawful : LawfulPerformed job (record { work = work; answer = Ok emission })
+  performed_lawful : LawfulPerformed (job laws) (record { work = work; answer = Ok emission })
   unfolding LawfulPerformed
   performed_lawful = record { streams = streams; solves = solves; node = node; there = refl; fits = record { same_law = refl; same_shape = refl; same_handed = refl }; places = refl; task = (tt, refl); at_work = (refl, refl) }
 
   -- begun: nothing is laid, and the context is idle
-  begun_lawful : LawfulEngine job (of_node 0) (engine [] pre_stream 0 0 [] (context ∷ []) false)
+  begun_lawful : LawfulEngine (job laws) (of_node 0) (engine [] pre_stream 0 0 [] (context ∷ []) false)
   unfolding LawfulEngine
   begun_lawful = record {
     streams = streams;
@@ -223,14 +224,14 @@ module _ (solves : Solves job streams) where
     fault = refl;
     order = refl;
     entries = (λ i entry h. absurd (cc));
-    idle = all (IsIdle job streams node 0 false) (context ∷ []) (record { fits = record { same_law = refl; same_shape = refl; same_handed = refl }; places = refl; state = refl; log = refl }, tt);
+    idle = all (IsIdle (job laws) streams node 0 false) (context ∷ []) (record { fits = record { same_law = refl; same_shape = refl; same_handed = refl }; places = refl; state = refl; log = refl }, tt);
     contexts = refl;
     waits = (λ goes. refl);
     ended = (λ e. absurd cc);
   }
 
-  entry_at_five : (i : ℕ) (entry : EntryView) → slice_get (out_at_five ∷ []) i ≡ Some entry → IsEntry job streams node 0 (0 + i) 0 entry
-  entry_at_five zero entry h = subst (IsEntry job streams node 0 0 0) (let same : out_at_five ≡ entry = cc in same) (record {
+  entry_at_five : (i : ℕ) (entry : EntryView) → slice_get (out_at_five ∷ []) i ≡ Some entry → IsEntry (job laws) streams node 0 (0 + i) 0 entry
+  entry_at_five zero entry h = subst (IsEntry (job laws) streams node 0 0 0) (let same : out_at_five ≡ entry = cc in same) (record {
     set = Some seven ∷ [];
     task = (tt, refl);
     outcome = tt;
@@ -240,7 +241,7 @@ module _ (solves : Solves job streams) where
   entry_at_five (suc i) entry h = absurd cc
 
   -- claimed: its work is out
-  out_lawful : LawfulEngine job (of_node 0) (engine [] pre_stream 0 1 (out_at_five ∷ []) [] false)
+  out_lawful : LawfulEngine (job laws) (of_node 0) (engine [] pre_stream 0 1 (out_at_five ∷ []) [] false)
   unfolding LawfulEngine
   out_lawful = record {
     streams = streams;
@@ -259,14 +260,14 @@ module _ (solves : Solves job streams) where
     fault = refl;
     order = refl;
     entries = entry_at_five;
-    idle = All-nil (IsIdle job streams node 0 false);
+    idle = All-nil (IsIdle (job laws) streams node 0 false);
     contexts = refl;
     waits = (λ goes. refl);
     ended = (λ e. absurd cc);
   }
 
   -- committed: 7 is laid at 5
-  laid_lawful : LawfulEngine job (of_node 0) (engine (seven ∷ []) (next five) 1 1 [] (context ∷ []) false)
+  laid_lawful : LawfulEngine (job laws) (of_node 0) (engine (seven ∷ []) (next five) 1 1 [] (context ∷ []) false)
   unfolding LawfulEngine
   laid_lawful = record {
     streams = streams;
@@ -285,14 +286,14 @@ module _ (solves : Solves job streams) where
     fault = refl;
     order = refl;
     entries = (λ i entry h. absurd (cc));
-    idle = all (IsIdle job streams node 1 false) (context ∷ []) (record { fits = record { same_law = refl; same_shape = refl; same_handed = refl }; places = refl; state = refl; log = refl }, tt);
+    idle = all (IsIdle (job laws) streams node 1 false) (context ∷ []) (record { fits = record { same_law = refl; same_shape = refl; same_handed = refl }; places = refl; state = refl; log = refl }, tt);
     contexts = refl;
     waits = (λ goes. refl);
     ended = (λ e. absurd cc);
   }
 
-  entry_for_close : (i : ℕ) (entry : EntryView) → slice_get (out_for_close ∷ []) i ≡ Some entry → IsEntry job streams node 1 (1 + i) 0 entry
-  entry_for_close zero entry h = subst (IsEntry job streams node 1 1 0) (let same : out_for_close ≡ entry = cc in same) (record {
+  entry_for_close : (i : ℕ) (entry : EntryView) → slice_get (out_for_close ∷ []) i ≡ Some entry → IsEntry (job laws) streams node 1 (1 + i) 0 entry
+  entry_for_close zero entry h = subst (IsEntry (job laws) streams node 1 1 0) (let same : out_for_close ≡ entry = cc in same) (record {
     set = [];
     task = record { all = refl; good = refl; over = refl };
     outcome = tt;
@@ -302,7 +303,7 @@ module _ (solves : Solves job streams) where
   entry_for_close (suc i) entry h = absurd cc
 
   -- Close is claimed, and counts as no set
-  closing_lawful : LawfulEngine job (of_node 0) (engine (seven ∷ []) (next five) 1 1 (out_for_close ∷ []) [] false)
+  closing_lawful : LawfulEngine (job laws) (of_node 0) (engine (seven ∷ []) (next five) 1 1 (out_for_close ∷ []) [] false)
   unfolding LawfulEngine
   closing_lawful = record {
     streams = streams;
@@ -321,14 +322,14 @@ module _ (solves : Solves job streams) where
     fault = refl;
     order = refl;
     entries = entry_for_close;
-    idle = All-nil (IsIdle job streams node 1 false);
+    idle = All-nil (IsIdle (job laws) streams node 1 false);
     contexts = refl;
     waits = (λ goes. refl);
     ended = (λ e. absurd cc);
   }
 
   -- Close is laid: the output is the solution's stream
-  closed_lawful : LawfulEngine job (of_node 0) (engine (seven ∷ []) done 1 1 [] (context ∷ []) true)
+  closed_lawful : LawfulEngine (job laws) (of_node 0) (engine (seven ∷ []) done 1 1 [] (context ∷ []) true)
   unfolding LawfulEngine
   closed_lawful = record {
     streams = streams;
@@ -347,7 +348,7 @@ module _ (solves : Solves job streams) where
     fault = refl;
     order = refl;
     entries = (λ i entry h. absurd (cc));
-    idle = all (IsIdle job streams node 1 true) (context ∷ []) (record { fits = record { same_law = refl; same_shape = refl; same_handed = refl }; places = refl; state = refl; log = refl }, tt);
+    idle = all (IsIdle (job laws) streams node 1 true) (context ∷ []) (record { fits = record { same_law = refl; same_shape = refl; same_handed = refl }; places = refl; state = refl; log = refl }, tt);
     contexts = refl;
     waits = (λ goes. refl);
     ended = (λ e. omega arith);

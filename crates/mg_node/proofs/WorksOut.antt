@@ -2,6 +2,7 @@
 use Rattle.std.proofs.Common.{◌≡◌, ℕ, ◌+◌, ◌-◌, ◌<◌, ◌≤◌, false, List, [], ◌∷◌, ◌++◌, length, set, Option, Some, None, IfSome, slice_get, count_by as number_of, inl, inr, ap, sym, refl, subst, ◌∙◌, arith}
 use Rattle.mg_value.specs.Payload.{Plain}
 use Rattle.mg_settled.specs.Prefix.{StreamPrefix}
+use Rattle.mg_calc.specs.Rules.{Laws}
 use Rattle.mg_calc.specs.declared.node_fault.Phase.{Phase}
 use Rattle.mg_calc.specs.declared.node_fault.Phase.TheVariants.{Call, Process, Close}
 use Rattle.mg_calc.specs.declared.plan_node.PlanNode.{PlanNode}
@@ -30,9 +31,9 @@ abbrev out_entry : Phase → EntryView
 out_entry phase = record { phase = phase; outcome = None; committed = false }
 
 -- A work that came back unrun is out once it is handed out again.
-unrun_out : (job : LoggedJob) (number : ℕ) (engine engine_now : EngineView) (work : WorkView) → LawfulEngine job (of_node number) engine → TakesUnrun engine engine_now work → IsOut engine_now work
+unrun_out : {laws : Laws} (job : LoggedJob laws) (number : ℕ) (engine engine_now : EngineView) (work : WorkView) → LawfulEngine job (of_node number) engine → TakesUnrun engine engine_now work → IsOut engine_now work
 unfolding LawfulEngine
-unrun_out job number engine engine_now work h t =
+unrun_out {laws} job number engine engine_now work h t =
     let hands = t.hands in
     let e = h.entries t.place hands.entry hands.there in
     let stands : StandsAt job number (engine.laid + t.place) hands.entry.phase (record { work = work; answer = None }) =
@@ -65,10 +66,10 @@ handed_out engine engine_now phase more context work t order node_is number_is p
     }
 
 -- where a further set or call comes, no Close is claimed
-none_before : (job : LoggedJob) (number : ℕ) (engine engine_now : EngineView) (phase : Phase) (more : ℕ) (context : ContextView) → LawfulEngine job (of_node number) engine → LawfulEngine job (of_node number) engine_now → is_close phase ≡ false
+none_before : {laws : Laws} (job : LoggedJob laws) (number : ℕ) (engine engine_now : EngineView) (phase : Phase) (more : ℕ) (context : ContextView) → LawfulEngine job (of_node number) engine → LawfulEngine job (of_node number) engine_now → is_close phase ≡ false
     → Hands engine engine_now phase more context → engine.laid + length engine.window ≡ engine.claimed
 unfolding LawfulEngine
-none_before job number engine engine_now phase more context h now open_is t =
+none_before {laws} job number engine engine_now phase more context h now open_is t =
     let laid : engine_now.laid ≡ engine.laid = ap (λ (v : EngineView). v.laid) t.now in
     let there : slice_get engine_now.window (length engine.window) ≡ Some (out_entry phase) = ap (λ (v : EngineView). slice_get v.window (length engine.window)) t.now ∙ last_get engine.window (out_entry phase) in
     let e = now.entries (length engine.window) (out_entry phase) there in
@@ -81,28 +82,28 @@ none_before job number engine engine_now phase more context h now open_is t =
     let none = none_closes job number engine h less in
     omega (arith, order, none)
 
-call_out : (job : LoggedJob) (number : ℕ) (engine engine_now : EngineView) (work : WorkView) → LawfulEngine job (of_node number) engine → LawfulEngine job (of_node number) engine_now → TakesCall engine engine_now work → IsOut engine_now work
-call_out job number engine engine_now work h now t =
+call_out : {laws : Laws} (job : LoggedJob laws) (number : ℕ) (engine engine_now : EngineView) (work : WorkView) → LawfulEngine job (of_node number) engine → LawfulEngine job (of_node number) engine_now → TakesCall engine engine_now work → IsOut engine_now work
+call_out {laws} job number engine engine_now work h now t =
     handed_out engine engine_now (Call engine.claimed) 1 t.context work t.hands (none_before job number engine engine_now (Call engine.claimed) 1 t.context h now refl t.hands)
     (ap (λ (w : WorkView). w.node) t.work_is) (ap (λ (w : WorkView). w.number) t.work_is) (ap (λ (w : WorkView). w.phase) t.work_is)
 
-set_out : (job : LoggedJob) (number : ℕ) (engine engine_now : EngineView) (intake intake_now : IntakeView) (work : WorkView) → LawfulEngine job (of_node number) engine → LawfulEngine job (of_node number) engine_now → TakesSet engine engine_now intake intake_now work → IsOut engine_now work
-set_out job number engine engine_now intake intake_now work h now t =
+set_out : {laws : Laws} (job : LoggedJob laws) (number : ℕ) (engine engine_now : EngineView) (intake intake_now : IntakeView) (work : WorkView) → LawfulEngine job (of_node number) engine → LawfulEngine job (of_node number) engine_now → TakesSet engine engine_now intake intake_now work → IsOut engine_now work
+set_out {laws} job number engine engine_now intake intake_now work h now t =
     handed_out engine engine_now (Process t.at) 1 t.context work t.hands (none_before job number engine engine_now (Process t.at) 1 t.context h now refl t.hands)
     (ap (λ (w : WorkView). w.node) t.work_is) (ap (λ (w : WorkView). w.number) t.work_is) (ap (λ (w : WorkView). w.phase) t.work_is)
 
-close_out : (job : LoggedJob) (number : ℕ) (engine engine_now : EngineView) (intake : IntakeView) (work : WorkView) → LawfulEngine job (of_node number) engine → TakesClose engine engine_now intake.waits work → IsOut engine_now work
+close_out : {laws : Laws} (job : LoggedJob laws) (number : ℕ) (engine engine_now : EngineView) (intake : IntakeView) (work : WorkView) → LawfulEngine job (of_node number) engine → TakesClose engine engine_now intake.waits work → IsOut engine_now work
 unfolding LawfulEngine
-close_out job number engine engine_now intake work h t =
+close_out {laws} job number engine engine_now intake work h t =
     let order = h.order in
     let none : number_of (λ (e : EntryView). is_close e.phase) engine.window ≡ 0 = ap (number_of (λ (e : EntryView). is_close e.phase)) t.laid in
     handed_out engine engine_now Close 0 t.context work t.hands (omega (arith, order, none))
     (ap (λ (w : WorkView). w.node) t.work_is) (ap (λ (w : WorkView). w.number) t.work_is) (ap (λ (w : WorkView). w.phase) t.work_is)
 
 -- A work that a claim gives is out.
-claimed_out : (C : Type 0) (job : LoggedJob) (number : ℕ) (work : WorkView) (engine engine_now : EngineView) (intake intake_now : IntakeView) → LawfulEngine job (of_node number) engine → LawfulEngine job (of_node number) engine_now
+claimed_out : {laws : Laws} (C : Type 0) (job : LoggedJob laws) (number : ℕ) (work : WorkView) (engine engine_now : EngineView) (intake intake_now : IntakeView) → LawfulEngine job (of_node number) engine → LawfulEngine job (of_node number) engine_now
     → Claims {C = C} (Work work) engine engine_now intake intake_now → IsOut engine_now work
-claimed_out C job number work engine engine_now intake intake_now h now claims = elim claims [
+claimed_out {laws} C job number work engine engine_now intake intake_now h now claims = elim claims [
   | inl unrun ↦ unrun_out job number engine engine_now work h unrun.1
   | inr further ↦ elim further.1 [
     | inl called ↦ call_out job number engine engine_now work h now called.0
@@ -113,28 +114,28 @@ claimed_out C job number work engine engine_now intake intake_now h now claims =
   ]
 ]
 
-pub claim_out : {C : Type 0} (result : Claimed C) (engine engine_now : EngineView) (intake intake_now : IntakeView) → AreCell engine intake → Claims result engine engine_now intake intake_now → GivesOut result engine_now
-claim_out {C} (Work work) engine engine_now intake intake_now cell claims =
+pub claim_out : {laws : Laws} {C : Type 0} (result : Claimed C) (engine engine_now : EngineView) (intake intake_now : IntakeView) → AreCell laws engine intake → Claims result engine engine_now intake intake_now → GivesOut result engine_now
+claim_out {laws} {C} (Work work) engine engine_now intake intake_now cell claims =
     claimed_out C cell.job cell.number work engine engine_now intake intake_now cell.lawful_engine
     (claim_lawful {C = C} cell.job cell.number (Work work) engine engine_now intake intake_now cell.lawful_engine cell.lawful_intake cell.agree claims).lawful_engine claims
-claim_out Answered engine engine_now intake intake_now cell claims = tt
-claim_out NotReady engine engine_now intake intake_now cell claims = tt
-claim_out InFlightFull engine engine_now intake intake_now cell claims = tt
-claim_out Draining engine engine_now intake intake_now cell claims = tt
-claim_out Ended engine engine_now intake intake_now cell claims = tt
-claim_out OutOfMemory engine engine_now intake intake_now cell claims = tt
+claim_out {laws} Answered engine engine_now intake intake_now cell claims = tt
+claim_out {laws} NotReady engine engine_now intake intake_now cell claims = tt
+claim_out {laws} InFlightFull engine engine_now intake intake_now cell claims = tt
+claim_out {laws} Draining engine engine_now intake intake_now cell claims = tt
+claim_out {laws} Ended engine engine_now intake intake_now cell claims = tt
+claim_out {laws} OutOfMemory engine engine_now intake intake_now cell claims = tt
 
 -- A work that is found in its window is that of its number there, and out once it is taken; and it can be put back.
 
-record IsFoundAt (job : LoggedJob) (owner number : ℕ) (engine : EngineView) (p : PerformedView) : Type 0 where
+record IsFoundAt {laws : Laws} (job : LoggedJob laws) (owner number : ℕ) (engine : EngineView) (p : PerformedView) : Type 0 where
   pub laid : engine.laid ≤ number
   pub node_is : p.work.node ≡ engine.node
   pub number_is : p.work.number ≡ number
   pub there : slice_get engine.window (number - engine.laid) ≡ Some (back (outcome_of p))
 
-found_stands : (job : LoggedJob) (owner : ℕ) (engine : EngineView) (number : ℕ) (p : PerformedView) → LawfulEngine job (of_node owner) engine → shelf_at engine number ≡ Some p → IsFoundAt job owner number engine p
+found_stands : {laws : Laws} (job : LoggedJob laws) (owner : ℕ) (engine : EngineView) (number : ℕ) (p : PerformedView) → LawfulEngine job (of_node owner) engine → shelf_at engine number ≡ Some p → IsFoundAt job owner number engine p
 unfolding LawfulEngine
-found_stands job owner engine number p h found =
+found_stands {laws} job owner engine number p h found =
     let it = found_at engine number p found in
     let from = it.0 in
     let outcome_is : it.1.outcome ≡ Some (outcome_of p) = it.3.there ∙ ap Some it.3.performed in
@@ -149,8 +150,8 @@ found_stands job owner engine number p h found =
       there = it.2 ∙ ap Some entry_is;
     }
 
-found_out : (job : LoggedJob) (owner : ℕ) (engine engine_now : EngineView) (number : ℕ) (p : PerformedView) → LawfulEngine job (of_node owner) engine → shelf_at engine number ≡ Some p → Unshelves (Some p) engine engine_now number → IsOut engine_now p.work
-found_out job owner engine engine_now number p h found now =
+found_out : {laws : Laws} (job : LoggedJob laws) (owner : ℕ) (engine engine_now : EngineView) (number : ℕ) (p : PerformedView) → LawfulEngine job (of_node owner) engine → shelf_at engine number ≡ Some p → Unshelves (Some p) engine engine_now number → IsOut engine_now p.work
+found_out {laws} job owner engine engine_now number p h found now =
     let it = found_stands job owner engine number p h found in
     let number_is = it.number_is in
     let from = it.laid in
@@ -166,16 +167,16 @@ found_out job owner engine engine_now number p h found now =
       phase_is = refl;
     }
 
-pub result_numbered : (job : LoggedJob) (owner : ℕ) (engine : EngineView) (number : ℕ) (r : Option PerformedView) → r ≡ shelf_at engine number → LawfulEngine job (of_node owner) engine → IfSome r (λ p. p.work.number ≡ number)
-result_numbered job owner engine number None found h = tt
-result_numbered job owner engine number (Some p) found h = (found_stands job owner engine number p h (sym found)).number_is
+pub result_numbered : {laws : Laws} (job : LoggedJob laws) (owner : ℕ) (engine : EngineView) (number : ℕ) (r : Option PerformedView) → r ≡ shelf_at engine number → LawfulEngine job (of_node owner) engine → IfSome r (λ p. p.work.number ≡ number)
+result_numbered {laws} job owner engine number None found h = tt
+result_numbered {laws} job owner engine number (Some p) found h = (found_stands job owner engine number p h (sym found)).number_is
 
-pub result_out : (job : LoggedJob) (owner : ℕ) (engine engine_now : EngineView) (number : ℕ) (r : Option PerformedView) → r ≡ shelf_at engine number → Unshelves r engine engine_now number → LawfulEngine job (of_node owner) engine → IfSome r (λ p. IsOut engine_now p.work)
-result_out job owner engine engine_now number None found now h = tt
-result_out job owner engine engine_now number (Some p) found now h = found_out job owner engine engine_now number p h (sym found) now
+pub result_out : {laws : Laws} (job : LoggedJob laws) (owner : ℕ) (engine engine_now : EngineView) (number : ℕ) (r : Option PerformedView) → r ≡ shelf_at engine number → Unshelves r engine engine_now number → LawfulEngine job (of_node owner) engine → IfSome r (λ p. IsOut engine_now p.work)
+result_out {laws} job owner engine engine_now number None found now h = tt
+result_out {laws} job owner engine engine_now number (Some p) found now h = found_out job owner engine engine_now number p h (sym found) now
 
-pub back_in_place : (job : LoggedJob) (owner : ℕ) (engine engine_now : EngineView) (number : ℕ) (p : PerformedView) → LawfulEngine job (of_node owner) engine → shelf_at engine number ≡ Some p → Unshelves (Some p) engine engine_now number → shelved engine_now (outcome_of p) ≡ engine
-back_in_place job owner engine engine_now number p h found now =
+pub back_in_place : {laws : Laws} (job : LoggedJob laws) (owner : ℕ) (engine engine_now : EngineView) (number : ℕ) (p : PerformedView) → LawfulEngine job (of_node owner) engine → shelf_at engine number ≡ Some p → Unshelves (Some p) engine engine_now number → shelved engine_now (outcome_of p) ≡ engine
+back_in_place {laws} job owner engine engine_now number p h found now =
     let it = found_stands job owner engine number p h found in
     let place = number - engine.laid in
     let taken : List EntryView = set engine.window place (out_entry p.work.phase) in

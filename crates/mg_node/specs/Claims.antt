@@ -10,6 +10,7 @@ use Rattle.mg_stream.specs.Pool.{Backlog}
 use Rattle.mg_stream.specs.Queue.{count_of}
 use Rattle.mg_loopback.specs.Loopback.{Held, next_reply, replied}
 use Rattle.mg_policy.specs.declared.readiness.Readiness.TheVariants.{Ready, Close as AtEnd, NotReady as NotYet}
+use Rattle.mg_calc.specs.Rules.{Laws}
 use Rattle.mg_calc.specs.declared.node_fault.Phase.{Phase}
 use Rattle.mg_calc.specs.declared.node_fault.Phase.TheVariants.{Call, Process, Close}
 use Rattle.mg_node.specs.declared.role.Role.{Role}
@@ -62,8 +63,8 @@ pub record Takes (intake now : IntakeView) (set : List (Option (Stamped Plain)))
   pub ports : ports_in now.waits ≡ ports_in intake.waits
   pub counts : (port : ℕ) → count_of (port_queue now.waits port) ≡ count_of (port_queue intake.waits port)
   pub bounds : (port : ℕ) → (port_queue now.waits port).bound ≡ (port_queue intake.waits port).bound
-  pub stays_lawful : (job : LoggedJob) (consumer : ℕ) → LawfulIntake job consumer intake → LawfulIntake job consumer now
-  pub in_solution : (job : LoggedJob) (consumer : ℕ) (streams : List (StreamPrefix Plain)) → Solves job streams → LawfulIntake job consumer intake → HasSet job streams consumer intake.claimed set
+  pub stays_lawful : {laws : Laws} (job : LoggedJob laws) (consumer : ℕ) → LawfulIntake job consumer intake → LawfulIntake job consumer now
+  pub in_solution : {laws : Laws} (job : LoggedJob laws) (consumer : ℕ) (streams : List (StreamPrefix Plain)) → Solves job streams → LawfulIntake job consumer intake → HasSet job streams consumer intake.claimed set
 
 -- an output with a loopback's answer behind its packets, where that isn't nothing
 abbrev pub with_reply : Option (Stamped Plain) → Backlog Plain → Backlog Plain
@@ -167,9 +168,9 @@ Claims (Work work) engine engine_now intake intake_now =
     ⊎ TakesSet engine engine_now intake intake_now work)))
 
 -- a work that is handed out is lawful
-abbrev pub IsLawfulWork : {C : Type 0} → LoggedJob → Claimed C → Type 0
-IsLawfulWork job (Work work) = LawfulWork job work
-IsLawfulWork job _ = ⊤
+abbrev pub IsLawfulWork : {laws : Laws} {C : Type 0} → LoggedJob laws → Claimed C → Type 0
+IsLawfulWork {laws} job (Work work) = LawfulWork job work
+IsLawfulWork {laws} job _ = ⊤
 
 -- a work that a claim hands out is out of the engine
 abbrev pub GivesOut : {C : Type 0} → Claimed C → EngineView → Type 0
@@ -177,7 +178,7 @@ GivesOut (Work work) engine = IsOut engine work
 GivesOut _ engine = ⊤
 
 -- a claim leaves a node's engine and its intake lawful for a job, and agreed, and hands out a lawful work
-pub record LawfulClaim {C : Type 0} (job : LoggedJob) (number : ℕ) (result : Claimed C) (engine : EngineView) (intake : IntakeView) : Type 0 where
+pub record LawfulClaim {laws : Laws} {C : Type 0} (job : LoggedJob laws) (number : ℕ) (result : Claimed C) (engine : EngineView) (intake : IntakeView) : Type 0 where
   pub lawful_engine : LawfulEngine job (of_node number) engine
   pub lawful_intake : LawfulIntake job number intake
   pub agree : Agree engine intake

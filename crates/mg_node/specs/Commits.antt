@@ -4,6 +4,7 @@ use Rattle.std.specs.Prelude.{◌≡◌, ℕ, ℤ, ◌+◌, ◌-◌, ◌||◌, B
 use Rattle.mg_time.specs.Time.{done}
 use Rattle.mg_value.specs.Payload.{Plain}
 use Rattle.mg_settled.specs.Prefix.{StreamPrefix, closed}
+use Rattle.mg_calc.specs.Rules.{Laws}
 use Rattle.mg_calc.specs.declared.cause.Cause.{Cause}
 use Rattle.mg_calc.specs.declared.emission.Laid.{Laid}
 use Rattle.mg_calc.specs.declared.node_fault.NodeFault.{NodeFault}
@@ -141,7 +142,7 @@ pub record Commits (outcome : OutcomeView) (laid : ℕ) (before now : EngineView
       → HasFront before now (front_laid before.offset (window_with before outcome) (front_of before (window_with before outcome) whole))
 
 -- there is a job for which the engine of a node is lawful
-pub record SomeJobHasEngine (engine : EngineView) : Type 0 where
-  pub job : LoggedJob
+pub record SomeJobHasEngine (laws : Laws) (engine : EngineView) : Type 0 where
+  pub job : LoggedJob laws
   pub number : ℕ
   pub lawful : LawfulEngine job (of_node number) engine

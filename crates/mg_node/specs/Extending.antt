@@ -1,4 +1,5 @@
 -- How the engine of a graph input goes on with further packets of its stream, which came later.
+use Rattle.mg_calc.specs.Rules.{Laws}
 use Rattle.std.specs.Prelude.{◌≡◌, ℕ, ◌++◌, map, max}
 use Rattle.mg_value.specs.Payload.{Plain}
 use Rattle.mg_settled.specs.Prefix.{StreamPrefix, IsPrefix}
@@ -28,19 +29,19 @@ pub record MayLengthen (q : Waiting Plain) (more : StreamPrefix Plain) : Type 0 
   pub is_prefix : IsPrefix (joined whole more)
 
 -- an engine may be extended: there is a job for which it is the lawful engine of a graph input, and its output may be lengthened
-pub record MayExtend (engine : EngineView) (more : StreamPrefix Plain) : Type 0 where
-  pub job : LoggedJob
+pub record MayExtend (laws : Laws) (engine : EngineView) (more : StreamPrefix Plain) : Type 0 where
+  pub job : LoggedJob laws
   pub input : ℕ
   pub lawful : LawfulEngine job (of_input input) engine
   pub output : MayLengthen (laid_at engine 0) more
 
 -- an engine was extended, as it might be, from `before` to `now`, and the bound of its output was `bound`
-pub record WasExtended (more : StreamPrefix Plain) (bound : ℕ) (before now : EngineView) : Type 0 where
-  pub may : MayExtend before more
+pub record WasExtended (laws : Laws) (more : StreamPrefix Plain) (bound : ℕ) (before now : EngineView) : Type 0 where
+  pub may : MayExtend laws before more
   pub is : now ≡ extended before more
   pub bound_was : (laid_at before 0).bound ≡ bound
 
 -- there is an engine that was extended to this one
-pub record SomeExtended (more : StreamPrefix Plain) (bound : ℕ) (now : EngineView) : Type 0 where
+pub record SomeExtended (laws : Laws) (more : StreamPrefix Plain) (bound : ℕ) (now : EngineView) : Type 0 where
   pub before : EngineView
-  pub was : WasExtended more bound before now
+  pub was : WasExtended laws more bound before now

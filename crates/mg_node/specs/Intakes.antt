@@ -10,6 +10,7 @@ use Rattle.mg_stream.specs.Pool.{empty_backlog, queues_of}
 use Rattle.mg_policy.specs.Inbox.{next_set, rests}
 use Rattle.mg_loopback.specs.Loopback.{IsFresh as IsFreshLoop, next_reply, replied, told}
 use Rattle.mg_loopback.specs.declared.answered.Answered.{Answered}
+use Rattle.mg_calc.specs.Rules.{Laws}
 use Rattle.mg_calc.specs.declared.law.Law.TheVariants.{Loopback}
 use Rattle.mg_calc.specs.declared.plan.Plan.{Plan}
 use Rattle.mg_calc.specs.declared.plan_node.PlanNode.{PlanNode}
@@ -44,18 +45,19 @@ IsLeft waits now = ⊥
 
 -- an intake is lawful for some job
 pub record SomeJobHasIntake (intake : IntakeView) : Type 0 where
-  pub job : LoggedJob
+  pub laws : Laws
+  pub job : LoggedJob laws
   pub consumer : ℕ
   pub lawful : LawfulIntake job consumer intake
 
 -- a consumer's set of a number shows these packets
-pub record HasSet (job : LoggedJob) (streams : List (StreamPrefix Plain)) (consumer number : ℕ) (set : List (Option (Stamped Plain))) : Type 0 where
+pub record HasSet {laws : Laws} (job : LoggedJob laws) (streams : List (StreamPrefix Plain)) (consumer number : ℕ) (set : List (Option (Stamped Plain))) : Type 0 where
   pub at : ℕ
   pub is : slice_get (settled_sets (policy_of job.job.plan consumer) (streams_at streams (ports_of job.job.plan consumer))) number ≡ Some (record { at = at; set = set })
 
 -- the next set of what waits is claimed: one more set is claimed of what waits then, still a number of 64 bits, and the set is the one of
 -- its number in the solution
-pub record ClaimsSet (job : LoggedJob) (streams : List (StreamPrefix Plain)) (consumer claimed : ℕ) (now : Pending) (set : List (Option (Stamped Plain))) : Type 0 where
+pub record ClaimsSet {laws : Laws} (job : LoggedJob laws) (streams : List (StreamPrefix Plain)) (consumer claimed : ℕ) (now : Pending) (set : List (Option (Stamped Plain))) : Type 0 where
   pub holds : HoldsWaits job streams consumer (claimed + 1) now
   pub few : claimed + 1 ≤ done
   pub shows : HasSet job streams consumer claimed set

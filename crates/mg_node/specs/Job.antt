@@ -11,6 +11,7 @@ use Rattle.mg_value.specs.declared.policy.Policy.TheVariants.{Default}
 use Rattle.mg_settled.specs.Prefix.{StreamPrefix, empty_prefix, all_appended}
 use Rattle.mg_settled.specs.Settled.{TimedSet, settled_sets, reach}
 use Rattle.mg_settled.specs.Loopback.{replies, packet_of}
+use Rattle.mg_calc.specs.Rules.{Laws}
 use Rattle.mg_calc.specs.declared.call.Call.{Call}
 use Rattle.mg_calc.specs.declared.call.Call.TheVariants.{Begun, Shown, Finished}
 use Rattle.mg_calc.specs.declared.law.Law.{Law}
@@ -20,20 +21,20 @@ use Rattle.mg_calc.specs.declared.node_fault.Phase.TheVariants.{Open, Call as So
 use Rattle.mg_calc.specs.declared.plan.Plan.{Plan}
 use Rattle.mg_calc.specs.declared.plan_node.PlanNode.{PlanNode}
 use Rattle.mg_calc.specs.Shape.{IsOuter, IsSource, calls_of}
-use Rattle.mg_calc.specs.Told.{CalculatorTold}
+use Rattle.mg_calc.specs.Told.{BoxTold}
 use Rattle.mg_calc.specs.Outcome.{Outcome, opened, called, shown_all}
-use Rattle.mg_calc.specs.Equations.{Job, IsJob, IsSolution, sides_of, inputs_of}
+use Rattle.mg_calc.specs.Equations.{Job, IsJob, IsSolution, sides_of, inputs_of, rules_at}
 use Rattle.mg_node.specs.declared.role.Role.{Role}
 use Rattle.mg_node.specs.declared.role.Role.TheVariants.{Source, Loop, Sets}
-use Rattle.mg_calc.specs.Law.{rules_of}
 
--- a job, and the calculators that are handed in, as each was at its start
-pub record LoggedJob : Type 0 where
+-- a job whose stated laws have these rules, and the calculators that are handed in, as each was at its start
+pub record LoggedJob (laws : Laws) : Type 0 where
   pub job : Job
-  pub boxes : List CalculatorTold
+  pub boxes : List BoxTold
+  pub same : job.laws ≡ laws
 
 -- some streams are the solution of a job, whose plan is valid and whose inputs fit it
-pub record Solves (job : LoggedJob) (streams : List (StreamPrefix Plain)) : Type 0 where
+pub record Solves {laws : Laws} (job : LoggedJob laws) (streams : List (StreamPrefix Plain)) : Type 0 where
   pub is_job : IsJob job.job
   pub solution : IsSolution job.job streams
 
@@ -104,11 +105,11 @@ answered n main loop = all_appended empty_prefix (filter_map packet_of (take n (
 -- what a node has come to after its first n sets, calls or answers, by its law: it was opened, and then shown these sets or called so
 -- often, up to its first fault
 abbrev pub stage_by : Law → Job → List (StreamPrefix Plain) → PlanNode → ℕ → Outcome
-stage_by (Count count start step) job streams node n = fold (called node.law) (opened (rules_of node.law) None (length node.outputs) (sides_of job node)) (range_with_len 0 n)
-stage_by (SideOnce at) job streams node n = fold (called node.law) (opened (rules_of node.law) None (length node.outputs) (sides_of job node)) (range_with_len 0 n)
-stage_by Constants job streams node n = fold (called node.law) (opened (rules_of node.law) None (length node.outputs) (sides_of job node)) (range_with_len 0 n)
+stage_by (Count count start step) job streams node n = fold (called node.law) (opened (rules_at job node) None (length node.outputs) (sides_of job node)) (range_with_len 0 n)
+stage_by (SideOnce at) job streams node n = fold (called node.law) (opened (rules_at job node) None (length node.outputs) (sides_of job node)) (range_with_len 0 n)
+stage_by Constants job streams node n = fold (called node.law) (opened (rules_at job node) None (length node.outputs) (sides_of job node)) (range_with_len 0 n)
 stage_by Loopback job streams node n = record { state = []; outputs = answered n (main_of streams node) (loop_of streams node) ∷ []; taken = n; fault = None }
-stage_by law job streams node n = shown_all (rules_of node.law) node.shape.offset (length node.outputs) (sides_of job node) (take n (sets_of streams node))
+stage_by law job streams node n = shown_all (rules_at job node) node.shape.offset (length node.outputs) (sides_of job node) (take n (sets_of streams node))
 
 -- what a node has come to after its first n sets, calls or answers
 abbrev pub stage : Job → List (StreamPrefix Plain) → PlanNode → ℕ → Outcome
@@ -130,16 +131,16 @@ IsTask job streams node number Close set = IsLastWork job streams node number
 -- Logs.
 
 -- the log that a node's calculator had at the start, where it tells one
-abbrev pub first_log : LoggedJob → PlanNode → Option (List Call)
-first_log job node = option_and_then (λ number. option_and_then (λ box. box.log) (slice_get job.boxes number)) node.box_number
+abbrev pub first_log : {laws : Laws} → LoggedJob laws → PlanNode → Option (List Call)
+first_log {laws} job node = option_and_then (λ number. option_and_then (λ box. box.log) (slice_get job.boxes number)) node.box_number
 
 -- a calculator keeps what the box of its node kept at the start, if the node has a box
-abbrev pub KeepsFirst : LoggedJob → PlanNode → List Plain → Type 0
-KeepsFirst job node state = (number : ℕ) (box : CalculatorTold) → node.box_number ≡ Some number → slice_get job.boxes number ≡ Some box → state ≡ box.state
+abbrev pub KeepsFirst : {laws : Laws} → LoggedJob laws → PlanNode → List Plain → Type 0
+KeepsFirst {laws} job node state = (number : ℕ) (box : BoxTold) → node.box_number ≡ Some number → slice_get job.boxes number ≡ Some box → state ≡ box.state
 
 -- the log of a node's calculator after some calls, where it tells one
-abbrev pub log_after : LoggedJob → PlanNode → List Call → Option (List Call)
-log_after job node calls = option_map (λ before. before ++ calls) (first_log job node)
+abbrev pub log_after : {laws : Laws} → LoggedJob laws → PlanNode → List Call → Option (List Call)
+log_after {laws} job node calls = option_map (λ before. before ++ calls) (first_log job node)
 
 -- the calls that a calculator has had after its node's first n sets, by the node's law; a loopback is shown none
 abbrev pub calls_before_by : Law → List (StreamPrefix Plain) → PlanNode → ℕ → List Call

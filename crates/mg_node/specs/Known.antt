@@ -1,5 +1,6 @@
 -- What a caller knows of a part that is lawful for a job, without a look at what makes it so.
 use Rattle.std.specs.Prelude.{◌≡◌, ℕ, ◌+◌, ◌<◌, ◌≤◌, true, [], length, None}
+use Rattle.mg_calc.specs.Rules.{Laws}
 use Rattle.mg_calc.specs.declared.plan_node.PlanNode.{PlanNode}
 use Rattle.mg_node.specs.declared.role.Role.TheVariants.{Input}
 use Rattle.mg_node.specs.Views.{EngineView}
@@ -16,7 +17,7 @@ pub record IsKnown (node : PlanNode) (number : ℕ) (view : EngineView) : Type 0
   pub contexts : length view.idle + length view.window ≡ view.in_flight
 
 -- the engine of a graph input: it has its number, one output, and no works
-pub record IsKnownInput (job : LoggedJob) (number : ℕ) (view : EngineView) : Type 0 where
+pub record IsKnownInput {laws : Laws} (job : LoggedJob laws) (number : ℕ) (view : EngineView) : Type 0 where
   pub there : number < length job.job.plan.inputs
   pub role : view.role ≡ Input
   pub number_is : view.node ≡ number

@@ -11,6 +11,7 @@ use Rattle.mg_stream.specs.Pool.{Backlog, queue_of, queues_of}
 use Rattle.mg_policy.specs.Inbox.{Gathered, StandAfter}
 use Rattle.mg_loopback.specs.Loopback.{Held}
 use Rattle.mg_loopback.specs.Standing.{StandsAfter}
+use Rattle.mg_calc.specs.Rules.{Laws, Rules}
 use Rattle.mg_calc.specs.declared.call.Call.{Call}
 use Rattle.mg_calc.specs.declared.call.Call.TheVariants.{Finished}
 use Rattle.mg_calc.specs.declared.cause.Cause.{Cause}
@@ -21,9 +22,9 @@ use Rattle.mg_calc.specs.declared.node_fault.Phase.{Phase}
 use Rattle.mg_calc.specs.declared.node_fault.Phase.TheVariants.{Open, Call as SourceCall, Process, Close}
 use Rattle.mg_calc.specs.declared.plan_node.PlanNode.{PlanNode}
 use Rattle.mg_calc.specs.Answer.{Answer}
-use Rattle.mg_calc.specs.Law.{step, call, finish}
+use Rattle.mg_calc.specs.Law.{call}
 use Rattle.mg_calc.specs.Outcome.{Outcome}
-use Rattle.mg_calc.specs.Equations.{outcome_of}
+use Rattle.mg_calc.specs.Equations.{outcome_of, rules_at}
 use Rattle.mg_calc.specs.Meaning.{count_of}
 use Rattle.mg_route.specs.HolderView.{FitsHolder}
 use Rattle.mg_node.specs.declared.role.Role.{Role}
@@ -38,7 +39,7 @@ use Rattle.mg_node.specs.Job.{LoggedJob, Solves, ports_of, policy_of, law_of, st
 
 -- what waits for sets is lawful: what came at each port is a prefix that the solution's stream at that port extends; the first `claimed`
 -- sets of what came are claimed, and what waits is the rest
-pub record HoldsSets (job : LoggedJob) (streams : List (StreamPrefix Plain)) (consumer claimed : ℕ) (inbox : Gathered) : Type 0 where
+pub record HoldsSets {laws : Laws} (job : LoggedJob laws) (streams : List (StreamPrefix Plain)) (consumer claimed : ℕ) (inbox : Gathered) : Type 0 where
   pub policy : inbox.policy ≡ policy_of job.job.plan consumer
   pub came : List (StreamPrefix Plain)
   pub extended : AreExtendedBy came (streams_at streams (ports_of job.job.plan consumer))
@@ -46,55 +47,60 @@ pub record HoldsSets (job : LoggedJob) (streams : List (StreamPrefix Plain)) (co
 
 -- what waits at a loopback is lawful: what came at MAIN and LOOP are prefixes that the solution's streams extend, and of these the first
 -- `claimed` answers are given
-pub record HoldsLoop (job : LoggedJob) (streams : List (StreamPrefix Plain)) (consumer claimed : ℕ) (held : Held Plain) : Type 0 where
+pub record HoldsLoop {laws : Laws} (job : LoggedJob laws) (streams : List (StreamPrefix Plain)) (consumer claimed : ℕ) (held : Held Plain) : Type 0 where
   pub main : StreamPrefix Plain
   pub loop : StreamPrefix Plain
   pub extended : AreExtendedBy (loop ∷ main ∷ []) (streams_at streams (ports_of job.job.plan consumer))
   pub stands : StandsAfter claimed held main loop
 
 -- what waits at a consumer is lawful: a loopback's where that is the consumer's law, and otherwise what waits for sets
-abbrev pub HoldsWaits : LoggedJob → List (StreamPrefix Plain) → ℕ → ℕ → Pending → Type 0
-HoldsWaits job streams consumer claimed (WaitingSets inbox) = ¬ (law_of job.job.plan consumer ≡ Some Loopback) × HoldsSets job streams consumer claimed inbox
-HoldsWaits job streams consumer claimed (WaitingLoop held) = (law_of job.job.plan consumer ≡ Some Loopback) × HoldsLoop job streams consumer claimed held
+abbrev pub HoldsWaits : {laws : Laws} → LoggedJob laws → List (StreamPrefix Plain) → ℕ → ℕ → Pending → Type 0
+HoldsWaits {laws} job streams consumer claimed (WaitingSets inbox) = ¬ (law_of job.job.plan consumer ≡ Some Loopback) × HoldsSets job streams consumer claimed inbox
+HoldsWaits {laws} job streams consumer claimed (WaitingLoop held) = (law_of job.job.plan consumer ≡ Some Loopback) × HoldsLoop job streams consumer claimed held
 
 -- an intake is that of a consumer of a job: what waits there is lawful in the job's solution
-pub record IsIntakeOf (job : LoggedJob) (consumer : ℕ) (view : IntakeView) : Type 0 where
+pub record IsIntakeOf {laws : Laws} (job : LoggedJob laws) (consumer : ℕ) (view : IntakeView) : Type 0 where
   pub streams : List (StreamPrefix Plain)
   pub solves : Solves job streams
   pub is_there : consumer ≤ length job.job.plan.nodes
   pub holds : HoldsWaits job streams consumer view.claimed view.waits
 
 -- an intake is lawful for a job, as the intake of this consumer
-unfoldable pub LawfulIntake : LoggedJob → ℕ → IntakeView → Type 0
-LawfulIntake job consumer view = IsIntakeOf job consumer view
+unfoldable pub LawfulIntake : {laws : Laws} → LoggedJob laws → ℕ → IntakeView → Type 0
+LawfulIntake {laws} job consumer view = IsIntakeOf job consumer view
 
 -- Works.
 
--- what a calculator gives in a phase, from a state, at a set
-abbrev pub answer_in : Law → List Plain → Phase → List (Option (Stamped Plain)) → Answer
-answer_in law state Open set = Ok (state, [])
-answer_in law state (SourceCall number) set = call law state number
-answer_in law state (Process at) set = step law state at set
-answer_in law state Close set = finish law state
+-- what a calculator gives in a phase, by its rules, or as a source by its law, from a state, at a set
+abbrev pub answer_in : Rules → Law → List Plain → Phase → List (Option (Stamped Plain)) → Answer
+answer_in rules law state Open set = Ok (state, [])
+answer_in rules law state (SourceCall number) set = call law state number
+answer_in rules law state (Process at) set = rules.step state at set
+answer_in rules law state Close set = rules.finish state
 
 -- a calculator has answered: it keeps the new state of its answer, or still the old one where the answer is a cause
 abbrev pub HasAnswered : Result (List Laid) Cause → List Plain → List Plain → Answer → Type 0
 HasAnswered (Ok emission) before now answer = answer ≡ Ok (now, emission)
 HasAnswered (Err cause) before now answer = (answer ≡ Err cause) × (now ≡ before)
 
+-- what a calculator keeps once it has answered: the new state, or still the old one where the answer is a cause
+abbrev pub kept_after : Answer → List Plain → List Plain
+kept_after (Ok given) before = given.0
+kept_after (Err cause) before = before
+
 -- what a calculator keeps, and what its log has, before a work (with no answer) and after it (with its answer)
-abbrev pub IsAtWork : LoggedJob → List (StreamPrefix Plain) → PlanNode → WorkView → Option (Result (List Laid) Cause) → Type 0
-IsAtWork job streams node work None =
+abbrev pub IsAtWork : {laws : Laws} → LoggedJob laws → List (StreamPrefix Plain) → PlanNode → WorkView → Option (Result (List Laid) Cause) → Type 0
+IsAtWork {laws} job streams node work None =
     (work.context.told.state ≡ (stage job.job streams node work.number).state)
     × (work.context.told.log ≡ log_after job node (calls_before streams node work.number))
-IsAtWork job streams node work (Some answer) =
+IsAtWork {laws} job streams node work (Some answer) =
     HasAnswered answer (stage job.job streams node work.number).state work.context.told.state
-    (answer_in node.law (stage job.job streams node work.number).state work.phase work.context.set)
+    (answer_in (rules_at job.job node) node.law (stage job.job streams node work.number).state work.phase work.context.set)
     × (work.context.told.log ≡ log_after job node (calls_before streams node work.number ++ calls_in work.phase work.context.set))
 
 -- a work of a job, perhaps with its answer: its calculator fits the node, it is one of the node's works, and its set is the one of its
 -- number
-pub record IsWorkOf (job : LoggedJob) (view : OutcomeView) : Type 0 where
+pub record IsWorkOf {laws : Laws} (job : LoggedJob laws) (view : OutcomeView) : Type 0 where
   pub streams : List (StreamPrefix Plain)
   pub solves : Solves job streams
   pub node : PlanNode
@@ -105,16 +111,16 @@ pub record IsWorkOf (job : LoggedJob) (view : OutcomeView) : Type 0 where
   pub at_work : IsAtWork job streams node view.work view.answer
 
 -- an outcome is lawful for a job
-unfoldable pub LawfulOutcome : LoggedJob → OutcomeView → Type 0
-LawfulOutcome job view = IsWorkOf job view
+unfoldable pub LawfulOutcome : {laws : Laws} → LoggedJob laws → OutcomeView → Type 0
+LawfulOutcome {laws} job view = IsWorkOf job view
 
 -- a work that isn't run is lawful for a job
-unfoldable pub LawfulWork : LoggedJob → WorkView → Type 0
-LawfulWork job view = IsWorkOf job (record { work = view; answer = None })
+unfoldable pub LawfulWork : {laws : Laws} → LoggedJob laws → WorkView → Type 0
+LawfulWork {laws} job view = IsWorkOf job (record { work = view; answer = None })
 
 -- a work that was performed is lawful for a job
-unfoldable pub LawfulPerformed : LoggedJob → PerformedView → Type 0
-LawfulPerformed job view = IsWorkOf job (record { work = view.work; answer = Some view.answer })
+unfoldable pub LawfulPerformed : {laws : Laws} → LoggedJob laws → PerformedView → Type 0
+LawfulPerformed {laws} job view = IsWorkOf job (record { work = view.work; answer = Some view.answer })
 
 -- Engines.
 
@@ -142,15 +148,15 @@ pub record IsRaised (s raised : StreamPrefix Plain) : Type 0 where
   pub bound : s.bound ≤ raised.bound
 
 -- what a node has come to once `laid` of its sets, calls or answers are laid, and Close too where it is `closed`
-abbrev pub come_to : LoggedJob → List (StreamPrefix Plain) → PlanNode → ℕ → Bool → Outcome
-come_to job streams node laid closed = if closed then outcome_of job.job streams node else stage job.job streams node laid
+abbrev pub come_to : {laws : Laws} → LoggedJob laws → List (StreamPrefix Plain) → PlanNode → ℕ → Bool → Outcome
+come_to {laws} job streams node laid closed = if closed then outcome_of job.job streams node else stage job.job streams node laid
 
 -- the calls that a node's calculator has had once `laid` of its sets are laid, and Close too where it is `closed`
 abbrev pub calls_by : List (StreamPrefix Plain) → PlanNode → ℕ → Bool → List Call
 calls_by streams node laid closed = calls_before streams node laid ++ (if closed then Finished ∷ [] else [])
 
 -- a context that no work has: its calculator fits the node and has the state that what is laid gives, and its log ends there
-pub record IsIdle (job : LoggedJob) (streams : List (StreamPrefix Plain)) (node : PlanNode) (laid : ℕ) (closed : Bool) (context : ContextView) : Type 0 where
+pub record IsIdle {laws : Laws} (job : LoggedJob laws) (streams : List (StreamPrefix Plain)) (node : PlanNode) (laid : ℕ) (closed : Bool) (context : ContextView) : Type 0 where
   pub fits : FitsHolder node context.told
   pub places : length context.set ≡ length node.inputs
   pub state : context.told.state ≡ (come_to job streams node laid closed).state
@@ -162,7 +168,7 @@ is_close Close = true
 is_close phase = false
 
 -- an outcome in a window is the lawful outcome of the work of this node, number and phase
-pub record StandsAt (job : LoggedJob) (node number : ℕ) (phase : Phase) (outcome : OutcomeView) : Type 0 where
+pub record StandsAt {laws : Laws} (job : LoggedJob laws) (node number : ℕ) (phase : Phase) (outcome : OutcomeView) : Type 0 where
   pub node_is : outcome.work.node ≡ node
   pub number_is : outcome.work.number ≡ number
   pub phase_is : outcome.work.phase ≡ phase
@@ -170,7 +176,7 @@ pub record StandsAt (job : LoggedJob) (node number : ℕ) (phase : Phase) (outco
 
 -- an entry of a window, by its number: its work is out, or came back unrun or performed. Only what was performed is committed, and Close is
 -- claimed once all else is laid.
-pub record IsEntry (job : LoggedJob) (streams : List (StreamPrefix Plain)) (node : PlanNode) (laid number : ℕ) (owner : ℕ) (entry : EntryView) : Type 0 where
+pub record IsEntry {laws : Laws} (job : LoggedJob laws) (streams : List (StreamPrefix Plain)) (node : PlanNode) (laid number : ℕ) (owner : ℕ) (entry : EntryView) : Type 0 where
   pub set : List (Option (Stamped Plain))
   pub task : IsTask job.job streams node number entry.phase set
   pub outcome : IfSome entry.outcome (λ o. StandsAt job owner number entry.phase o)
@@ -178,7 +184,7 @@ pub record IsEntry (job : LoggedJob) (streams : List (StreamPrefix Plain)) (node
   pub close : entry.phase ≡ Close → number ≡ laid
 
 -- an engine is that of a node of a job: the node's first sets, calls or answers are laid, and some more are claimed
-pub record IsEngineOf (job : LoggedJob) (number : ℕ) (view : EngineView) : Type 0 where
+pub record IsEngineOf {laws : Laws} (job : LoggedJob laws) (number : ℕ) (view : EngineView) : Type 0 where
   pub streams : List (StreamPrefix Plain)
   pub solves : Solves job streams
   pub node : PlanNode
@@ -207,7 +213,7 @@ pub record IsEngineOf (job : LoggedJob) (number : ℕ) (view : EngineView) : Typ
   pub ended : has_ended view ≡ true → 0 < length view.idle
 
 -- an engine is that of a graph input of a job: its one output is the solution's stream of that input
-pub record IsInputOf (job : LoggedJob) (number : ℕ) (view : EngineView) : Type 0 where
+pub record IsInputOf {laws : Laws} (job : LoggedJob laws) (number : ℕ) (view : EngineView) : Type 0 where
   pub streams : List (StreamPrefix Plain)
   pub solves : Solves job streams
   pub there : number < length job.job.plan.inputs
@@ -222,9 +228,9 @@ pub record IsInputOf (job : LoggedJob) (number : ℕ) (view : EngineView) : Type
   pub fault : view.fault ≡ None
 
 -- an engine is lawful for a job, as the engine of this owner
-unfoldable pub LawfulEngine : LoggedJob → Owner → EngineView → Type 0
-LawfulEngine job (of_node number) view = IsEngineOf job number view
-LawfulEngine job (of_input number) view = IsInputOf job number view
+unfoldable pub LawfulEngine : {laws : Laws} → LoggedJob laws → Owner → EngineView → Type 0
+LawfulEngine {laws} job (of_node number) view = IsEngineOf job number view
+LawfulEngine {laws} job (of_input number) view = IsInputOf job number view
 
 -- Cells.
 
@@ -239,8 +245,8 @@ abbrev pub Agree : EngineView → IntakeView → Type 0
 Agree engine intake = AgreeBy engine.role engine.claimed intake.claimed
 
 -- an engine and an intake are one cell: there is a job of which both are lawful parts of one node, and they agree
-pub record AreCell (engine : EngineView) (intake : IntakeView) : Type 0 where
-  pub job : LoggedJob
+pub record AreCell (laws : Laws) (engine : EngineView) (intake : IntakeView) : Type 0 where
+  pub job : LoggedJob laws
   pub number : ℕ
   pub lawful_engine : LawfulEngine job (of_node number) engine
   pub lawful_intake : LawfulIntake job number intake

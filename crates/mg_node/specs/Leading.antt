@@ -2,6 +2,7 @@
 use Rattle.std.specs.Prelude.{◌≡◌, ◌+◌, ◌-◌, ◌<◌, ◌≤◌, length, Some, slice_get}
 use Rattle.mg_value.specs.Payload.{Plain}
 use Rattle.mg_stream.specs.Queue.{Waiting, count_of}
+use Rattle.mg_calc.specs.Rules.{Laws}
 use Rattle.mg_calc.specs.declared.edge.Edge.{Edge}
 use Rattle.mg_node.specs.Views.{IntakeView, EngineView}
 use Rattle.mg_node.specs.Ports.{port_queue}
@@ -20,8 +21,8 @@ pub record HasStream (engine : EngineView) (e : Edge) : Type 0 where
 
 -- an edge leads from an engine to an intake: there is a job of which both are lawful parts, the edge's stream stands at the
 -- port, and the output still keeps the first packet that the port hasn't got
-pub record Leads (engine : EngineView) (e : Edge) (intake : IntakeView) : Type 0 where
-  pub job : LoggedJob
+pub record Leads (laws : Laws) (engine : EngineView) (e : Edge) (intake : IntakeView) : Type 0 where
+  pub job : LoggedJob laws
   pub owner : Owner
   pub lawful_engine : LawfulEngine job owner engine
   pub lawful_intake : LawfulIntake job e.node intake

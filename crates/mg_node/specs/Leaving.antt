@@ -4,11 +4,12 @@ use Rattle.std.specs.Prelude.{◌≡◌, ℕ, true, List, [], ◌∷◌, ◌++�
 use Rattle.std.specs.List.{filter_map}
 use Rattle.mg_value.specs.Payload.{Plain}
 use Rattle.mg_settled.specs.Prefix.{StreamPrefix}
+use Rattle.mg_calc.specs.Rules.{Laws}
 use Rattle.mg_calc.specs.declared.cause.Cause.{Cause}
 use Rattle.mg_calc.specs.declared.emission.Laid.{Laid}
 use Rattle.mg_calc.specs.declared.plan_node.PlanNode.{PlanNode}
 use Rattle.mg_calc.specs.Equations.{sides_of}
-use Rattle.mg_calc.specs.Told.{CalculatorTold}
+use Rattle.mg_calc.specs.Told.{BoxTold}
 use Rattle.mg_route.specs.HolderView.{HolderView, FitsHolder, told_by}
 use Rattle.mg_node.specs.Views.{OutcomeView, EntryView, EngineView}
 use Rattle.mg_node.specs.Job.{LoggedJob, Solves, log_after}
@@ -24,15 +25,15 @@ abbrev pub calculators_in : EngineView → List HolderView
 calculators_in engine = map (λ b. b.told) engine.idle ++ filter_map calculator_in engine.window
 
 -- what a calculator tells of itself, where it was handed in
-abbrev pub handed_told : HolderView → Option CalculatorTold
+abbrev pub handed_told : HolderView → Option BoxTold
 handed_told held = if held.handed then Some (told_by held) else None
 
 -- what the calculators in an engine that were handed in tell of themselves, in order
-abbrev pub handed_in : EngineView → List CalculatorTold
+abbrev pub handed_in : EngineView → List BoxTold
 handed_in engine = filter_map handed_told (calculators_in engine)
 
 -- what the first calculator in an engine that was handed in tells of itself
-abbrev pub first_handed : EngineView → Option CalculatorTold
+abbrev pub first_handed : EngineView → Option BoxTold
 first_handed engine = slice_get (handed_in engine) 0
 
 -- no work of an engine is out: each entry of its window has an outcome
@@ -40,7 +41,7 @@ abbrev pub NoneOut : EngineView → Type 0
 NoneOut engine = All (λ e. is_some e.outcome ≡ true) engine.window
 
 -- a calculator is at rest in an engine whose window is empty: it keeps what all that is laid gives, and its log ends there
-pub record IsAtRestIn (job : LoggedJob) (node : PlanNode) (engine : EngineView) (held : HolderView) : Type 0 where
+pub record IsAtRestIn {laws : Laws} (job : LoggedJob laws) (node : PlanNode) (engine : EngineView) (held : HolderView) : Type 0 where
   pub window : engine.window ≡ []
   pub streams : List (StreamPrefix Plain)
   pub solves : Solves job streams
@@ -48,7 +49,7 @@ pub record IsAtRestIn (job : LoggedJob) (node : PlanNode) (engine : EngineView) 
   pub log : held.log ≡ log_after job node (calls_by streams node engine.laid engine.closed)
 
 -- a calculator stands in the one entry of an engine's window, in a lawful outcome
-pub record IsInWindow (job : LoggedJob) (engine : EngineView) (held : HolderView) : Type 0 where
+pub record IsInWindow {laws : Laws} (job : LoggedJob laws) (engine : EngineView) (held : HolderView) : Type 0 where
   pub entry : EntryView
   pub outcome : OutcomeView
   pub window : engine.window ≡ entry ∷ []
@@ -57,7 +58,7 @@ pub record IsInWindow (job : LoggedJob) (engine : EngineView) (held : HolderView
   pub lawful : LawfulOutcome job outcome
 
 -- an engine has one calculator, which was handed in for its node; it is at rest, or stands in the window
-pub record HasCalculator (job : LoggedJob) (node : PlanNode) (engine : EngineView) : Type 0 where
+pub record HasCalculator {laws : Laws} (job : LoggedJob laws) (node : PlanNode) (engine : EngineView) : Type 0 where
   pub held : HolderView
   pub only : calculators_in engine ≡ held ∷ []
   pub fits : FitsHolder node held
@@ -65,12 +66,12 @@ pub record HasCalculator (job : LoggedJob) (node : PlanNode) (engine : EngineVie
   pub stands : IsAtRestIn job node engine held ⊎ IsInWindow job engine held
 
 -- a calculator was opened with its node's side packets
-pub record IsOpenedFor (job : LoggedJob) (node : PlanNode) (told held : HolderView) : Type 0 where
+pub record IsOpenedFor {laws : Laws} (job : LoggedJob laws) (node : PlanNode) (told held : HolderView) : Type 0 where
   pub answer : Result (List Laid) Cause
-  pub opened : IsOpened told held (sides_of job.job node) answer
+  pub opened : IsOpened laws told held (sides_of job.job node) answer
 
 -- an engine that isn't begun has one calculator that was handed in, as its job has it for the node, or opened since
-pub record HasHanded (job : LoggedJob) (number : ℕ) (node : PlanNode) (engine : EngineView) : Type 0 where
+pub record HasHanded {laws : Laws} (job : LoggedJob laws) (number : ℕ) (node : PlanNode) (engine : EngineView) : Type 0 where
   pub told : HolderView
   pub handed : IsHanded job number node told
   pub held : HolderView

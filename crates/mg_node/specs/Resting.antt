@@ -4,6 +4,7 @@ use Rattle.mg_value.specs.Payload.{Plain}
 use Rattle.mg_settled.specs.Prefix.{StreamPrefix, empty_prefix}
 use Rattle.mg_settled.specs.Extension.{AreExtendedBy}
 use Rattle.mg_stream.specs.Queue.{StandsFor}
+use Rattle.mg_calc.specs.Rules.{Laws}
 use Rattle.mg_calc.specs.declared.plan_node.PlanNode.{PlanNode}
 use Rattle.mg_calc.specs.Equations.{inputs_of}
 use Rattle.mg_node.specs.Views.{IntakeView, EngineView}
@@ -26,7 +27,7 @@ pub record HasCome (intake : IntakeView) (came : List (StreamPrefix Plain)) : Ty
 
 -- what came to the cell of a node is what some streams have at its ports, and `laid` is what it laid, in whole; the solution's streams
 -- extend both
-pub record HasCarried (job : LoggedJob) (solution streams : List (StreamPrefix Plain)) (node : PlanNode) (engine : EngineView) (intake : IntakeView) (laid : List (StreamPrefix Plain)) : Type 0 where
+pub record HasCarried {laws : Laws} (job : LoggedJob laws) (solution streams : List (StreamPrefix Plain)) (node : PlanNode) (engine : EngineView) (intake : IntakeView) (laid : List (StreamPrefix Plain)) : Type 0 where
   pub solves : Solves job solution
   pub came : HasCome intake (inputs_of streams node)
   pub came_of : AreExtendedBy (inputs_of streams node) (inputs_of solution node)

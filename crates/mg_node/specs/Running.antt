@@ -2,6 +2,7 @@
 use Rattle.std.specs.Prelude.{◌≡◌, ◌<◌, ◌++◌, List, Option, option_map, Result, OnErr, ⊤}
 use Rattle.mg_value.specs.Payload.{Plain}
 use Rattle.mg_value.specs.Packet.{Stamped}
+use Rattle.mg_calc.specs.Rules.{Laws}
 use Rattle.mg_calc.specs.declared.call.Call.{Call}
 use Rattle.mg_calc.specs.declared.call.Call.TheVariants.{Shown, Finished}
 use Rattle.mg_calc.specs.declared.cause.CalcFault.{CalcFault}
@@ -14,6 +15,7 @@ use Rattle.mg_calc.specs.declared.emission.Laid.{Laid}
 use Rattle.mg_node.specs.Views.{ContextView, WorkView, PerformedView}
 use Rattle.mg_node.specs.Job.{LoggedJob, calls_in}
 use Rattle.mg_node.specs.Lawful.{LawfulWork, HasAnswered, answer_in}
+use Rattle.mg_route.specs.HolderView.{held_rules}
 
 -- a context's calculator may be run in a phase: it is a source that has this call, or is shown sets with as many places as this one
 abbrev pub MayRun : Phase → ContextView → Type 0
@@ -31,8 +33,8 @@ LogsPhase result before now Close set = Logs result before now Finished
 
 -- a calculator has run in a phase: it answers what its law gives and keeps the new state; a cause, and want of memory, keep the
 -- old one
-pub record HasRun (result : Result (List Laid) CalcFault) (phase : Phase) (before now : ContextView) : Type 0 where
-  pub answer : GivesEmission result now.told.state (answer_in before.told.law before.told.state phase before.set)
+pub record HasRun (laws : Laws) (result : Result (List Laid) CalcFault) (phase : Phase) (before now : ContextView) : Type 0 where
+  pub answer : GivesEmission result now.told.state (answer_in (held_rules laws before.told) before.told.law before.told.state phase before.set)
   pub kept : OnErr result (now.told.state ≡ before.told.state)
   pub log : LogsPhase result before.told.log now.told.log phase before.set
   pub law : now.told.law ≡ before.told.law
@@ -41,14 +43,14 @@ pub record HasRun (result : Result (List Laid) CalcFault) (phase : Phase) (befor
   pub set : now.set ≡ before.set
 
 -- a work is lawful for some job
-pub record SomeJobHas (work : WorkView) : Type 0 where
-  pub job : LoggedJob
+pub record SomeJobHas (laws : Laws) (work : WorkView) : Type 0 where
+  pub job : LoggedJob laws
   pub lawful : LawfulWork job work
 
 -- a work is done: the calculator has answered what its law gives, and kept the new state
-pub record IsPerformed (work : WorkView) (done : PerformedView) : Type 0 where
+pub record IsPerformed (laws : Laws) (work : WorkView) (done : PerformedView) : Type 0 where
   pub same : done.work ≡ record work { context = done.work.context }
-  pub answer : HasAnswered done.answer work.context.told.state done.work.context.told.state (answer_in work.context.told.law work.context.told.state work.phase work.context.set)
+  pub answer : HasAnswered done.answer work.context.told.state done.work.context.told.state (answer_in (held_rules laws work.context.told) work.context.told.law work.context.told.state work.phase work.context.set)
   pub log : done.work.context.told.log ≡ option_map (λ calls. calls ++ calls_in work.phase work.context.set) work.context.told.log
   pub law : done.work.context.told.law ≡ work.context.told.law
   pub shape : done.work.context.told.shape ≡ work.context.told.shape

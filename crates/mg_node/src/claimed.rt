@@ -1,9 +1,9 @@
 use crate::Work;
-use mg_calc::Calculator;
+use mg_calc::NodeCalculator;
 
 /// What a claim gives. Where more than one of these holds, `Engine::claim` says which is given.
 #[derive(Drop)]
-pub enum Claimed<C: Calculator> {
+pub enum Claimed<C: NodeCalculator> {
     /// A work: one that came back unrun, or the next set, call or Close.
     Work(Work<C>),
     /// The loopback has answered the next packet of MAIN.

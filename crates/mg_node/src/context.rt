@@ -1,9 +1,8 @@
 ghost use Rattle.std.specs.Prelude.{◌≡◌, true, length, is_some, IfSome, IfNone, IfOk, IfErr, option_map, OnOk, OnErr};
 ghost use Rattle.mg_policy.specs.declared.readiness.Readiness.TheVariants.{Ready};
 ghost use Rattle.mg_calc.specs.Answer.{GivesEmission};
-ghost use Rattle.mg_calc.specs.Law.{opening};
-ghost use Rattle.mg_calc.specs.Told.{Logs};
-ghost use Rattle.mg_route.specs.HolderView.{holder_view, told_by};
+ghost use Rattle.mg_calc.specs.Told.{KeepsAtOpen, Logs};
+ghost use Rattle.mg_route.specs.HolderView.{held_rules, holder_view, told_by};
 ghost use Rattle.mg_node.specs.Ports.{ports_in, IsNext};
 ghost use Rattle.mg_node.specs.Intakes.{HasSets, SomeJobHasIntake};
 ghost use Rattle.mg_node.specs.Claims.{Takes};
@@ -15,7 +14,7 @@ ghost use Rattle.mg_node.specs.Leaving.{handed_told};
 ghost use Rattle.mg_node.specs.WindingUp.{IsFinished};
 
 use crate::Intake;
-use mg_calc::{CalcFault, Calculator, Call, Cause, Emission, GivenList, Phase};
+use mg_calc::{CalcFault, Call, Cause, Emission, GivenList, NodeCalculator, Phase};
 use mg_route::Holder;
 use mg_settled::InputSet;
 use mg_time::Timestamp;
@@ -24,13 +23,13 @@ use std::marker::Model;
 
 /// A calculator, with the set that it is shown. The set's memory stays from one work to the next, so that no work takes memory for it.
 #[derive(Drop)]
-pub struct Context<C: Calculator> {
+pub struct Context<C: NodeCalculator> {
     // On the heap: a context moves with each work that is claimed and comes back.
     holder: Box<Holder<C>>,
     set: InputSet,
 }
 
-impl<C: Calculator> Model for Context<C> {
+impl<C: NodeCalculator> Model for Context<C> {
     ghost use Rattle.mg_node.specs.Views.{ContextView};
     ghost use Rattle.mg_node.specs.Codes.{context_code};
 
@@ -41,7 +40,7 @@ impl<C: Calculator> Model for Context<C> {
     ghost view = { λ b. record { told = b.holder.value; set = b.set } };
 }
 
-impl<C: Calculator> Context<C> {
+impl<C: NodeCalculator> Context<C> {
     /// Returns a context of a calculator and a set, or the calculator where there is no memory.
     pub fn new(alloc: Global, holder: Holder<C>, set: InputSet) -> Result<Context<C>, Holder<C>>
         ensures made { IfOk result (λ b. b ≡ record { told = holder; set = set }) }
@@ -64,8 +63,8 @@ impl<C: Calculator> Context<C> {
 
     /// Opens the calculator with side packets. Want of memory changes nothing.
     pub(crate) fn begin(&mut self, alloc: Global, sides: &GivenList) -> Result<Emission, CalcFault>
-        ensures answer { GivesEmission result self.new.told.state (opening self.old.told.law sides.now) }
-        ensures kept { OnErr result (self.new.told.state ≡ self.old.told.state) }
+        ensures answer { GivesEmission result self.new.told.state ((held_rules C.laws self.old.told).opening sides.now) }
+        ensures kept { KeepsAtOpen result self.old.told.state self.new.told.state }
         ensures log { Logs result self.old.told.log self.new.told.log Call.Begun }
         ensures law { self.new.told.law ≡ self.old.told.law }
         ensures shape { self.new.told.shape ≡ self.old.told.shape }
@@ -81,7 +80,7 @@ impl<C: Calculator> Context<C> {
         alloc: Global,
         sides: &GivenList,
     ) -> Option<Result<Emission, Cause>>
-        ensures opened { IfSome result (λ answer. IsOpened self.old.told self.new.told sides.now answer) }
+        ensures opened { IfSome result (λ answer. IsOpened C.laws self.old.told self.new.told sides.now answer) }
         ensures set { self.new.set ≡ self.old.set }
         ensures unchanged { IfNone result (self.new ≡ self.old) }
     {
@@ -96,7 +95,7 @@ impl<C: Calculator> Context<C> {
     #[inline(always)]
     pub(crate) fn run(&mut self, alloc: Global, phase: Phase) -> Result<Emission, CalcFault>
         requires { MayRun phase self.old }
-        ensures { HasRun result phase self.old self.new }
+        ensures { HasRun C.laws result phase self.old self.new }
     {
         match phase {
             Phase::Open => unreachable!(),
@@ -110,7 +109,7 @@ impl<C: Calculator> Context<C> {
     #[inline(always)]
     pub(crate) fn show(&mut self, alloc: Global, at: Timestamp) -> Option<Result<Emission, Cause>>
         requires { MayRun (Process at) self.old }
-        ensures shown { IfSome result (λ answer. HasShown at answer self.old self.new) }
+        ensures shown { IfSome result (λ answer. HasShown C.laws at answer self.old self.new) }
         ensures unchanged { IfNone result (self.new ≡ self.old) }
     {
         match self.run(alloc, Phase::Process(at)) {
@@ -122,7 +121,7 @@ impl<C: Calculator> Context<C> {
 
     /// Closes the calculator, and drops what it answers. Want of memory changes nothing.
     pub(crate) fn finish(&mut self, alloc: Global) -> Result<(), AllocError>
-        ensures finished { OnOk result (IsFinished self.old self.new) }
+        ensures finished { OnOk result (IsFinished C.laws self.old self.new) }
         ensures unchanged { OnErr result (self.new ≡ self.old) }
     {
         match self.run(alloc, Phase::Close) {

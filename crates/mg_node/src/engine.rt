@@ -18,7 +18,7 @@ mod winding;
 use crate::counting::held_at;
 use crate::entry::Entry;
 use crate::{Context, Role};
-use mg_calc::{Calculator, NodeFault};
+use mg_calc::{NodeCalculator, NodeFault};
 use mg_stream::Queue;
 use mg_time::Timestamp;
 use std::alloc::Global;
@@ -27,7 +27,7 @@ use std::marker::Model;
 
 /// What works at a node: its calculator, the works that were claimed, and what was laid at its outputs.
 #[derive(Drop)]
-pub struct Engine<C: Calculator> {
+pub struct Engine<C: NodeCalculator> {
     alloc: Global,
     role: Role,
     // The number of the node or of the graph input.
@@ -53,7 +53,7 @@ pub struct Engine<C: Calculator> {
     fault: Option<NodeFault>,
 }
 
-impl<C: Calculator> Model for Engine<C> {
+impl<C: NodeCalculator> Model for Engine<C> {
     ghost use Rattle.std.specs.Prelude.{◌≡◌, ◌≤◌, ◌+◌, ◌<◌, ◌^◌, map, vec_len, vec_capacity};
     ghost use Rattle.std.specs.VecDeque.{deque_len, deque_capacity};
     ghost use Rattle.mg_stream.specs.Pool.{backlog_of};
@@ -85,7 +85,7 @@ impl<C: Calculator> Model for Engine<C> {
         × (e.in_flight ≤ vec_capacity e.idle) × (e.in_flight ≤ deque_capacity e.window) };
 }
 
-impl<C: Calculator> Engine<C> {
+impl<C: NodeCalculator> Engine<C> {
     /// How many sets, calls or answers were laid. Close isn't counted.
     pub fn laid(&self) -> u64
         ensures { result ≡ self.now.laid }

@@ -10,19 +10,19 @@ ghost use Rattle.mg_node.specs.WindingUp.{FinishesBack, FinishesEntry};
 ghost use Rattle.mg_node.specs.Code.QueueLaying.{packets_by};
 
 use crate::{Context, Outcome, Performed, Work};
-use mg_calc::{Calculator, Cause, Emission, Phase};
+use mg_calc::{Cause, Emission, NodeCalculator, Phase};
 use std::alloc::{AllocError, Global};
 use std::marker::Model;
 
 /// An entry of a window: a work that was claimed and isn't laid. The work is out, or its outcome stands here.
 #[derive(Drop)]
-pub struct Entry<C: Calculator> {
+pub struct Entry<C: NodeCalculator> {
     phase: Phase,
     outcome: Option<Outcome<C>>,
     committed: bool,
 }
 
-impl<C: Calculator> Model for Entry<C> {
+impl<C: NodeCalculator> Model for Entry<C> {
     ghost use Rattle.mg_node.specs.Views.{EntryView};
     ghost use Rattle.mg_node.specs.Codes.{entry_code};
 
@@ -34,11 +34,11 @@ impl<C: Calculator> Model for Entry<C> {
 }
 
 // Closes the calculator of the work that came back, if there is one, unless that was a performed Close. Want of memory changes nothing.
-fn finish_back<C: Calculator>(
+fn finish_back<C: NodeCalculator>(
     outcome: &mut Option<Outcome<C>>,
     alloc: Global,
 ) -> Result<(), AllocError>
-    ensures finished { OnOk result (FinishesBack outcome.old outcome.new) }
+    ensures finished { OnOk result (FinishesBack C.laws outcome.old outcome.new) }
     ensures unchanged { OnErr result (outcome.new ≡ outcome.old) }
 {
     let Some(outcome) = outcome else {
@@ -47,7 +47,7 @@ fn finish_back<C: Calculator>(
     outcome.finish(alloc)
 }
 
-impl<C: Calculator> Entry<C> {
+impl<C: NodeCalculator> Entry<C> {
     /// The entry of a work that is handed out.
     pub(crate) fn out(phase: Phase) -> Entry<C>
         ensures { result ≡ record { phase = phase; outcome = None; committed = false } }
@@ -200,7 +200,7 @@ impl<C: Calculator> Entry<C> {
     /// Closes the calculator of the work that came back, if there is one, unless that was a performed Close. Want of memory changes
     /// nothing.
     pub(crate) fn finish(&mut self, alloc: Global) -> Result<(), AllocError>
-        ensures finished { OnOk result (FinishesEntry self.old self.new) }
+        ensures finished { OnOk result (FinishesEntry C.laws self.old self.new) }
         ensures unchanged { OnErr result (self.new ≡ self.old) }
     {
         finish_back(&mut self.outcome, alloc)

@@ -12,7 +12,7 @@ use crate::Context;
 use crate::entry::Entry;
 use crate::laying::{lay, packets_in};
 use crate::window::is_ready;
-use mg_calc::{Calculator, Cause, Emission, NodeFault, Phase};
+use mg_calc::{Cause, Emission, NodeCalculator, NodeFault, Phase};
 use mg_stream::Queue;
 use std::alloc::AllocError;
 use std::collections::VecDeque;
@@ -35,7 +35,7 @@ impl FrontEnd {
 }
 
 /// Makes room at each output for all that the entries which are ready at the front of a window have emitted there.
-pub(crate) fn reserve<C: Calculator>(
+pub(crate) fn reserve<C: NodeCalculator>(
     outputs: &mut [Queue],
     window: &VecDeque<Entry<C>>,
 ) -> Result<(), AllocError>
@@ -105,7 +105,7 @@ fn packets_by(answer: &Result<Emission, Cause>, output: u32) -> u32
 // How many packets the entries that are ready at the front of a window have at an output. A number past 32 bits is an error, as if there
 // were no memory.
 #[tactic(auto, using(crate::proofs::FrontSteps::needed_more, crate::proofs::FrontSteps::needed_end, crate::proofs::FrontSteps::needed_all))]
-fn needed<C: Calculator>(window: &VecDeque<Entry<C>>, output: u32) -> Result<u32, AllocError>
+fn needed<C: NodeCalculator>(window: &VecDeque<Entry<C>>, output: u32) -> Result<u32, AllocError>
     ensures { IfOk result (λ n. n ≡ needed_at output window.now.items) }
 {
     let mut sum: u32 = 0;
@@ -124,7 +124,7 @@ fn needed<C: Calculator>(window: &VecDeque<Entry<C>>, output: u32) -> Result<u32
 
 /// Lays the entries that are ready at the front of a window, up to the one at which the node fails or closes. Their contexts are idle
 /// afterwards. It takes no memory.
-pub(crate) fn lay_front<C: Calculator>(
+pub(crate) fn lay_front<C: NodeCalculator>(
     offset: Option<i64>,
     node: u32,
     outputs: &mut [Queue],
@@ -161,7 +161,7 @@ pub(crate) fn lay_front<C: Calculator>(
 }
 
 // Lays the first entry of a window, which must be ready.
-fn lay_first<C: Calculator>(
+fn lay_first<C: NodeCalculator>(
     offset: Option<i64>,
     node: u32,
     outputs: &mut [Queue],

@@ -5,6 +5,7 @@ ghost use Rattle.mg_settled.specs.Prefix.{StreamPrefix};
 ghost use Rattle.mg_stream.specs.Queue.{count_of, with_packet, raised_to, MayCome};
 ghost use Rattle.mg_stream.specs.Pool.{empty_backlog};
 ghost use Rattle.mg_policy.specs.Inbox.{HasPorts};
+ghost use Rattle.mg_calc.specs.Rules.{Laws};
 ghost use Rattle.mg_calc.specs.Plan.{IsValid};
 ghost use Rattle.mg_node.specs.Claims.{Takes};
 ghost use Rattle.mg_node.specs.Intakes.{IsLeft, NoneWaits, HoldsNone, IsFresh, next_set_of, SomeJobHasIntake, HasSet, HasSets, HasLoop, AnswersBy, ClaimsSet};
@@ -51,7 +52,7 @@ impl Intake {
         ensures fresh { IfOk result (λ i. IsFresh plan.now consumer i) }
 
         // The intake is lawful for every job of the plan.
-        ensures lawful { (job : LoggedJob) (streams : List (StreamPrefix Plain)) → job.job.plan ≡ plan.now → Solves job streams
+        ensures lawful { (laws : Laws) (job : LoggedJob laws) (streams : List (StreamPrefix Plain)) → job.job.plan ≡ plan.now → Solves job streams
             → IfOk result (λ i. LawfulIntake job consumer i) }
     {
         let waits = waits_at(alloc, plan, consumer)?;
@@ -79,8 +80,8 @@ impl Intake {
         ensures grows { IntakeGrows self.old self.new }
 
         // Lawful in, lawful out, for every job; and the set is that of its number in the solution.
-        ensures stays_lawful { (job : LoggedJob) (consumer : ℕ) → LawfulIntake job consumer self.old → LawfulIntake job consumer self.new }
-        ensures in_solution { (job : LoggedJob) (consumer : ℕ) (streams : List (StreamPrefix Plain)) → Solves job streams → LawfulIntake job consumer self.old
+        ensures stays_lawful { (laws : Laws) (job : LoggedJob laws) (consumer : ℕ) → LawfulIntake job consumer self.old → LawfulIntake job consumer self.new }
+        ensures in_solution { (laws : Laws) (job : LoggedJob laws) (consumer : ℕ) (streams : List (StreamPrefix Plain)) → Solves job streams → LawfulIntake job consumer self.old
             → OnTrue result (HasSet job streams consumer self.old.claimed into.new) }
     {
         if !claim_of(&mut self.waits, into) {
@@ -288,9 +289,9 @@ fn claim_of(waits: &mut Pending, into: &mut InputSet) -> bool
     ensures ports { ports_in waits.new ≡ ports_in waits.old }
     ensures counts { (port : ℕ) → count_of (port_queue waits.new port) ≡ count_of (port_queue waits.old port) }
     ensures bounds { (port : ℕ) → (port_queue waits.new port).bound ≡ (port_queue waits.old port).bound }
-    ensures holds { (job : LoggedJob) (streams : List (StreamPrefix Plain)) (consumer k : ℕ) → HoldsWaits job streams consumer k waits.old
+    ensures holds { (laws : Laws) (job : LoggedJob laws) (streams : List (StreamPrefix Plain)) (consumer k : ℕ) → HoldsWaits job streams consumer k waits.old
         → OnTrue result (ClaimsSet job streams consumer k waits.new into.new) }
-    ensures grow { (job : LoggedJob) (streams : List (StreamPrefix Plain)) (consumer k port : ℕ) → HoldsWaits job streams consumer k waits.old
+    ensures grow { (laws : Laws) (job : LoggedJob laws) (streams : List (StreamPrefix Plain)) (consumer k port : ℕ) → HoldsWaits job streams consumer k waits.old
         → HasGrown (port_queue waits.old port) (port_queue waits.new port) }
 {
     match waits {
@@ -309,9 +310,9 @@ fn claim_known(waits: &mut Pending, at: Timestamp, into: &mut InputSet)
     ensures ports { ports_in waits.new ≡ ports_in waits.old }
     ensures counts { (port : ℕ) → count_of (port_queue waits.new port) ≡ count_of (port_queue waits.old port) }
     ensures bounds { (port : ℕ) → (port_queue waits.new port).bound ≡ (port_queue waits.old port).bound }
-    ensures holds { (job : LoggedJob) (streams : List (StreamPrefix Plain)) (consumer k : ℕ) → HoldsWaits job streams consumer k waits.old
+    ensures holds { (laws : Laws) (job : LoggedJob laws) (streams : List (StreamPrefix Plain)) (consumer k : ℕ) → HoldsWaits job streams consumer k waits.old
         → ClaimsSet job streams consumer k waits.new into.new }
-    ensures grow { (job : LoggedJob) (streams : List (StreamPrefix Plain)) (consumer k port : ℕ) → HoldsWaits job streams consumer k waits.old
+    ensures grow { (laws : Laws) (job : LoggedJob laws) (streams : List (StreamPrefix Plain)) (consumer k port : ℕ) → HoldsWaits job streams consumer k waits.old
         → HasGrown (port_queue waits.old port) (port_queue waits.new port) }
 {
     match waits {

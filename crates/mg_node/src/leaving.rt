@@ -5,11 +5,11 @@ ghost use Rattle.mg_node.specs.Leaving.{calculator_in, handed_told};
 
 use crate::Context;
 use crate::entry::Entry;
-use mg_calc::Calculator;
+use mg_calc::NodeCalculator;
 use std::collections::VecDeque;
 
 /// The first calculator that was handed in, of those in some contexts.
-pub(crate) fn from_contexts<C: Calculator>(contexts: Vec<Context<C>>) -> Option<C>
+pub(crate) fn from_contexts<C: NodeCalculator>(contexts: Vec<Context<C>>) -> Option<C>
     ensures { option_map C.told result ≡ slice_get (filter_map handed_told (map (λ b. b.told) contexts.items)) 0 }
 {
     for context in contexts {
@@ -21,7 +21,7 @@ pub(crate) fn from_contexts<C: Calculator>(contexts: Vec<Context<C>>) -> Option<
 }
 
 /// The first calculator that was handed in, of those in the outcomes of a window.
-pub(crate) fn from_window<C: Calculator>(window: VecDeque<Entry<C>>) -> Option<C>
+pub(crate) fn from_window<C: NodeCalculator>(window: VecDeque<Entry<C>>) -> Option<C>
     ensures { option_map C.told result ≡ slice_get (filter_map handed_told (filter_map calculator_in window.items)) 0 }
 {
     let mut window = window;

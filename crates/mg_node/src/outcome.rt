@@ -9,18 +9,18 @@ ghost use Rattle.mg_node.specs.Code.QueueLaying.{packets_by};
 
 use crate::laying::packets_in;
 use crate::{Context, Performed, Work};
-use mg_calc::{Calculator, Cause, Emission, Phase};
+use mg_calc::{Cause, Emission, NodeCalculator, Phase};
 use std::alloc::{AllocError, Global};
 use std::marker::Model;
 
 /// What comes back of a work: it was performed, or it wasn't run.
 #[derive(Drop)]
-pub struct Outcome<C: Calculator> {
+pub struct Outcome<C: NodeCalculator> {
     work: Work<C>,
     answer: Option<Result<Emission, Cause>>,
 }
 
-impl<C: Calculator> Model for Outcome<C> {
+impl<C: NodeCalculator> Model for Outcome<C> {
     ghost use Rattle.mg_node.specs.Views.{OutcomeView};
     ghost use Rattle.mg_node.specs.Codes.{outcome_code};
 
@@ -31,13 +31,13 @@ impl<C: Calculator> Model for Outcome<C> {
     ghost view = { λ o. record { work = o.work; answer = o.answer } };
 }
 
-impl<C: Calculator> Outcome<C> {
+impl<C: NodeCalculator> Outcome<C> {
     /// The outcome of a work that wasn't run.
     pub fn unrun(work: Work<C>) -> Outcome<C>
         ensures outcome { result ≡ record { work = work; answer = None } }
 
         // Lawful in, lawful out, for every job.
-        ensures lawful { (job : LoggedJob) → LawfulWork job work → LawfulOutcome job result }
+        ensures lawful { (job : LoggedJob C.laws) → LawfulWork job work → LawfulOutcome job result }
     {
         Outcome { work, answer: None }
     }
@@ -47,7 +47,7 @@ impl<C: Calculator> Outcome<C> {
         ensures outcome { result ≡ outcome_of performed }
 
         // Lawful in, lawful out, for every job.
-        ensures lawful { (job : LoggedJob) → LawfulPerformed job performed → LawfulOutcome job result }
+        ensures lawful { (job : LoggedJob C.laws) → LawfulPerformed job performed → LawfulOutcome job result }
     {
         let (work, answer) = performed.into_parts();
         Outcome {
@@ -99,7 +99,7 @@ impl<C: Calculator> Outcome<C> {
 
     /// Closes the calculator, unless the work was a performed Close. Want of memory changes nothing.
     pub(crate) fn finish(&mut self, alloc: Global) -> Result<(), AllocError>
-        ensures finished { OnOk result (FinishesWork self.old self.new) }
+        ensures finished { OnOk result (FinishesWork C.laws self.old self.new) }
         ensures unchanged { OnErr result (self.new ≡ self.old) }
     {
         if self.was_closed() {

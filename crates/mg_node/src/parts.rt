@@ -6,7 +6,7 @@ ghost use Rattle.mg_node.specs.Job.{role_of as role_by};
 ghost use Rattle.mg_node.specs.Fresh.{own_told, context_of};
 
 use crate::{Context, Role};
-use mg_calc::{Calculator, Law, PlanNode};
+use mg_calc::{Law, NodeCalculator, PlanNode};
 use mg_route::{Builtin, Holder};
 use mg_settled::InputSet;
 use mg_stream::Queue;
@@ -49,7 +49,7 @@ pub(crate) fn empty_outputs(alloc: Global, count: u32) -> Result<Vec<Queue>, All
 }
 
 // Returns a context with a calculator that is made by a node's law and shape.
-fn own_context<C: Calculator>(alloc: Global, node: &PlanNode) -> Result<Context<C>, AllocError>
+fn own_context<C: NodeCalculator>(alloc: Global, node: &PlanNode) -> Result<Context<C>, AllocError>
     requires ranges { ParametersFit node.now.law }
     requires of_law { IsShapeOf node.now.law node.now.shape }
     requires served { IsServed node.now.law }
@@ -64,7 +64,7 @@ fn own_context<C: Calculator>(alloc: Global, node: &PlanNode) -> Result<Context<
 }
 
 /// Returns `count` contexts with calculators that are made by a node's law and shape, with room for one more context.
-pub(crate) fn own_contexts<C: Calculator>(
+pub(crate) fn own_contexts<C: NodeCalculator>(
     alloc: Global,
     node: &PlanNode,
     count: u32,

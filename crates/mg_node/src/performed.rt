@@ -1,17 +1,17 @@
 ghost use Rattle.std.specs.Prelude.{◌≡◌};
 
 use crate::Work;
-use mg_calc::{Calculator, Cause, Emission, Phase};
+use mg_calc::{Cause, Emission, NodeCalculator, Phase};
 use std::marker::Model;
 
 /// A work that is done: the calculator has answered, with an emission or a cause.
 #[derive(Drop)]
-pub struct Performed<C: Calculator> {
+pub struct Performed<C: NodeCalculator> {
     work: Work<C>,
     answer: Result<Emission, Cause>,
 }
 
-impl<C: Calculator> Model for Performed<C> {
+impl<C: NodeCalculator> Model for Performed<C> {
     ghost use Rattle.mg_node.specs.Views.{PerformedView};
     ghost use Rattle.mg_node.specs.Codes.{performed_code};
 
@@ -22,7 +22,7 @@ impl<C: Calculator> Model for Performed<C> {
     ghost view = { λ p. record { work = p.work; answer = p.answer } };
 }
 
-impl<C: Calculator> Performed<C> {
+impl<C: NodeCalculator> Performed<C> {
     /// A work with its answer.
     pub(crate) fn new(work: Work<C>, answer: Result<Emission, Cause>) -> Performed<C>
         ensures { result ≡ record { work = work; answer = answer } }

@@ -7,7 +7,7 @@ ghost use Rattle.mg_node.specs.Advances.{any_moved, until_phase, until_claimed a
 use crate::Role;
 use crate::entry::Entry;
 use crate::window::is_empty;
-use mg_calc::{Calculator, Phase};
+use mg_calc::{NodeCalculator, Phase};
 use mg_stream::Queue;
 use mg_time::Timestamp;
 use std::collections::VecDeque;
@@ -79,7 +79,7 @@ fn until(phase: Phase, time: Timestamp) -> Timestamp
 
 /// The lesser of a time and the time of the first set that is claimed and not laid, if there is one.
 #[tactic(auto, using(crate::proofs::Advancing::until_first, crate::proofs::Advancing::until_none))]
-pub(crate) fn until_claimed<C: Calculator>(
+pub(crate) fn until_claimed<C: NodeCalculator>(
     window: &VecDeque<Entry<C>>,
     time: Timestamp,
 ) -> Timestamp

@@ -9,14 +9,14 @@ ghost use Rattle.mg_node.specs.WindingUp.{FinishesFirst};
 
 use crate::entry::Entry;
 use crate::{Outcome, Performed, Work};
-use mg_calc::{Calculator, Phase};
+use mg_calc::{NodeCalculator, Phase};
 use std::alloc::{AllocError, Global};
 use std::collections::VecDeque;
 use std::mem;
 
 /// The place of the first entry whose work came back unrun, if there is one.
 #[tactic(auto, using(crate::proofs::Unrun::unrun_here, crate::proofs::Unrun::unrun_next, crate::proofs::Unrun::unrun_none))]
-pub(crate) fn first_unrun<C: Calculator>(window: &VecDeque<Entry<C>>) -> Option<usize>
+pub(crate) fn first_unrun<C: NodeCalculator>(window: &VecDeque<Entry<C>>) -> Option<usize>
     ensures { result ≡ first_unrun_from 0 window.now.items }
 {
     for place in 0..window.len() {
@@ -28,7 +28,7 @@ pub(crate) fn first_unrun<C: Calculator>(window: &VecDeque<Entry<C>>) -> Option<
 }
 
 /// Hands out the work of an entry that came back unrun.
-pub(crate) fn hand_out<C: Calculator>(window: &mut VecDeque<Entry<C>>, place: usize) -> Work<C>
+pub(crate) fn hand_out<C: NodeCalculator>(window: &mut VecDeque<Entry<C>>, place: usize) -> Work<C>
     requires { first_unrun_from 0 window.old.items ≡ Some place }
     ensures hands { HandsOut window.old.items window.new.items place result }
     ensures len { deque_len window.new ≡ deque_len window.old }
@@ -38,7 +38,7 @@ pub(crate) fn hand_out<C: Calculator>(window: &mut VecDeque<Entry<C>>, place: us
 }
 
 /// Whether all that was claimed is laid.
-pub(crate) fn is_empty<C: Calculator>(window: &VecDeque<Entry<C>>) -> bool
+pub(crate) fn is_empty<C: NodeCalculator>(window: &VecDeque<Entry<C>>) -> bool
     ensures none { result ≡ true → window.now.items ≡ [] }
     ensures some { result ≡ false → 0 < length window.now.items }
 {
@@ -46,7 +46,7 @@ pub(crate) fn is_empty<C: Calculator>(window: &VecDeque<Entry<C>>) -> bool
 }
 
 /// Puts a work that came back into its place as it is.
-pub(crate) fn put_back<C: Calculator>(
+pub(crate) fn put_back<C: NodeCalculator>(
     window: &mut VecDeque<Entry<C>>,
     place: usize,
     outcome: Outcome<C>,
@@ -60,7 +60,7 @@ pub(crate) fn put_back<C: Calculator>(
 }
 
 /// Puts a work that came back into its place, committed if it was performed.
-pub(crate) fn put_committed<C: Calculator>(
+pub(crate) fn put_committed<C: NodeCalculator>(
     window: &mut VecDeque<Entry<C>>,
     place: usize,
     outcome: Outcome<C>,
@@ -74,7 +74,7 @@ pub(crate) fn put_committed<C: Calculator>(
 }
 
 /// Takes the outcome at a place out of the window again. The entry stays, as that of a work that is out.
-pub(crate) fn take_back<C: Calculator>(
+pub(crate) fn take_back<C: NodeCalculator>(
     window: &mut VecDeque<Entry<C>>,
     place: usize,
     phase: Phase,
@@ -92,7 +92,7 @@ pub(crate) fn take_back<C: Calculator>(
 
 /// Whether the first entry of a window is ready to be laid.
 #[tactic(auto, using(crate::proofs::FrontSteps::ready_first, crate::proofs::FrontSteps::ready_none))]
-pub(crate) fn is_ready<C: Calculator>(window: &VecDeque<Entry<C>>) -> bool
+pub(crate) fn is_ready<C: NodeCalculator>(window: &VecDeque<Entry<C>>) -> bool
     ensures { result ≡ starts_ready window.now.items }
 {
     if is_empty(window) {
@@ -102,7 +102,7 @@ pub(crate) fn is_ready<C: Calculator>(window: &VecDeque<Entry<C>>) -> bool
 }
 
 /// Takes the work at a place, if it is performed and not committed. The entry stays, as that of a work that is out.
-pub(crate) fn take_shelf<C: Calculator>(
+pub(crate) fn take_shelf<C: NodeCalculator>(
     window: &mut VecDeque<Entry<C>>,
     place: u64,
 ) -> Option<Performed<C>>
@@ -122,7 +122,7 @@ pub(crate) fn take_shelf<C: Calculator>(
 }
 
 /// The place of the first entry with a performed work that isn't committed, if there is one.
-pub(crate) fn first_shelf<C: Calculator>(window: &VecDeque<Entry<C>>) -> Option<usize>
+pub(crate) fn first_shelf<C: NodeCalculator>(window: &VecDeque<Entry<C>>) -> Option<usize>
     ensures within { IfSome result (λ place. place < length window.now.items) }
     ensures some { IfSome result (λ place. IsSome (option_and_then shelf_of (slice_get window.now.items place))) }
     ensures none { IfNone result ((place : ℕ) → option_and_then shelf_of (slice_get window.now.items place) ≡ None) }
@@ -136,11 +136,11 @@ pub(crate) fn first_shelf<C: Calculator>(window: &VecDeque<Entry<C>>) -> Option<
 }
 
 /// Closes the calculator of the first entry's work, if that came back and wasn't a performed Close. Want of memory changes nothing.
-pub(crate) fn finish_first<C: Calculator>(
+pub(crate) fn finish_first<C: NodeCalculator>(
     window: &mut VecDeque<Entry<C>>,
     alloc: Global,
 ) -> Result<(), AllocError>
-    ensures finished { OnOk result (FinishesFirst window.old.items window.new.items) }
+    ensures finished { OnOk result (FinishesFirst C.laws window.old.items window.new.items) }
     ensures unchanged { OnErr result (window.new.items ≡ window.old.items) }
     ensures len { deque_len window.new ≡ deque_len window.old }
     ensures capacity { deque_capacity window.new ≡ deque_capacity window.old }

@@ -4,21 +4,21 @@ ghost use Rattle.mg_node.specs.Running.{MayRun, HasRun};
 ghost use Rattle.mg_node.specs.WindingUp.{IsFinished};
 
 use crate::Context;
-use mg_calc::{CalcFault, Calculator, Emission, Phase};
+use mg_calc::{CalcFault, Emission, NodeCalculator, Phase};
 use mg_edge::Gate;
 use std::alloc::{AllocError, Global};
 use std::marker::Model;
 
 /// A work: a set that was claimed, or a call of a source, or Close, with the calculator that is to work on it.
 #[derive(Drop)]
-pub struct Work<C: Calculator> {
+pub struct Work<C: NodeCalculator> {
     node: u32,
     number: u64,
     phase: Phase,
     context: Context<C>,
 }
 
-impl<C: Calculator> Model for Work<C> {
+impl<C: NodeCalculator> Model for Work<C> {
     ghost use Rattle.mg_node.specs.Views.{WorkView};
     ghost use Rattle.mg_node.specs.Codes.{work_code};
 
@@ -29,7 +29,7 @@ impl<C: Calculator> Model for Work<C> {
     ghost view = { λ w. record { node = w.node; number = w.number; phase = w.phase; context = w.context } };
 }
 
-impl<C: Calculator> Work<C> {
+impl<C: NodeCalculator> Work<C> {
     /// The work of a node with this number, to be done in a phase by a context.
     pub(crate) fn new(node: u32, number: u64, phase: Phase, context: Context<C>) -> Work<C>
         ensures { result ≡ record { node = node; number = number; phase = phase; context = context } }
@@ -74,7 +74,7 @@ impl<C: Calculator> Work<C> {
     /// Runs the work's calculator in its phase, with the gate round each call but Close. Want of memory changes nothing.
     pub(crate) fn run<G: Gate>(&mut self, alloc: Global, gate: &G) -> Result<Emission, CalcFault>
         requires { MayRun self.old.phase self.old.context }
-        ensures ran { HasRun result self.old.phase self.old.context self.new.context }
+        ensures ran { HasRun C.laws result self.old.phase self.old.context self.new.context }
         ensures same { self.new ≡ record self.old { context = self.new.context } }
     {
         if let Phase::Close = self.phase {
@@ -88,7 +88,7 @@ impl<C: Calculator> Work<C> {
 
     /// Closes the work's calculator, and drops its answer. Want of memory changes nothing.
     pub(crate) fn finish(&mut self, alloc: Global) -> Result<(), AllocError>
-        ensures finished { OnOk result (IsFinished self.old.context self.new.context) }
+        ensures finished { OnOk result (IsFinished C.laws self.old.context self.new.context) }
         ensures same { self.new ≡ record self.old { context = self.new.context } }
         ensures unchanged { OnErr result (self.new ≡ self.old) }
     {

@@ -3,12 +3,13 @@ use Rattle.std.proofs.Common.{◌≡◌, ◌≢◌, ◌⊎◌, inl, inr, ℕ, Bo
 use Rattle.mg_edge.specs.Edge.{SourceTold, SinkTold, Rose}
 use Rattle.mg_edge.specs.Runs.{Gave}
 use Rattle.mg_edge.proofs.Runs.{TookAll-start}
+use Rattle.mg_calc.specs.Rules.{Laws}
 use Rattle.mg_calc.specs.declared.inputs.Inputs.{Inputs}
 use Rattle.mg_calc.specs.declared.plan.Plan.{Plan}
 use Rattle.mg_calc.specs.declared.node_fault.NodeFault.{NodeFault as Fault}
 use Rattle.mg_calc.specs.Equations.{Job}
 use Rattle.mg_calc.specs.Meaning.{faults, stalled}
-use Rattle.mg_calc.specs.Told.{CalculatorTold}
+use Rattle.mg_calc.specs.Told.{BoxTold}
 use Rattle.mg_feed.specs.Lines.{all_lines}
 use Rattle.mg_feed.specs.Ran.{EndCame}
 use Rattle.mg_feed.specs.declared.feed_end.FeedEnd.TheVariants.{Ended}
@@ -53,18 +54,18 @@ end_status (Refused line cause) fs ns = LineRefused
 end_status (Failed lines) fs ns = ReadFault
 
 -- what was written is an answer's
-record EndMet (end : TraceEnd) (report : Bool) (plan : Plan) (job : Option Inputs) (status : Status) (output notes : Device SinkTold) : Type 0 where
+record EndMet (laws : Laws) (end : TraceEnd) (report : Bool) (plan : Plan) (job : Option Inputs) (status : Status) (output notes : Device SinkTold) : Type 0 where
   answer : RunAnswer
-  is : AnswersEnd end report plan job answer
+  is : AnswersEnd laws end report plan job answer
   fs : List Fault
   ns : List ℕ
   says : answer.status ≡ end_status end fs ns
   met : MetOr answer status output notes
 
-job_met : (ended report : Bool) (plan : Plan) (inputs : Inputs) (status : Status) (output notes : Device SinkTold) → inputs.ended ≡ ended → WroteJob ended report (job_over plan inputs) status output notes
-    → EndMet Accepted report plan (Some inputs) status output notes
-job_met true report plan inputs status output notes is wrote =
-    let job : Job = job_over plan inputs in
+job_met : {laws : Laws} (ended report : Bool) (plan : Plan) (inputs : Inputs) (status : Status) (output notes : Device SinkTold) → inputs.ended ≡ ended → WroteJob ended report (job_over laws plan inputs) status output notes
+    → EndMet laws Accepted report plan (Some inputs) status output notes
+job_met {laws} true report plan inputs status output notes is wrote =
+    let job : Job = job_over laws plan inputs in
     let answer : RunAnswer = answer_of (by_lines report) job Ended wrote.streams in
     record {
       answer = answer;
@@ -74,8 +75,8 @@ job_met true report plan inputs status output notes is wrote =
       says = refl;
       met = met_by status answer (failed_notes (by_lines report) job Ended wrote.streams) output notes wrote.by;
     }
-job_met false report plan inputs status output notes is wrote =
-    let job : Job = job_over plan inputs in
+job_met {laws} false report plan inputs status output notes is wrote =
+    let job : Job = job_over laws plan inputs in
     let answer : RunAnswer = frozen_answer (by_lines report) job wrote.streams in
     record {
       answer = answer;
@@ -97,29 +98,29 @@ note_met : (end : TraceEnd) (status : Status) (output notes : Device SinkTold) �
 note_met end status output notes untouched (inl whole) = inr (record { text = took_nothing output untouched; noted = whole.1; told = whole.0 })
 note_met end status output notes untouched (inr part) = inl (part.0, inr part.1.rose)
 
-end_met : (end : TraceEnd) (report : Bool) (plan : Plan) (job : Option Inputs) (status : Status) (output notes : Device SinkTold) → WroteEnd end report plan job status output notes
-    → EndMet end report plan job status output notes
-end_met Accepted report plan None status output notes wrote = absurd wrote
-end_met Accepted report plan (Some inputs) status output notes wrote = job_met inputs.ended report plan inputs status output notes refl wrote
-end_met (Refused line cause) report plan job status output notes wrote =
+end_met : {laws : Laws} (end : TraceEnd) (report : Bool) (plan : Plan) (job : Option Inputs) (status : Status) (output notes : Device SinkTold) → WroteEnd laws end report plan job status output notes
+    → EndMet laws end report plan job status output notes
+end_met {laws} Accepted report plan None status output notes wrote = absurd wrote
+end_met {laws} Accepted report plan (Some inputs) status output notes wrote = job_met inputs.ended report plan inputs status output notes refl wrote
+end_met {laws} (Refused line cause) report plan job status output notes wrote =
     record { answer = note_answer (Refused line cause); is = refl; fs = []; ns = []; says = refl; met = note_met (Refused line cause) status output notes wrote.0 wrote.1 }
-end_met (Failed lines) report plan job status output notes wrote =
+end_met {laws} (Failed lines) report plan job status output notes wrote =
     record { answer = note_answer (Failed lines); is = refl; fs = []; ns = []; says = refl; met = note_met (Failed lines) status output notes wrote.0 wrote.1 }
 
 -- The call --
 
 -- memory ran out, or all lines were read
-out_or : (status : Status) (report : Bool) (plan : Plan) (all : RunDevices) (boxes : Device (List CalculatorTold)) → ReplayedBy status report plan all boxes → (status ≡ OutOfMemory) ⊎ Replayed report plan status all boxes
-out_or Good report plan all boxes ran = inr ran
-out_or StoreFault report plan all boxes ran = inr ran
-out_or Usage report plan all boxes ran = inr ran
-out_or GraphRefused report plan all boxes ran = inr ran
-out_or LineRefused report plan all boxes ran = inr ran
-out_or NodeFault report plan all boxes ran = inr ran
-out_or Stalled report plan all boxes ran = inr ran
-out_or ReadFault report plan all boxes ran = inr ran
-out_or WriteFault report plan all boxes ran = inr ran
-out_or OutOfMemory report plan all boxes ran = inl refl
+out_or : {laws : Laws} (status : Status) (report : Bool) (plan : Plan) (all : RunDevices) (boxes : Device (List BoxTold)) → ReplayedBy laws status report plan all boxes → (status ≡ OutOfMemory) ⊎ Replayed laws report plan status all boxes
+out_or {laws} Good report plan all boxes ran = inr ran
+out_or {laws} StoreFault report plan all boxes ran = inr ran
+out_or {laws} Usage report plan all boxes ran = inr ran
+out_or {laws} GraphRefused report plan all boxes ran = inr ran
+out_or {laws} LineRefused report plan all boxes ran = inr ran
+out_or {laws} NodeFault report plan all boxes ran = inr ran
+out_or {laws} Stalled report plan all boxes ran = inr ran
+out_or {laws} ReadFault report plan all boxes ran = inr ran
+out_or {laws} WriteFault report plan all boxes ran = inr ran
+out_or {laws} OutOfMemory report plan all boxes ran = inl refl
 
 -- The status --
 
@@ -144,10 +145,10 @@ other_out : (status : Status) → (status ≡ StoreFault) ⊎ (status ≡ Usage)
 other_out status (inl store) is = cc
 other_out status (inr usage) is = cc
 
-pub replayed_otherwise : (status : Status) (report : Bool) (plan : Plan) (all : RunDevices) (boxes : Device (List CalculatorTold)) → (status ≡ StoreFault) ⊎ (status ≡ Usage) → ReplayedBy status report plan all boxes → ⊥
-replayed_otherwise status report plan all boxes other ran = by (out_or status report plan all boxes ran)
+pub replayed_otherwise : (laws : Laws) (status : Status) (report : Bool) (plan : Plan) (all : RunDevices) (boxes : Device (List BoxTold)) → (status ≡ StoreFault) ⊎ (status ≡ Usage) → ReplayedBy laws status report plan all boxes → ⊥
+replayed_otherwise laws status report plan all boxes other ran = by (out_or status report plan all boxes ran)
   where
-    by : (status ≡ OutOfMemory) ⊎ Replayed report plan status all boxes → ⊥
+    by : (status ≡ OutOfMemory) ⊎ Replayed laws report plan status all boxes → ⊥
     by (inl out) = other_out status other out
     by (inr whole) =
         let e = end_met whole.end report plan whole.job status all.output all.notes whole.wrote in
@@ -158,29 +159,29 @@ replayed_otherwise status report plan all boxes other ran = by (out_or status re
 
 -- The input's end --
 
-ended_by : (end : TraceEnd) (status : Status) (fs : List Fault) (ns : List ℕ) (plan : Plan) (boxes : List CalculatorTold) (input : Device SourceTold) (came : List ℕ) (job : Option Inputs)
-    → status ≡ end_status end fs ns → IsOneOf status ended_statuses → CameAs end plan boxes input came job → EndCame input.before input.now
-ended_by Accepted status fs ns plan boxes input came job is one by = by.0
-ended_by (Refused line cause) status fs ns plan boxes input came job is (inl e) by = cc
-ended_by (Refused line cause) status fs ns plan boxes input came job is (inr (inl e)) by = cc
-ended_by (Refused line cause) status fs ns plan boxes input came job is (inr (inr (inl e))) by = cc
-ended_by (Refused line cause) status fs ns plan boxes input came job is (inr (inr (inr e))) by = absurd e
-ended_by (Failed lines) status fs ns plan boxes input came job is (inl e) by = cc
-ended_by (Failed lines) status fs ns plan boxes input came job is (inr (inl e)) by = cc
-ended_by (Failed lines) status fs ns plan boxes input came job is (inr (inr (inl e))) by = cc
-ended_by (Failed lines) status fs ns plan boxes input came job is (inr (inr (inr e))) by = absurd e
+ended_by : (laws : Laws) (end : TraceEnd) (status : Status) (fs : List Fault) (ns : List ℕ) (plan : Plan) (boxes : List BoxTold) (input : Device SourceTold) (came : List ℕ) (job : Option Inputs)
+    → status ≡ end_status end fs ns → IsOneOf status ended_statuses → CameAs laws end plan boxes input came job → EndCame input.before input.now
+ended_by laws Accepted status fs ns plan boxes input came job is one by = by.0
+ended_by laws (Refused line cause) status fs ns plan boxes input came job is (inl e) by = cc
+ended_by laws (Refused line cause) status fs ns plan boxes input came job is (inr (inl e)) by = cc
+ended_by laws (Refused line cause) status fs ns plan boxes input came job is (inr (inr (inl e))) by = cc
+ended_by laws (Refused line cause) status fs ns plan boxes input came job is (inr (inr (inr e))) by = absurd e
+ended_by laws (Failed lines) status fs ns plan boxes input came job is (inl e) by = cc
+ended_by laws (Failed lines) status fs ns plan boxes input came job is (inr (inl e)) by = cc
+ended_by laws (Failed lines) status fs ns plan boxes input came job is (inr (inr (inl e))) by = cc
+ended_by laws (Failed lines) status fs ns plan boxes input came job is (inr (inr (inr e))) by = absurd e
 
-pub replayed_ended : (report : Bool) (plan : Plan) (status : Status) (all : RunDevices) (boxes : Device (List CalculatorTold)) → ReplayedBy status report plan all boxes → IsOneOf status ended_statuses
+pub replayed_ended : (laws : Laws) (report : Bool) (plan : Plan) (status : Status) (all : RunDevices) (boxes : Device (List BoxTold)) → ReplayedBy laws status report plan all boxes → IsOneOf status ended_statuses
     → EndCame all.input.before all.input.now
-replayed_ended report plan status all boxes ran one = by (out_or status report plan all boxes ran)
+replayed_ended laws report plan status all boxes ran one = by (out_or status report plan all boxes ran)
   where
-    by : (status ≡ OutOfMemory) ⊎ Replayed report plan status all boxes → EndCame all.input.before all.input.now
+    by : (status ≡ OutOfMemory) ⊎ Replayed laws report plan status all boxes → EndCame all.input.before all.input.now
     by (inl out) = absurd (no-one status (inr out) one)
     by (inr whole) =
         let e = end_met whole.end report plan whole.job status all.output all.notes whole.wrote in
         elim e.met [
           | inl failed ↦ absurd (no-one status (inl failed.0) one)
-          | inr met ↦ ended_by whole.end status e.fs e.ns plan boxes.before all.input whole.read.came whole.job (met.told ∙ e.says) one whole.read.by
+          | inr met ↦ ended_by laws whole.end status e.fs e.ns plan boxes.before all.input whole.read.came whole.job (met.told ∙ e.says) one whole.read.by
         ]
 
 -- Faults --
@@ -190,11 +191,11 @@ failed_read Accepted status fs ns before now is un risen = absurd (steady-risen 
 failed_read (Refused line cause) status fs ns before now is un risen = absurd (steady-risen before.faults now.faults un.steady risen)
 failed_read (Failed lines) status fs ns before now is un risen = inl is
 
-pub replayed_read_risen : (report : Bool) (plan : Plan) (status : Status) (all : RunDevices) (boxes : Device (List CalculatorTold)) → ReplayedBy status report plan all boxes → HasRisen all.input.before.faults all.input.now.faults
+pub replayed_read_risen : (laws : Laws) (report : Bool) (plan : Plan) (status : Status) (all : RunDevices) (boxes : Device (List BoxTold)) → ReplayedBy laws status report plan all boxes → HasRisen all.input.before.faults all.input.now.faults
     → IsOneOf status read_statuses
-replayed_read_risen report plan status all boxes ran risen = by (out_or status report plan all boxes ran)
+replayed_read_risen laws report plan status all boxes ran risen = by (out_or status report plan all boxes ran)
   where
-    by : (status ≡ OutOfMemory) ⊎ Replayed report plan status all boxes → IsOneOf status read_statuses
+    by : (status ≡ OutOfMemory) ⊎ Replayed laws report plan status all boxes → IsOneOf status read_statuses
     by (inl out) = inr (inr (inl out))
     by (inr whole) =
         let e = end_met whole.end report plan whole.job status all.output all.notes whole.wrote in
@@ -207,11 +208,11 @@ met_unrisen : (answer : RunAnswer) (status : Status) (all : RunDevices) → Meet
 met_unrisen answer status all met (inl risen) = steady-risen _ _ met.text.steady risen
 met_unrisen answer status all met (inr risen) = steady-risen _ _ met.noted.steady risen
 
-pub replayed_write_risen : (report : Bool) (plan : Plan) (status : Status) (all : RunDevices) (boxes : Device (List CalculatorTold)) → ReplayedBy status report plan all boxes → WriteRisen all
+pub replayed_write_risen : (laws : Laws) (report : Bool) (plan : Plan) (status : Status) (all : RunDevices) (boxes : Device (List BoxTold)) → ReplayedBy laws status report plan all boxes → WriteRisen all
     → IsOneOf status (WriteFault ∷ OutOfMemory ∷ [])
-replayed_write_risen report plan status all boxes ran risen = by (out_or status report plan all boxes ran)
+replayed_write_risen laws report plan status all boxes ran risen = by (out_or status report plan all boxes ran)
   where
-    by : (status ≡ OutOfMemory) ⊎ Replayed report plan status all boxes → IsOneOf status (WriteFault ∷ OutOfMemory ∷ [])
+    by : (status ≡ OutOfMemory) ⊎ Replayed laws report plan status all boxes → IsOneOf status (WriteFault ∷ OutOfMemory ∷ [])
     by (inl out) = inr (inl out)
     by (inr whole) =
         let e = end_met whole.end report plan whole.job status all.output all.notes whole.wrote in
@@ -222,34 +223,34 @@ replayed_write_risen report plan status all boxes ran risen = by (out_or status 
 
 -- The whole input --
 
-comes_by : (end : TraceEnd) (plan : Plan) (boxes : List CalculatorTold) (input : Device SourceTold) (came bytes left : List ℕ) (job : Option Inputs) → input.before.left ≡ Some bytes → input.now.left ≡ Some left → bytes ≡ came ++ left
-    → CameAs end plan boxes input came job → FailsAs end input.before input.now → Unrisen input.before.faults input.now.faults → LinesComeTo plan boxes (all_lines bytes) job end
-comes_by Accepted plan boxes input came bytes left job is is_left cut by failed un =
+comes_by : (laws : Laws) (end : TraceEnd) (plan : Plan) (boxes : List BoxTold) (input : Device SourceTold) (came bytes left : List ℕ) (job : Option Inputs) → input.before.left ≡ Some bytes → input.now.left ≡ Some left → bytes ≡ came ++ left
+    → CameAs laws end plan boxes input came job → FailsAs end input.before input.now → Unrisen input.before.faults input.now.faults → LinesComeTo laws plan boxes (all_lines bytes) job end
+comes_by laws Accepted plan boxes input came bytes left job is is_left cut by failed un =
     let none : input.now.left ≡ Some [] = subst (λ (o : Option (List ℕ)). IfSome o (λ _. input.now.left ≡ Some [])) is by.0.none in
     let nothing : left ≡ [] = cc in
-    subst (λ (bs : List ℕ). LinesComeTo plan boxes (all_lines bs) job Accepted) (sym (cut ∙ ap (λ l. came ++ l) nothing ∙ append-nil came)) by.1
-comes_by (Refused line cause) plan boxes input came bytes left job is is_left cut by failed un =
-    subst (λ (bs : List ℕ). LinesComeTo plan boxes (all_lines bs) job (Refused line cause)) (sym cut) (by.2 left (none-left by.0 input.before input.now bytes left is is_left by.1))
-comes_by (Failed lines) plan boxes input came bytes left job is is_left cut by failed un = absurd (one-unrisen input.before.faults input.now.faults failed.once un)
+    subst (λ (bs : List ℕ). LinesComeTo laws plan boxes (all_lines bs) job Accepted) (sym (cut ∙ ap (λ l. came ++ l) nothing ∙ append-nil came)) by.1
+comes_by laws (Refused line cause) plan boxes input came bytes left job is is_left cut by failed un =
+    subst (λ (bs : List ℕ). LinesComeTo laws plan boxes (all_lines bs) job (Refused line cause)) (sym cut) (by.2 left (none-left by.0 input.before input.now bytes left is is_left by.1))
+comes_by laws (Failed lines) plan boxes input came bytes left job is is_left cut by failed un = absurd (one-unrisen input.before.faults input.now.faults failed.once un)
 
-comes_to : (end : TraceEnd) (plan : Plan) (boxes : List CalculatorTold) (input : Device SourceTold) (bytes : List ℕ) (job : Option Inputs) → WasRead plan boxes input job end → input.before.left ≡ Some bytes
-    → Unrisen input.before.faults input.now.faults → LinesComeTo plan boxes (all_lines bytes) job end
-comes_to end plan boxes input bytes job read is un =
+comes_to : {laws : Laws} (end : TraceEnd) (plan : Plan) (boxes : List BoxTold) (input : Device SourceTold) (bytes : List ℕ) (job : Option Inputs) → WasRead laws plan boxes input job end → input.before.left ≡ Some bytes
+    → Unrisen input.before.faults input.now.faults → LinesComeTo laws plan boxes (all_lines bytes) job end
+comes_to {laws} end plan boxes input bytes job read is un =
     let gave : Gave (Some bytes) input.now.left read.came = subst (λ (o : Option (List ℕ)). Gave o input.now.left read.came) is read.gave in
-    comes_by end plan boxes input read.came bytes gave.0 job is gave.1 gave.2 read.by read.faults un
+    comes_by laws end plan boxes input read.came bytes gave.0 job is gave.1 gave.2 read.by read.faults un
 
-abbrev AnswersBytes : Option (List ℕ) → Bool → Plan → List CalculatorTold → Status → Device SinkTold → Device SinkTold → Type 0
-AnswersBytes left report plan boxes status output notes = IfSome left (λ bytes. (answer : RunAnswer) × AnswersTrace report plan boxes (all_lines bytes) answer × Meets answer status output notes)
+abbrev AnswersBytes : Laws → Option (List ℕ) → Bool → Plan → List BoxTold → Status → Device SinkTold → Device SinkTold → Type 0
+AnswersBytes laws left report plan boxes status output notes = IfSome left (λ bytes. (answer : RunAnswer) × AnswersTrace laws report plan boxes (all_lines bytes) answer × Meets answer status output notes)
 
 none_rose : (all : RunDevices) → NoneFailed all → Rose all.output.before.faults all.output.now.faults ⊎ Rose all.notes.before.faults all.notes.now.faults → ⊥
 none_rose all none (inl rose) = rose-unrisen _ _ rose none.output
 none_rose all none (inr rose) = rose-unrisen _ _ rose none.notes
 
-pub replayed_answered : (report : Bool) (plan : Plan) (status : Status) (all : RunDevices) (boxes : Device (List CalculatorTold)) → ReplayedBy status report plan all boxes → NoneFailed all → status ≢ OutOfMemory
-    → IfSome all.input.before.left (λ bytes. (answer : RunAnswer) × AnswersTrace report plan boxes.before (all_lines bytes) answer × Meets answer status all.output all.notes)
-replayed_answered report plan status all boxes ran none some = by (out_or status report plan all boxes ran)
+pub replayed_answered : (laws : Laws) (report : Bool) (plan : Plan) (status : Status) (all : RunDevices) (boxes : Device (List BoxTold)) → ReplayedBy laws status report plan all boxes → NoneFailed all → status ≢ OutOfMemory
+    → IfSome all.input.before.left (λ bytes. (answer : RunAnswer) × AnswersTrace laws report plan boxes.before (all_lines bytes) answer × Meets answer status all.output all.notes)
+replayed_answered laws report plan status all boxes ran none some = by (out_or status report plan all boxes ran)
   where
-    at : (whole : Replayed report plan status all boxes) (left : Option (List ℕ)) → all.input.before.left ≡ left → AnswersBytes left report plan boxes.before status all.output all.notes
+    at : (whole : Replayed laws report plan status all boxes) (left : Option (List ℕ)) → all.input.before.left ≡ left → AnswersBytes laws left report plan boxes.before status all.output all.notes
     at whole None is = tt
     at whole (Some bytes) is =
         let e = end_met whole.end report plan whole.job status all.output all.notes whole.wrote in
@@ -258,6 +259,6 @@ replayed_answered report plan status all boxes ran none some = by (out_or status
           | inr met ↦ (e.answer, record { job = whole.job; end = whole.end; comes = comes_to whole.end plan boxes.before all.input bytes whole.job whole.read is none.input; answers = e.is }, met)
         ]
 
-    by : (status ≡ OutOfMemory) ⊎ Replayed report plan status all boxes → AnswersBytes all.input.before.left report plan boxes.before status all.output all.notes
+    by : (status ≡ OutOfMemory) ⊎ Replayed laws report plan status all boxes → AnswersBytes laws all.input.before.left report plan boxes.before status all.output all.notes
     by (inl out) = absurd (some out)
     by (inr whole) = at whole all.input.before.left refl

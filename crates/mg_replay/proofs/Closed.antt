@@ -2,13 +2,14 @@
 use Rattle.std.proofs.Common.{◌≡◌, inl, inr, ℕ, Bool, List, ◌++◌, length, Some, option_map, slice_get, refl, sym, ap, ◌∙◌, subst}
 use Rattle.mg_value.specs.Payload.{Plain}
 use Rattle.mg_settled.specs.Prefix.{StreamPrefix}
+use Rattle.mg_calc.specs.Rules.{Laws}
 use Rattle.mg_calc.specs.declared.call.Call.{Call}
 use Rattle.mg_calc.specs.Equations.{IsJob}
 use Rattle.mg_calc.specs.Shape.{IsOuter}
 use Rattle.mg_calc.specs.declared.inputs.Inputs.{Inputs}
 use Rattle.mg_calc.specs.declared.plan.Plan.{Plan}
 use Rattle.mg_calc.specs.declared.plan_node.PlanNode.{PlanNode}
-use Rattle.mg_calc.specs.Told.{CalculatorTold}
+use Rattle.mg_calc.specs.Told.{BoxTold}
 use Rattle.mg_answer.specs.Devices.{device, RunDevices, Untouched}
 use Rattle.mg_answer.specs.declared.status.Status.{Status}
 use Rattle.mg_node.specs.Views.{EngineView}
@@ -38,22 +39,22 @@ use Rattle.mg_replay.specs.declared.trace_end.TraceEnd.TheVariants.{Accepted, Re
 -- A run that breaks off --
 
 -- a net whose works were put back, and that was wound up, keeps its plan and the places of the calculators
-pub back_keeps : (before back wound : NetView) (engines : List EngineView) (work_queues : List WorkQueueView) → back ≡ record before { engines = engines; work_queues = work_queues } → WindsUpNet back wound → Keeps before wound
-back_keeps before back wound engines work_queues is winds = record {
+pub back_keeps : {laws : Laws} (before back wound : NetView) (engines : List EngineView) (work_queues : List WorkQueueView) → back ≡ record before { engines = engines; work_queues = work_queues } → WindsUpNet laws back wound → Keeps before wound
+back_keeps {laws} before back wound engines work_queues is winds = record {
   plan = ap (λ (v : NetView). v.plan) winds.parts ∙ ap (λ (v : NetView). v.plan) is;
   spare = ap (λ (v : NetView). v.spare) winds.parts ∙ ap (λ (v : NetView). v.spare) is;
 }
 
-pub back_wound : (job : LoggedJob) (back wound : NetView) → StandsFor job back → WindsUpNet back wound → StoodFor job wound
-back_wound job back wound stands winds = record { before = back; stands = stands; since = inr winds }
+pub back_wound : {laws : Laws} (job : LoggedJob laws) (back wound : NetView) → StandsFor job back → WindsUpNet laws back wound → StoodFor job wound
+back_wound {laws} job back wound stands winds = record { before = back; stands = stands; since = inr winds }
 
 back_running : (before back : NetView) (engines : List EngineView) (work_queues : List WorkQueueView) → back ≡ record before { engines = engines; work_queues = work_queues } → IsRunning before → IsRunning back
 back_running before back engines work_queues is running = ap (λ (v : NetView). v.begun) is ∙ running ∙ sym (ap (λ (v : NetView). length v.plan.nodes) is)
 
 -- each of its calculators that a node uses was closed
-pub closed_where : (job : LoggedJob) (before back wound : NetView) (engines : List EngineView) (work_queues : List WorkQueueView) → IsRunning before → back ≡ record before { engines = engines; work_queues = work_queues } → StandsFor job back → NoneOnWorkQueues back
-    → WindsUpNet back wound → wound.wound ≡ length back.plan.nodes → ClosedAllOf job wound
-closed_where job before back wound engines work_queues running is stands none winds all =
+pub closed_where : {laws : Laws} (job : LoggedJob laws) (before back wound : NetView) (engines : List EngineView) (work_queues : List WorkQueueView) → IsRunning before → back ≡ record before { engines = engines; work_queues = work_queues } → StandsFor job back → NoneOnWorkQueues back
+    → WindsUpNet laws back wound → wound.wound ≡ length back.plan.nodes → ClosedAllOf job wound
+closed_where {laws} job before back wound engines work_queues running is stands none winds all =
     let found = solved job (valid_plan job back stands) in
     record {
       streams = found.0;
@@ -65,9 +66,9 @@ closed_where job before back wound engines work_queues running is stands none wi
 
 -- By the calculators that were handed in --
 
-closed_at : (plan : Plan) (inputs : Inputs) (boxes : List CalculatorTold) (net : NetView) (streams : List (StreamPrefix Plain)) (number place : ℕ) (node : PlanNode) → BoxesFit plan boxes → slice_get plan.nodes number ≡ Some node → node.box_number ≡ Some place
-    → (IsOuter node.law → (told : CalculatorTold) × (slice_get (given_back net) place ≡ Some told) × HadClose (job_of plan inputs boxes) streams node told) → IsRelatedAt place (HadAClose (job_over plan inputs) streams node) (device boxes (given_back net))
-closed_at plan inputs boxes net streams number place node fit there has closed =
+closed_at : {laws : Laws} (plan : Plan) (inputs : Inputs) (boxes : List BoxTold) (net : NetView) (streams : List (StreamPrefix Plain)) (number place : ℕ) (node : PlanNode) → BoxesFit plan boxes → slice_get plan.nodes number ≡ Some node → node.box_number ≡ Some place
+    → (IsOuter node.law → (told : BoxTold) × (slice_get (given_back net) place ≡ Some told) × HadClose (job_of laws plan inputs boxes) streams node told) → IsRelatedAt place (HadAClose (job_over laws plan inputs) streams node) (device boxes (given_back net))
+closed_at {laws} plan inputs boxes net streams number place node fit there has closed =
     let box = box_at plan boxes number place node fit there has in
     let back = closed (subst IsOuter box.2.fits.same_law box.2.outer) in
     let front = back.2.front in
@@ -81,7 +82,7 @@ closed_at plan inputs boxes net streams number place node fit there has closed =
           count = front.count;
           close = front.close;
           opened = front.opened;
-          log = front.log ∙ ap (option_map (λ (calls : List Call). calls ++ first_calls (job_over plan inputs) streams node front.count front.close)) (log_was (job_of plan inputs boxes) boxes place node box.0 refl has box.1);
+          log = front.log ∙ ap (option_map (λ (calls : List Call). calls ++ first_calls (job_over laws plan inputs) streams node front.count front.close)) (log_was (job_of laws plan inputs boxes) boxes place node box.0 refl has box.1);
           law = front.fits.same_law ∙ sym box.2.fits.same_law;
           shape = front.fits.same_shape ∙ sym box.2.fits.same_shape;
         };
@@ -90,8 +91,8 @@ closed_at plan inputs boxes net streams number place node fit there has closed =
       };
     }
 
-all_closed : (plan : Plan) (inputs : Inputs) (boxes now : List CalculatorTold) (net : NetView) → BoxesFit plan boxes → now ≡ given_back net → ClosedAllOf (job_of plan inputs boxes) net → HadCloses (job_over plan inputs) (device boxes now)
-all_closed plan inputs boxes now net fit back c = subst (λ (bs : List CalculatorTold). HadCloses (job_over plan inputs) (device boxes bs)) (sym back)
+all_closed : {laws : Laws} (plan : Plan) (inputs : Inputs) (boxes now : List BoxTold) (net : NetView) → BoxesFit plan boxes → now ≡ given_back net → ClosedAllOf (job_of laws plan inputs boxes) net → HadCloses (job_over laws plan inputs) (device boxes now)
+all_closed {laws} plan inputs boxes now net fit back c = subst (λ (bs : List BoxTold). HadCloses (job_over laws plan inputs) (device boxes bs)) (sym back)
     (record {
       streams = c.streams;
       solution = c.solution;
@@ -99,29 +100,29 @@ all_closed plan inputs boxes now net fit back c = subst (λ (bs : List Calculato
     })
 
 -- by how the reading ended
-had_now : (end : TraceEnd) (plan : Plan) (inputs : Inputs) (boxes now : List CalculatorTold) (net : NetView) → BoxesFit plan boxes → now ≡ given_back net → HadBy end (job_of plan inputs boxes) net → HadEnd end plan (Some inputs) (device boxes now)
-had_now Accepted plan inputs boxes now net fit back had = all_had_now (logged plan inputs boxes) boxes now net fit refl back had
-had_now (Refused line cause) plan inputs boxes now net fit back had = all_closed plan inputs boxes now net fit back had
-had_now (Failed lines) plan inputs boxes now net fit back had = all_closed plan inputs boxes now net fit back had
+had_now : (laws : Laws) (end : TraceEnd) (plan : Plan) (inputs : Inputs) (boxes now : List BoxTold) (net : NetView) → BoxesFit plan boxes → now ≡ given_back net → HadBy end (job_of laws plan inputs boxes) net → HadEnd laws end plan (Some inputs) (device boxes now)
+had_now laws Accepted plan inputs boxes now net fit back had = all_had_now (logged laws plan inputs boxes) boxes now net fit refl back had
+had_now laws (Refused line cause) plan inputs boxes now net fit back had = all_closed plan inputs boxes now net fit back had
+had_now laws (Failed lines) plan inputs boxes now net fit back had = all_closed plan inputs boxes now net fit back had
 
-pub job_replayed : (report : Bool) (plan : Plan) (inputs : Inputs) (boxes handed now : List CalculatorTold) (status : Status) (devices : RunDevices) (net : NetView) → BoxesFit plan boxes → handed ≡ boxes → now ≡ given_back net
-    → NetReplayed report plan inputs handed status devices net → JobReplayed report plan inputs status devices (device boxes now)
-job_replayed report plan inputs boxes handed now status devices net fit same back h =
-    let k : NetReplayed report plan inputs boxes status devices net = subst (λ (bs : List CalculatorTold). NetReplayed report plan inputs bs status devices net) same h in
-    record { end = k.end; read = k.read; wrote = k.wrote; had = had_now k.end plan inputs boxes now net fit back k.had }
+pub job_replayed : {laws : Laws} (report : Bool) (plan : Plan) (inputs : Inputs) (boxes handed now : List BoxTold) (status : Status) (devices : RunDevices) (net : NetView) → BoxesFit plan boxes → handed ≡ boxes → now ≡ given_back net
+    → NetReplayed laws report plan inputs handed status devices net → JobReplayed laws report plan inputs status devices (device boxes now)
+job_replayed {laws} report plan inputs boxes handed now status devices net fit same back h =
+    let k : NetReplayed laws report plan inputs boxes status devices net = subst (λ (bs : List BoxTold). NetReplayed laws report plan inputs bs status devices net) same h in
+    record { end = k.end; read = k.read; wrote = k.wrote; had = had_now laws k.end plan inputs boxes now net fit back k.had }
 
-pub job_short : (plan : Plan) (inputs : Inputs) (boxes handed now : List CalculatorTold) (devices : RunDevices) (net : NetView) → BoxesFit plan boxes → handed ≡ boxes → now ≡ given_back net
-    → NetShort plan inputs handed devices net → JobShort plan inputs devices (device boxes now)
-job_short plan inputs boxes handed now devices net fit same back h =
-    let k : NetShort plan inputs boxes devices net = subst (λ (bs : List CalculatorTold). NetShort plan inputs bs devices net) same h in
+pub job_short : {laws : Laws} (plan : Plan) (inputs : Inputs) (boxes handed now : List BoxTold) (devices : RunDevices) (net : NetView) → BoxesFit plan boxes → handed ≡ boxes → now ≡ given_back net
+    → NetShort laws plan inputs handed devices net → JobShort laws plan inputs devices (device boxes now)
+job_short {laws} plan inputs boxes handed now devices net fit same back h =
+    let k : NetShort laws plan inputs boxes devices net = subst (λ (bs : List BoxTold). NetShort laws plan inputs bs devices net) same h in
     record {
       took = k.took;
       opened = k.opened;
-      fronts = fronts_now boxes now (logged plan inputs boxes) net fit refl k.stood (valid_plan (job_of plan inputs boxes) k.stood.before k.stood.stands) back;
+      fronts = fronts_now boxes now (logged laws plan inputs boxes) net fit refl k.stood (valid_plan (job_of laws plan inputs boxes) k.stood.before k.stood.stands) back;
     }
 
 -- no net was made
-pub job_unmade : (plan : Plan) (inputs : Inputs) (boxes now : List CalculatorTold) (devices : RunDevices) → IsJob (job_over plan inputs) → BoxesFit plan boxes → Untouched devices.output → BeginsWithJob plan devices.input inputs → now ≡ boxes
-    → JobShort plan inputs devices (device boxes now)
-job_unmade plan inputs boxes now devices is fit untouched opened same = subst (λ (bs : List CalculatorTold). JobShort plan inputs devices (device boxes bs)) (sym same)
-    (record { took = inl untouched; opened = opened; fronts = none_had (job_over plan inputs) boxes is fit })
+pub job_unmade : {laws : Laws} (plan : Plan) (inputs : Inputs) (boxes now : List BoxTold) (devices : RunDevices) → IsJob (job_over laws plan inputs) → BoxesFit plan boxes → Untouched devices.output → BeginsWithJob plan devices.input inputs → now ≡ boxes
+    → JobShort laws plan inputs devices (device boxes now)
+job_unmade {laws} plan inputs boxes now devices is fit untouched opened same = subst (λ (bs : List BoxTold). JobShort laws plan inputs devices (device boxes bs)) (sym same)
+    (record { took = inl untouched; opened = opened; fronts = none_had (job_over laws plan inputs) boxes is fit })

@@ -3,13 +3,14 @@ use Rattle.std.proofs.Common.{◌≡◌, ◌≢◌, inl, inr, ℕ, Bool, true, f
 use Rattle.mg_edge.specs.Edge.{SourceTold, SinkTold}
 use Rattle.mg_value.specs.Payload.{Plain}
 use Rattle.mg_settled.specs.Prefix.{StreamPrefix}
+use Rattle.mg_calc.specs.Rules.{Laws}
 use Rattle.mg_calc.specs.declared.inputs.Inputs.{Inputs}
 use Rattle.mg_calc.specs.declared.node_fault.NodeFault.{NodeFault as Fault}
 use Rattle.mg_calc.specs.declared.plan.Plan.{Plan}
 use Rattle.mg_calc.specs.Equations.{Job, IsJob, IsSolution}
 use Rattle.mg_calc.specs.Meaning.{faults, stalled}
 use Rattle.mg_calc.specs.Plan.{IsValid}
-use Rattle.mg_calc.specs.Told.{CalculatorTold}
+use Rattle.mg_calc.specs.Told.{BoxTold}
 use Rattle.mg_feed.specs.Graph.{GraphInputs, inputs_of}
 use Rattle.mg_feed.specs.Accepted.{State, given_by}
 use Rattle.mg_feed.specs.Given.{ended_streams}
@@ -106,9 +107,9 @@ ends_for : (ended : Bool) → is_ended (end_for ended) ≡ ended
 ends_for true = refl
 ends_for false = refl
 
-pub is_job : (plan : Plan) (ended : Bool) (first now : SourceTold) (read : Reading) (number : ℕ) (view : View) (inputs : Inputs) → IsValid plan → HasJob plan ended first now read number view → inputs.streams ≡ ended_streams ended view.given.streams
-    → inputs.sides ≡ view.given.sides → inputs.ended ≡ ended → IsJob (job_over plan inputs)
-is_job plan ended first now read number view inputs valid h streams sides is =
+pub is_job : (laws : Laws) (plan : Plan) (ended : Bool) (first now : SourceTold) (read : Reading) (number : ℕ) (view : View) (inputs : Inputs) → IsValid plan → HasJob plan ended first now read number view → inputs.streams ≡ ended_streams ended view.given.streams
+    → inputs.sides ≡ view.given.sides → inputs.ended ≡ ended → IsJob (job_over laws plan inputs)
+is_job laws plan ended first now read number view inputs valid h streams sides is =
     let i = has_inputs plan ended first now read number view inputs h streams sides is in
     let as_read : Read = record { lines = h.given; end = end_for inputs.ended } in
     let same : inputs_with plan h.given inputs.ended ≡ inputs_by (inputs_of plan) as_read = ap (inputs_with plan h.given) (sym (ends_for inputs.ended)) in
@@ -118,9 +119,9 @@ is_job plan ended first now read number view inputs valid h streams sides is =
     }
 
 -- the nodes were begun
-pub making_begins : (plan : Plan) (inputs : Inputs) (boxes : List CalculatorTold) (first now : SourceTold) (read : Reading) (number : ℕ) (made begun : NetView) → IsMade plan inputs boxes made → BeginsNet made begun
-    → ((job : LoggedJob) → StandsFor job made → StandsFor job begun) → IsRunning begun → HasReadInputs plan inputs first now read number → IsMaking plan boxes inputs first now read number begun
-making_begins plan inputs boxes first now read number made begun is begins keeps running h = record {
+pub making_begins : {laws : Laws} (plan : Plan) (inputs : Inputs) (boxes : List BoxTold) (first now : SourceTold) (read : Reading) (number : ℕ) (made begun : NetView) → IsMade laws plan inputs boxes made → BeginsNet made begun
+    → ((job : LoggedJob laws) → StandsFor job made → StandsFor job begun) → IsRunning begun → HasReadInputs plan inputs first now read number → IsMaking laws plan boxes inputs first now read number begun
+making_begins {laws} plan inputs boxes first now read number made begun is begins keeps running h = record {
   lines = h.given ++ end_word inputs.ended ∷ [];
   reading = h.reading;
   has_run = record {
@@ -153,28 +154,28 @@ opened_yet plan inputs first now read number h = record {
 
 -- The net --
 
-pub stands_begun : (plan : Plan) (made begun : NetView) → IsSomeMade plan made → ((job : LoggedJob) → StandsFor job made → StandsFor job begun) → StandsForPlan plan begun
-stands_begun plan made begun some keeps = record { job = job_of plan some.inputs some.boxes; plan_is = refl; stands = keeps (job_of plan some.inputs some.boxes) some.made.stands }
+pub stands_begun : {laws : Laws} (plan : Plan) (made begun : NetView) → IsSomeMade laws plan made → ((job : LoggedJob laws) → StandsFor job made → StandsFor job begun) → StandsForPlan laws plan begun
+stands_begun {laws} plan made begun some keeps = record { job = job_of laws plan some.inputs some.boxes; plan_is = refl; stands = keeps (job_of laws plan some.inputs some.boxes) some.made.stands }
 
-pub stands_later : (plan : Plan) (begun later : NetView) → IsRunning begun → StandsForPlan plan begun → Becomes begun later → StandsForPlan plan later
-stands_later plan begun later running some becomes = record { job = some.job; plan_is = some.plan_is; stands = becomes_stands some.job begun later running some.stands becomes }
+pub stands_later : {laws : Laws} (plan : Plan) (begun later : NetView) → IsRunning begun → StandsForPlan laws plan begun → Becomes laws begun later → StandsForPlan laws plan later
+stands_later {laws} plan begun later running some becomes = record { job = some.job; plan_is = some.plan_is; stands = becomes_stands some.job begun later running some.stands becomes }
 
-pub some_stands : (plan : Plan) (net : NetView) → StandsForPlan plan net → StandsForSome net
-some_stands plan net some = record { job = some.job; stands = some.stands }
+pub some_stands : {laws : Laws} (plan : Plan) (net : NetView) → StandsForPlan laws plan net → StandsForSome laws net
+some_stands {laws} plan net some = record { job = some.job; stands = some.stands }
 
-pub plan_is_of : (plan : Plan) (net : NetView) → StandsForPlan plan net → net.plan ≡ plan
-plan_is_of plan net some = plan_stood some.job net some.stands ∙ some.plan_is
+pub plan_is_of : {laws : Laws} (plan : Plan) (net : NetView) → StandsForPlan laws plan net → net.plan ≡ plan
+plan_is_of {laws} plan net some = plan_stood some.job net some.stands ∙ some.plan_is
 
 -- no set was taken out of it yet
-pub none_taken : (plan : Plan) (inputs : Inputs) (boxes : List CalculatorTold) (made begun later : NetView) → IsMade plan inputs boxes made → BeginsNet made begun → Becomes begun later → taken_out later ≡ 0
-none_taken plan inputs boxes made begun later is begins becomes = becomes_taken begun later becomes ∙ begins_taken made begun begins ∙ none_yet plan inputs boxes made is
+pub none_taken : {laws : Laws} (plan : Plan) (inputs : Inputs) (boxes : List BoxTold) (made begun later : NetView) → IsMade laws plan inputs boxes made → BeginsNet made begun → Becomes laws begun later → taken_out later ≡ 0
+none_taken {laws} plan inputs boxes made begun later is begins becomes = becomes_taken begun later becomes ∙ begins_taken made begun begins ∙ none_yet plan inputs boxes made is
 
-pub keeps_later : (made begun later : NetView) → BeginsNet made begun → Becomes begun later → Keeps made later
-keeps_later made begun later begins becomes = keeps_on made begun later (begins_keep made begun begins) (becomes_keeps begun later becomes)
+pub keeps_later : {laws : Laws} (made begun later : NetView) → BeginsNet made begun → Becomes laws begun later → Keeps made later
+keeps_later {laws} made begun later begins becomes = keeps_on made begun later (begins_keep made begun begins) (becomes_keeps begun later becomes)
 
 -- it stood for its job
-pub stood_later : (job : LoggedJob) (begun later : NetView) → IsRunning begun → StandsFor job begun → Becomes begun later → StoodFor job later
-stood_later job begun later running stands becomes = stands_still job later (becomes_stands job begun later running stands becomes)
+pub stood_later : {laws : Laws} (job : LoggedJob laws) (begun later : NetView) → IsRunning begun → StandsFor job begun → Becomes laws begun later → StoodFor job later
+stood_later {laws} job begun later running stands becomes = stands_still job later (becomes_stands job begun later running stands becomes)
 
 -- The end of a net --
 
@@ -188,50 +189,50 @@ not_accepted Accepted is = λ same. cc
 not_accepted (Refused line cause) is = λ same. cc
 not_accepted (Failed lines) is = λ same. cc
 
-pub net_accepted : (report : Bool) (plan : Plan) (inputs : Inputs) (boxes : List CalculatorTold) (ended : Bool) (end : TraceEnd) (status : Status) (input : Device SourceTold) (output notes : Device SinkTold) (net : NetView) → end ≡ Accepted → ended ≡ inputs.ended
-    → WasRead plan boxes input (Some inputs) end → WroteJob ended report (job_over plan inputs) status output notes → HadAllOf (job_of plan inputs boxes) net → StoodFor (job_of plan inputs boxes) net
-    → NetReplayed report plan inputs boxes status (run_devices input output notes) net
-net_accepted report plan inputs boxes ended end status input output notes net is same read wrote had stood = record {
+pub net_accepted : {laws : Laws} (report : Bool) (plan : Plan) (inputs : Inputs) (boxes : List BoxTold) (ended : Bool) (end : TraceEnd) (status : Status) (input : Device SourceTold) (output notes : Device SinkTold) (net : NetView) → end ≡ Accepted → ended ≡ inputs.ended
+    → WasRead laws plan boxes input (Some inputs) end → WroteJob ended report (job_over laws plan inputs) status output notes → HadAllOf (job_of laws plan inputs boxes) net → StoodFor (job_of laws plan inputs boxes) net
+    → NetReplayed laws report plan inputs boxes status (run_devices input output notes) net
+net_accepted {laws} report plan inputs boxes ended end status input output notes net is same read wrote had stood = record {
   end = Accepted;
-  read = subst (WasRead plan boxes input (Some inputs)) is read;
-  wrote = subst (λ (b : Bool). WroteJob b report (job_over plan inputs) status output notes) same wrote;
+  read = subst (WasRead laws plan boxes input (Some inputs)) is read;
+  wrote = subst (λ (b : Bool). WroteJob b report (job_over laws plan inputs) status output notes) same wrote;
   had = had;
   stood = stood;
 }
 
-pub net_refused : (report : Bool) (plan : Plan) (inputs : Inputs) (boxes : List CalculatorTold) (end : TraceEnd) (status : Status) (input : Device SourceTold) (output notes : Device SinkTold) (net : NetView) → end ≢ Accepted
-    → WasRead plan boxes input (Some inputs) end → Untouched output → WroteNote end status notes → ClosedAllOf (job_of plan inputs boxes) net → StoodFor (job_of plan inputs boxes) net
-    → NetReplayed report plan inputs boxes status (run_devices input output notes) net
-net_refused report plan inputs boxes Accepted status input output notes net other read untouched wrote had stood = absurd (other refl)
-net_refused report plan inputs boxes (Refused line cause) status input output notes net other read untouched wrote had stood =
+pub net_refused : {laws : Laws} (report : Bool) (plan : Plan) (inputs : Inputs) (boxes : List BoxTold) (end : TraceEnd) (status : Status) (input : Device SourceTold) (output notes : Device SinkTold) (net : NetView) → end ≢ Accepted
+    → WasRead laws plan boxes input (Some inputs) end → Untouched output → WroteNote end status notes → ClosedAllOf (job_of laws plan inputs boxes) net → StoodFor (job_of laws plan inputs boxes) net
+    → NetReplayed laws report plan inputs boxes status (run_devices input output notes) net
+net_refused {laws} report plan inputs boxes Accepted status input output notes net other read untouched wrote had stood = absurd (other refl)
+net_refused {laws} report plan inputs boxes (Refused line cause) status input output notes net other read untouched wrote had stood =
     record { end = Refused line cause; read = read; wrote = (untouched, wrote); had = had; stood = stood }
-net_refused report plan inputs boxes (Failed lines) status input output notes net other read untouched wrote had stood =
+net_refused {laws} report plan inputs boxes (Failed lines) status input output notes net other read untouched wrote had stood =
     record { end = Failed lines; read = read; wrote = (untouched, wrote); had = had; stood = stood }
 
 -- Memory ran out --
 
-pub short_begun : (plan : Plan) (inputs : Inputs) (boxes : List CalculatorTold) (first now : SourceTold) (read : Reading) (number : ℕ) (output notes : Device SinkTold) (net : NetView) → HasReadInputs plan inputs first now read number → Untouched output
-    → StoodFor (job_of plan inputs boxes) net → NetShort plan inputs boxes (run_devices (device first now) output notes) net
-short_begun plan inputs boxes first now read number output notes net h untouched stood = record { took = inl untouched; opened = opened_yet plan inputs first now read number h; stood = stood }
+pub short_begun : {laws : Laws} (plan : Plan) (inputs : Inputs) (boxes : List BoxTold) (first now : SourceTold) (read : Reading) (number : ℕ) (output notes : Device SinkTold) (net : NetView) → HasReadInputs plan inputs first now read number → Untouched output
+    → StoodFor (job_of laws plan inputs boxes) net → NetShort laws plan inputs boxes (run_devices (device first now) output notes) net
+short_begun {laws} plan inputs boxes first now read number output notes net h untouched stood = record { took = inl untouched; opened = opened_yet plan inputs first now read number h; stood = stood }
 
-pub short_events : (plan : Plan) (inputs : Inputs) (boxes : List CalculatorTold) (input : Device SourceTold) (output notes : Device SinkTold) (net : NetView) → BeginsWithJob plan input inputs → Untouched output → StoodFor (job_of plan inputs boxes) net
-    → NetShort plan inputs boxes (run_devices input output notes) net
-short_events plan inputs boxes input output notes net opened untouched stood = record { took = inl untouched; opened = opened; stood = stood }
+pub short_events : {laws : Laws} (plan : Plan) (inputs : Inputs) (boxes : List BoxTold) (input : Device SourceTold) (output notes : Device SinkTold) (net : NetView) → BeginsWithJob plan input inputs → Untouched output → StoodFor (job_of laws plan inputs boxes) net
+    → NetShort laws plan inputs boxes (run_devices input output notes) net
+short_events {laws} plan inputs boxes input output notes net opened untouched stood = record { took = inl untouched; opened = opened; stood = stood }
 
-pub short_accepted : (plan : Plan) (inputs : Inputs) (boxes : List CalculatorTold) (end : TraceEnd) (input : Device SourceTold) (output notes : Device SinkTold) (net : NetView) → end ≡ Accepted → WasRead plan boxes input (Some inputs) end → BeginsWithJob plan input inputs
-    → ((streams : List (StreamPrefix Plain)) → IsSolution (job_over plan inputs) streams → TookFront output (output_text_of plan streams)) → StoodFor (job_of plan inputs boxes) net → NetShort plan inputs boxes (run_devices input output notes) net
-short_accepted plan inputs boxes end input output notes net is read opened front stood = record { took = inr (subst (WasRead plan boxes input (Some inputs)) is read, front); opened = opened; stood = stood }
+pub short_accepted : {laws : Laws} (plan : Plan) (inputs : Inputs) (boxes : List BoxTold) (end : TraceEnd) (input : Device SourceTold) (output notes : Device SinkTold) (net : NetView) → end ≡ Accepted → WasRead laws plan boxes input (Some inputs) end → BeginsWithJob plan input inputs
+    → ((streams : List (StreamPrefix Plain)) → IsSolution (job_over laws plan inputs) streams → TookFront output (output_text_of plan streams)) → StoodFor (job_of laws plan inputs boxes) net → NetShort laws plan inputs boxes (run_devices input output notes) net
+short_accepted {laws} plan inputs boxes end input output notes net is read opened front stood = record { took = inr (subst (WasRead laws plan boxes input (Some inputs)) is read, front); opened = opened; stood = stood }
 
 -- The call --
 
-pub of_job : (report : Bool) (plan : Plan) (inputs : Inputs) (status : Status) (devices : RunDevices) (boxes : Device (List CalculatorTold)) → JobReplayed report plan inputs status devices boxes → Replayed report plan status devices boxes
-of_job report plan inputs status devices boxes h = record { job = Some inputs; end = h.end; read = h.read; wrote = h.wrote; had = h.had }
+pub of_job : {laws : Laws} (report : Bool) (plan : Plan) (inputs : Inputs) (status : Status) (devices : RunDevices) (boxes : Device (List BoxTold)) → JobReplayed laws report plan inputs status devices boxes → Replayed laws report plan status devices boxes
+of_job {laws} report plan inputs status devices boxes h = record { job = Some inputs; end = h.end; read = h.read; wrote = h.wrote; had = h.had }
 
-pub of_short : (plan : Plan) (inputs : Inputs) (devices : RunDevices) (boxes : Device (List CalculatorTold)) → IsJob (job_over plan inputs) → JobShort plan inputs devices boxes → ReplayedSome plan devices boxes
-of_short plan inputs devices boxes is h = record {
+pub of_short : {laws : Laws} (plan : Plan) (inputs : Inputs) (devices : RunDevices) (boxes : Device (List BoxTold)) → IsJob (job_over laws plan inputs) → JobShort laws plan inputs devices boxes → ReplayedSome laws plan devices boxes
+of_short {laws} plan inputs devices boxes is h = record {
   took = elim h.took [
     | inl untouched ↦ inl untouched
-    | inr took ↦ inr (let found = solved (record { job = job_over plan inputs; boxes = [] }) is in record { inputs = inputs; read = took.0; streams = found.0; solution = found.1.solution; front = took.1 found.0 found.1.solution })
+    | inr took ↦ inr (let found = solved (record { job = job_over laws plan inputs; boxes = []; same = refl }) is in record { inputs = inputs; read = took.0; streams = found.0; solution = found.1.solution; front = took.1 found.0 found.1.solution })
   ];
   had = inr (record { inputs = inputs; opened = h.opened; fronts = h.fronts });
 }
@@ -244,11 +245,11 @@ never_accepted plan lines s = by s.tail s.stops
     by [] is = absurd cc
     by (line ∷ more) is = absurd (let e = is.1.2 in cc)
 
-pub of_early : (report : Bool) (plan : Plan) (end : TraceEnd) (status : Status) (input : Device SourceTold) (output notes : Device SinkTold) (boxes : List CalculatorTold) → WasRead plan boxes input None end → Untouched output → WroteNote end status notes
-    → Replayed report plan status (run_devices input output notes) (device boxes boxes)
-of_early report plan Accepted status input output notes boxes read untouched wrote = absurd (never_accepted plan _ read.by.1)
-of_early report plan (Refused line cause) status input output notes boxes read untouched wrote = record { job = None; end = Refused line cause; read = read; wrote = (untouched, wrote); had = refl }
-of_early report plan (Failed lines) status input output notes boxes read untouched wrote = record { job = None; end = Failed lines; read = read; wrote = (untouched, wrote); had = refl }
+pub of_early : {laws : Laws} (report : Bool) (plan : Plan) (end : TraceEnd) (status : Status) (input : Device SourceTold) (output notes : Device SinkTold) (boxes : List BoxTold) → WasRead laws plan boxes input None end → Untouched output → WroteNote end status notes
+    → Replayed laws report plan status (run_devices input output notes) (device boxes boxes)
+of_early {laws} report plan Accepted status input output notes boxes read untouched wrote = absurd (never_accepted plan _ read.by.1)
+of_early {laws} report plan (Refused line cause) status input output notes boxes read untouched wrote = record { job = None; end = Refused line cause; read = read; wrote = (untouched, wrote); had = refl }
+of_early {laws} report plan (Failed lines) status input output notes boxes read untouched wrote = record { job = None; end = Failed lines; read = read; wrote = (untouched, wrote); had = refl }
 
 -- No status of it tells that memory ran out --
 
@@ -267,20 +268,20 @@ note_wants_none (Refused line cause) notes (inl whole) = absurd (let e = whole.0
 note_wants_none (Failed lines) notes (inl whole) = absurd (let e = whole.0 in cc)
 note_wants_none end notes (inr part) = absurd (let e = part.0 in cc)
 
-wants_none : (end : TraceEnd) (report : Bool) (plan : Plan) (job : Option Inputs) (output notes : Device SinkTold) → WroteEnd end report plan job OutOfMemory output notes → ⊥
-wants_none Accepted report plan None output notes wrote = wrote
-wants_none Accepted report plan (Some inputs) output notes wrote = job_wants_none inputs.ended report (job_over plan inputs) output notes wrote
-wants_none (Refused line cause) report plan job output notes wrote = note_wants_none (Refused line cause) notes wrote.1
-wants_none (Failed lines) report plan job output notes wrote = note_wants_none (Failed lines) notes wrote.1
+wants_none : (laws : Laws) (end : TraceEnd) (report : Bool) (plan : Plan) (job : Option Inputs) (output notes : Device SinkTold) → WroteEnd laws end report plan job OutOfMemory output notes → ⊥
+wants_none laws Accepted report plan None output notes wrote = wrote
+wants_none laws Accepted report plan (Some inputs) output notes wrote = job_wants_none inputs.ended report (job_over laws plan inputs) output notes wrote
+wants_none laws (Refused line cause) report plan job output notes wrote = note_wants_none (Refused line cause) notes wrote.1
+wants_none laws (Failed lines) report plan job output notes wrote = note_wants_none (Failed lines) notes wrote.1
 
-pub replayed_by : (status : Status) (report : Bool) (plan : Plan) (devices : RunDevices) (boxes : Device (List CalculatorTold)) → Replayed report plan status devices boxes → ReplayedBy status report plan devices boxes
-replayed_by Good report plan devices boxes h = h
-replayed_by StoreFault report plan devices boxes h = h
-replayed_by Usage report plan devices boxes h = h
-replayed_by GraphRefused report plan devices boxes h = h
-replayed_by LineRefused report plan devices boxes h = h
-replayed_by NodeFault report plan devices boxes h = h
-replayed_by Stalled report plan devices boxes h = h
-replayed_by ReadFault report plan devices boxes h = h
-replayed_by WriteFault report plan devices boxes h = h
-replayed_by OutOfMemory report plan devices boxes h = absurd (wants_none h.end report plan h.job devices.output devices.notes h.wrote)
+pub replayed_by : {laws : Laws} (status : Status) (report : Bool) (plan : Plan) (devices : RunDevices) (boxes : Device (List BoxTold)) → Replayed laws report plan status devices boxes → ReplayedBy laws status report plan devices boxes
+replayed_by {laws} Good report plan devices boxes h = h
+replayed_by {laws} StoreFault report plan devices boxes h = h
+replayed_by {laws} Usage report plan devices boxes h = h
+replayed_by {laws} GraphRefused report plan devices boxes h = h
+replayed_by {laws} LineRefused report plan devices boxes h = h
+replayed_by {laws} NodeFault report plan devices boxes h = h
+replayed_by {laws} Stalled report plan devices boxes h = h
+replayed_by {laws} ReadFault report plan devices boxes h = h
+replayed_by {laws} WriteFault report plan devices boxes h = h
+replayed_by {laws} OutOfMemory report plan devices boxes h = absurd (wants_none laws h.end report plan h.job devices.output devices.notes h.wrote)

@@ -5,12 +5,13 @@ use Rattle.std.proofs.lemmas.Slice.Eq.{bytes_eq-Decides}
 use Rattle.std.proofs.lemmas.List.{map-append}
 use Rattle.mg_edge.specs.Edge.{SourceTold}
 use Rattle.mg_edge.specs.Runs.{Gave}
+use Rattle.mg_calc.specs.Rules.{Laws}
 use Rattle.mg_calc.specs.declared.event.Event.{Event}
 use Rattle.mg_calc.specs.declared.event.Event.TheVariants.{Deliver, Advance, Claim, Perform, Commit, Relax}
 use Rattle.mg_calc.specs.declared.event.Effect.TheVariants.{Did}
 use Rattle.mg_calc.specs.declared.inputs.Inputs.{Inputs}
 use Rattle.mg_calc.specs.declared.plan.Plan.{Plan}
-use Rattle.mg_calc.specs.Told.{CalculatorTold}
+use Rattle.mg_calc.specs.Told.{BoxTold}
 use Rattle.mg_feed.specs.Lines.{all_lines, unended_line}
 use Rattle.mg_feed.specs.Fed.{Reading}
 use Rattle.mg_feed.specs.Ran.{MetEnd}
@@ -44,7 +45,7 @@ use Rattle.mg_replay.proofs.JobLines.{reading_line, came_behind, lines_then, lin
 -- The lines of the job were read --
 
 -- they stand in front of all lines
-module _ (plan : Plan) (boxes : List CalculatorTold) (inputs : Inputs) (lines : List (List ℕ)) (net : NetView) (run : LinesLedTo plan boxes lines inputs net) where
+module _ {laws : Laws} (plan : Plan) (boxes : List BoxTold) (inputs : Inputs) (lines : List (List ℕ)) (net : NetView) (run : LinesLedTo laws plan boxes lines inputs net) where
   opens_with : (all rest : List (List ℕ)) → all ≡ lines ++ rest → (more : List (List ℕ)) × (all ≡ run.given ++ end_word inputs.ended ∷ more)
   opens_with all rest is = (map event_line run.events ++ rest, is ∙ ap (λ (l : List (List ℕ)). l ++ rest) run.lines_are ∙ append_assoc run.given (end_word inputs.ended ∷ map event_line run.events) rest)
 
@@ -92,17 +93,17 @@ behind_next next line before now old new n = record {
   in_front = λ past lines handed more fits. in_front_of line lines new next (past ++ n.came) (n.comes past lines handed) more fits;
 }
 
-pub opened_by : (plan : Plan) (boxes : List CalculatorTold) (inputs : Inputs) (first now later : SourceTold) (read new : Reading) (number : ℕ) (net : NetView) → IsMaking plan boxes inputs first now read number net → ComesBehind now later read new
+pub opened_by : {laws : Laws} (plan : Plan) (boxes : List BoxTold) (inputs : Inputs) (first now later : SourceTold) (read new : Reading) (number : ℕ) (net : NetView) → IsMaking laws plan boxes inputs first now read number net → ComesBehind now later read new
     → BeginsWithJob plan (device first later) inputs
-opened_by plan boxes inputs first now later read new number net m b =
+opened_by {laws} plan boxes inputs first now later read new number net m b =
     opened_with plan boxes inputs m.lines net m.has_run (m.reading.came ++ b.came) new.ended first later
     (gave-then first.left now.left later.left m.reading.came b.came m.reading.gave b.gave) (met-then false read.ended new.ended first now later m.reading.came m.reading.gave m.reading.met b.met)
     (λ more fits. b.in_front m.reading.came m.lines m.reading.handed more fits)
 
 -- behind a line more, whatever it is
-pub opened_behind : (line : List ℕ) (plan : Plan) (boxes : List CalculatorTold) (inputs : Inputs) (first before now later : SourceTold) (old read new : Reading) (number : ℕ) (net : NetView) → IsMaking plan boxes inputs first before old number net
+pub opened_behind : {laws : Laws} (line : List ℕ) (plan : Plan) (boxes : List BoxTold) (inputs : Inputs) (first before now later : SourceTold) (old read new : Reading) (number : ℕ) (net : NetView) → IsMaking laws plan boxes inputs first before old number net
     → NextComes Line line before now old read → ComesBehind now later read new → BeginsWithJob plan (device first later) inputs
-opened_behind line plan boxes inputs first before now later old read new number net m n b =
+opened_behind {laws} line plan boxes inputs first before now later old read new number net m n b =
     let r = reading_line line first before now old read number (number + 1) m.lines m.reading n refl in
     opened_with plan boxes inputs m.lines net m.has_run (r.came ++ b.came) new.ended first later
     (gave-then first.left now.left later.left r.came b.came r.gave b.gave) (met-then false read.ended new.ended first now later r.came r.gave r.met b.met)
@@ -114,13 +115,13 @@ place_of : (number count : ℕ) (cause : TraceFault) → number ≡ count → Re
 place_of number count cause same = ap (λ (k : ℕ). Refused (k + 1) cause) same
 
 -- no further line is handed out
-pub stops_later : (next : NextLine) (line : List ℕ) (plan : Plan) (boxes : List CalculatorTold) (inputs : Inputs) (end : TraceEnd) (first before now : SourceTold) (old new : Reading) (number : ℕ) (net : NetView) → IsMaking plan boxes inputs first before old number net
-    → NextComes next line before now old new → StopsBy next number BadEvent (Some end) → WasRead plan boxes (device first now) (Some inputs) end
-stops_later Line line plan boxes inputs end first before now old new number net m n is = absurd cc
-stops_later TooLong line plan boxes inputs end first before now old new number net m n is =
+pub stops_later : {laws : Laws} (next : NextLine) (line : List ℕ) (plan : Plan) (boxes : List BoxTold) (inputs : Inputs) (end : TraceEnd) (first before now : SourceTold) (old new : Reading) (number : ℕ) (net : NetView) → IsMaking laws plan boxes inputs first before old number net
+    → NextComes next line before now old new → StopsBy next number BadEvent (Some end) → WasRead laws plan boxes (device first now) (Some inputs) end
+stops_later {laws} Line line plan boxes inputs end first before now old new number net m n is = absurd cc
+stops_later {laws} TooLong line plan boxes inputs end first before now old new number net m n is =
     let c = came_behind TooLong line first before now old new number m.lines m.reading n in
     let end_is : end ≡ Refused (length m.lines + 1) BadEvent = (let same : end ≡ Refused (number + 1) BadEvent = cc in same ∙ place_of number (length m.lines) BadEvent m.reading.counted) in
-    subst (WasRead plan boxes (device first now) (Some inputs)) (sym end_is) (record {
+    subst (WasRead laws plan boxes (device first now) (Some inputs)) (sym end_is) (record {
       came = c.came;
       gave = c.gave;
       by = (
@@ -139,10 +140,10 @@ stops_later TooLong line plan boxes inputs end first before now old new number n
       );
       faults = c.reads;
     })
-stops_later Ended line plan boxes inputs end first before now old new number net m n is =
+stops_later {laws} Ended line plan boxes inputs end first before now old new number net m n is =
     let c = came_behind Ended line first before now old new number m.lines m.reading n in
     let end_is : end ≡ Refused (length m.lines + 1) NoEnd = (let same : end ≡ Refused (number + 1) NoEnd = cc in same ∙ place_of number (length m.lines) NoEnd m.reading.counted) in
-    subst (WasRead plan boxes (device first now) (Some inputs)) (sym end_is) (record {
+    subst (WasRead laws plan boxes (device first now) (Some inputs)) (sym end_is) (record {
       came = c.came;
       gave = c.gave;
       by = (
@@ -160,10 +161,10 @@ stops_later Ended line plan boxes inputs end first before now old new number net
       );
       faults = c.reads;
     })
-stops_later Failed line plan boxes inputs end first before now old new number net m n is =
+stops_later {laws} Failed line plan boxes inputs end first before now old new number net m n is =
     let c = came_behind Failed line first before now old new number m.lines m.reading n in
     let end_is : end ≡ Failed_at number = cc in
-    subst (WasRead plan boxes (device first now) (Some inputs)) (sym end_is) (record {
+    subst (WasRead laws plan boxes (device first now) (Some inputs)) (sym end_is) (record {
       came = c.came;
       gave = c.gave;
       by = (m.reading.counted ∙ ap length c.comes, record { front = m.lines; net = net; has_run = m.has_run; lines_are = inl (sym c.comes) });
@@ -181,29 +182,29 @@ net_event (Commit node number) plan net same of = subst (λ (p : Plan). node < l
 net_event Relax plan net same of = tt
 
 -- it was made
-pub run_more : (event : Event) (line : List ℕ) (plan : Plan) (boxes : List CalculatorTold) (lines : List (List ℕ)) (inputs : Inputs) (net now : NetView) → net.plan ≡ plan → LinesLedTo plan boxes lines inputs net → IsEventOf plan event → line ≡ event_line event
-    → Acts event Did net now → LinesLedTo plan boxes (lines ++ line ∷ []) inputs now
-run_more event line plan boxes lines inputs net now same h of is acts = record {
+pub run_more : {laws : Laws} (event : Event) (line : List ℕ) (plan : Plan) (boxes : List BoxTold) (lines : List (List ℕ)) (inputs : Inputs) (net now : NetView) → net.plan ≡ plan → LinesLedTo laws plan boxes lines inputs net → IsEventOf plan event → line ≡ event_line event
+    → Acts laws event Did net now → LinesLedTo laws plan boxes (lines ++ line ∷ []) inputs now
+run_more {laws} event line plan boxes lines inputs net now same h of is acts = record {
   given = h.given;
   packets = h.packets;
   inputs_are = h.inputs_are;
   begun = h.begun;
   begins = h.begins;
   events = h.events ++ event ∷ [];
-  run = run_on h.events (event ∷ []) h.begun net now h.run (run_one event net now (net_event event plan net same of) acts);
+  run = run_on laws h.events (event ∷ []) h.begun net now h.run (run_one laws event net now (net_event event plan net same of) acts);
   lines_are = ap (λ (l : List (List ℕ)). l ++ line ∷ []) h.lines_are ∙ append_assoc h.given (end_word inputs.ended ∷ map event_line h.events) (line ∷ [])
       ∙ ap (λ (l : List (List ℕ)). h.given ++ end_word inputs.ended ∷ l) (ap (λ (x : List ℕ). map event_line h.events ++ x ∷ []) is ∙ sym (map-append event_line h.events (event ∷ [])));
 }
 
 -- the line is refused
-refused_line : (line : List ℕ) (plan : Plan) (boxes : List CalculatorTold) (inputs : Inputs) (end : TraceEnd) (first before now : SourceTold) (old new : Reading) (number count : ℕ) (net : NetView) → IsMaking plan boxes inputs first before old number net
+refused_line : {laws : Laws} (line : List ℕ) (plan : Plan) (boxes : List BoxTold) (inputs : Inputs) (end : TraceEnd) (first before now : SourceTold) (old new : Reading) (number count : ℕ) (net : NetView) → IsMaking laws plan boxes inputs first before old number net
     → NextComes Line line before now old new → count ≡ number + 1 → line ≢ codes "end"
-    → (((event : Event) → ¬ (IsEventOf plan event × (line ≡ event_line event))) × (end ≡ Refused count BadEvent)) ⊎ IsIdleEvent plan net count line end → WasRead plan boxes (device first now) (Some inputs) end
-refused_line line plan boxes inputs end first before now old new number count net m n is other (inl (none, end_is)) =
+    → (((event : Event) → ¬ (IsEventOf plan event × (line ≡ event_line event))) × (end ≡ Refused count BadEvent)) ⊎ IsIdleEvent laws plan net count line end → WasRead laws plan boxes (device first now) (Some inputs) end
+refused_line {laws} line plan boxes inputs end first before now old new number count net m n is other (inl (none, end_is)) =
     let r = reading_line line first before now old new number count m.lines m.reading n is in
     let counted = m.reading.counted in
     let place : count ≡ length m.lines + 1 = omega (arith, counted, is) in
-    subst (WasRead plan boxes (device first now) (Some inputs)) (sym (end_is ∙ ap (λ (k : ℕ). Refused k BadEvent) place)) (record {
+    subst (WasRead laws plan boxes (device first now) (Some inputs)) (sym (end_is ∙ ap (λ (k : ℕ). Refused k BadEvent) place)) (record {
       came = r.came;
       gave = r.gave;
       by = (
@@ -221,11 +222,11 @@ refused_line line plan boxes inputs end first before now old new number count ne
       );
       faults = r.unfailed;
     })
-refused_line line plan boxes inputs end first before now old new number count net m n is other (inr idle) =
+refused_line {laws} line plan boxes inputs end first before now old new number count net m n is other (inr idle) =
     let r = reading_line line first before now old new number count m.lines m.reading n is in
     let counted = m.reading.counted in
     let place : count ≡ length m.lines + 1 = omega (arith, counted, is) in
-    subst (WasRead plan boxes (device first now) (Some inputs)) (sym (idle.is ∙ ap (λ (k : ℕ). Refused k IdleEvent) place)) (record {
+    subst (WasRead laws plan boxes (device first now) (Some inputs)) (sym (idle.is ∙ ap (λ (k : ℕ). Refused k IdleEvent) place)) (record {
       came = r.came;
       gave = r.gave;
       by = (
@@ -244,15 +245,15 @@ refused_line line plan boxes inputs end first before now old new number count ne
       faults = r.unfailed;
     })
 
-pub makes_line : (stop : Option TraceEnd) (line : List ℕ) (plan : Plan) (boxes : List CalculatorTold) (inputs : Inputs) (first before now : SourceTold) (old new : Reading) (number count : ℕ) (net later : NetView) → net.plan ≡ plan
-    → IsMaking plan boxes inputs first before old number net → NextComes Line line before now old new → count ≡ number + 1 → bytes_eq line (codes "end") ≡ false → MakesLine stop plan line count net later
-    → MakesOn stop plan boxes inputs first now new count later
-makes_line None line plan boxes inputs first before now old new number count net later same m n is other (event, of, line_is, acts) = record {
+pub makes_line : {laws : Laws} (stop : Option TraceEnd) (line : List ℕ) (plan : Plan) (boxes : List BoxTold) (inputs : Inputs) (first before now : SourceTold) (old new : Reading) (number count : ℕ) (net later : NetView) → net.plan ≡ plan
+    → IsMaking laws plan boxes inputs first before old number net → NextComes Line line before now old new → count ≡ number + 1 → bytes_eq line (codes "end") ≡ false → MakesLine laws stop plan line count net later
+    → MakesOn laws stop plan boxes inputs first now new count later
+makes_line {laws} None line plan boxes inputs first before now old new number count net later same m n is other (event, of, line_is, acts) = record {
   lines = m.lines ++ line ∷ [];
   reading = reading_line line first before now old new number count m.lines m.reading n is;
   has_run = run_more event line plan boxes m.lines inputs net later same m.has_run of line_is acts;
 }
-makes_line (Some end) line plan boxes inputs first before now old new number count net later same m n is other makes =
+makes_line {laws} (Some end) line plan boxes inputs first before now old new number count net later same m n is other makes =
     refused_line line plan boxes inputs end first before now old new number count net m n is (not_the_end line other) makes
   where
     not_the_end : (l : List ℕ) → bytes_eq l (codes "end") ≡ false → l ≢ codes "end"
@@ -261,13 +262,13 @@ makes_line (Some end) line plan boxes inputs first before now old new number cou
 -- The last line --
 
 -- where the net may go on
-pub ends_early : (line : List ℕ) (plan : Plan) (boxes : List CalculatorTold) (inputs : Inputs) (first before now : SourceTold) (old new : Reading) (number count : ℕ) (net : NetView) → IsMaking plan boxes inputs first before old number net
-    → NextComes Line line before now old new → count ≡ number + 1 → line ≡ codes "end" → MayGoOn net → WasRead plan boxes (device first now) (Some inputs) (Refused count NotAtRest)
-ends_early line plan boxes inputs first before now old new number count net m n is line_is may =
+pub ends_early : {laws : Laws} (line : List ℕ) (plan : Plan) (boxes : List BoxTold) (inputs : Inputs) (first before now : SourceTold) (old new : Reading) (number count : ℕ) (net : NetView) → IsMaking laws plan boxes inputs first before old number net
+    → NextComes Line line before now old new → count ≡ number + 1 → line ≡ codes "end" → MayGoOn laws net → WasRead laws plan boxes (device first now) (Some inputs) (Refused count NotAtRest)
+ends_early {laws} line plan boxes inputs first before now old new number count net m n is line_is may =
     let r = reading_line line first before now old new number count m.lines m.reading n is in
     let counted = m.reading.counted in
     let place : count ≡ length m.lines + 1 = omega (arith, counted, is) in
-    subst (λ (k : ℕ). WasRead plan boxes (device first now) (Some inputs) (Refused k NotAtRest)) (sym place) (record {
+    subst (λ (k : ℕ). WasRead laws plan boxes (device first now) (Some inputs) (Refused k NotAtRest)) (sym place) (record {
       came = r.came;
       gave = r.gave;
       by = (
@@ -287,9 +288,9 @@ ends_early line plan boxes inputs first before now old new number count net m n 
     })
 
 -- where it is at rest, by what comes next
-module _ (line : List ℕ) (plan : Plan) (boxes : List CalculatorTold) (inputs : Inputs) (first before now later : SourceTold) (old read new : Reading) (number count : ℕ) (net : NetView) (m : IsMaking plan boxes inputs first before old number net)
-    (n : NextComes Line line before now old read) (is : count ≡ number + 1) (line_is : line ≡ codes "end") (rests : IsAtRest net) where
-  behind : (rest : List (List ℕ)) (all : List (List ℕ)) → all ≡ (m.lines ++ line ∷ []) ++ rest → (end : TraceEnd) → EndsAt (length m.lines + 1) rest end → StopsAfterJob plan boxes all inputs end
+module _ {laws : Laws} (line : List ℕ) (plan : Plan) (boxes : List BoxTold) (inputs : Inputs) (first before now later : SourceTold) (old read new : Reading) (number count : ℕ) (net : NetView) (m : IsMaking laws plan boxes inputs first before old number net)
+    (n : NextComes Line line before now old read) (is : count ≡ number + 1) (line_is : line ≡ codes "end") (rests : IsAtRest laws net) where
+  behind : (rest : List (List ℕ)) (all : List (List ℕ)) → all ≡ (m.lines ++ line ∷ []) ++ rest → (end : TraceEnd) → EndsAt (length m.lines + 1) rest end → StopsAfterJob laws plan boxes all inputs end
   behind rest all all_are end ends = record {
     front = m.lines;
     tail = line ∷ rest;
@@ -308,10 +309,10 @@ module _ (line : List ℕ) (plan : Plan) (boxes : List CalculatorTold) (inputs :
   after_end : (end : TraceEnd) → end ≡ Refused (count + 1) AfterEnd → end ≡ Refused (length m.lines + 1 + 1) AfterEnd
   after_end end same = same ∙ ap (λ (k : ℕ). Refused (k + 1) AfterEnd) place
 
-  ended : (next : NextLine) (l : List ℕ) (end : TraceEnd) → NextComes next l now later read new → StopsBehind next count end → WasRead plan boxes (device first later) (Some inputs) end
+  ended : (next : NextLine) (l : List ℕ) (end : TraceEnd) → NextComes next l now later read new → StopsBehind next count end → WasRead laws plan boxes (device first later) (Some inputs) end
   ended Line l end c stop =
       let r = reading_line l first now later read new count (count + 1) (m.lines ++ line ∷ []) here c refl in
-      subst (WasRead plan boxes (device first later) (Some inputs)) (sym (after_end end stop)) (record {
+      subst (WasRead laws plan boxes (device first later) (Some inputs)) (sym (after_end end stop)) (record {
         came = r.came;
         gave = r.gave;
         by = (
@@ -326,7 +327,7 @@ module _ (line : List ℕ) (plan : Plan) (boxes : List CalculatorTold) (inputs :
       })
   ended TooLong l end c stop =
       let b = came_behind TooLong l first now later read new count (m.lines ++ line ∷ []) here c in
-      subst (WasRead plan boxes (device first later) (Some inputs)) (sym (after_end end stop)) (record {
+      subst (WasRead laws plan boxes (device first later) (Some inputs)) (sym (after_end end stop)) (record {
         came = b.came;
         gave = b.gave;
         by = (
@@ -339,7 +340,7 @@ module _ (line : List ℕ) (plan : Plan) (boxes : List CalculatorTold) (inputs :
       })
   ended Ended l end c stop =
       let b = came_behind Ended l first now later read new count (m.lines ++ line ∷ []) here c in
-      subst (WasRead plan boxes (device first later) (Some inputs)) (sym stop) (record {
+      subst (WasRead laws plan boxes (device first later) (Some inputs)) (sym stop) (record {
         came = b.came;
         gave = b.gave;
         by = (subst (λ (e : Bool). MetEnd false e first later) b.comes.0 b.met, behind [] (all_lines b.came) (sym b.comes.1 ∙ sym (append-nil (m.lines ++ line ∷ []))) Accepted refl);
@@ -347,7 +348,7 @@ module _ (line : List ℕ) (plan : Plan) (boxes : List CalculatorTold) (inputs :
       })
   ended Failed l end c stop =
       let b = came_behind Failed l first now later read new count (m.lines ++ line ∷ []) here c in
-      subst (WasRead plan boxes (device first later) (Some inputs)) (sym stop) (record {
+      subst (WasRead laws plan boxes (device first later) (Some inputs)) (sym stop) (record {
         came = b.came;
         gave = b.gave;
         by = (
@@ -362,75 +363,75 @@ module _ (line : List ℕ) (plan : Plan) (boxes : List CalculatorTold) (inputs :
         faults = b.reads;
       })
 
-pub ends_run : (end : TraceEnd) (line : List ℕ) (plan : Plan) (boxes : List CalculatorTold) (inputs : Inputs) (first before now later : SourceTold) (old read new : Reading) (number count : ℕ) (net net_now : NetView)
-    → IsMaking plan boxes inputs first before old number net → NextComes Line line before now old read → count ≡ number + 1 → line ≡ codes "end" → EndsRun end now later read new count net net_now
-    → WasRead plan boxes (device first later) (Some inputs) end
-ends_run end line plan boxes inputs first before now later old read new number count net net_now m n is line_is (inl (may, end_is, still, same)) =
-    subst (WasRead plan boxes (device first later) (Some inputs)) (sym end_is)
-    (subst (λ (t : SourceTold). WasRead plan boxes (device first t) (Some inputs) (Refused count NotAtRest)) (sym still) (ends_early line plan boxes inputs first before now old read number count net m n is line_is may))
-ends_run end line plan boxes inputs first before now later old read new number count net net_now m n is line_is (inr (rests, same, (next, l, comes, stop))) =
+pub ends_run : {laws : Laws} (end : TraceEnd) (line : List ℕ) (plan : Plan) (boxes : List BoxTold) (inputs : Inputs) (first before now later : SourceTold) (old read new : Reading) (number count : ℕ) (net net_now : NetView)
+    → IsMaking laws plan boxes inputs first before old number net → NextComes Line line before now old read → count ≡ number + 1 → line ≡ codes "end" → EndsRun laws end now later read new count net net_now
+    → WasRead laws plan boxes (device first later) (Some inputs) end
+ends_run {laws} end line plan boxes inputs first before now later old read new number count net net_now m n is line_is (inl (may, end_is, still, same)) =
+    subst (WasRead laws plan boxes (device first later) (Some inputs)) (sym end_is)
+    (subst (λ (t : SourceTold). WasRead laws plan boxes (device first t) (Some inputs) (Refused count NotAtRest)) (sym still) (ends_early line plan boxes inputs first before now old read number count net m n is line_is may))
+ends_run {laws} end line plan boxes inputs first before now later old read new number count net net_now m n is line_is (inr (rests, same, (next, l, comes, stop))) =
     ended line plan boxes inputs first before now later old read new number count net m n is line_is rests next l end comes stop
 
 -- What a line behind a run comes to --
 
-pub makes_by : (stop : Option TraceEnd) (event : Event) (plan : Plan) (line : List ℕ) (number : ℕ) (net now : NetView) → IsEventOf plan event → line ≡ event_line event → MakesEvent stop event number net now → MakesLine stop plan line number net now
-makes_by None event plan line number net now of is makes = (event, of, is, makes)
-makes_by (Some end) event plan line number net now of is makes = inr (record { event = event; is_event = of; line_is = is; idle = makes.0; is = makes.1 })
+pub makes_by : (laws : Laws) (stop : Option TraceEnd) (event : Event) (plan : Plan) (line : List ℕ) (number : ℕ) (net now : NetView) → IsEventOf plan event → line ≡ event_line event → MakesEvent laws stop event number net now → MakesLine laws stop plan line number net now
+makes_by laws None event plan line number net now of is makes = (event, of, is, makes)
+makes_by laws (Some end) event plan line number net now of is makes = inr (record { event = event; is_event = of; line_is = is; idle = makes.0; is = makes.1 })
 
-pub none_makes : (plan : Plan) (line : List ℕ) (number : ℕ) (net now : NetView) → ((event : Event) → (None ≡ Some event) ↔ (IsEventOf plan event × (line ≡ event_line event))) → MakesLine (Some (Refused number BadEvent)) plan line number net now
-none_makes plan line number net now none = inl (λ event both. absurd (let is : None ≡ Some event = (none event).1 both in cc), refl)
+pub none_makes : (laws : Laws) (plan : Plan) (line : List ℕ) (number : ℕ) (net now : NetView) → ((event : Event) → (None ≡ Some event) ↔ (IsEventOf plan event × (line ≡ event_line event))) → MakesLine laws (Some (Refused number BadEvent)) plan line number net now
+none_makes laws plan line number net now none = inl (λ event both. absurd (let is : None ≡ Some event = (none event).1 both in cc), refl)
 
-pub takes_event : (stop : Option TraceEnd) (line : List ℕ) (plan : Plan) (boxes : List CalculatorTold) (inputs : Inputs) (first before now later : SourceTold) (old read new : Reading) (number count last : ℕ) (net net_now : NetView) → net.plan ≡ plan
-    → IsMaking plan boxes inputs first before old number net → NextComes Line line before now old read → count ≡ number + 1 → TakesEvent stop plan line count now later read new last net net_now → MakesOn stop plan boxes inputs first later new last net_now
-takes_event stop line plan boxes inputs first before now later old read new number count last net net_now same m n is (inl (line_is, (end, stop_is, ends))) =
-    subst (λ (s : Option TraceEnd). MakesOn s plan boxes inputs first later new last net_now) (sym stop_is)
+pub takes_event : {laws : Laws} (stop : Option TraceEnd) (line : List ℕ) (plan : Plan) (boxes : List BoxTold) (inputs : Inputs) (first before now later : SourceTold) (old read new : Reading) (number count last : ℕ) (net net_now : NetView) → net.plan ≡ plan
+    → IsMaking laws plan boxes inputs first before old number net → NextComes Line line before now old read → count ≡ number + 1 → TakesEvent laws stop plan line count now later read new last net net_now → MakesOn laws stop plan boxes inputs first later new last net_now
+takes_event {laws} stop line plan boxes inputs first before now later old read new number count last net net_now same m n is (inl (line_is, (end, stop_is, ends))) =
+    subst (λ (s : Option TraceEnd). MakesOn laws s plan boxes inputs first later new last net_now) (sym stop_is)
     (ends_run end line plan boxes inputs first before now later old read new number count net net_now m n is line_is ends)
-takes_event stop line plan boxes inputs first before now later old read new number count last net net_now same m n is (inr (other, makes, still, kept, counted)) =
-    subst (λ (t : SourceTold). MakesOn stop plan boxes inputs first t new last net_now) (sym still)
-    (subst (λ (r : Reading). MakesOn stop plan boxes inputs first now r last net_now) (sym kept)
-    (subst (λ (k : ℕ). MakesOn stop plan boxes inputs first now read k net_now) (sym counted)
+takes_event {laws} stop line plan boxes inputs first before now later old read new number count last net net_now same m n is (inr (other, makes, still, kept, counted)) =
+    subst (λ (t : SourceTold). MakesOn laws stop plan boxes inputs first t new last net_now) (sym still)
+    (subst (λ (r : Reading). MakesOn laws stop plan boxes inputs first now r last net_now) (sym kept)
+    (subst (λ (k : ℕ). MakesOn laws stop plan boxes inputs first now read k net_now) (sym counted)
     (makes_line stop line plan boxes inputs first before now old read number count net net_now same m n is other makes)))
 
 -- an accepted run is at rest
-rests_ended : (end : TraceEnd) (before now : SourceTold) (old new : Reading) (number : ℕ) (net net_now : NetView) → EndsRun end before now old new number net net_now → end ≡ Accepted → IsAtRest net_now
-rests_ended end before now old new number net net_now (inl (may, end_is, still, same)) is = absurd (let clash : Refused number NotAtRest ≡ Accepted = sym end_is ∙ is in cc)
-rests_ended end before now old new number net net_now (inr (rests, same, (next, l, comes, stop))) is = subst IsAtRest (sym same) rests
+rests_ended : {laws : Laws} (end : TraceEnd) (before now : SourceTold) (old new : Reading) (number : ℕ) (net net_now : NetView) → EndsRun laws end before now old new number net net_now → end ≡ Accepted → IsAtRest laws net_now
+rests_ended {laws} end before now old new number net net_now (inl (may, end_is, still, same)) is = absurd (let clash : Refused number NotAtRest ≡ Accepted = sym end_is ∙ is in cc)
+rests_ended {laws} end before now old new number net net_now (inr (rests, same, (next, l, comes, stop))) is = subst (IsAtRest laws) (sym same) rests
 
-made_not : (stop : Option TraceEnd) (plan : Plan) (line : List ℕ) (number : ℕ) (net now : NetView) → MakesLine stop plan line number net now → stop ≡ Some Accepted → ⊥
-made_not None plan line number net now makes is = cc
-made_not (Some end) plan line number net now (inl (none, end_is)) is = (let clash : Some (Refused number BadEvent) ≡ Some Accepted = ap Some (sym end_is) ∙ is in cc)
-made_not (Some end) plan line number net now (inr idle) is = (let clash : Some (Refused number IdleEvent) ≡ Some Accepted = ap Some (sym idle.is) ∙ is in cc)
+made_not : (laws : Laws) (stop : Option TraceEnd) (plan : Plan) (line : List ℕ) (number : ℕ) (net now : NetView) → MakesLine laws stop plan line number net now → stop ≡ Some Accepted → ⊥
+made_not laws None plan line number net now makes is = cc
+made_not laws (Some end) plan line number net now (inl (none, end_is)) is = (let clash : Some (Refused number BadEvent) ≡ Some Accepted = ap Some (sym end_is) ∙ is in cc)
+made_not laws (Some end) plan line number net now (inr idle) is = (let clash : Some (Refused number IdleEvent) ≡ Some Accepted = ap Some (sym idle.is) ∙ is in cc)
 
-pub rests_taken : (stop : Option TraceEnd) (plan : Plan) (line : List ℕ) (number : ℕ) (before now : SourceTold) (old new : Reading) (last : ℕ) (net net_now : NetView) → TakesEvent stop plan line number before now old new last net net_now → stop ≡ Some Accepted
-    → IsAtRest net_now
-rests_taken stop plan line number before now old new last net net_now (inl (line_is, (end, stop_is, ends))) is =
+pub rests_taken : {laws : Laws} (stop : Option TraceEnd) (plan : Plan) (line : List ℕ) (number : ℕ) (before now : SourceTold) (old new : Reading) (last : ℕ) (net net_now : NetView) → TakesEvent laws stop plan line number before now old new last net net_now → stop ≡ Some Accepted
+    → IsAtRest laws net_now
+rests_taken {laws} stop plan line number before now old new last net net_now (inl (line_is, (end, stop_is, ends))) is =
     rests_ended end before now old new number net net_now ends (some_same end Accepted (sym stop_is ∙ is))
   where
     some_same : (a b : TraceEnd) → Some a ≡ Some b → a ≡ b
     some_same a b same = cc
-rests_taken stop plan line number before now old new last net net_now (inr (other, makes, still, kept, counted)) is = absurd (made_not stop plan line number net net_now makes is)
+rests_taken {laws} stop plan line number before now old new last net net_now (inr (other, makes, still, kept, counted)) is = absurd (made_not laws stop plan line number net net_now makes is)
 
 -- an event that is made leaves less to do
-pub less_taken : (stop : Option TraceEnd) (plan : Plan) (line : List ℕ) (number : ℕ) (before now : SourceTold) (old new : Reading) (last : ℕ) (net net_now : NetView) → net.plan ≡ plan → IsRunning net → StandsForSome net
-    → TakesEvent stop plan line number before now old new last net net_now → stop ≡ None → left_in net_now < left_in net
-less_taken stop plan line number before now old new last net net_now same running some (inl (line_is, (end, stop_is, ends))) is = absurd (let clash : Some end ≡ None = sym stop_is ∙ is in cc)
-less_taken stop plan line number before now old new last net net_now same running some (inr (other, makes, still, kept, counted)) is = by stop makes is
+pub less_taken : {laws : Laws} (stop : Option TraceEnd) (plan : Plan) (line : List ℕ) (number : ℕ) (before now : SourceTold) (old new : Reading) (last : ℕ) (net net_now : NetView) → net.plan ≡ plan → IsRunning net → StandsForSome laws net
+    → TakesEvent laws stop plan line number before now old new last net net_now → stop ≡ None → left_in net_now < left_in net
+less_taken {laws} stop plan line number before now old new last net net_now same running some (inl (line_is, (end, stop_is, ends))) is = absurd (let clash : Some end ≡ None = sym stop_is ∙ is in cc)
+less_taken {laws} stop plan line number before now old new last net net_now same running some (inr (other, makes, still, kept, counted)) is = by stop makes is
   where
-    by : (s : Option TraceEnd) → MakesLine s plan line number net net_now → s ≡ None → left_in net_now < left_in net
+    by : (s : Option TraceEnd) → MakesLine laws s plan line number net net_now → s ≡ None → left_in net_now < left_in net
     by None (event, of, line_is, acts) none = acts_less some.job event net net_now (net_event event plan net same of) running some.stands acts
     by (Some end) made none = absurd cc
 
 -- Whatever comes next --
 
-pub takes_next : (stop : Option TraceEnd) (next : NextLine) (plan : Plan) (boxes : List CalculatorTold) (inputs : Inputs) (first before now later : SourceTold) (line : List ℕ) (old read new : Reading) (number stopped count last : ℕ) (long : TraceFault) (net net_now : NetView)
-    → net.plan ≡ plan → IsMaking plan boxes inputs first before old number net → NextComes next line before now old read → count ≡ counted_with next number → StopsBy next stopped long None
-    → TakesEvent stop plan line count now later read new last net net_now → MakesOn stop plan boxes inputs first later new last net_now
-takes_next stop next plan boxes inputs first before now later line old read new number stopped count last long net net_now same m n counted is takes =
+pub takes_next : {laws : Laws} (stop : Option TraceEnd) (next : NextLine) (plan : Plan) (boxes : List BoxTold) (inputs : Inputs) (first before now later : SourceTold) (line : List ℕ) (old read new : Reading) (number stopped count last : ℕ) (long : TraceFault) (net net_now : NetView)
+    → net.plan ≡ plan → IsMaking laws plan boxes inputs first before old number net → NextComes next line before now old read → count ≡ counted_with next number → StopsBy next stopped long None
+    → TakesEvent laws stop plan line count now later read new last net net_now → MakesOn laws stop plan boxes inputs first later new last net_now
+takes_next {laws} stop next plan boxes inputs first before now later line old read new number stopped count last long net net_now same m n counted is takes =
     takes_event stop line plan boxes inputs first before now later old read new number count last net net_now same m (line_comes next line before now old read number stopped long n is) (one_more next count number stopped long counted is) takes
 
-pub opened_next : (next : NextLine) (line : List ℕ) (plan : Plan) (boxes : List CalculatorTold) (inputs : Inputs) (first before now later : SourceTold) (old read new : Reading) (number stopped : ℕ) (long : TraceFault) (net : NetView) → IsMaking plan boxes inputs first before old number net
+pub opened_next : {laws : Laws} (next : NextLine) (line : List ℕ) (plan : Plan) (boxes : List BoxTold) (inputs : Inputs) (first before now later : SourceTold) (old read new : Reading) (number stopped : ℕ) (long : TraceFault) (net : NetView) → IsMaking laws plan boxes inputs first before old number net
     → NextComes next line before now old read → StopsBy next stopped long None → ComesBehind now later read new → BeginsWithJob plan (device first later) inputs
-opened_next next line plan boxes inputs first before now later old read new number stopped long net m n is behind =
+opened_next {laws} next line plan boxes inputs first before now later old read new number stopped long net m n is behind =
     opened_behind line plan boxes inputs first before now later old read new number net m (line_comes next line before now old read number stopped long n is) behind
 
 -- where the reading stops for want of a line no run is accepted
@@ -441,11 +442,11 @@ stops_not Ended lines long stop is same = (let clash : Some (Refused (lines + 1)
 stops_not Failed lines long stop is same = (let clash : Some (Failed_at lines) ≡ Some Accepted = sym is ∙ same in cc)
 
 -- a reading went on, or ended
-pub making_on : (stop : Option TraceEnd) (plan : Plan) (boxes : List CalculatorTold) (inputs : Inputs) (first now : SourceTold) (read : Reading) (number : ℕ) (net : NetView) → MakesOn stop plan boxes inputs first now read number net → stop ≡ None
-    → IsMaking plan boxes inputs first now read number net
-making_on None plan boxes inputs first now read number net on is = on
-making_on (Some end) plan boxes inputs first now read number net on is = absurd cc
+pub making_on : {laws : Laws} (stop : Option TraceEnd) (plan : Plan) (boxes : List BoxTold) (inputs : Inputs) (first now : SourceTold) (read : Reading) (number : ℕ) (net : NetView) → MakesOn laws stop plan boxes inputs first now read number net → stop ≡ None
+    → IsMaking laws plan boxes inputs first now read number net
+making_on {laws} None plan boxes inputs first now read number net on is = on
+making_on {laws} (Some end) plan boxes inputs first now read number net on is = absurd cc
 
-pub making_ends : (stop : Option TraceEnd) (end : TraceEnd) (plan : Plan) (boxes : List CalculatorTold) (inputs : Inputs) (first now : SourceTold) (read : Reading) (number : ℕ) (net : NetView) → MakesOn stop plan boxes inputs first now read number net → stop ≡ Some end
-    → WasRead plan boxes (device first now) (Some inputs) end
-making_ends stop end plan boxes inputs first now read number net on is = subst (λ (s : Option TraceEnd). MakesOn s plan boxes inputs first now read number net) is on
+pub making_ends : {laws : Laws} (stop : Option TraceEnd) (end : TraceEnd) (plan : Plan) (boxes : List BoxTold) (inputs : Inputs) (first now : SourceTold) (read : Reading) (number : ℕ) (net : NetView) → MakesOn laws stop plan boxes inputs first now read number net → stop ≡ Some end
+    → WasRead laws plan boxes (device first now) (Some inputs) end
+making_ends {laws} stop end plan boxes inputs first now read number net on is = subst (λ (s : Option TraceEnd). MakesOn laws s plan boxes inputs first now read number net) is on

@@ -2,8 +2,9 @@
 use Rattle.std.proofs.Common.{◌≡◌, ℕ, ◌+◌, ◌<◌, ◌≤◌, Bool, true, false, List, [], ◌∷◌, ◌++◌, length, Option, None, Some, refl, sym, ap, ◌∙◌, subst, arith, append_assoc, append-nil, length-append}
 use Rattle.mg_edge.specs.Edge.{SourceTold}
 use Rattle.mg_edge.specs.Runs.{Gave}
+use Rattle.mg_calc.specs.Rules.{Laws}
 use Rattle.mg_calc.specs.declared.plan.Plan.{Plan}
-use Rattle.mg_calc.specs.Told.{CalculatorTold}
+use Rattle.mg_calc.specs.Told.{BoxTold}
 use Rattle.mg_feed.specs.Graph.{GraphInputs, inputs_of}
 use Rattle.mg_feed.specs.Lines.{all_lines}
 use Rattle.mg_feed.specs.Accepted.{longest_line, most_lines}
@@ -79,14 +80,14 @@ refused_at : (n m : ℕ) (cause : TraceFault) → n ≡ m → Refused (n + 1) ca
 refused_at n m cause same = ap (λ (k : ℕ). Refused (k + 1) cause) same
 
 -- the packet lines end, or go on too far
-pub stops_early : (next : NextLine) (line : List ℕ) (plan : Plan) (boxes : List CalculatorTold) (end : TraceEnd) (first before now : SourceTold) (old new : Reading) (number : ℕ) (view : View) → IsOpening plan first before old number view
-    → NextComes next line before now old new → StopsBy next number (bad_line far) (Some end) → WasRead plan boxes (device first now) None end
-stops_early Line line plan boxes end first before now old new number view o n is = absurd cc
-stops_early TooLong line plan boxes end first before now old new number view o n is =
+pub stops_early : {laws : Laws} (next : NextLine) (line : List ℕ) (plan : Plan) (boxes : List BoxTold) (end : TraceEnd) (first before now : SourceTold) (old new : Reading) (number : ℕ) (view : View) → IsOpening plan first before old number view
+    → NextComes next line before now old new → StopsBy next number (bad_line far) (Some end) → WasRead laws plan boxes (device first now) None end
+stops_early {laws} Line line plan boxes end first before now old new number view o n is = absurd cc
+stops_early {laws} TooLong line plan boxes end first before now old new number view o n is =
     let c = came_behind TooLong line first before now old new number o.lines o.reading n in
     let counted = o.reading.counted in
     let end_is : end ≡ Refused (length o.lines + 1) (bad_line far) = (let same : end ≡ Refused (number + 1) (bad_line far) = cc in same ∙ refused_at number (length o.lines) (bad_line far) counted) in
-    subst (WasRead plan boxes (device first now) None) (sym end_is) (record {
+    subst (WasRead laws plan boxes (device first now) None) (sym end_is) (record {
       came = c.came;
       gave = c.gave;
       by = (
@@ -98,11 +99,11 @@ stops_early TooLong line plan boxes end first before now old new number view o n
       );
       faults = c.reads;
     })
-stops_early Ended line plan boxes end first before now old new number view o n is =
+stops_early {laws} Ended line plan boxes end first before now old new number view o n is =
     let c = came_behind Ended line first before now old new number o.lines o.reading n in
     let counted = o.reading.counted in
     let end_is : end ≡ Refused (length o.lines + 1) NoEnd = (let same : end ≡ Refused (number + 1) NoEnd = cc in same ∙ refused_at number (length o.lines) NoEnd counted) in
-    subst (WasRead plan boxes (device first now) None) (sym end_is) (record {
+    subst (WasRead laws plan boxes (device first now) None) (sym end_is) (record {
       came = c.came;
       gave = c.gave;
       by = (
@@ -113,10 +114,10 @@ stops_early Ended line plan boxes end first before now old new number view o n i
       );
       faults = c.reads;
     })
-stops_early Failed line plan boxes end first before now old new number view o n is =
+stops_early {laws} Failed line plan boxes end first before now old new number view o n is =
     let c = came_behind Failed line first before now old new number o.lines o.reading n in
     let end_is : end ≡ Failed_at number = cc in
-    subst (WasRead plan boxes (device first now) None) (sym end_is) (record {
+    subst (WasRead laws plan boxes (device first now) None) (sym end_is) (record {
       came = c.came;
       gave = c.gave;
       by = (o.reading.counted ∙ ap length c.comes, subst (ArePackets (inputs_of plan) []) c.comes o.packets);
@@ -124,9 +125,9 @@ stops_early Failed line plan boxes end first before now old new number view o n 
     })
 
 -- a packet line was taken
-pub opens_line : (line : List ℕ) (plan : Plan) (first before now : SourceTold) (old new : Reading) (number count : ℕ) (view later : View) → IsOpening plan first before old number view → NextComes Line line before now old new
-    → count ≡ number + 1 → TakesLine None line count view later → OpensOn None plan first now new count view later
-opens_line line plan first before now old new number count view later o n is (word, takes) =
+pub opens_line : (laws : Laws) (line : List ℕ) (plan : Plan) (first before now : SourceTold) (old new : Reading) (number count : ℕ) (view later : View) → IsOpening plan first before old number view → NextComes Line line before now old new
+    → count ≡ number + 1 → TakesLine None line count view later → OpensOn laws None plan first now new count view later
+opens_line laws line plan first before now old new number count view later o n is (word, takes) =
     let stands : HasAccepted o.lines (nothing_taken (inputs_of plan)) view = o.stands in
     let t = takes o.lines (nothing_taken (inputs_of plan)) stands in
     let good : packet_refusal (inputs_of plan) o.lines line ≡ None = ap (λ (g : GraphInputs). packet_refusal g o.lines line) (sym o.graph) ∙ t.0 in
@@ -157,16 +158,16 @@ opens_word line ended plan first before now old new number count view later o n 
 })
 
 -- a line that isn't good
-pub opens_bad : (line : List ℕ) (end : TraceEnd) (plan : Plan) (boxes : List CalculatorTold) (first before now : SourceTold) (old new : Reading) (number count : ℕ) (view later : View) → IsOpening plan first before old number view
-    → NextComes Line line before now old new → count ≡ number + 1 → TakesLine (Some (Stopped end)) line count view later → WasRead plan boxes (device first now) None end
-opens_bad line end plan boxes first before now old new number count view later o n is (word, (cause, end_is, takes)) =
+pub opens_bad : {laws : Laws} (line : List ℕ) (end : TraceEnd) (plan : Plan) (boxes : List BoxTold) (first before now : SourceTold) (old new : Reading) (number count : ℕ) (view later : View) → IsOpening plan first before old number view
+    → NextComes Line line before now old new → count ≡ number + 1 → TakesLine (Some (Stopped end)) line count view later → WasRead laws plan boxes (device first now) None end
+opens_bad {laws} line end plan boxes first before now old new number count view later o n is (word, (cause, end_is, takes)) =
     let r = reading_line line first before now old new number count o.lines o.reading n is in
     let bad : packet_refusal (inputs_of plan) o.lines line ≡ Some cause =
     ap (λ (g : GraphInputs). packet_refusal g o.lines line) (sym o.graph) ∙ takes o.lines (nothing_taken (inputs_of plan)) o.stands in
     let counted = r.counted in
     let long = length-append o.lines (line ∷ []) in
     let place : count ≡ length o.lines + 1 = omega (arith, counted, long) in
-    subst (WasRead plan boxes (device first now) None) (sym (end_is ∙ ap (λ (k : ℕ). Refused k cause) place)) (record {
+    subst (WasRead laws plan boxes (device first now) None) (sym (end_is ∙ ap (λ (k : ℕ). Refused k cause) place)) (record {
       came = r.came;
       gave = r.gave;
       by = (
@@ -185,11 +186,11 @@ opens_bad line end plan boxes first before now old new number count view later o
     })
 
 -- what a line came to
-pub opens_on : (opened : Option Opened) (line : List ℕ) (plan : Plan) (first before now : SourceTold) (old new : Reading) (number count : ℕ) (view later : View) → IsOpening plan first before old number view → NextComes Line line before now old new
-    → count ≡ number + 1 → TakesLine opened line count view later → OpensOn opened plan first now new count view later
-opens_on None line plan first before now old new number count view later o n is takes = opens_line line plan first before now old new number count view later o n is takes
-opens_on (Some (Job ended)) line plan first before now old new number count view later o n is takes = opens_word line ended plan first before now old new number count view later o n is takes
-opens_on (Some (Stopped end)) line plan first before now old new number count view later o n is takes = λ boxes. opens_bad line end plan boxes first before now old new number count view later o n is takes
+pub opens_on : (laws : Laws) (opened : Option Opened) (line : List ℕ) (plan : Plan) (first before now : SourceTold) (old new : Reading) (number count : ℕ) (view later : View) → IsOpening plan first before old number view → NextComes Line line before now old new
+    → count ≡ number + 1 → TakesLine opened line count view later → OpensOn laws opened plan first now new count view later
+opens_on laws None line plan first before now old new number count view later o n is takes = opens_line laws line plan first before now old new number count view later o n is takes
+opens_on laws (Some (Job ended)) line plan first before now old new number count view later o n is takes = opens_word line ended plan first before now old new number count view later o n is takes
+opens_on laws (Some (Stopped end)) line plan first before now old new number count view later o n is takes = λ boxes. opens_bad line end plan boxes first before now old new number count view later o n is takes
 
 -- a line was handed out where the reading didn't stop
 pub is_line : (next : NextLine) (number : ℕ) (long : TraceFault) → StopsBy next number long None → next ≡ Line
@@ -198,9 +199,9 @@ is_line TooLong number long stop = absurd cc
 is_line Ended number long stop = absurd cc
 is_line Failed number long stop = absurd cc
 
-pub fewer_left : (opened : Option Opened) (plan : Plan) (first now : SourceTold) (read : Reading) (number : ℕ) (old view : View) → OpensOn opened plan first now read number old view → opened ≡ None → (old.lines < view.lines) × (view.lines ≤ most_lines)
-fewer_left None plan first now read number old view on is = (let more = on.1 in omega (arith, more), on.2)
-fewer_left (Some opened) plan first now read number old view on is = absurd cc
+pub fewer_left : (laws : Laws) (opened : Option Opened) (plan : Plan) (first now : SourceTold) (read : Reading) (number : ℕ) (old view : View) → OpensOn laws opened plan first now read number old view → opened ≡ None → (old.lines < view.lines) × (view.lines ≤ most_lines)
+fewer_left laws None plan first now read number old view on is = (let more = on.1 in omega (arith, more), on.2)
+fewer_left laws (Some opened) plan first now read number old view on is = absurd cc
 
 -- Whatever comes next --
 
@@ -216,13 +217,13 @@ pub fits_line : (next : NextLine) (line line_now : List ℕ) (before now : Sourc
 fits_line next line line_now before now old new stopped long past lines handed n stop same =
     subst (λ (l : List ℕ). length l ≤ longest_line) (sym same) ((line_comes next line before now old new 0 stopped long n stop).comes past lines handed).1
 
-pub opens_next : (opened : Option Opened) (next : NextLine) (line line_now : List ℕ) (plan : Plan) (first before now : SourceTold) (old new : Reading) (number stopped count count_now : ℕ) (long : TraceFault) (view later : View) → IsOpening plan first before old number view
-    → NextComes next line before now old new → count ≡ counted_with next number → StopsBy next stopped long None → line_now ≡ line → count_now ≡ count → TakesLine opened line_now count_now view later → OpensOn opened plan first now new count view later
-opens_next opened next line line_now plan first before now old new number stopped count count_now long view later o n counted stop same_line same_count takes =
-    opens_on opened line plan first before now old new number count view later o (line_comes next line before now old new number stopped long n stop) (one_more next count number stopped long counted stop)
+pub opens_next : (laws : Laws) (opened : Option Opened) (next : NextLine) (line line_now : List ℕ) (plan : Plan) (first before now : SourceTold) (old new : Reading) (number stopped count count_now : ℕ) (long : TraceFault) (view later : View) → IsOpening plan first before old number view
+    → NextComes next line before now old new → count ≡ counted_with next number → StopsBy next stopped long None → line_now ≡ line → count_now ≡ count → TakesLine opened line_now count_now view later → OpensOn laws opened plan first now new count view later
+opens_next laws opened next line line_now plan first before now old new number stopped count count_now long view later o n counted stop same_line same_count takes =
+    opens_on laws opened line plan first before now old new number count view later o (line_comes next line before now old new number stopped long n stop) (one_more next count number stopped long counted stop)
     (subst (λ (k : ℕ). TakesLine opened line k view later) same_count (subst (λ (l : List ℕ). TakesLine opened l count_now view later) same_line takes))
 
 -- a packet line was taken, and the reading goes on
-pub opening_then : (opened : Option Opened) (plan : Plan) (first now : SourceTold) (read : Reading) (number : ℕ) (old view : View) → OpensOn opened plan first now read number old view → opened ≡ None → IsOpening plan first now read number view
-opening_then None plan first now read number old view on is = on.0
-opening_then (Some opened) plan first now read number old view on is = absurd cc
+pub opening_then : (laws : Laws) (opened : Option Opened) (plan : Plan) (first now : SourceTold) (read : Reading) (number : ℕ) (old view : View) → OpensOn laws opened plan first now read number old view → opened ≡ None → IsOpening plan first now read number view
+opening_then laws None plan first now read number old view on is = on.0
+opening_then laws (Some opened) plan first now read number old view on is = absurd cc

@@ -2,9 +2,10 @@
 use Rattle.std.specs.Prelude.{◌≡◌, ℕ, Bool, true, false, List, [], ◌∷◌, ◌++◌, length, None}
 use Rattle.mg_edge.specs.Edge.{SourceTold}
 use Rattle.mg_edge.specs.Runs.{Gave}
+use Rattle.mg_calc.specs.Rules.{Laws}
 use Rattle.mg_calc.specs.declared.inputs.Inputs.{Inputs}
 use Rattle.mg_calc.specs.declared.plan.Plan.{Plan}
-use Rattle.mg_calc.specs.Told.{CalculatorTold}
+use Rattle.mg_calc.specs.Told.{BoxTold}
 use Rattle.mg_feed.specs.Graph.{inputs_of}
 use Rattle.mg_feed.specs.View.{View}
 use Rattle.mg_feed.specs.Stands.{HasAccepted, nothing_taken}
@@ -52,15 +53,15 @@ pub record HasJob (plan : Plan) (ended : Bool) (first now : SourceTold) (read : 
   pub packets : ArePackets (inputs_of plan) [] given
 
 -- What the reading of a job's lines came to: the job, or where it stopped, with no node begun.
-abbrev pub Opens : Opened → Plan → SourceTold → SourceTold → Reading → ℕ → View → Type 0
-Opens (Job ended) plan first now read number view = HasJob plan ended first now read number view
-Opens (Stopped end) plan first now read number view = (boxes : List CalculatorTold) → WasRead plan boxes (device first now) None end
+abbrev pub Opens : Laws → Opened → Plan → SourceTold → SourceTold → Reading → ℕ → View → Type 0
+Opens laws (Job ended) plan first now read number view = HasJob plan ended first now read number view
+Opens laws (Stopped end) plan first now read number view = (boxes : List BoxTold) → WasRead laws plan boxes (device first now) None end
 
 -- The lines that were read led a net to where it is.
-pub record IsMaking (plan : Plan) (boxes : List CalculatorTold) (inputs : Inputs) (first now : SourceTold) (read : Reading) (number : ℕ) (net : NetView) : Type 0 where
+pub record IsMaking (laws : Laws) (plan : Plan) (boxes : List BoxTold) (inputs : Inputs) (first now : SourceTold) (read : Reading) (number : ℕ) (net : NetView) : Type 0 where
   pub lines : List (List ℕ)
   pub reading : IsReading first now read number lines
-  pub has_run : LinesLedTo plan boxes lines inputs net
+  pub has_run : LinesLedTo laws plan boxes lines inputs net
 
 -- The bytes that came begin with the lines of a job that has these inputs, whatever bytes may follow, of which there are none where the
 -- source has ended.

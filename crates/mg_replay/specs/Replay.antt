@@ -4,11 +4,12 @@
 use Rattle.std.specs.Prelude.{◌≡◌, ◌≢◌, ◌⊎◌, ℕ, ◌+◌, ◌<◌, Bool, true, false, List, [], ◌∷◌, ◌++◌, length, map, codes, Option, None, Some}
 use Rattle.mg_edge.specs.Edge.{SourceTold}
 use Rattle.mg_edge.specs.Runs.{Gave}
+use Rattle.mg_calc.specs.Rules.{Laws}
 use Rattle.mg_calc.specs.declared.event.Event.{Event}
 use Rattle.mg_calc.specs.declared.event.Effect.TheVariants.{Idle}
 use Rattle.mg_calc.specs.declared.inputs.Inputs.{Inputs}
 use Rattle.mg_calc.specs.declared.plan.Plan.{Plan}
-use Rattle.mg_calc.specs.Told.{CalculatorTold}
+use Rattle.mg_calc.specs.Told.{BoxTold}
 use Rattle.mg_sched.specs.Views.{NetView}
 use Rattle.mg_sched.specs.Acts.{Acts}
 use Rattle.mg_sched.specs.AtRest.{IsAtRest, MayGoOn}
@@ -46,14 +47,14 @@ pub record StopsEarly (plan : Plan) (lines : List (List ℕ)) (end : TraceEnd) :
 
 -- Lines led a net to where it is: they are the packet lines of a job, the word behind them, and the lines of the events of a run from where
 -- the job's runs begin.
-pub record LinesLedTo (plan : Plan) (boxes : List CalculatorTold) (lines : List (List ℕ)) (inputs : Inputs) (net : NetView) : Type 0 where
+pub record LinesLedTo (laws : Laws) (plan : Plan) (boxes : List BoxTold) (lines : List (List ℕ)) (inputs : Inputs) (net : NetView) : Type 0 where
   pub given : List (List ℕ)
   pub packets : ArePackets (inputs_of plan) [] given
   pub inputs_are : inputs ≡ inputs_with plan given inputs.ended
   pub begun : NetView
-  pub begins : IsBegun plan inputs boxes begun
+  pub begins : IsBegun laws plan inputs boxes begun
   pub events : List Event
-  pub run : IsRun events begun net
+  pub run : IsRun laws events begun net
   pub lines_are : lines ≡ given ++ end_word inputs.ended ∷ map event_line events
 
 -- A line is neither the last line of a run nor the line of an event of the plan, or is longer than a line may be.
@@ -62,11 +63,11 @@ pub record IsNoEvent (plan : Plan) (number : ℕ) (line : List ℕ) (end : Trace
   pub is : end ≡ Refused number BadEvent
 
 -- A line is that of an event that does nothing.
-pub record IsIdleEvent (plan : Plan) (net : NetView) (number : ℕ) (line : List ℕ) (end : TraceEnd) : Type 0 where
+pub record IsIdleEvent (laws : Laws) (plan : Plan) (net : NetView) (number : ℕ) (line : List ℕ) (end : TraceEnd) : Type 0 where
   pub event : Event
   pub is_event : IsEventOf plan event
   pub line_is : line ≡ event_line event
-  pub idle : Acts event Idle net net
+  pub idle : Acts laws event Idle net net
   pub is : end ≡ Refused number IdleEvent
 
 -- What is said by what stands behind the last line of a run: where nothing does the run is accepted.
@@ -75,53 +76,53 @@ EndsAt number [] end = end ≡ Accepted
 EndsAt number (line ∷ more) end = end ≡ Refused (number + 1) AfterEnd
 
 -- A line is the last line of a run. Some event may still do something; or the net is at rest.
-pub record IsLastLine (net : NetView) (number : ℕ) (line : List ℕ) (more : List (List ℕ)) (end : TraceEnd) : Type 0 where
+pub record IsLastLine (laws : Laws) (net : NetView) (number : ℕ) (line : List ℕ) (more : List (List ℕ)) (end : TraceEnd) : Type 0 where
   pub line_is : line ≡ codes "end"
-  pub ends : (MayGoOn net × (end ≡ Refused number NotAtRest)) ⊎ (IsAtRest net × EndsAt number more end)
+  pub ends : (MayGoOn laws net × (end ≡ Refused number NotAtRest)) ⊎ (IsAtRest laws net × EndsAt number more end)
 
 -- The reading stops with this net. The next line, if there is one, has this number.
-abbrev pub StopsAt : Plan → NetView → ℕ → List (List ℕ) → TraceEnd → Type 0
-StopsAt plan net number [] end = end ≡ Refused number NoEnd
-StopsAt plan net number (line ∷ more) end = IsNoEvent plan number line end ⊎ (IsIdleEvent plan net number line end ⊎ IsLastLine net number line more end)
+abbrev pub StopsAt : Laws → Plan → NetView → ℕ → List (List ℕ) → TraceEnd → Type 0
+StopsAt laws plan net number [] end = end ≡ Refused number NoEnd
+StopsAt laws plan net number (line ∷ more) end = IsNoEvent plan number line end ⊎ (IsIdleEvent laws plan net number line end ⊎ IsLastLine laws net number line more end)
 
 -- The lines begin with those that led a net somewhere, where the reading stops.
-pub record StopsAfterJob (plan : Plan) (boxes : List CalculatorTold) (lines : List (List ℕ)) (inputs : Inputs) (end : TraceEnd) : Type 0 where
+pub record StopsAfterJob (laws : Laws) (plan : Plan) (boxes : List BoxTold) (lines : List (List ℕ)) (inputs : Inputs) (end : TraceEnd) : Type 0 where
   pub front : List (List ℕ)
   pub tail : List (List ℕ)
   pub net : NetView
-  pub has_run : LinesLedTo plan boxes front inputs net
+  pub has_run : LinesLedTo laws plan boxes front inputs net
   pub lines_are : lines ≡ front ++ tail
-  pub stops : StopsAt plan net (length front + 1) tail end
+  pub stops : StopsAt laws plan net (length front + 1) tail end
 
 -- All lines --
 
 -- What the lines of an input that ends behind them come to: with `None` they stop before there is a job, and no node is begun; else they
 -- tell a job that has these inputs, whose nodes are begun.
-abbrev pub LinesComeTo : Plan → List CalculatorTold → List (List ℕ) → Option Inputs → TraceEnd → Type 0
-LinesComeTo plan boxes lines None end = StopsEarly plan lines end
-LinesComeTo plan boxes lines (Some inputs) end = StopsAfterJob plan boxes lines inputs end
+abbrev pub LinesComeTo : Laws → Plan → List BoxTold → List (List ℕ) → Option Inputs → TraceEnd → Type 0
+LinesComeTo laws plan boxes lines None end = StopsEarly plan lines end
+LinesComeTo laws plan boxes lines (Some inputs) end = StopsAfterJob laws plan boxes lines inputs end
 
 -- More lines may come: none so far is refused. The last of them may be `end`, where the net is at rest.
-pub record MoreMayCome (plan : Plan) (boxes : List CalculatorTold) (lines : List (List ℕ)) (inputs : Inputs) : Type 0 where
+pub record MoreMayCome (laws : Laws) (plan : Plan) (boxes : List BoxTold) (lines : List (List ℕ)) (inputs : Inputs) : Type 0 where
   pub front : List (List ℕ)
   pub net : NetView
-  pub has_run : LinesLedTo plan boxes front inputs net
-  pub lines_are : (lines ≡ front) ⊎ ((lines ≡ front ++ codes "end" ∷ []) × IsAtRest net)
+  pub has_run : LinesLedTo laws plan boxes front inputs net
+  pub lines_are : (lines ≡ front) ⊎ ((lines ≡ front ++ codes "end" ∷ []) × IsAtRest laws net)
 
 -- More lines may come: where there is no job yet, all lines so far are packet lines; else none of them is refused.
-abbrev pub MayComeTo : Plan → List CalculatorTold → List (List ℕ) → Option Inputs → Type 0
-MayComeTo plan boxes lines None = ArePackets (inputs_of plan) [] lines
-MayComeTo plan boxes lines (Some inputs) = MoreMayCome plan boxes lines inputs
+abbrev pub MayComeTo : Laws → Plan → List BoxTold → List (List ℕ) → Option Inputs → Type 0
+MayComeTo laws plan boxes lines None = ArePackets (inputs_of plan) [] lines
+MayComeTo laws plan boxes lines (Some inputs) = MoreMayCome laws plan boxes lines inputs
 
 -- The input --
 
 -- What the bytes that came say of the whole input. It ended after them; or one of their lines is refused, whatever bytes may follow, of which
 -- there are none where the source has ended; or a read failed after them, and none of their whole lines is refused.
-abbrev pub CameAs : TraceEnd → Plan → List CalculatorTold → Device SourceTold → List ℕ → Option Inputs → Type 0
-CameAs Accepted plan boxes input came job = EndCame input.before input.now × LinesComeTo plan boxes (all_lines came) job Accepted
-CameAs (Refused line cause) plan boxes input came job =
-    (ended : Bool) × MetEnd false ended input.before input.now × ((more : List ℕ) → (ended ≡ true → more ≡ []) → LinesComeTo plan boxes (all_lines (came ++ more)) job (Refused line cause))
-CameAs (Failed lines) plan boxes input came job = (lines ≡ length (whole_lines came)) × MayComeTo plan boxes (whole_lines came) job
+abbrev pub CameAs : Laws → TraceEnd → Plan → List BoxTold → Device SourceTold → List ℕ → Option Inputs → Type 0
+CameAs laws Accepted plan boxes input came job = EndCame input.before input.now × LinesComeTo laws plan boxes (all_lines came) job Accepted
+CameAs laws (Refused line cause) plan boxes input came job =
+    (ended : Bool) × MetEnd false ended input.before input.now × ((more : List ℕ) → (ended ≡ true → more ≡ []) → LinesComeTo laws plan boxes (all_lines (came ++ more)) job (Refused line cause))
+CameAs laws (Failed lines) plan boxes input came job = (lines ≡ length (whole_lines came)) × MayComeTo laws plan boxes (whole_lines came) job
 
 -- no read failed, unless the reading ended by that
 abbrev pub FailsAs : TraceEnd → SourceTold → SourceTold → Type 0
@@ -130,8 +131,8 @@ FailsAs (Refused line cause) before now = Unfailed before now
 FailsAs (Failed lines) before now = ReadFailed before now
 
 -- A recorded run was read from this input with these calculators: it told this job, if any, and the reading ended so.
-pub record WasRead (plan : Plan) (boxes : List CalculatorTold) (input : Device SourceTold) (job : Option Inputs) (end : TraceEnd) : Type 0 where
+pub record WasRead (laws : Laws) (plan : Plan) (boxes : List BoxTold) (input : Device SourceTold) (job : Option Inputs) (end : TraceEnd) : Type 0 where
   pub came : List ℕ
   pub gave : Gave input.before.left input.now.left came
-  pub by : CameAs end plan boxes input came job
+  pub by : CameAs laws end plan boxes input came job
   pub faults : FailsAs end input.before input.now

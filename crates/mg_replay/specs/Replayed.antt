@@ -3,10 +3,11 @@ use Rattle.std.specs.Prelude.{◌≡◌, ◌⊎◌, ℕ, Bool, true, false, List
 use Rattle.mg_edge.specs.Edge.{SourceTold, SinkTold}
 use Rattle.mg_value.specs.Payload.{Plain}
 use Rattle.mg_settled.specs.Prefix.{StreamPrefix}
+use Rattle.mg_calc.specs.Rules.{Laws}
 use Rattle.mg_calc.specs.declared.inputs.Inputs.{Inputs}
 use Rattle.mg_calc.specs.declared.plan.Plan.{Plan}
 use Rattle.mg_calc.specs.Equations.{Job, IsSolution}
-use Rattle.mg_calc.specs.Told.{CalculatorTold}
+use Rattle.mg_calc.specs.Told.{BoxTold}
 use Rattle.mg_feed.specs.declared.feed_end.FeedEnd.TheVariants.{Ended}
 use Rattle.mg_answer.specs.Text.{output_text_of}
 use Rattle.mg_answer.specs.Notes.{memory_note}
@@ -25,8 +26,8 @@ use Rattle.mg_replay.specs.declared.trace_end.TraceEnd.{TraceEnd}
 use Rattle.mg_replay.specs.declared.trace_end.TraceEnd.TheVariants.{Accepted, Refused, Failed}
 
 -- The job of a plan over inputs.
-abbrev pub job_over : Plan → Inputs → Job
-job_over plan inputs = record { plan = plan; inputs = inputs }
+abbrev pub job_over : Laws → Plan → Inputs → Job
+job_over laws plan inputs = record { plan = plan; inputs = inputs; laws = laws }
 
 -- The answer --
 
@@ -36,18 +37,18 @@ AnswersJob true report job answer = IsAnswerOf (by_lines report) job Ended answe
 AnswersJob false report job answer = IsFrozenAnswer (by_lines report) job answer
 
 -- The answer to lines that come to this: that of the job, where they are accepted; and otherwise nothing but the one note.
-abbrev pub AnswersEnd : TraceEnd → Bool → Plan → Option Inputs → RunAnswer → Type 0
-AnswersEnd Accepted report plan None answer = ⊥
-AnswersEnd Accepted report plan (Some inputs) answer = AnswersJob inputs.ended report (job_over plan inputs) answer
-AnswersEnd (Refused line cause) report plan job answer = answer ≡ record { output = []; notes = trace_note (Refused line cause); status = trace_status (Refused line cause) }
-AnswersEnd (Failed lines) report plan job answer = answer ≡ record { output = []; notes = trace_note (Failed lines); status = trace_status (Failed lines) }
+abbrev pub AnswersEnd : Laws → TraceEnd → Bool → Plan → Option Inputs → RunAnswer → Type 0
+AnswersEnd laws Accepted report plan None answer = ⊥
+AnswersEnd laws Accepted report plan (Some inputs) answer = AnswersJob inputs.ended report (job_over laws plan inputs) answer
+AnswersEnd laws (Refused line cause) report plan job answer = answer ≡ record { output = []; notes = trace_note (Refused line cause); status = trace_status (Refused line cause) }
+AnswersEnd laws (Failed lines) report plan job answer = answer ≡ record { output = []; notes = trace_note (Failed lines); status = trace_status (Failed lines) }
 
 -- The answer to a recorded run of these lines.
-pub record AnswersTrace (report : Bool) (plan : Plan) (boxes : List CalculatorTold) (lines : List (List ℕ)) (answer : RunAnswer) : Type 0 where
+pub record AnswersTrace (laws : Laws) (report : Bool) (plan : Plan) (boxes : List BoxTold) (lines : List (List ℕ)) (answer : RunAnswer) : Type 0 where
   pub job : Option Inputs
   pub end : TraceEnd
-  pub comes : LinesComeTo plan boxes lines job end
-  pub answers : AnswersEnd end report plan job answer
+  pub comes : LinesComeTo laws plan boxes lines job end
+  pub answers : AnswersEnd laws end report plan job answer
 
 -- What was written --
 
@@ -57,55 +58,55 @@ WroteJob true report job status output notes = Wrote (by_lines report) job Ended
 WroteJob false report job status output notes = WroteFrozen (by_lines report) job status output notes
 
 -- For an accepted run the answer of its job was written, and for any other nothing but the one note.
-abbrev pub WroteEnd : TraceEnd → Bool → Plan → Option Inputs → Status → Device SinkTold → Device SinkTold → Type 0
-WroteEnd Accepted report plan None status output notes = ⊥
-WroteEnd Accepted report plan (Some inputs) status output notes = WroteJob inputs.ended report (job_over plan inputs) status output notes
-WroteEnd (Refused line cause) report plan job status output notes = Untouched output × WroteNote (Refused line cause) status notes
-WroteEnd (Failed lines) report plan job status output notes = Untouched output × WroteNote (Failed lines) status notes
+abbrev pub WroteEnd : Laws → TraceEnd → Bool → Plan → Option Inputs → Status → Device SinkTold → Device SinkTold → Type 0
+WroteEnd laws Accepted report plan None status output notes = ⊥
+WroteEnd laws Accepted report plan (Some inputs) status output notes = WroteJob inputs.ended report (job_over laws plan inputs) status output notes
+WroteEnd laws (Refused line cause) report plan job status output notes = Untouched output × WroteNote (Refused line cause) status notes
+WroteEnd laws (Failed lines) report plan job status output notes = Untouched output × WroteNote (Failed lines) status notes
 
 -- The calculators --
 
 -- Behind an accepted run each calculator that a node uses had all calls of its node. Behind any other, where the nodes were begun, each was
 -- opened, shown some of the first sets, perhaps none, and closed; where they weren't, none had a call.
-abbrev pub HadEnd : TraceEnd → Plan → Option Inputs → Device (List CalculatorTold) → Type 0
-HadEnd Accepted plan None boxes = ⊥
-HadEnd Accepted plan (Some inputs) boxes = HadCallsOf (job_over plan inputs) boxes
-HadEnd (Refused line cause) plan None boxes = Untouched boxes
-HadEnd (Refused line cause) plan (Some inputs) boxes = HadCloses (job_over plan inputs) boxes
-HadEnd (Failed lines) plan None boxes = Untouched boxes
-HadEnd (Failed lines) plan (Some inputs) boxes = HadCloses (job_over plan inputs) boxes
+abbrev pub HadEnd : Laws → TraceEnd → Plan → Option Inputs → Device (List BoxTold) → Type 0
+HadEnd laws Accepted plan None boxes = ⊥
+HadEnd laws Accepted plan (Some inputs) boxes = HadCallsOf (job_over laws plan inputs) boxes
+HadEnd laws (Refused line cause) plan None boxes = Untouched boxes
+HadEnd laws (Refused line cause) plan (Some inputs) boxes = HadCloses (job_over laws plan inputs) boxes
+HadEnd laws (Failed lines) plan None boxes = Untouched boxes
+HadEnd laws (Failed lines) plan (Some inputs) boxes = HadCloses (job_over laws plan inputs) boxes
 
 -- The call --
 
 -- A recorded run was read as far as it goes, and what is due then was done.
-pub record Replayed (report : Bool) (plan : Plan) (status : Status) (devices : RunDevices) (boxes : Device (List CalculatorTold)) : Type 0 where
+pub record Replayed (laws : Laws) (report : Bool) (plan : Plan) (status : Status) (devices : RunDevices) (boxes : Device (List BoxTold)) : Type 0 where
   pub job : Option Inputs
   pub end : TraceEnd
-  pub read : WasRead plan boxes.before devices.input job end
-  pub wrote : WroteEnd end report plan job status devices.output devices.notes
-  pub had : HadEnd end plan job boxes
+  pub read : WasRead laws plan boxes.before devices.input job end
+  pub wrote : WroteEnd laws end report plan job status devices.output devices.notes
+  pub had : HadEnd laws end plan job boxes
 
 -- Memory ran out while the text of an accepted run was written, and the output took a front of it.
-pub record TookOutput (plan : Plan) (boxes : List CalculatorTold) (input : Device SourceTold) (output : Device SinkTold) : Type 0 where
+pub record TookOutput (laws : Laws) (plan : Plan) (boxes : List BoxTold) (input : Device SourceTold) (output : Device SinkTold) : Type 0 where
   pub inputs : Inputs
-  pub read : WasRead plan boxes input (Some inputs) Accepted
+  pub read : WasRead laws plan boxes input (Some inputs) Accepted
   pub streams : List (StreamPrefix Plain)
-  pub solution : IsSolution (job_over plan inputs) streams
+  pub solution : IsSolution (job_over laws plan inputs) streams
   pub front : TookFront output (output_text_of plan streams)
 
 -- The lines of a job were read, and each calculator had a front of the calls that it has in the solution of that job.
-pub record HadSomeCalls (plan : Plan) (input : Device SourceTold) (boxes : Device (List CalculatorTold)) : Type 0 where
+pub record HadSomeCalls (laws : Laws) (plan : Plan) (input : Device SourceTold) (boxes : Device (List BoxTold)) : Type 0 where
   pub inputs : Inputs
   pub opened : BeginsWithJob plan input inputs
-  pub fronts : HadFronts (job_over plan inputs) boxes
+  pub fronts : HadFronts (job_over laws plan inputs) boxes
 
 -- Memory ran out: nothing was written, or a front of the text of an accepted run; and no calculator had a call, or each had a front of its
 -- calls.
-pub record ReplayedSome (plan : Plan) (devices : RunDevices) (boxes : Device (List CalculatorTold)) : Type 0 where
-  pub took : Untouched devices.output ⊎ TookOutput plan boxes.before devices.input devices.output
-  pub had : Untouched boxes ⊎ HadSomeCalls plan devices.input boxes
+pub record ReplayedSome (laws : Laws) (plan : Plan) (devices : RunDevices) (boxes : Device (List BoxTold)) : Type 0 where
+  pub took : Untouched devices.output ⊎ TookOutput laws plan boxes.before devices.input devices.output
+  pub had : Untouched boxes ⊎ HadSomeCalls laws plan devices.input boxes
 
 -- A call ended with this status. Where memory ran out the notes say that alone.
-abbrev pub ReplayedBy : Status → Bool → Plan → RunDevices → Device (List CalculatorTold) → Type 0
-ReplayedBy OutOfMemory report plan devices boxes = ReplayedSome plan devices boxes × TookNotes devices.notes memory_note
-ReplayedBy status report plan devices boxes = Replayed report plan status devices boxes
+abbrev pub ReplayedBy : Laws → Status → Bool → Plan → RunDevices → Device (List BoxTold) → Type 0
+ReplayedBy laws OutOfMemory report plan devices boxes = ReplayedSome laws plan devices boxes × TookNotes devices.notes memory_note
+ReplayedBy laws status report plan devices boxes = Replayed laws report plan status devices boxes

@@ -2,7 +2,7 @@
 ghost use Rattle.std.specs.Prelude.{◌≡◌, ◌+◌, ◌<◌, ◌^◌, List, None, Some, IfOk};
 ghost use Rattle.mg_edge.specs.Edge.{SourceTold};
 ghost use Rattle.mg_calc.specs.declared.inputs.Inputs.{Inputs};
-ghost use Rattle.mg_calc.specs.Told.{CalculatorTold};
+ghost use Rattle.mg_calc.specs.Told.{BoxTold};
 ghost use Rattle.mg_feed.specs.LinesSeen.{reading, line_of, number_of};
 ghost use Rattle.mg_sched.specs.StandsFor.{StandsForSome, IsRunning};
 ghost use Rattle.mg_sched.specs.Acts.{IsEventOf};
@@ -16,7 +16,7 @@ ghost use Rattle.mg_replay.specs.Code.Reading.{ComesBehind, MakesOn, MakesEvent,
 
 use crate::opening::stopped_at;
 use crate::{TraceEnd, TraceFault};
-use mg_calc::{Calculator, Effect, Event, Plan};
+use mg_calc::{Effect, Event, NodeCalculator, Plan};
 use mg_edge::{Gate, Source};
 use mg_feed::{Lines, NextLine};
 use mg_sched::Net;
@@ -32,7 +32,7 @@ use std::alloc::AllocError;
 ///
 /// It leaves the net where the events so far led it; where `end` came too early one event of its own may have been made, which performs no
 /// work. An event that does nothing leaves it as it was. Where memory runs out it is somewhere on its way.
-pub fn replay_events<G: Gate, C: Calculator, S: Source>(
+pub fn replay_events<G: Gate, C: NodeCalculator, S: Source>(
     plan: &Plan,
     net: &mut Net<C>,
     gate: &G,
@@ -41,13 +41,13 @@ pub fn replay_events<G: Gate, C: Calculator, S: Source>(
 ) -> Result<TraceEnd, AllocError>
     requires plan { net.old.plan ≡ plan.now }
     requires running { IsRunning net.old }
-    requires stands { StandsForSome net.old }
-    ensures read { IfOk result (λ end. (boxes : List CalculatorTold) (inputs : Inputs) (first : SourceTold) → IsMaking plan.now boxes inputs first (S.told input.old) (reading lines.old) (number_of lines.old) net.old
-        → WasRead plan.now boxes (device first (S.told input.new)) (Some inputs) end) }
-    ensures rests { IfOk result (λ end. end ≡ TraceEnd.Accepted → IsAtRest net.new) }
-    ensures opened { (boxes : List CalculatorTold) (inputs : Inputs) (first : SourceTold) → IsMaking plan.now boxes inputs first (S.told input.old) (reading lines.old) (number_of lines.old) net.old
+    requires stands { StandsForSome C.laws net.old }
+    ensures read { IfOk result (λ end. (boxes : List BoxTold) (inputs : Inputs) (first : SourceTold) → IsMaking C.laws plan.now boxes inputs first (S.told input.old) (reading lines.old) (number_of lines.old) net.old
+        → WasRead C.laws plan.now boxes (device first (S.told input.new)) (Some inputs) end) }
+    ensures rests { IfOk result (λ end. end ≡ TraceEnd.Accepted → IsAtRest C.laws net.new) }
+    ensures opened { (boxes : List BoxTold) (inputs : Inputs) (first : SourceTold) → IsMaking C.laws plan.now boxes inputs first (S.told input.old) (reading lines.old) (number_of lines.old) net.old
         → BeginsWithJob plan.now (device first (S.told input.new)) inputs }
-    ensures becomes { Becomes net.old net.new }
+    ensures becomes { Becomes C.laws net.old net.new }
 {
     'events: loop {
         let stop = next_event(plan, net, gate, lines, input)?;
@@ -59,7 +59,7 @@ pub fn replay_events<G: Gate, C: Calculator, S: Source>(
 }
 
 // Reads the next line, and makes its event. Returns how the reading ended, if it did.
-fn next_event<G: Gate, C: Calculator, S: Source>(
+fn next_event<G: Gate, C: NodeCalculator, S: Source>(
     plan: &Plan,
     net: &mut Net<C>,
     gate: &G,
@@ -68,14 +68,14 @@ fn next_event<G: Gate, C: Calculator, S: Source>(
 ) -> Result<Option<TraceEnd>, AllocError>
     requires plan { net.old.plan ≡ plan.now }
     requires running { IsRunning net.old }
-    requires stands { StandsForSome net.old }
-    ensures makes { IfOk result (λ stop. (boxes : List CalculatorTold) (inputs : Inputs) (first : SourceTold) → IsMaking plan.now boxes inputs first (S.told input.old) (reading lines.old) (number_of lines.old) net.old
-        → MakesOn stop plan.now boxes inputs first (S.told input.new) (reading lines.new) (number_of lines.new) net.new) }
-    ensures rests { IfOk result (λ stop. stop ≡ Some TraceEnd.Accepted → IsAtRest net.new) }
-    ensures opened { (boxes : List CalculatorTold) (inputs : Inputs) (first : SourceTold) → IsMaking plan.now boxes inputs first (S.told input.old) (reading lines.old) (number_of lines.old) net.old
+    requires stands { StandsForSome C.laws net.old }
+    ensures makes { IfOk result (λ stop. (boxes : List BoxTold) (inputs : Inputs) (first : SourceTold) → IsMaking C.laws plan.now boxes inputs first (S.told input.old) (reading lines.old) (number_of lines.old) net.old
+        → MakesOn C.laws stop plan.now boxes inputs first (S.told input.new) (reading lines.new) (number_of lines.new) net.new) }
+    ensures rests { IfOk result (λ stop. stop ≡ Some TraceEnd.Accepted → IsAtRest C.laws net.new) }
+    ensures opened { (boxes : List BoxTold) (inputs : Inputs) (first : SourceTold) → IsMaking C.laws plan.now boxes inputs first (S.told input.old) (reading lines.old) (number_of lines.old) net.old
         → BeginsWithJob plan.now (device first (S.told input.new)) inputs }
     ensures less { IfOk result (λ stop. stop ≡ None → left_in net.new < left_in net.old) }
-    ensures becomes { Becomes net.old net.new }
+    ensures becomes { Becomes C.laws net.old net.new }
 {
     let before = lines.number();
     let next = lines.next(input)?;
@@ -89,7 +89,7 @@ fn next_event<G: Gate, C: Calculator, S: Source>(
 }
 
 // Makes the event of the line that was handed out last, or ends the run where that line is `end`.
-fn take_event<G: Gate, C: Calculator, S: Source>(
+fn take_event<G: Gate, C: NodeCalculator, S: Source>(
     plan: &Plan,
     net: &mut Net<C>,
     gate: &G,
@@ -98,10 +98,10 @@ fn take_event<G: Gate, C: Calculator, S: Source>(
 ) -> Result<Option<TraceEnd>, AllocError>
     requires plan { net.old.plan ≡ plan.now }
     requires running { IsRunning net.old }
-    requires stands { StandsForSome net.old }
-    ensures takes { IfOk result (λ stop. TakesEvent stop plan.now (line_of lines.old) (number_of lines.old) (S.told input.old) (S.told input.new) (reading lines.old) (reading lines.new) (number_of lines.new) net.old net.new) }
+    requires stands { StandsForSome C.laws net.old }
+    ensures takes { IfOk result (λ stop. TakesEvent C.laws stop plan.now (line_of lines.old) (number_of lines.old) (S.told input.old) (S.told input.new) (reading lines.old) (reading lines.new) (number_of lines.new) net.old net.new) }
     ensures behind { ComesBehind (S.told input.old) (S.told input.new) (reading lines.old) (reading lines.new) }
-    ensures becomes { Becomes net.old net.new }
+    ensures becomes { Becomes C.laws net.old net.new }
 {
     if lines.line() == b"end".as_slice() {
         let end = end_run(net, lines, input)?;
@@ -112,7 +112,7 @@ fn take_event<G: Gate, C: Calculator, S: Source>(
 }
 
 // Makes the event of a line, which has this number, or refuses the line.
-fn make_line<G: Gate, C: Calculator>(
+fn make_line<G: Gate, C: NodeCalculator>(
     plan: &Plan,
     net: &mut Net<C>,
     gate: &G,
@@ -121,9 +121,9 @@ fn make_line<G: Gate, C: Calculator>(
 ) -> Result<Option<TraceEnd>, AllocError>
     requires plan { net.old.plan ≡ plan.now }
     requires running { IsRunning net.old }
-    requires stands { StandsForSome net.old }
-    ensures makes { IfOk result (λ stop. MakesLine stop plan.now line.now number net.old net.new) }
-    ensures becomes { Becomes net.old net.new }
+    requires stands { StandsForSome C.laws net.old }
+    ensures makes { IfOk result (λ stop. MakesLine C.laws stop plan.now line.now number net.old net.new) }
+    ensures becomes { Becomes C.laws net.old net.new }
 {
     match event_of(line, plan) {
         Some(event) => {
@@ -138,7 +138,7 @@ fn make_line<G: Gate, C: Calculator>(
 }
 
 // Makes an event, or refuses its line, which has this number, where the event does nothing.
-fn make_event<G: Gate, C: Calculator>(
+fn make_event<G: Gate, C: NodeCalculator>(
     net: &mut Net<C>,
     gate: &G,
     event: Event,
@@ -146,9 +146,9 @@ fn make_event<G: Gate, C: Calculator>(
 ) -> Result<Option<TraceEnd>, AllocError>
     requires event { IsEventOf net.old event }
     requires running { IsRunning net.old }
-    requires stands { StandsForSome net.old }
-    ensures makes { IfOk result (λ stop. MakesEvent stop event number net.old net.new) }
-    ensures becomes { Becomes net.old net.new }
+    requires stands { StandsForSome C.laws net.old }
+    ensures makes { IfOk result (λ stop. MakesEvent C.laws stop event number net.old net.new) }
+    ensures becomes { Becomes C.laws net.old net.new }
 {
     match net.act(event, gate) {
         Effect::Did => Ok(None),
@@ -161,16 +161,16 @@ fn make_event<G: Gate, C: Calculator>(
 }
 
 // Ends a run at its last line: the net has to be at rest, and nothing may stand behind that line.
-fn end_run<C: Calculator, S: Source>(
+fn end_run<C: NodeCalculator, S: Source>(
     net: &mut Net<C>,
     lines: &mut Lines,
     input: &mut S,
 ) -> Result<TraceEnd, AllocError>
     requires running { IsRunning net.old }
-    requires stands { StandsForSome net.old }
-    ensures ends { IfOk result (λ end. EndsRun end (S.told input.old) (S.told input.new) (reading lines.old) (reading lines.new) (number_of lines.old) net.old net.new) }
+    requires stands { StandsForSome C.laws net.old }
+    ensures ends { IfOk result (λ end. EndsRun C.laws end (S.told input.old) (S.told input.new) (reading lines.old) (reading lines.new) (number_of lines.old) net.old net.new) }
     ensures behind { ComesBehind (S.told input.old) (S.told input.new) (reading lines.old) (reading lines.new) }
-    ensures becomes { Becomes net.old net.new }
+    ensures becomes { Becomes C.laws net.old net.new }
 {
     let number = lines.number();
     let rests = net.rests()?;

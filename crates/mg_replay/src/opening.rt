@@ -1,5 +1,6 @@
 //! How the lines of a recorded run's job are read.
 ghost use Rattle.std.specs.Prelude.{◌≡◌, ◌+◌, ◌<◌, ◌≤◌, ◌^◌, None, IfOk, length};
+ghost use Rattle.mg_calc.specs.Rules.{Laws};
 ghost use Rattle.mg_edge.specs.Edge.{SourceTold};
 ghost use Rattle.mg_calc.specs.declared.plan.Plan.{Plan};
 ghost use Rattle.mg_feed.specs.FeedSeen.{seen};
@@ -55,8 +56,8 @@ pub fn read_job<S: Source>(
     input: &mut S,
 ) -> Result<Opened, AllocError>
     requires { IsSomeOpening (S.told input.old) (reading lines.old) (number_of lines.old) (seen feed.old) }
-    ensures { IfOk result (λ opened. (plan : Plan) (first : SourceTold) → IsOpening plan first (S.told input.old) (reading lines.old) (number_of lines.old) (seen feed.old)
-        → Opens opened plan first (S.told input.new) (reading lines.new) (number_of lines.new) (seen feed.new)) }
+    ensures { IfOk result (λ opened. (laws : Laws) (plan : Plan) (first : SourceTold) → IsOpening plan first (S.told input.old) (reading lines.old) (number_of lines.old) (seen feed.old)
+        → Opens laws opened plan first (S.told input.new) (reading lines.new) (number_of lines.new) (seen feed.new)) }
 {
     'packets: loop {
         let read = next_packet(feed, lines, input)?;
@@ -74,8 +75,8 @@ fn next_packet<S: Source>(
     input: &mut S,
 ) -> Result<Option<Opened>, AllocError>
     requires { IsSomeOpening (S.told input.old) (reading lines.old) (number_of lines.old) (seen feed.old) }
-    ensures opens { IfOk result (λ opened. (plan : Plan) (first : SourceTold) → IsOpening plan first (S.told input.old) (reading lines.old) (number_of lines.old) (seen feed.old)
-        → OpensOn opened plan first (S.told input.new) (reading lines.new) (number_of lines.new) (seen feed.old) (seen feed.new)) }
+    ensures opens { IfOk result (λ opened. (laws : Laws) (plan : Plan) (first : SourceTold) → IsOpening plan first (S.told input.old) (reading lines.old) (number_of lines.old) (seen feed.old)
+        → OpensOn laws opened plan first (S.told input.new) (reading lines.new) (number_of lines.new) (seen feed.old) (seen feed.new)) }
     ensures fewer { IfOk result (λ opened. opened ≡ None → ((seen feed.old).lines < (seen feed.new).lines) × ((seen feed.new).lines ≤ most_lines)) }
 {
     let before = lines.number();

@@ -6,7 +6,7 @@ ghost use Rattle.mg_settled.specs.Prefix.{StreamPrefix};
 ghost use Rattle.mg_calc.specs.declared.inputs.Inputs.{Inputs as Given};
 ghost use Rattle.mg_calc.specs.Plan.{IsValid};
 ghost use Rattle.mg_calc.specs.Equations.{IsJob, IsSolution};
-ghost use Rattle.mg_calc.specs.Told.{CalculatorTold};
+ghost use Rattle.mg_calc.specs.Told.{BoxTold};
 ghost use Rattle.mg_node.specs.Job.{LoggedJob};
 ghost use Rattle.mg_feed.specs.LinesSeen.{reading, number_of};
 ghost use Rattle.mg_answer.specs.Answer.{packet_lines};
@@ -33,7 +33,7 @@ use crate::events::replay_events;
 use crate::noting::note_end;
 use crate::opening::{Opened, read_job};
 use mg_answer::{Devices, OutputText, Run, Status, note_out_of_memory};
-use mg_calc::{Calculator, Inputs};
+use mg_calc::{Inputs, NodeCalculator};
 use mg_drive::{OneThread, finish, finish_frozen, take_all};
 use mg_edge::{Gate, Sink, Source};
 use mg_feed::{Feed, FeedEnd, Lines};
@@ -51,7 +51,7 @@ use std::mem;
 /// no set is shown any more, and nodes that were opened are closed.
 ///
 /// A write that fails is told by the status, as of a run. Where memory runs out the notes say that alone.
-pub fn replay_lines<G: Gate, C: Calculator, S: Source, K: Sink, E: Sink>(
+pub fn replay_lines<G: Gate, C: NodeCalculator, S: Source, K: Sink, E: Sink>(
     run: &Run<'_>,
     gate: &G,
     boxes: &mut Vec<C>,
@@ -61,7 +61,7 @@ pub fn replay_lines<G: Gate, C: Calculator, S: Source, K: Sink, E: Sink>(
     requires boxes { BoxesFit run.now.plan.now (map C.told boxes.old.items) }
 
     // What each status says of the run, the devices and the calculators.
-    ensures replayed { ReplayedBy result run.now.report run.now.plan.now (told_by S.told K.told E.told devices.old devices.new) (device (map C.told boxes.old.items) (map C.told boxes.new.items)) }
+    ensures replayed { ReplayedBy C.laws result run.now.report run.now.plan.now (told_by S.told K.told E.told devices.old devices.new) (device (map C.told boxes.old.items) (map C.told boxes.new.items)) }
     ensures back { CalculatorsCameBack run.now.plan.now (map C.told boxes.old.items) (map C.told boxes.new.items) }
     ensures same { SameDevices devices.old devices.new }
 {
@@ -72,7 +72,7 @@ pub fn replay_lines<G: Gate, C: Calculator, S: Source, K: Sink, E: Sink>(
 }
 
 // Reads the lines of the job, and makes the run again.
-fn replay_whole<G: Gate, C: Calculator, S: Source, K: Sink, E: Sink>(
+fn replay_whole<G: Gate, C: NodeCalculator, S: Source, K: Sink, E: Sink>(
     run: &Run<'_>,
     gate: &G,
     boxes: &mut Vec<C>,
@@ -80,8 +80,8 @@ fn replay_whole<G: Gate, C: Calculator, S: Source, K: Sink, E: Sink>(
 ) -> Result<Status, AllocError>
     requires valid { IsValid run.now.plan.now }
     requires boxes { BoxesFit run.now.plan.now (map C.told boxes.old.items) }
-    ensures replayed { IfOk result (λ status. Replayed run.now.report run.now.plan.now status (told_by S.told K.told E.told devices.old devices.new) (device (map C.told boxes.old.items) (map C.told boxes.new.items))) }
-    ensures some { OnErr result (ReplayedSome run.now.plan.now (told_by S.told K.told E.told devices.old devices.new) (device (map C.told boxes.old.items) (map C.told boxes.new.items))) }
+    ensures replayed { IfOk result (λ status. Replayed C.laws run.now.report run.now.plan.now status (told_by S.told K.told E.told devices.old devices.new) (device (map C.told boxes.old.items) (map C.told boxes.new.items))) }
+    ensures some { OnErr result (ReplayedSome C.laws run.now.plan.now (told_by S.told K.told E.told devices.old devices.new) (device (map C.told boxes.old.items) (map C.told boxes.new.items))) }
     ensures unnoted { OnErr result (E.told devices.new.notes.now ≡ E.told devices.old.notes.now) }
     ensures back { CalculatorsCameBack run.now.plan.now (map C.told boxes.old.items) (map C.told boxes.new.items) }
     ensures same { SameDevices devices.old devices.new }
@@ -110,19 +110,19 @@ struct Opening {
 }
 
 // Makes the net of a job, makes the run on it, and takes the calculators out of it again.
-fn replay_job<G: Gate, C: Calculator, S: Source, K: Sink, E: Sink>(
+fn replay_job<G: Gate, C: NodeCalculator, S: Source, K: Sink, E: Sink>(
     run: &Run<'_>,
     gate: &G,
     boxes: &mut Vec<C>,
     opening: Opening,
     devices: &mut Devices<'_, '_, '_, S, K, E>,
 ) -> Result<Status, AllocError>
-    requires job { IsJob (job_over run.now.plan.now opening.inputs) }
+    requires job { IsJob (job_over C.laws run.now.plan.now opening.inputs) }
     requires boxes { BoxesFit run.now.plan.now (map C.told boxes.old.items) }
     ensures replayed { IfOk result (λ status. (first : SourceTold) → HasReadInputs run.now.plan.now opening.inputs first (S.told devices.old.input.now) (reading opening.lines) (number_of opening.lines)
-        → JobReplayed run.now.report run.now.plan.now opening.inputs status (told_since first (told_by S.told K.told E.told devices.old devices.new)) (device (map C.told boxes.old.items) (map C.told boxes.new.items))) }
+        → JobReplayed C.laws run.now.report run.now.plan.now opening.inputs status (told_since first (told_by S.told K.told E.told devices.old devices.new)) (device (map C.told boxes.old.items) (map C.told boxes.new.items))) }
     ensures some { OnErr result ((first : SourceTold) → HasReadInputs run.now.plan.now opening.inputs first (S.told devices.old.input.now) (reading opening.lines) (number_of opening.lines)
-        → JobShort run.now.plan.now opening.inputs (told_since first (told_by S.told K.told E.told devices.old devices.new)) (device (map C.told boxes.old.items) (map C.told boxes.new.items))) }
+        → JobShort C.laws run.now.plan.now opening.inputs (told_since first (told_by S.told K.told E.told devices.old devices.new)) (device (map C.told boxes.old.items) (map C.told boxes.new.items))) }
     ensures unnoted { OnErr result (E.told devices.new.notes.now ≡ E.told devices.old.notes.now) }
     ensures back { CalculatorsCameBack run.now.plan.now (map C.told boxes.old.items) (map C.told boxes.new.items) }
     ensures same { SameDevices devices.old devices.new }
@@ -145,7 +145,7 @@ fn replay_job<G: Gate, C: Calculator, S: Source, K: Sink, E: Sink>(
 }
 
 // Begins a net that was made, and makes the run on it.
-fn replay_net<G: Gate, C: Calculator, S: Source, K: Sink, E: Sink>(
+fn replay_net<G: Gate, C: NodeCalculator, S: Source, K: Sink, E: Sink>(
     run: &Run<'_>,
     net: &mut OneThread<'_, C, G>,
     ended: bool,
@@ -153,15 +153,15 @@ fn replay_net<G: Gate, C: Calculator, S: Source, K: Sink, E: Sink>(
     devices: &mut Devices<'_, '_, '_, S, K, E>,
 ) -> Result<Status, AllocError>
     requires valid { IsValid run.now.plan.now }
-    requires made { IsSomeMade run.now.plan.now net.old.net }
-    ensures replayed { IfOk result (λ status. (inputs : Given) (boxes : List CalculatorTold) (first : SourceTold) → IsMade run.now.plan.now inputs boxes net.old.net → ended ≡ inputs.ended
+    requires made { IsSomeMade C.laws run.now.plan.now net.old.net }
+    ensures replayed { IfOk result (λ status. (inputs : Given) (boxes : List BoxTold) (first : SourceTold) → IsMade C.laws run.now.plan.now inputs boxes net.old.net → ended ≡ inputs.ended
         → HasReadInputs run.now.plan.now inputs first (S.told devices.old.input.now) (reading lines) (number_of lines)
-        → NetReplayed run.now.report run.now.plan.now inputs boxes status (told_since first (told_by S.told K.told E.told devices.old devices.new)) net.new.net) }
-    ensures some { OnErr result ((inputs : Given) (boxes : List CalculatorTold) (first : SourceTold) → IsMade run.now.plan.now inputs boxes net.old.net → ended ≡ inputs.ended
+        → NetReplayed C.laws run.now.report run.now.plan.now inputs boxes status (told_since first (told_by S.told K.told E.told devices.old devices.new)) net.new.net) }
+    ensures some { OnErr result ((inputs : Given) (boxes : List BoxTold) (first : SourceTold) → IsMade C.laws run.now.plan.now inputs boxes net.old.net → ended ≡ inputs.ended
         → HasReadInputs run.now.plan.now inputs first (S.told devices.old.input.now) (reading lines) (number_of lines)
-        → NetShort run.now.plan.now inputs boxes (told_since first (told_by S.told K.told E.told devices.old devices.new)) net.new.net) }
+        → NetShort C.laws run.now.plan.now inputs boxes (told_since first (told_by S.told K.told E.told devices.old devices.new)) net.new.net) }
     ensures unnoted { OnErr result (E.told devices.new.notes.now ≡ E.told devices.old.notes.now) }
-    ensures stood { (job : LoggedJob) → StandsFor job net.old.net → StoodFor job net.new.net }
+    ensures stood { (job : LoggedJob C.laws) → StandsFor job net.old.net → StoodFor job net.new.net }
     ensures keeps { Keeps net.old.net net.new.net }
     ensures same { SameDevices devices.old devices.new }
 {
@@ -188,17 +188,17 @@ fn is_accepted(end: TraceEnd) -> bool
 }
 
 // Closes the nodes of a run that isn't accepted where they are, and writes the note. Works that are claimed aren't performed.
-fn refuse<C: Calculator, E: Sink>(
+fn refuse<C: NodeCalculator, E: Sink>(
     alloc: Global,
     net: &mut Net<C>,
     end: TraceEnd,
     notes: &mut E,
 ) -> Result<Status, AllocError>
     requires running { IsRunning net.old }
-    requires stands { StandsForSome net.old }
+    requires stands { StandsForSome C.laws net.old }
     ensures wrote { IfOk result (λ status. WroteNote end status (device (E.told notes.old) (E.told notes.new))) }
-    ensures closed { OnOk result ((job : LoggedJob) → StandsFor job net.old → ClosedAllOf job net.new) }
-    ensures stood { (job : LoggedJob) → StandsFor job net.old → StoodFor job net.new }
+    ensures closed { OnOk result ((job : LoggedJob C.laws) → StandsFor job net.old → ClosedAllOf job net.new) }
+    ensures stood { (job : LoggedJob C.laws) → StandsFor job net.old → StoodFor job net.new }
     ensures unnoted { OnErr result (E.told notes.new ≡ E.told notes.old) }
     ensures keeps { Keeps net.old net.new }
 {
@@ -209,7 +209,7 @@ fn refuse<C: Calculator, E: Sink>(
 }
 
 // Writes the output text of a run that is accepted, and the notes.
-fn accept<G: Gate, C: Calculator, K: Sink, E: Sink>(
+fn accept<G: Gate, C: NodeCalculator, K: Sink, E: Sink>(
     run: &Run<'_>,
     net: &mut OneThread<'_, C, G>,
     ended: bool,
@@ -218,15 +218,15 @@ fn accept<G: Gate, C: Calculator, K: Sink, E: Sink>(
 ) -> Result<Status, AllocError>
     requires valid { IsValid run.now.plan.now }
     requires running { IsRunning net.old.net }
-    requires rests { IsAtRest net.old.net }
-    requires stands { StandsForPlan run.now.plan.now net.old.net }
+    requires rests { IsAtRest C.laws net.old.net }
+    requires stands { StandsForPlan C.laws run.now.plan.now net.old.net }
     requires untaken { taken_out net.old.net ≡ 0 }
-    ensures wrote { IfOk result (λ status. (job : LoggedJob) → job.job.plan ≡ run.now.plan.now → StandsFor job net.old.net
+    ensures wrote { IfOk result (λ status. (job : LoggedJob C.laws) → job.job.plan ≡ run.now.plan.now → StandsFor job net.old.net
         → WroteJob ended run.now.report job.job status (device (K.told output.old) (K.told output.new)) (device (E.told notes.old) (E.told notes.new))) }
-    ensures had { OnOk result ((job : LoggedJob) → StandsFor job net.old.net → HadAllOf job net.new.net) }
-    ensures front { OnErr result ((job : LoggedJob) (streams : List (StreamPrefix Plain)) → job.job.plan ≡ run.now.plan.now → StandsFor job net.old.net → IsSolution job.job streams
+    ensures had { OnOk result ((job : LoggedJob C.laws) → StandsFor job net.old.net → HadAllOf job net.new.net) }
+    ensures front { OnErr result ((job : LoggedJob C.laws) (streams : List (StreamPrefix Plain)) → job.job.plan ≡ run.now.plan.now → StandsFor job net.old.net → IsSolution job.job streams
         → TookFront (device (K.told output.old) (K.told output.new)) (output_text_of job.job.plan streams)) }
-    ensures stood { (job : LoggedJob) → StandsFor job net.old.net → StoodFor job net.new.net }
+    ensures stood { (job : LoggedJob C.laws) → StandsFor job net.old.net → StoodFor job net.new.net }
     ensures unnoted { OnErr result (E.told notes.new ≡ E.told notes.old) }
     ensures keeps { Keeps net.old.net net.new.net }
 {
@@ -240,21 +240,21 @@ fn accept<G: Gate, C: Calculator, K: Sink, E: Sink>(
 }
 
 // Takes all sets of the outputs of a net at rest, and writes their lines.
-fn tell_outputs<G: Gate, C: Calculator, K: Sink>(
+fn tell_outputs<G: Gate, C: NodeCalculator, K: Sink>(
     run: &Run<'_>,
     net: &mut OneThread<'_, C, G>,
     output: &mut K,
 ) -> Result<OutputText, AllocError>
     requires valid { IsValid run.now.plan.now }
     requires running { IsRunning net.old.net }
-    requires rests { IsAtRest net.old.net }
-    requires stands { StandsForPlan run.now.plan.now net.old.net }
+    requires rests { IsAtRest C.laws net.old.net }
+    requires stands { StandsForPlan C.laws run.now.plan.now net.old.net }
     requires untaken { taken_out net.old.net ≡ 0 }
-    ensures rested { OnOk result ((job : LoggedJob) → StandsFor job net.old.net → HasRested job net.new.net) }
-    ensures whole { IfOk result (λ text. (job : LoggedJob) → job.job.plan ≡ run.now.plan.now → StandsFor job net.old.net → IsWhole packet_lines (K.told output.old) (K.told output.new) job.job text) }
-    ensures front { OnErr result ((job : LoggedJob) (streams : List (StreamPrefix Plain)) → job.job.plan ≡ run.now.plan.now → StandsFor job net.old.net → IsSolution job.job streams
+    ensures rested { OnOk result ((job : LoggedJob C.laws) → StandsFor job net.old.net → HasRested job net.new.net) }
+    ensures whole { IfOk result (λ text. (job : LoggedJob C.laws) → job.job.plan ≡ run.now.plan.now → StandsFor job net.old.net → IsWhole packet_lines (K.told output.old) (K.told output.new) job.job text) }
+    ensures front { OnErr result ((job : LoggedJob C.laws) (streams : List (StreamPrefix Plain)) → job.job.plan ≡ run.now.plan.now → StandsFor job net.old.net → IsSolution job.job streams
         → TookFront (device (K.told output.old) (K.told output.new)) (output_text_of job.job.plan streams)) }
-    ensures stands { (job : LoggedJob) → StandsFor job net.old.net → StandsFor job net.new.net }
+    ensures stands { (job : LoggedJob C.laws) → StandsFor job net.old.net → StandsFor job net.new.net }
     ensures keeps { Keeps net.old.net net.new.net }
 {
     let mut set = InputSet::new(run.alloc, run.plan.outputs.len())?;

@@ -4,3 +4,4 @@ mod Passing
 pub mod PlaceLemmas
 pub mod Sent
 mod TakenKinds
+pub mod TableLaws

@@ -2,7 +2,7 @@
 -- than the row of the field's type; and a type with a model asks it of its inside.
 use denote.RattleType.{RattleType}
 use denote.Param.Send.{IsSend, sendable}
-use Rattle.mg_calc.specs.declared.calculator.Calculator.{Ghosts}
+use Rattle.mg_calc.specs.declared.node_calculator.NodeCalculator.{Ghosts}
 use Rattle.mg_calc.proofs.shape.Shape.TheSendSync.{the_field_send as shape}
 use Rattle.mg_batch.proofs.Sent.{law, state, call_log}
 use Rattle.mg_route.specs.contracts.builtin.Builtin as Builtin

@@ -1,11 +1,13 @@
 -- What contracts see of a holder: what its calculator tells of itself, and whether it was handed in.
-use Rattle.std.specs.Prelude.{◌≡◌, Bool, List, Option, is_some}
+use Rattle.std.specs.Prelude.{◌≡◌, Bool, List, Option, is_some, if◌then◌else◌}
 use Rattle.mg_value.specs.Plain.{Plain}
 use Rattle.mg_calc.specs.declared.law.Law.{Law}
 use Rattle.mg_calc.specs.declared.shape.Shape.{Shape}
 use Rattle.mg_calc.specs.declared.call.Call.{Call}
 use Rattle.mg_calc.specs.declared.plan_node.PlanNode.{PlanNode}
-use Rattle.mg_calc.specs.Told.{CalculatorTold}
+use Rattle.mg_calc.specs.Law.{table_rules, rules_of}
+use Rattle.mg_calc.specs.Rules.{Rules, Laws}
+use Rattle.mg_calc.specs.Told.{BoxTold}
 
 pub record HolderView : Type 0 where
   pub law : Law
@@ -15,12 +17,16 @@ pub record HolderView : Type 0 where
   pub handed : Bool
 
 -- the view of a holder, from whether its calculator was handed in, and what the calculator tells of itself
-abbrev pub holder_view : Bool → CalculatorTold → HolderView
+abbrev pub holder_view : Bool → BoxTold → HolderView
 holder_view handed told = record { law = told.law; shape = told.shape; state = told.state; log = told.log; handed = handed }
 
 -- what the calculator of a holder tells of itself
-abbrev pub told_by : HolderView → CalculatorTold
+abbrev pub told_by : HolderView → BoxTold
 told_by held = record { law = held.law; shape = held.shape; state = held.state; log = held.log }
+
+-- the rules by which a holder's calculator computes: those of its law where it was handed in, and those of the table where it is built in
+abbrev pub held_rules : Laws → HolderView → Rules
+held_rules laws held = if held.handed then rules_of laws held.law else table_rules held.law
 
 -- a holder has a node's law and shape, and a calculator that was handed in exactly where the node is given one
 pub record FitsHolder (node : PlanNode) (held : HolderView) : Type 0 where

@@ -2,6 +2,7 @@ ghost use Rattle.std.specs.Prelude.{◌≡◌, ◌<◌, [], None, IfOk, OnErr, O
 ghost use Rattle.mg_calc.specs.Answer.{GivesEmission};
 ghost use Rattle.mg_calc.specs.Law.{opening, step, call as its_call, finish as closing};
 ghost use Rattle.mg_calc.specs.Shape.{ParametersFit, IsShapeOf, IsServed, IsOuter, IsSource, calls_of};
+ghost use Rattle.mg_calc.specs.Told.{KeepsAtOpen};
 
 use crate::in_place::{begin_in, outer_step_in};
 use mg_calc::{
@@ -12,7 +13,8 @@ use mg_time::Timestamp;
 use std::alloc::{AllocError, Global};
 use std::marker::Model;
 
-/// A built-in calculator: its law, its shape and its state. Contracts see what it tells of itself; it keeps no log.
+/// A built-in calculator: its law, its shape and its state. Contracts see what it tells of itself; it keeps no log. It computes what the
+/// table of laws gives, which for a stated law is nothing: such a one only keeps the place of a calculator that is handed in.
 #[derive(Drop)]
 pub struct Builtin {
     law: Law,
@@ -22,11 +24,11 @@ pub struct Builtin {
 
 impl Model for Builtin {
     ghost use Rattle.std.specs.Prelude.{None};
-    ghost use Rattle.mg_calc.specs.Told.{CalculatorTold};
+    ghost use Rattle.mg_calc.specs.Told.{BoxTold};
     ghost use Rattle.mg_calc.specs.ToldCodes.{told_code};
     ghost use Rattle.mg_calc.specs.Shape.{ParametersFit, IsShapeOf, IsServed};
 
-    ghost Value = { CalculatorTold };
+    ghost Value = { BoxTold };
 
     ghost coded = { told_code };
 
@@ -67,16 +69,22 @@ impl Builtin {
         &self.shape
     }
 
-    // Opens the calculator with its side packets, and returns what it emits. On an error the state stays.
+    // Opens the calculator with its side packets, and returns what it emits. Where it fails, it keeps nothing.
     pub(crate) fn begin(&mut self, alloc: Global, sides: &GivenList) -> Result<Emission, CalcFault>
         ensures answer { GivesEmission result self.new.state (opening self.old.law sides.now) }
-        ensures kept { OnErr result (self.new.state ≡ self.old.state) }
+        ensures kept { KeepsAtOpen result self.old.state self.new.state }
         ensures law { self.new.law ≡ self.old.law }
         ensures shape { self.new.shape ≡ self.old.shape }
         ensures untold { self.old.log ≡ None }
         ensures log { self.new.log ≡ None }
     {
-        begin_in(alloc, &self.law, &mut self.state, sides)
+        match begin_in(alloc, &self.law, &mut self.state, sides) {
+            Err(CalcFault::Fault(cause)) => {
+                self.state = State::empty();
+                Err(CalcFault::Fault(cause))
+            }
+            answer => answer,
+        }
     }
 
     // Shows the calculator the set at a time, and returns what it emits. On an error the state stays.

@@ -1,12 +1,12 @@
 ghost use Rattle.std.specs.Prelude.{◌≡◌, ◌<◌, OnErr, IfSome, is_some, true, false};
 ghost use Rattle.mg_calc.specs.Answer.{GivesEmission};
-ghost use Rattle.mg_calc.specs.Law.{opening, step, call as its_call, finish as closing};
+ghost use Rattle.mg_calc.specs.Law.{call as its_call};
 ghost use Rattle.mg_calc.specs.Shape.{ParametersFit, IsShapeOf, IsOuter, IsSource, calls_of, FitsInputs};
-ghost use Rattle.mg_calc.specs.Told.{Logs};
-ghost use Rattle.mg_route.specs.HolderView.{holder_view, told_by};
+ghost use Rattle.mg_calc.specs.Told.{KeepsAtOpen, Logs};
+ghost use Rattle.mg_route.specs.HolderView.{held_rules, holder_view, told_by};
 
 use crate::Builtin;
-use mg_calc::{CalcFault, Calculator, Call, Emission, GivenList, Law, Shape};
+use mg_calc::{CalcFault, Call, Emission, GivenList, Law, NodeCalculator, Shape};
 use mg_settled::InputSet;
 use mg_time::Timestamp;
 use std::alloc::Global;
@@ -15,10 +15,11 @@ use std::marker::Model;
 /// The calculator of a node: a built-in one, or one that was handed in. Contracts see what it tells of itself, and which of the
 /// two it is.
 ///
-/// Each call returns what the table of laws gives for the calculator's law and state, and the calculator then keeps the new state. A
-/// call that fails leaves the state; one that returns `OutOfMemory` leaves the log too, and may be made again.
+/// Each call returns what the rules of the calculator's law give for its state, and the calculator then keeps the new state. A call that
+/// fails leaves the state, and where it opens the calculator it leaves none; one that returns `OutOfMemory` leaves state and log, and may
+/// be made again.
 #[derive(Drop)]
-pub struct Holder<C: Calculator> {
+pub struct Holder<C: NodeCalculator> {
     held: Held<C>,
 }
 
@@ -28,7 +29,7 @@ enum Held<C> {
     Outer(C),
 }
 
-impl<C: Calculator> Model for Holder<C> {
+impl<C: NodeCalculator> Model for Holder<C> {
     ghost use Rattle.mg_route.specs.HolderView.{HolderView};
     ghost use Rattle.mg_route.specs.HolderCodes.{holder_code};
     ghost use Rattle.mg_route.specs.Held.{held_view};
@@ -40,7 +41,7 @@ impl<C: Calculator> Model for Holder<C> {
     ghost view = { λ h. held_view C.told h.held };
 }
 
-impl<C: Calculator> Holder<C> {
+impl<C: NodeCalculator> Holder<C> {
     /// Returns the holder of a built-in calculator.
     pub fn own(builtin: Builtin) -> Holder<C>
         ensures { result ≡ holder_view false builtin }
@@ -83,8 +84,8 @@ impl<C: Calculator> Holder<C> {
 
     /// Opens the calculator with its side packets. It comes before all sets.
     pub fn begin(&mut self, alloc: Global, sides: &GivenList) -> Result<Emission, CalcFault>
-        ensures answer { GivesEmission result self.new.state (opening self.old.law sides.now) }
-        ensures kept { OnErr result (self.new.state ≡ self.old.state) }
+        ensures answer { GivesEmission result self.new.state ((held_rules C.laws self.old).opening sides.now) }
+        ensures kept { KeepsAtOpen result self.old.state self.new.state }
         ensures log { Logs result self.old.log self.new.log Call.Begun }
         ensures law { self.new.law ≡ self.old.law }
         ensures shape { self.new.shape ≡ self.old.shape }
@@ -106,7 +107,7 @@ impl<C: Calculator> Holder<C> {
     ) -> Result<Emission, CalcFault>
         requires shown { IsOuter self.old.law }
         requires places { FitsInputs self.old.shape set.now }
-        ensures answer { GivesEmission result self.new.state (step self.old.law self.old.state at set.now) }
+        ensures answer { GivesEmission result self.new.state ((held_rules C.laws self.old).step self.old.state at set.now) }
         ensures kept { OnErr result (self.new.state ≡ self.old.state) }
         ensures log { Logs result self.old.log self.new.log (Call.Shown at set.now) }
         ensures law { self.new.law ≡ self.old.law }
@@ -137,7 +138,7 @@ impl<C: Calculator> Holder<C> {
 
     /// Closes the calculator, after all sets.
     pub fn finish(&mut self, alloc: Global) -> Result<Emission, CalcFault>
-        ensures answer { GivesEmission result self.new.state (closing self.old.law self.old.state) }
+        ensures answer { GivesEmission result self.new.state ((held_rules C.laws self.old).finish self.old.state) }
         ensures kept { OnErr result (self.new.state ≡ self.old.state) }
         ensures log { Logs result self.old.log self.new.log Call.Finished }
         ensures law { self.new.law ≡ self.old.law }

@@ -7,7 +7,7 @@ ghost use Rattle.mg_calc.specs.Shape.{IsOuter, IsServed};
 use crate::emissions::front;
 use crate::route::route_step_in;
 use mg_batch::batch_step_in;
-use mg_calc::{CalcFault, Emission, GivenList, Law, State, own_begin, own_step};
+use mg_calc::{CalcFault, Emission, GivenList, Law, State, own_begin, own_step, stays};
 use mg_settled::InputSet;
 use mg_time::Timestamp;
 use std::alloc::Global;
@@ -52,6 +52,10 @@ pub fn outer_step_in(
         | Law::Cloner { .. }
         | Law::Merge { .. }
         | Law::Thin { .. } => route_step_in(alloc, law, state, at, set),
+        Law::Stated { .. } => {
+            let answer = stays(alloc, state);
+            keep_of(state, answer)
+        }
         _ => {
             let answer = own_step(alloc, law, state, at, set);
             keep_of(state, answer)

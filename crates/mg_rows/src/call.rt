@@ -8,10 +8,10 @@ use crate::text::Texts;
 use crate::turn::Turn;
 use crate::watch::Watch;
 use anyhow::{Result, bail};
-use mg_batch::{BatchBox, begin_loop_box, end_loop_box};
-use mg_calc::Calculator;
+use mg_calc::NodeCalculator;
 use mg_edge::{Gate, Sink, Source, Store};
-use mg_run::{run_words, tally_box};
+use mg_route::LawBox;
+use mg_run::{begin_loop, end_loop, run_words, tally_box};
 use mg_value::MgText;
 use serde_json::Value;
 use std::alloc::{AllocError, Global};
@@ -109,14 +109,13 @@ fn call<R: Threads + Wait + Sync, T: Store, S: Source, K: Sink, E: Sink, G: Gate
     gate: &G,
     tells: bool,
 ) -> Result<(), AllocError> {
-    let mut boxes = Vec::new(alloc);
+    let mut boxes: Vec<LawBox> = Vec::new(alloc);
     for _ in 0..TALLIES {
-        let tally: Box<dyn Calculator + Send> = Box::new(alloc, tally_box(alloc, true)?)?;
-        boxes.push(tally)?;
+        boxes.push(tally_box(alloc, true)?)?;
     }
-    for number in 0..LOOP_ENDS {
-        let end: Box<dyn Calculator + Send> = Box::new(alloc, loop_box(alloc, number)?)?;
-        boxes.push(end)?;
+    boxes.push(begin_loop(alloc, false, true)?)?;
+    for _ in 1..LOOP_ENDS {
+        boxes.push(end_loop(alloc, true)?)?;
     }
     for outside in outsides.iter_mut() {
         let status = run_words(
@@ -179,17 +178,8 @@ pub fn outcome_of<'a>(outside: &'a InMemory<'_>, watch: &Watch) -> Outcome<'a> {
     }
 }
 
-// Returns the box of a number among those for loops over lists: number 0 is for the begin, and every other for the end.
-fn loop_box(alloc: Global, number: usize) -> Result<BatchBox, AllocError> {
-    if number == 0 {
-        begin_loop_box(alloc, false, true)
-    } else {
-        end_loop_box(alloc, true)
-    }
-}
-
 // Returns how many calls some boxes had, by their logs.
-fn calls_of(boxes: &[Box<dyn Calculator + Send>]) -> u64 {
+fn calls_of(boxes: &[LawBox]) -> u64 {
     let mut calls = 0u64;
     for one in boxes {
         calls = calls.saturating_add(one.log().len() as u64);

@@ -1,6 +1,6 @@
 //! What calculators tell of their calls.
 
-use mg_calc::{Calculator, Call, CallList, Emission, Laid};
+use mg_calc::{Call, CallList, Emission, Laid, NodeCalculator};
 use mg_settled::InputSet;
 use mg_time::Timestamp;
 use mg_value::{Packet, Payload};
@@ -9,7 +9,7 @@ use std::sync::Arc;
 
 /// Appends the calls of calculators to a text: ` begun`, a blank and the time of a set, or ` finished`; the calls of each calculator end in
 /// `;`. Then shows the first calculator one more set, of a packet at 9, and appends what it emits.
-pub fn put_logs<C: Calculator>(
+pub fn put_logs<C: NodeCalculator>(
     alloc: Global,
     told: &mut String,
     calculators: &mut Vec<C>,
@@ -21,7 +21,7 @@ pub fn put_logs<C: Calculator>(
     }
 }
 
-fn put_all<C: Calculator>(told: &mut String, calculators: &[C]) -> Result<(), AllocError> {
+fn put_all<C: NodeCalculator>(told: &mut String, calculators: &[C]) -> Result<(), AllocError> {
     for calculator in calculators {
         put_calls(told, calculator.log())?;
         told.push_str(";")?;
@@ -45,7 +45,7 @@ fn put_call(told: &mut String, call: &Call) -> Result<(), AllocError> {
 }
 
 // Appends what a calculator with one input emits for one more set: for each packet a blank, its number, `@` and its time.
-fn put_further<C: Calculator>(
+fn put_further<C: NodeCalculator>(
     alloc: Global,
     told: &mut String,
     calculator: &mut C,

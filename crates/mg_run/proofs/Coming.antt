@@ -1,8 +1,9 @@
 -- What a call came to, by what its words ask for.
-use Rattle.std.proofs.Common.{Option, ◌≡◌, ◌≢◌, ◌↔◌, ◌⊎◌, inl, inr, refl, sym, ap, ◌∙◌, subst, ℕ, Bool, true, false, List, [], ◌∷◌, map, length, Result, Ok, Err, IfSome}
+use Rattle.std.proofs.Common.{Option, None, Some, ◌≡◌, ◌≢◌, ◌↔◌, ◌⊎◌, inl, inr, refl, sym, ap, ◌∙◌, subst, ℕ, Bool, true, false, List, [], ◌∷◌, map, length, Result, Ok, Err, IfSome}
 use Rattle.std.proofs.lemmas.Bool.{false≢true}
 use Rattle.mg_subgraph.proofs.Steps.{length-map}
 use Rattle.mg_config.specs.Config.{GraphView}
+use Rattle.mg_calc.specs.Rules.{Laws}
 use Rattle.mg_calc.specs.declared.plan.Plan.{Plan}
 use Rattle.mg_check.specs.Check.{check_of}
 use Rattle.mg_check.specs.declared.fault.CheckFault.{CheckFault}
@@ -10,17 +11,17 @@ use Rattle.mg_subgraph.specs.Expansion.{expansion_of}
 use Rattle.mg_subgraph.specs.declared.fault.ExpandFault.{ExpandFault}
 use Rattle.mg_edge.specs.Edge.{SourceTold, SinkTold, StoreTold}
 use Rattle.mg_calc.specs.declared.shape.OuterShape.{OuterShape}
-use Rattle.mg_calc.specs.Told.{CalculatorTold}
+use Rattle.mg_calc.specs.Told.{BoxTold}
 use Rattle.mg_run.specs.Invocation.{Invocation, invocation}
 use Rattle.mg_files.specs.Files.{Files, graphs, no_graphs}
-use Rattle.mg_run.specs.Answer.{Action, refuse, show, run_plan, run_live, solve, generate, generate_live, trace, replay, check_action, way_action, live_action, verb_action, expanded_action, files_action}
+use Rattle.mg_run.specs.Answer.{Action, refuse, show, run_plan, run_live, solve, generate, generate_live, trace, replay, check_action, solve_action, first_stated, way_action, live_action, verb_action, expanded_action, files_action}
 use Rattle.mg_words.specs.Words.{Request, asks_usage, asks_text, asks_command, command_by}
 use Rattle.mg_run.specs.Devices.{Device, device, CallDevices, devices, run_devices_of, Untouched, InputHasEnded, HasRisen, NoneFailed, TookNotes}
 use Rattle.mg_answer.specs.Notes.{memory_note}
 use Rattle.mg_answer.proofs.Answering.{noted-from}
 use Rattle.mg_words.specs.Help.{usage_note}
 use Rattle.mg_run.specs.Call.{Written, WasUsage, WasTold, DidAction, IsActionOf, CallDid, DidNothing, CallEnded, Called, IsAnswered, IsOneOf}
-use Rattle.mg_words.specs.Command.{Command, reads_input, calls_boxes}
+use Rattle.mg_words.specs.Command.{reads_input, calls_boxes}
 use Rattle.mg_words.specs.declared.words.Instruction.{Instruction}
 use Rattle.mg_words.specs.declared.words.Verb.{Verb}
 use Rattle.mg_words.specs.declared.words.Verb.TheVariants.{Check, Expand, Use}
@@ -37,23 +38,23 @@ use Rattle.mg_run.proofs.Ending.{ended_statuses, called-unread, called-ended}
 use Rattle.mg_run.proofs.Risen.{store-risen, read-risen, write-risen, risen-steady}
 
 -- There was no memory to judge the words.
-came-short : (outers : List OuterShape) (request : Request) (store : StoreTold) (input : SourceTold) (output : SinkTold) (notes : Device SinkTold) (boxes : List CalculatorTold) → TookNotes notes memory_note
-    → CallEnded outers request OutOfMemory (devices (device store store) (device input input) (device output output) notes (device boxes boxes))
-came-short outers asks_usage store input output notes boxes noted = record { noted = inr (refl, noted); unloaded = refl; unread = refl; unwritten = refl; uncalled = refl }
-came-short outers (asks_text text) store input output notes boxes noted = record { written = inr (refl, refl, noted); unloaded = refl; unread = refl; uncalled = refl }
-came-short outers (asks_command command) store input output notes boxes noted = short-nothing (invocation command outers) (device store store) input output notes boxes noted
+came-short : (laws : Laws) (outers : List OuterShape) (request : Request) (store : StoreTold) (input : SourceTold) (output : SinkTold) (notes : Device SinkTold) (boxes : List BoxTold) → TookNotes notes memory_note
+    → CallEnded laws outers request OutOfMemory (devices (device store store) (device input input) (device output output) notes (device boxes boxes))
+came-short laws outers asks_usage store input output notes boxes noted = record { noted = inr (refl, noted); unloaded = refl; unread = refl; unwritten = refl; uncalled = refl }
+came-short laws outers (asks_text text) store input output notes boxes noted = record { written = inr (refl, refl, noted); unloaded = refl; unread = refl; uncalled = refl }
+came-short laws outers (asks_command command) store input output notes boxes noted = short-nothing laws (invocation command outers) (device store store) input output notes boxes noted
 
-pub came-nothing : (outers : List OuterShape) (request : Request) (status : Status) (store : StoreTold) (input : SourceTold) (output : SinkTold) (notes : Device SinkTold) (boxes : List CalculatorTold)
-    → status ≡ OutOfMemory → TookNotes notes memory_note → CallEnded outers request status (devices (device store store) (device input input) (device output output) notes (device boxes boxes))
-came-nothing outers request status store input output notes boxes is noted =
-    subst (λ (s : Status). CallEnded outers request s (devices (device store store) (device input input) (device output output) notes (device boxes boxes))) (sym is)
-    (came-short outers request store input output notes boxes noted)
+pub came-nothing : (laws : Laws) (outers : List OuterShape) (request : Request) (status : Status) (store : StoreTold) (input : SourceTold) (output : SinkTold) (notes : Device SinkTold) (boxes : List BoxTold)
+    → status ≡ OutOfMemory → TookNotes notes memory_note → CallEnded laws outers request status (devices (device store store) (device input input) (device output output) notes (device boxes boxes))
+came-nothing laws outers request status store input output notes boxes is noted =
+    subst (λ (s : Status). CallEnded laws outers request s (devices (device store store) (device input input) (device output output) notes (device boxes boxes))) (sym is)
+    (came-short laws outers request store input output notes boxes noted)
 
 -- The words were no command, and the note says so.
-pub usage-came : (outers : List OuterShape) (request : Request) (all : CallDevices) (done : Bool) → request ≡ asks_usage → Sent done all.notes.before all.notes.now usage_note
-    → Untouched all.store → Untouched all.input → Untouched all.output → Untouched all.boxes → CallEnded outers request Usage all
-usage-came outers request all done is sent unloaded unread unwritten uncalled =
-    subst (λ (a : Request). CallEnded outers a Usage all) (sym is)
+pub usage-came : (laws : Laws) (outers : List OuterShape) (request : Request) (all : CallDevices) (done : Bool) → request ≡ asks_usage → Sent done all.notes.before all.notes.now usage_note
+    → Untouched all.store → Untouched all.input → Untouched all.output → Untouched all.boxes → CallEnded laws outers request Usage all
+usage-came laws outers request all done is sent unloaded unread unwritten uncalled =
+    subst (λ (a : Request). CallEnded laws outers a Usage all) (sym is)
     (record { noted = inl (refl, noted-from done all.notes usage_note sent); unloaded = unloaded; unread = unread; unwritten = unwritten; uncalled = uncalled })
 
 -- Usage --
@@ -66,10 +67,10 @@ told-status text all told = by told.written
     by (inl (inr failed)) = let e = failed.0 in cc
     by (inr short) = let e = short.0 in cc
 
-asks-by-status : (outers : List OuterShape) (request : Request) (status : Status) (all : CallDevices) → CallEnded outers request status all → status ≡ Usage → request ≡ asks_usage
-asks-by-status outers asks_usage status all came is = refl
-asks-by-status outers (asks_text text) status all came is = absurd (told-status text all (subst (λ (s : Status). WasTold text s all) is came))
-asks-by-status outers (asks_command command) status all came is = absurd (subst (λ (s : Status). Called s (invocation command outers) all) is came)
+asks-by-status : (laws : Laws) (outers : List OuterShape) (request : Request) (status : Status) (all : CallDevices) → CallEnded laws outers request status all → status ≡ Usage → request ≡ asks_usage
+asks-by-status laws outers asks_usage status all came is = refl
+asks-by-status laws outers (asks_text text) status all came is = absurd (told-status text all (subst (λ (s : Status). WasTold text s all) is came))
+asks-by-status laws outers (asks_command command) status all came is = absurd (subst (λ (s : Status). Called laws s (invocation command outers) all) is came)
 
 usage-status : (status : Status) (all : CallDevices) → WasUsage status all → status ≢ OutOfMemory → status ≡ Usage
 usage-status status all was some = by was.noted
@@ -78,54 +79,54 @@ usage-status status all was some = by was.noted
     by (inl noted) = noted.0
     by (inr short) = absurd (some short.0)
 
-pub came-note : (outers : List OuterShape) (request : Request) (status : Status) (all : CallDevices) → CallEnded outers request status all → request ≡ asks_usage → WasUsage status all
-came-note outers request status all came is = subst (λ (a : Request). CallEnded outers a status all) is came
+pub came-note : (laws : Laws) (outers : List OuterShape) (request : Request) (status : Status) (all : CallDevices) → CallEnded laws outers request status all → request ≡ asks_usage → WasUsage status all
+came-note laws outers request status all came is = subst (λ (a : Request). CallEnded laws outers a status all) is came
 
-pub came-usage : (outers : List OuterShape) (request : Request) (status : Status) (all : CallDevices) → CallEnded outers request status all → status ≢ OutOfMemory → (status ≡ Usage) ↔ (request ≡ asks_usage)
-came-usage outers request status all came some = (asks-by-status outers request status all came, λ is. usage-status status all (came-note outers request status all came is) some)
+pub came-usage : (laws : Laws) (outers : List OuterShape) (request : Request) (status : Status) (all : CallDevices) → CallEnded laws outers request status all → status ≢ OutOfMemory → (status ≡ Usage) ↔ (request ≡ asks_usage)
+came-usage laws outers request status all came some = (asks-by-status laws outers request status all came, λ is. usage-status status all (came-note laws outers request status all came is) some)
 
-pub came-told : (outers : List OuterShape) (request : Request) (status : Status) (all : CallDevices) → CallEnded outers request status all → (text : List ℕ) → request ≡ asks_text text → WasTold text status all
-came-told outers request status all came text is = subst (λ (a : Request). CallEnded outers a status all) is came
+pub came-told : (laws : Laws) (outers : List OuterShape) (request : Request) (status : Status) (all : CallDevices) → CallEnded laws outers request status all → (text : List ℕ) → request ≡ asks_text text → WasTold text status all
+came-told laws outers request status all came text is = subst (λ (a : Request). CallEnded laws outers a status all) is came
 
 -- A command --
 
-pub came-called : (outers : List OuterShape) (request : Request) (status : Status) (all : CallDevices) → CallEnded outers request status all → IfSome (command_by request) (λ command. Called status (invocation command outers) all)
-came-called outers asks_usage status all came = tt
-came-called outers (asks_text text) status all came = tt
-came-called outers (asks_command command) status all came = came
+pub came-called : (laws : Laws) (outers : List OuterShape) (request : Request) (status : Status) (all : CallDevices) → CallEnded laws outers request status all → IfSome (command_by request) (λ command. Called laws status (invocation command outers) all)
+came-called laws outers asks_usage status all came = tt
+came-called laws outers (asks_text text) status all came = tt
+came-called laws outers (asks_command command) status all came = came
 
-pub came-answered : (outers : List OuterShape) (request : Request) (status : Status) (all : CallDevices) → CallEnded outers request status all
-    → IfSome (command_by request) (λ command. NoneFailed all → status ≢ OutOfMemory → IsAnswered status (invocation command outers) all)
-came-answered outers asks_usage status all came = tt
-came-answered outers (asks_text text) status all came = tt
-came-answered outers (asks_command command) status all came = answered-from status (invocation command outers) all came
+pub came-answered : (laws : Laws) (outers : List OuterShape) (request : Request) (status : Status) (all : CallDevices) → CallEnded laws outers request status all
+    → IfSome (command_by request) (λ command. NoneFailed all → status ≢ OutOfMemory → IsAnswered laws status (invocation command outers) all)
+came-answered laws outers asks_usage status all came = tt
+came-answered laws outers (asks_text text) status all came = tt
+came-answered laws outers (asks_command command) status all came = answered-from laws status (invocation command outers) all came
 
-pub came-unread : (outers : List OuterShape) (request : Request) (status : Status) (all : CallDevices) → CallEnded outers request status all
+pub came-unread : (laws : Laws) (outers : List OuterShape) (request : Request) (status : Status) (all : CallDevices) → CallEnded laws outers request status all
     → IfSome (command_by request) (λ command. reads_input command.instruction.verb ≡ false → Untouched all.input)
-came-unread outers asks_usage status all came = tt
-came-unread outers (asks_text text) status all came = tt
-came-unread outers (asks_command command) status all came = λ is. called-unread status (invocation command outers) all is came
+came-unread laws outers asks_usage status all came = tt
+came-unread laws outers (asks_text text) status all came = tt
+came-unread laws outers (asks_command command) status all came = λ is. called-unread laws status (invocation command outers) all is came
 
 -- The input's end --
 
-pub came-ended : (outers : List OuterShape) (request : Request) (status : Status) (all : CallDevices) → CallEnded outers request status all
+pub came-ended : (laws : Laws) (outers : List OuterShape) (request : Request) (status : Status) (all : CallDevices) → CallEnded laws outers request status all
     → IfSome (command_by request) (λ command. reads_input command.instruction.verb ≡ true → IsOneOf status ended_statuses → InputHasEnded all.input)
-came-ended outers asks_usage status all came = tt
-came-ended outers (asks_text text) status all came = tt
-came-ended outers (asks_command command) status all came = called-ended status (invocation command outers) all came
+came-ended laws outers asks_usage status all came = tt
+came-ended laws outers (asks_text text) status all came = tt
+came-ended laws outers (asks_command command) status all came = called-ended laws status (invocation command outers) all came
 
 -- Faults --
 
-pub came-store : (outers : List OuterShape) (request : Request) (status : Status) (all : CallDevices) → CallEnded outers request status all → HasRisen all.store.before.faults all.store.now.faults → IsOneOf status (StoreFault ∷ OutOfMemory ∷ [])
-came-store outers asks_usage status all came risen = absurd (risen-steady _ _ risen (ap (λ s. s.faults) came.unloaded))
-came-store outers (asks_text text) status all came risen = absurd (risen-steady _ _ risen (ap (λ s. s.faults) came.unloaded))
-came-store outers (asks_command command) status all came risen = store-risen status (invocation command outers) all came risen
+pub came-store : (laws : Laws) (outers : List OuterShape) (request : Request) (status : Status) (all : CallDevices) → CallEnded laws outers request status all → HasRisen all.store.before.faults all.store.now.faults → IsOneOf status (StoreFault ∷ OutOfMemory ∷ [])
+came-store laws outers asks_usage status all came risen = absurd (risen-steady _ _ risen (ap (λ s. s.faults) came.unloaded))
+came-store laws outers (asks_text text) status all came risen = absurd (risen-steady _ _ risen (ap (λ s. s.faults) came.unloaded))
+came-store laws outers (asks_command command) status all came risen = store-risen laws status (invocation command outers) all came risen
 
-pub came-read : (outers : List OuterShape) (request : Request) (status : Status) (all : CallDevices) → CallEnded outers request status all → HasRisen all.input.before.faults all.input.now.faults
+pub came-read : (laws : Laws) (outers : List OuterShape) (request : Request) (status : Status) (all : CallDevices) → CallEnded laws outers request status all → HasRisen all.input.before.faults all.input.now.faults
     → IsOneOf status (ReadFault ∷ WriteFault ∷ OutOfMemory ∷ [])
-came-read outers asks_usage status all came risen = absurd (risen-steady _ _ risen (ap (λ s. s.faults) came.unread))
-came-read outers (asks_text text) status all came risen = absurd (risen-steady _ _ risen (ap (λ s. s.faults) came.unread))
-came-read outers (asks_command command) status all came risen = read-risen status (invocation command outers) all came risen
+came-read laws outers asks_usage status all came risen = absurd (risen-steady _ _ risen (ap (λ s. s.faults) came.unread))
+came-read laws outers (asks_text text) status all came risen = absurd (risen-steady _ _ risen (ap (λ s. s.faults) came.unread))
+came-read laws outers (asks_command command) status all came risen = read-risen laws status (invocation command outers) all came risen
 
 abbrev EitherRisen : CallDevices → Type 0
 EitherRisen all = HasRisen all.output.before.faults all.output.now.faults ⊎ HasRisen all.notes.before.faults all.notes.now.faults
@@ -149,10 +150,10 @@ told-write text status all told risen = by told.written risen
     by (inl (inl good)) (inl risen) = absurd (risen-steady _ _ risen good.1.steady)
     by (inl (inl good)) (inr risen) = absurd (risen-steady _ _ risen (ap (λ s. s.faults) good.2))
 
-pub came-write : (outers : List OuterShape) (request : Request) (status : Status) (all : CallDevices) → CallEnded outers request status all → EitherRisen all → IsOneOf status write_statuses
-came-write outers asks_usage status all came risen = usage-write status all came
-came-write outers (asks_text text) status all came risen = told-write text status all came risen
-came-write outers (asks_command command) status all came risen = inr (write-risen status (invocation command outers) all came risen)
+pub came-write : (laws : Laws) (outers : List OuterShape) (request : Request) (status : Status) (all : CallDevices) → CallEnded laws outers request status all → EitherRisen all → IsOneOf status write_statuses
+came-write laws outers asks_usage status all came risen = usage-write status all came
+came-write laws outers (asks_text text) status all came risen = told-write text status all came risen
+came-write laws outers (asks_command command) status all came risen = inr (write-risen laws status (invocation command outers) all came risen)
 
 -- Want of memory --
 
@@ -171,47 +172,47 @@ told-noted text all told = by told.written
     by (inl (inr failed)) = let e = failed.0 in cc
     by (inr short) = short.2
 
-noted-by : (outers : List OuterShape) (request : Request) (all : CallDevices) → CallEnded outers request OutOfMemory all → TookNotes all.notes memory_note
-noted-by outers asks_usage all came = usage-noted all came
-noted-by outers (asks_text text) all came = told-noted text all came
-noted-by outers (asks_command command) all came = came.noted
+noted-by : (laws : Laws) (outers : List OuterShape) (request : Request) (all : CallDevices) → CallEnded laws outers request OutOfMemory all → TookNotes all.notes memory_note
+noted-by laws outers asks_usage all came = usage-noted all came
+noted-by laws outers (asks_text text) all came = told-noted text all came
+noted-by laws outers (asks_command command) all came = came.noted
 
-pub came-noted : (outers : List OuterShape) (request : Request) (status : Status) (all : CallDevices) → CallEnded outers request status all → status ≡ OutOfMemory → TookNotes all.notes memory_note
-came-noted outers request status all came is = noted-by outers request all (subst (λ (s : Status). CallEnded outers request s all) is came)
+pub came-noted : (laws : Laws) (outers : List OuterShape) (request : Request) (status : Status) (all : CallDevices) → CallEnded laws outers request status all → status ≡ OutOfMemory → TookNotes all.notes memory_note
+came-noted laws outers request status all came is = noted-by laws outers request all (subst (λ (s : Status). CallEnded laws outers request s all) is came)
 
 -- The calculators --
 
-did-boxes : (action : Action) (status : Status) (all : CallDevices) → DidAction action status all → length all.boxes.now ≡ length all.boxes.before
-did-boxes (refuse note) status all did = ap length did.uncalled
-did-boxes (show text) status all did = ap length did.uncalled
-did-boxes (run_plan report plan) status all did = lines-boxes report plan status (run_devices_of all) all.boxes did
-did-boxes (run_live report plan) status all did = live-boxes report plan status (run_devices_of all) all.boxes did
-did-boxes (solve report plan) status all did = ap length did.uncalled
-did-boxes (generate report number plan) status all did = packets-boxes report plan number status all.output all.notes all.boxes did.ran
-did-boxes (generate_live report number plan) status all did = live-made-boxes report plan number status all.output all.notes all.boxes did.ran
-did-boxes (trace report plan) status all did = did.left.count
-did-boxes (replay report plan) status all did = did.left.count
+did-boxes : (laws : Laws) (action : Action) (status : Status) (all : CallDevices) → DidAction laws action status all → length all.boxes.now ≡ length all.boxes.before
+did-boxes laws (refuse note) status all did = ap length did.uncalled
+did-boxes laws (show text) status all did = ap length did.uncalled
+did-boxes laws (run_plan report plan) status all did = lines-boxes laws report plan status (run_devices_of all) all.boxes did
+did-boxes laws (run_live report plan) status all did = live-boxes laws report plan status (run_devices_of all) all.boxes did
+did-boxes laws (solve report plan) status all did = ap length did.uncalled
+did-boxes laws (generate report number plan) status all did = packets-boxes laws report plan number status all.output all.notes all.boxes did.ran
+did-boxes laws (generate_live report number plan) status all did = live-made-boxes laws report plan number status all.output all.notes all.boxes did.ran
+did-boxes laws (trace report plan) status all did = did.left.count
+did-boxes laws (replay report plan) status all did = did.left.count
 
-short-boxes : (invocation : Invocation) (all : CallDevices) → DidNothing all ⊎ CallDid OutOfMemory invocation all → length all.boxes.now ≡ length all.boxes.before
-short-boxes invocation all (inl nothing) = ap length nothing.uncalled
-short-boxes invocation all (inr called) = did-boxes called.action OutOfMemory all called.did
+short-boxes : (laws : Laws) (invocation : Invocation) (all : CallDevices) → DidNothing all ⊎ CallDid laws OutOfMemory invocation all → length all.boxes.now ≡ length all.boxes.before
+short-boxes laws invocation all (inl nothing) = ap length nothing.uncalled
+short-boxes laws invocation all (inr called) = did-boxes laws called.action OutOfMemory all called.did
 
-called-boxes : (status : Status) (invocation : Invocation) (all : CallDevices) → Called status invocation all → length all.boxes.now ≡ length all.boxes.before
-called-boxes StoreFault invocation all called = ap length called.uncalled
-called-boxes Usage invocation all called = elim called [ ]
-called-boxes OutOfMemory invocation all called = short-boxes invocation all called.by
-called-boxes Good invocation all called = did-boxes called.action Good all called.did
-called-boxes GraphRefused invocation all called = did-boxes called.action GraphRefused all called.did
-called-boxes LineRefused invocation all called = did-boxes called.action LineRefused all called.did
-called-boxes NodeFault invocation all called = did-boxes called.action NodeFault all called.did
-called-boxes Stalled invocation all called = did-boxes called.action Stalled all called.did
-called-boxes ReadFault invocation all called = did-boxes called.action ReadFault all called.did
-called-boxes WriteFault invocation all called = did-boxes called.action WriteFault all called.did
+called-boxes : (laws : Laws) (status : Status) (invocation : Invocation) (all : CallDevices) → Called laws status invocation all → length all.boxes.now ≡ length all.boxes.before
+called-boxes laws StoreFault invocation all called = ap length called.uncalled
+called-boxes laws Usage invocation all called = elim called [ ]
+called-boxes laws OutOfMemory invocation all called = short-boxes laws invocation all called.by
+called-boxes laws Good invocation all called = did-boxes laws called.action Good all called.did
+called-boxes laws GraphRefused invocation all called = did-boxes laws called.action GraphRefused all called.did
+called-boxes laws LineRefused invocation all called = did-boxes laws called.action LineRefused all called.did
+called-boxes laws NodeFault invocation all called = did-boxes laws called.action NodeFault all called.did
+called-boxes laws Stalled invocation all called = did-boxes laws called.action Stalled all called.did
+called-boxes laws ReadFault invocation all called = did-boxes laws called.action ReadFault all called.did
+called-boxes laws WriteFault invocation all called = did-boxes laws called.action WriteFault all called.did
 
-pub came-boxes : (outers : List OuterShape) (request : Request) (status : Status) (all : CallDevices) → CallEnded outers request status all → length all.boxes.now ≡ length all.boxes.before
-came-boxes outers asks_usage status all came = ap length came.uncalled
-came-boxes outers (asks_text text) status all came = ap length came.uncalled
-came-boxes outers (asks_command command) status all came = called-boxes status (invocation command outers) all came
+pub came-boxes : (laws : Laws) (outers : List OuterShape) (request : Request) (status : Status) (all : CallDevices) → CallEnded laws outers request status all → length all.boxes.now ≡ length all.boxes.before
+came-boxes laws outers asks_usage status all came = ap length came.uncalled
+came-boxes laws outers (asks_text text) status all came = ap length came.uncalled
+came-boxes laws outers (asks_command command) status all came = called-boxes laws status (invocation command outers) all came
 
 -- as many things have as many images
 pub count-of : {X Y : Type 0} (f : X → Y) (xs ys : List X) → length (map f xs) ≡ length (map f ys) → length xs ≡ length ys
@@ -233,9 +234,13 @@ check-no-run : (checked : Result Plan CheckFault) → IsRun (check_action checke
 check-no-run (Ok plan) runs = runs
 check-no-run (Err fault) runs = runs
 
+solve-no-run : (first : Option ℕ) (report : Bool) (plan : Plan) → IsRun (solve_action first report plan) → ⊥
+solve-no-run None report plan runs = runs
+solve-no-run (Some first) report plan runs = runs
+
 way-no-run : (way : Way) (instruction : Instruction) (plan : Plan) → calls_boxes (Use way) ≡ false → IsRun (way_action way instruction plan) → ⊥
 way-no-run Run instruction plan is runs = false≢true (sym is)
-way-no-run Solve instruction plan is runs = runs
+way-no-run Solve instruction plan is runs = solve-no-run (first_stated plan) instruction.report plan runs
 way-no-run Generate instruction plan is runs = false≢true (sym is)
 way-no-run Trace instruction plan is runs = false≢true (sym is)
 way-no-run Replay instruction plan is runs = false≢true (sym is)
@@ -265,46 +270,46 @@ files-no-run instruction outers (no_graphs note) is runs = runs
 due-no-run : (invocation : Invocation) (contents : List (List ℕ)) (action : Action) → calls_boxes invocation.instruction.verb ≡ false → IsActionOf invocation contents action → IsRun action → ⊥
 due-no-run invocation contents action is (files, are, same) runs = files-no-run invocation.instruction invocation.outers files is (subst IsRun same runs)
 
-did-uncalled : (action : Action) (status : Status) (all : CallDevices) → (IsRun action → ⊥) → DidAction action status all → Untouched all.boxes
-did-uncalled (refuse note) status all none did = did.uncalled
-did-uncalled (show text) status all none did = did.uncalled
-did-uncalled (run_plan report plan) status all none did = absurd (none tt)
-did-uncalled (run_live report plan) status all none did = absurd (none tt)
-did-uncalled (solve report plan) status all none did = did.uncalled
-did-uncalled (generate report number plan) status all none did = absurd (none tt)
-did-uncalled (generate_live report number plan) status all none did = absurd (none tt)
-did-uncalled (trace report plan) status all none did = absurd (none tt)
-did-uncalled (replay report plan) status all none did = absurd (none tt)
+did-uncalled : (laws : Laws) (action : Action) (status : Status) (all : CallDevices) → (IsRun action → ⊥) → DidAction laws action status all → Untouched all.boxes
+did-uncalled laws (refuse note) status all none did = did.uncalled
+did-uncalled laws (show text) status all none did = did.uncalled
+did-uncalled laws (run_plan report plan) status all none did = absurd (none tt)
+did-uncalled laws (run_live report plan) status all none did = absurd (none tt)
+did-uncalled laws (solve report plan) status all none did = did.uncalled
+did-uncalled laws (generate report number plan) status all none did = absurd (none tt)
+did-uncalled laws (generate_live report number plan) status all none did = absurd (none tt)
+did-uncalled laws (trace report plan) status all none did = absurd (none tt)
+did-uncalled laws (replay report plan) status all none did = absurd (none tt)
 
-call-uncalled : (status : Status) (invocation : Invocation) (all : CallDevices) → calls_boxes invocation.instruction.verb ≡ false → CallDid status invocation all → Untouched all.boxes
-call-uncalled status invocation all is called = did-uncalled called.action status all (due-no-run invocation called.contents called.action is called.due) called.did
+call-uncalled : (laws : Laws) (status : Status) (invocation : Invocation) (all : CallDevices) → calls_boxes invocation.instruction.verb ≡ false → CallDid laws status invocation all → Untouched all.boxes
+call-uncalled laws status invocation all is called = did-uncalled laws called.action status all (due-no-run invocation called.contents called.action is called.due) called.did
 
-short-uncalled : (invocation : Invocation) (all : CallDevices) → calls_boxes invocation.instruction.verb ≡ false → DidNothing all ⊎ CallDid OutOfMemory invocation all → Untouched all.boxes
-short-uncalled invocation all is (inl nothing) = nothing.uncalled
-short-uncalled invocation all is (inr called) = call-uncalled OutOfMemory invocation all is called
+short-uncalled : (laws : Laws) (invocation : Invocation) (all : CallDevices) → calls_boxes invocation.instruction.verb ≡ false → DidNothing all ⊎ CallDid laws OutOfMemory invocation all → Untouched all.boxes
+short-uncalled laws invocation all is (inl nothing) = nothing.uncalled
+short-uncalled laws invocation all is (inr called) = call-uncalled laws OutOfMemory invocation all is called
 
-called-uncalled : (status : Status) (invocation : Invocation) (all : CallDevices) → calls_boxes invocation.instruction.verb ≡ false → Called status invocation all → Untouched all.boxes
-called-uncalled StoreFault invocation all is called = called.uncalled
-called-uncalled Usage invocation all is called = elim called [ ]
-called-uncalled OutOfMemory invocation all is called = short-uncalled invocation all is called.by
-called-uncalled Good invocation all is called = call-uncalled Good invocation all is called
-called-uncalled GraphRefused invocation all is called = call-uncalled GraphRefused invocation all is called
-called-uncalled LineRefused invocation all is called = call-uncalled LineRefused invocation all is called
-called-uncalled NodeFault invocation all is called = call-uncalled NodeFault invocation all is called
-called-uncalled Stalled invocation all is called = call-uncalled Stalled invocation all is called
-called-uncalled ReadFault invocation all is called = call-uncalled ReadFault invocation all is called
-called-uncalled WriteFault invocation all is called = call-uncalled WriteFault invocation all is called
+called-uncalled : (laws : Laws) (status : Status) (invocation : Invocation) (all : CallDevices) → calls_boxes invocation.instruction.verb ≡ false → Called laws status invocation all → Untouched all.boxes
+called-uncalled laws StoreFault invocation all is called = called.uncalled
+called-uncalled laws Usage invocation all is called = elim called [ ]
+called-uncalled laws OutOfMemory invocation all is called = short-uncalled laws invocation all is called.by
+called-uncalled laws Good invocation all is called = call-uncalled laws Good invocation all is called
+called-uncalled laws GraphRefused invocation all is called = call-uncalled laws GraphRefused invocation all is called
+called-uncalled laws LineRefused invocation all is called = call-uncalled laws LineRefused invocation all is called
+called-uncalled laws NodeFault invocation all is called = call-uncalled laws NodeFault invocation all is called
+called-uncalled laws Stalled invocation all is called = call-uncalled laws Stalled invocation all is called
+called-uncalled laws ReadFault invocation all is called = call-uncalled laws ReadFault invocation all is called
+called-uncalled laws WriteFault invocation all is called = call-uncalled laws WriteFault invocation all is called
 
-pub came-uncalled : (outers : List OuterShape) (request : Request) (status : Status) (all : CallDevices) → CallEnded outers request status all
+pub came-uncalled : (laws : Laws) (outers : List OuterShape) (request : Request) (status : Status) (all : CallDevices) → CallEnded laws outers request status all
     → IfSome (command_by request) (λ command. calls_boxes command.instruction.verb ≡ false → Untouched all.boxes)
-came-uncalled outers asks_usage status all came = tt
-came-uncalled outers (asks_text text) status all came = tt
-came-uncalled outers (asks_command command) status all came = λ is. called-uncalled status (invocation command outers) all is came
+came-uncalled laws outers asks_usage status all came = tt
+came-uncalled laws outers (asks_text text) status all came = tt
+came-uncalled laws outers (asks_command command) status all came = λ is. called-uncalled laws status (invocation command outers) all is came
 
 -- The devices apart: what each tells is what those told that were held together.
-pub came_apart : (outers : List OuterShape) (request : Request) (status : Status) (store : Device StoreTold) (ib ia : SourceTold) (ob oa nb na : SinkTold) (boxes : Device (List CalculatorTold)) (i : SourceTold) (o n : SinkTold) → i ≡ ia → o ≡ oa → n ≡ na
-    → CallEnded outers request status (devices store (device ib ia) (device ob oa) (device nb na) boxes) → CallEnded outers request status (devices store (device ib i) (device ob o) (device nb n) boxes)
-came_apart outers request status store ib ia ob oa nb na boxes i o n same_i same_o same_n came =
-    subst (λ (s : SourceTold). CallEnded outers request status (devices store (device ib s) (device ob o) (device nb n) boxes)) (sym same_i)
-    (subst (λ (k : SinkTold). CallEnded outers request status (devices store (device ib ia) (device ob k) (device nb n) boxes)) (sym same_o)
-    (subst (λ (e : SinkTold). CallEnded outers request status (devices store (device ib ia) (device ob oa) (device nb e) boxes)) (sym same_n) came))
+pub came_apart : (laws : Laws) (outers : List OuterShape) (request : Request) (status : Status) (store : Device StoreTold) (ib ia : SourceTold) (ob oa nb na : SinkTold) (boxes : Device (List BoxTold)) (i : SourceTold) (o n : SinkTold) → i ≡ ia → o ≡ oa → n ≡ na
+    → CallEnded laws outers request status (devices store (device ib ia) (device ob oa) (device nb na) boxes) → CallEnded laws outers request status (devices store (device ib i) (device ob o) (device nb n) boxes)
+came_apart laws outers request status store ib ia ob oa nb na boxes i o n same_i same_o same_n came =
+    subst (λ (s : SourceTold). CallEnded laws outers request status (devices store (device ib s) (device ob o) (device nb n) boxes)) (sym same_i)
+    (subst (λ (k : SinkTold). CallEnded laws outers request status (devices store (device ib ia) (device ob k) (device nb n) boxes)) (sym same_o)
+    (subst (λ (e : SinkTold). CallEnded laws outers request status (devices store (device ib ia) (device ob oa) (device nb e) boxes)) (sym same_n) came))

@@ -2,7 +2,7 @@
 use Rattle.std.proofs.Common.{◌≡◌, ℕ, List, All, subst}
 use Rattle.mg_edge.specs.Edge.{StoreTold}
 use Rattle.mg_calc.specs.declared.shape.OuterShape.{OuterShape}
-use Rattle.mg_calc.specs.Told.{CalculatorTold}
+use Rattle.mg_calc.specs.Told.{BoxTold}
 use Rattle.mg_check.specs.Check.{IsOuterShape}
 use Rattle.mg_words.specs.Command.{Command}
 use Rattle.mg_files.specs.Loads.{LoadedAll}
@@ -18,6 +18,6 @@ pub due_by : (request : Command) (known outers : List OuterShape) (contents : Li
 due_by request known outers contents store action same shaped loaded due =
     record { shaped = subst (λ (o : List OuterShape). All IsOuterShape o) same shaped; contents = contents; loaded = loaded; due = subst (λ (o : List OuterShape). IsActionOf (invocation request o) contents action) same due }
 
-pub due_among : (request : Command) (handed boxes : List CalculatorTold) (store : Device StoreTold) (action : Action) → handed ≡ boxes → IsDue (invocation request (outers_told handed)) store action
+pub due_among : (request : Command) (handed boxes : List BoxTold) (store : Device StoreTold) (action : Action) → handed ≡ boxes → IsDue (invocation request (outers_told handed)) store action
     → IsDue (invocation request (outers_told boxes)) store action
-due_among request handed boxes store action same due = subst (λ (bs : List CalculatorTold). IsDue (invocation request (outers_told bs)) store action) same due
+due_among request handed boxes store action same due = subst (λ (bs : List BoxTold). IsDue (invocation request (outers_told bs)) store action) same due

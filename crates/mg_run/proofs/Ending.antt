@@ -1,9 +1,10 @@
 -- Who reads the input, and that it met its end.
-use Rattle.std.proofs.Common.{◌≡◌, ℕ, List, [], ◌∷◌, true, false, Result, Ok, Err, ◌⊎◌, inl, inr, refl, sym, subst, arith}
+use Rattle.std.proofs.Common.{◌≡◌, ℕ, List, [], ◌∷◌, Bool, true, false, Option, None, Some, Result, Ok, Err, ◌⊎◌, inl, inr, refl, sym, subst, arith}
 use Rattle.std.proofs.lemmas.Bool.{false≢true}
 use Rattle.mg_edge.specs.Edge.{SourceTold}
 use Rattle.mg_feed.specs.Ran.{EndCame}
 use Rattle.mg_config.specs.Config.{GraphView}
+use Rattle.mg_calc.specs.Rules.{Laws}
 use Rattle.mg_calc.specs.declared.plan.Plan.{Plan}
 use Rattle.mg_calc.specs.declared.shape.OuterShape.{OuterShape}
 use Rattle.mg_check.specs.Check.{check_of}
@@ -18,7 +19,7 @@ use Rattle.mg_replay.proofs.Answered.{replayed_ended}
 use Rattle.mg_words.specs.Command.{reads_input}
 use Rattle.mg_run.specs.Invocation.{Invocation}
 use Rattle.mg_files.specs.Files.{Files, graphs, no_graphs}
-use Rattle.mg_run.specs.Answer.{Action, refuse, show, run_plan, run_live, solve, generate, generate_live, trace, replay, check_action, way_action, live_action, verb_action, expanded_action, files_action}
+use Rattle.mg_run.specs.Answer.{Action, refuse, show, run_plan, run_live, solve, generate, generate_live, trace, replay, check_action, solve_action, first_stated, way_action, live_action, verb_action, expanded_action, files_action}
 use Rattle.mg_run.specs.Devices.{Device, CallDevices, run_devices_of, Untouched, InputHasEnded}
 use Rattle.mg_run.specs.Call.{DidAction, IsActionOf, DidNothing, CallDid, Called, IsOneOf}
 use Rattle.mg_run.proofs.Planned.{planned}
@@ -79,35 +80,35 @@ files-unread instruction outers (no_graphs note) is may = may
 due-unread : (invocation : Invocation) (contents : List (List ℕ)) (action : Action) → IsActionOf invocation contents action → reads_input invocation.instruction.verb ≡ false → MayRead action → ⊥
 due-unread invocation contents action (files, are, same) is may = files-unread invocation.instruction invocation.outers files is (subst MayRead same may)
 
-did-unread : (action : Action) (status : Status) (all : CallDevices) → (MayRead action → ⊥) → DidAction action status all → Untouched all.input
-did-unread (refuse note) status all none did = did.unread
-did-unread (show text) status all none did = did.unread
-did-unread (run_plan report plan) status all none did = absurd (none tt)
-did-unread (run_live report plan) status all none did = absurd (none tt)
-did-unread (solve report plan) status all none did = absurd (none tt)
-did-unread (generate report number plan) status all none did = did.unread
-did-unread (generate_live report number plan) status all none did = did.unread
-did-unread (trace report plan) status all none did = absurd (none tt)
-did-unread (replay report plan) status all none did = absurd (none tt)
+did-unread : (laws : Laws) (action : Action) (status : Status) (all : CallDevices) → (MayRead action → ⊥) → DidAction laws action status all → Untouched all.input
+did-unread laws (refuse note) status all none did = did.unread
+did-unread laws (show text) status all none did = did.unread
+did-unread laws (run_plan report plan) status all none did = absurd (none tt)
+did-unread laws (run_live report plan) status all none did = absurd (none tt)
+did-unread laws (solve report plan) status all none did = absurd (none tt)
+did-unread laws (generate report number plan) status all none did = did.unread
+did-unread laws (generate_live report number plan) status all none did = did.unread
+did-unread laws (trace report plan) status all none did = absurd (none tt)
+did-unread laws (replay report plan) status all none did = absurd (none tt)
 
-call-unread : (status : Status) (invocation : Invocation) (all : CallDevices) → reads_input invocation.instruction.verb ≡ false → CallDid status invocation all → Untouched all.input
-call-unread status invocation all is called = did-unread called.action status all (due-unread invocation called.contents called.action called.due is) called.did
+call-unread : (laws : Laws) (status : Status) (invocation : Invocation) (all : CallDevices) → reads_input invocation.instruction.verb ≡ false → CallDid laws status invocation all → Untouched all.input
+call-unread laws status invocation all is called = did-unread laws called.action status all (due-unread invocation called.contents called.action called.due is) called.did
 
-short-unread : (invocation : Invocation) (all : CallDevices) → reads_input invocation.instruction.verb ≡ false → DidNothing all ⊎ CallDid OutOfMemory invocation all → Untouched all.input
-short-unread invocation all is (inl nothing) = nothing.unread
-short-unread invocation all is (inr called) = call-unread OutOfMemory invocation all is called
+short-unread : (laws : Laws) (invocation : Invocation) (all : CallDevices) → reads_input invocation.instruction.verb ≡ false → DidNothing all ⊎ CallDid laws OutOfMemory invocation all → Untouched all.input
+short-unread laws invocation all is (inl nothing) = nothing.unread
+short-unread laws invocation all is (inr called) = call-unread laws OutOfMemory invocation all is called
 
-pub called-unread : (status : Status) (invocation : Invocation) (all : CallDevices) → reads_input invocation.instruction.verb ≡ false → Called status invocation all → Untouched all.input
-called-unread StoreFault invocation all is called = called.unread
-called-unread Usage invocation all is called = elim called [ ]
-called-unread OutOfMemory invocation all is called = short-unread invocation all is called.by
-called-unread Good invocation all is called = call-unread Good invocation all is called
-called-unread GraphRefused invocation all is called = call-unread GraphRefused invocation all is called
-called-unread LineRefused invocation all is called = call-unread LineRefused invocation all is called
-called-unread NodeFault invocation all is called = call-unread NodeFault invocation all is called
-called-unread Stalled invocation all is called = call-unread Stalled invocation all is called
-called-unread ReadFault invocation all is called = call-unread ReadFault invocation all is called
-called-unread WriteFault invocation all is called = call-unread WriteFault invocation all is called
+pub called-unread : (laws : Laws) (status : Status) (invocation : Invocation) (all : CallDevices) → reads_input invocation.instruction.verb ≡ false → Called laws status invocation all → Untouched all.input
+called-unread laws StoreFault invocation all is called = called.unread
+called-unread laws Usage invocation all is called = elim called [ ]
+called-unread laws OutOfMemory invocation all is called = short-unread laws invocation all is called.by
+called-unread laws Good invocation all is called = call-unread laws Good invocation all is called
+called-unread laws GraphRefused invocation all is called = call-unread laws GraphRefused invocation all is called
+called-unread laws LineRefused invocation all is called = call-unread laws LineRefused invocation all is called
+called-unread laws NodeFault invocation all is called = call-unread laws NodeFault invocation all is called
+called-unread laws Stalled invocation all is called = call-unread laws Stalled invocation all is called
+called-unread laws ReadFault invocation all is called = call-unread laws ReadFault invocation all is called
+called-unread laws WriteFault invocation all is called = call-unread laws WriteFault invocation all is called
 
 -- What reads it is refused, or reads: it shows no text, and no packets are made.
 abbrev NeedsNone : Action → Type 0
@@ -121,9 +122,13 @@ NeedsNone (generate_live report number plan) = Unit {0}
 NeedsNone (trace report plan) = ⊥
 NeedsNone (replay report plan) = ⊥
 
+solve-reads : (first : Option ℕ) (report : Bool) (plan : Plan) → NeedsNone (solve_action first report plan) → ⊥
+solve-reads None report plan none = none
+solve-reads (Some first) report plan none = none
+
 way-reads : (way : Way) (instruction : Instruction) (plan : Plan) → reads_input (Use way) ≡ true → NeedsNone (way_action way instruction plan) → ⊥
 way-reads Run instruction plan is none = none
-way-reads Solve instruction plan is none = none
+way-reads Solve instruction plan is none = solve-reads (first_stated plan) instruction.report plan none
 way-reads Generate instruction plan is none = false≢true is
 way-reads Trace instruction plan is none = none
 way-reads Replay instruction plan is none = none
@@ -173,25 +178,25 @@ short-ended status is (inr (inr (inr e))) = e
 end-came : (input : Device SourceTold) → EndCame input.before input.now → InputHasEnded input
 end-came input came = record { rose = let more = came.rose in omega (arith, more); none = came.none }
 
-did-ended : (invocation : Invocation) (contents : List (List ℕ)) (action : Action) (status : Status) (all : CallDevices) → IsActionOf invocation contents action → DidAction action status all → reads_input invocation.instruction.verb ≡ true
+did-ended : (laws : Laws) (invocation : Invocation) (contents : List (List ℕ)) (action : Action) (status : Status) (all : CallDevices) → IsActionOf invocation contents action → DidAction laws action status all → reads_input invocation.instruction.verb ≡ true
     → IsOneOf status ended_statuses → InputHasEnded all.input
-did-ended invocation contents (refuse note) status all due did reads one = absurd (refused-ended status did.ended one)
-did-ended invocation contents (show text) status all due did reads one = absurd (due-reads invocation contents (show text) due reads tt)
-did-ended invocation contents (run_plan report plan) status all due did reads one =
-    end-came all.input (lines-ended report plan status (run_devices_of all) all.boxes did (short-ended status) one)
-did-ended invocation contents (run_live report plan) status all due did reads one =
-    end-came all.input (live-ended report plan status (run_devices_of all) all.boxes did (short-ended status) one)
-did-ended invocation contents (solve report plan) status all due did reads one =
-    end-came all.input (ran-ended report plan status (run_devices_of all) did.ran one)
-did-ended invocation contents (generate report number plan) status all due did reads one = absurd (due-reads invocation contents (generate report number plan) due reads tt)
-did-ended invocation contents (generate_live report number plan) status all due did reads one = absurd (due-reads invocation contents (generate_live report number plan) due reads tt)
-did-ended invocation contents (trace report plan) status all due did reads one =
-    end-came all.input (traced_ended report plan all.boxes.before status (run_devices_of all) did.ran one)
-did-ended invocation contents (replay report plan) status all due did reads one =
-    end-came all.input (replayed_ended report plan status (run_devices_of all) all.boxes did.replayed one)
+did-ended laws invocation contents (refuse note) status all due did reads one = absurd (refused-ended status did.ended one)
+did-ended laws invocation contents (show text) status all due did reads one = absurd (due-reads invocation contents (show text) due reads tt)
+did-ended laws invocation contents (run_plan report plan) status all due did reads one =
+    end-came all.input (lines-ended laws report plan status (run_devices_of all) all.boxes did (short-ended status) one)
+did-ended laws invocation contents (run_live report plan) status all due did reads one =
+    end-came all.input (live-ended laws report plan status (run_devices_of all) all.boxes did (short-ended status) one)
+did-ended laws invocation contents (solve report plan) status all due did reads one =
+    end-came all.input (ran-ended laws report plan status (run_devices_of all) did.ran one)
+did-ended laws invocation contents (generate report number plan) status all due did reads one = absurd (due-reads invocation contents (generate report number plan) due reads tt)
+did-ended laws invocation contents (generate_live report number plan) status all due did reads one = absurd (due-reads invocation contents (generate_live report number plan) due reads tt)
+did-ended laws invocation contents (trace report plan) status all due did reads one =
+    end-came all.input (traced_ended laws report plan all.boxes.before status (run_devices_of all) did.ran one)
+did-ended laws invocation contents (replay report plan) status all due did reads one =
+    end-came all.input (replayed_ended laws report plan status (run_devices_of all) all.boxes did.replayed one)
 
-call-ended : (status : Status) (invocation : Invocation) (all : CallDevices) → CallDid status invocation all → reads_input invocation.instruction.verb ≡ true → IsOneOf status ended_statuses → InputHasEnded all.input
-call-ended status invocation all called reads one = did-ended invocation called.contents called.action status all called.due called.did reads one
+call-ended : (laws : Laws) (status : Status) (invocation : Invocation) (all : CallDevices) → CallDid laws status invocation all → reads_input invocation.instruction.verb ≡ true → IsOneOf status ended_statuses → InputHasEnded all.input
+call-ended laws status invocation all called reads one = did-ended laws invocation called.contents called.action status all called.due called.did reads one
 
 store-ended : IsOneOf StoreFault ended_statuses → ⊥
 store-ended (inl e) = cc
@@ -199,14 +204,14 @@ store-ended (inr (inl e)) = cc
 store-ended (inr (inr (inl e))) = cc
 store-ended (inr (inr (inr e))) = e
 
-pub called-ended : (status : Status) (invocation : Invocation) (all : CallDevices) → Called status invocation all → reads_input invocation.instruction.verb ≡ true → IsOneOf status ended_statuses → InputHasEnded all.input
-called-ended Good invocation all called reads one = call-ended Good invocation all called reads one
-called-ended StoreFault invocation all called reads one = absurd (store-ended one)
-called-ended Usage invocation all called reads one = elim called [ ]
-called-ended GraphRefused invocation all called reads one = call-ended GraphRefused invocation all called reads one
-called-ended LineRefused invocation all called reads one = call-ended LineRefused invocation all called reads one
-called-ended NodeFault invocation all called reads one = call-ended NodeFault invocation all called reads one
-called-ended Stalled invocation all called reads one = call-ended Stalled invocation all called reads one
-called-ended ReadFault invocation all called reads one = call-ended ReadFault invocation all called reads one
-called-ended WriteFault invocation all called reads one = call-ended WriteFault invocation all called reads one
-called-ended OutOfMemory invocation all called reads one = absurd (short-ended OutOfMemory refl one)
+pub called-ended : (laws : Laws) (status : Status) (invocation : Invocation) (all : CallDevices) → Called laws status invocation all → reads_input invocation.instruction.verb ≡ true → IsOneOf status ended_statuses → InputHasEnded all.input
+called-ended laws Good invocation all called reads one = call-ended laws Good invocation all called reads one
+called-ended laws StoreFault invocation all called reads one = absurd (store-ended one)
+called-ended laws Usage invocation all called reads one = elim called [ ]
+called-ended laws GraphRefused invocation all called reads one = call-ended laws GraphRefused invocation all called reads one
+called-ended laws LineRefused invocation all called reads one = call-ended laws LineRefused invocation all called reads one
+called-ended laws NodeFault invocation all called reads one = call-ended laws NodeFault invocation all called reads one
+called-ended laws Stalled invocation all called reads one = call-ended laws Stalled invocation all called reads one
+called-ended laws ReadFault invocation all called reads one = call-ended laws ReadFault invocation all called reads one
+called-ended laws WriteFault invocation all called reads one = call-ended laws WriteFault invocation all called reads one
+called-ended laws OutOfMemory invocation all called reads one = absurd (short-ended OutOfMemory refl one)

@@ -1,5 +1,5 @@
 -- An expanded graph has no more nodes than there may be.
-use Rattle.std.proofs.Common.{◌≡◌, ◌≤◌, List, Bool, true, false, Option, None, Some, Ok, length, refl, ap, ◌∙◌, arith, if◌then◌else◌, nat_lt}
+use Rattle.std.proofs.Common.{◌≡◌, ◌≤◌, List, Bool, true, false, Option, None, Some, Ok, length, refl, ap, arith, if◌then◌else◌, nat_lt}
 use Rattle.std.proofs.lemmas.Bool.{ltb-false}
 use Rattle.mg_config.specs.Config.{GraphView, graph_view, node_view}
 use Rattle.mg_config.specs.declared.graph.GraphConfig.{GraphConfig}

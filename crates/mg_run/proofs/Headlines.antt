@@ -2,11 +2,12 @@
 use Rattle.std.proofs.Common.{◌≡◌, ◌≢◌, ◌⊎◌, inl, inr, ℕ, ℤ, List, [], ◌∷◌, All, Option, None, Some, IfSome, Result, Ok, Err, refl, sym, ap, ◌∙◌, subst}
 use Rattle.mg_edge.specs.Edge.{SourceTold, SinkTold, StoreTold}
 use Rattle.mg_config.specs.Config.{GraphView}
+use Rattle.mg_calc.specs.Rules.{Laws}
 use Rattle.mg_calc.specs.declared.inputs.Inputs.{Inputs}
 use Rattle.mg_calc.specs.declared.plan.Plan.{Plan}
 use Rattle.mg_calc.specs.declared.shape.OuterShape.{OuterShape}
 use Rattle.mg_calc.specs.Equations as equations
-use Rattle.mg_calc.specs.Told.{CalculatorTold}
+use Rattle.mg_calc.specs.Told.{BoxTold}
 use Rattle.mg_calc.proofs.Solutions.{one_solution}
 use Rattle.mg_check.specs.Check.{check_of, IsOuterShape}
 use Rattle.mg_check.specs.declared.fault.CheckFault.{CheckFault}
@@ -126,47 +127,47 @@ request_is instruction None (Some workers) plan = refl
 request_is instruction (Some limit) None plan = refl
 request_is instruction (Some limit) (Some workers) plan = refl
 
-bare_run : (instruction : Instruction) (plan : Plan) (from : Origin) (status : Status) (output notes : Device SinkTold) (boxes : Device (List CalculatorTold))
-    → OneRun (telling_from instruction.report from) (job_from (as_asked instruction plan) from) (end_from from) status output notes boxes
-    → OneRun (telling_from instruction.report from) (job_from (bare plan) from) (end_from from) status output notes boxes
-bare_run instruction plan from status output notes boxes run =
-    by from (subst (λ (p : Plan). OneRun (telling_from instruction.report from) (job_from p from) (end_from from) status output notes boxes) (request_is instruction instruction.limit instruction.workers plan) run)
+bare_run : (laws : Laws) (instruction : Instruction) (plan : Plan) (from : Origin) (status : Status) (output notes : Device SinkTold) (boxes : Device (List BoxTold))
+    → OneRun (telling_from instruction.report from) (job_from laws (as_asked instruction plan) from) (end_from from) status output notes boxes
+    → OneRun (telling_from instruction.report from) (job_from laws (bare plan) from) (end_from from) status output notes boxes
+bare_run laws instruction plan from status output notes boxes run =
+    by from (subst (λ (p : Plan). OneRun (telling_from instruction.report from) (job_from laws p from) (end_from from) status output notes boxes) (request_is instruction instruction.limit instruction.workers plan) run)
   where
-    by : (from : Origin) → OneRun (telling_from instruction.report from) (job_from (limited_plan (bare plan) (as_asked instruction plan).limit (as_asked instruction plan).workers) from) (end_from from) status output notes boxes
-        → OneRun (telling_from instruction.report from) (job_from (bare plan) from) (end_from from) status output notes boxes
-    by (from_input read) run = unlimited_run (by_lines instruction.report) (answers.job_of (bare plan) read) (as_asked instruction plan).limit (as_asked instruction plan).workers read.end status output notes boxes run
-    by (from_number number) run = unlimited_run (by_summary instruction.report) (generated_job (bare plan) number) (as_asked instruction plan).limit (as_asked instruction plan).workers Ended status output notes boxes run
+    by : (from : Origin) → OneRun (telling_from instruction.report from) (job_from laws (limited_plan (bare plan) (as_asked instruction plan).limit (as_asked instruction plan).workers) from) (end_from from) status output notes boxes
+        → OneRun (telling_from instruction.report from) (job_from laws (bare plan) from) (end_from from) status output notes boxes
+    by (from_input read) run = unlimited_run (by_lines instruction.report) (answers.job_of laws (bare plan) read) (as_asked instruction plan).limit (as_asked instruction plan).workers read.end status output notes boxes run
+    by (from_number number) run = unlimited_run (by_summary instruction.report) (generated_job laws (bare plan) number) (as_asked instruction plan).limit (as_asked instruction plan).workers Ended status output notes boxes run
 
-bare_live : (instruction : Instruction) (plan : Plan) (from : Origin) (first : Inputs) (later : List Inputs) (status : Status) (output notes : Device SinkTold) (boxes : Device (List CalculatorTold))
-    → OneLive (form_from from) instruction.report (as_asked instruction plan) first later (end_from from) status output notes boxes → OneLive (form_from from) instruction.report (bare plan) first later (end_from from) status output notes boxes
-bare_live instruction plan from first later status output notes boxes run =
-    unlimited_live (form_from from) instruction.report (bare plan) (as_asked instruction plan).limit (as_asked instruction plan).workers first later (end_from from) status output notes boxes
-    (subst (λ (p : Plan). OneLive (form_from from) instruction.report p first later (end_from from) status output notes boxes) (request_is instruction instruction.limit instruction.workers plan) run)
+bare_live : (laws : Laws) (instruction : Instruction) (plan : Plan) (from : Origin) (first : Inputs) (later : List Inputs) (status : Status) (output notes : Device SinkTold) (boxes : Device (List BoxTold))
+    → OneLive laws (form_from from) instruction.report (as_asked instruction plan) first later (end_from from) status output notes boxes → OneLive laws (form_from from) instruction.report (bare plan) first later (end_from from) status output notes boxes
+bare_live laws instruction plan from first later status output notes boxes run =
+    unlimited_live laws (form_from from) instruction.report (bare plan) (as_asked instruction plan).limit (as_asked instruction plan).workers first later (end_from from) status output notes boxes
+    (subst (λ (p : Plan). OneLive laws (form_from from) instruction.report p first later (end_from from) status output notes boxes) (request_is instruction instruction.limit instruction.workers plan) run)
 
 bare_batches : (instruction : Instruction) (plan : Plan) (read : Read) (batches : List Inputs) → AreBatchesOf (as_asked instruction plan) read batches → AreBatchesOf (bare plan) read batches
 bare_batches instruction plan read batches are =
     batches_same (bare plan) (as_asked instruction plan).limit (as_asked instruction plan).workers read batches (subst (λ (p : Plan). AreBatchesOf p read batches) (request_is instruction instruction.limit instruction.workers plan) are)
 
 -- what is made for a plan doesn't ask for its limit and workers
-made_asked : (limit : Option ℤ) (workers : Option ℕ) (plan : Plan) (number : ℕ) → (generated_job (with_workers workers (with_limit limit plan)) number).inputs ≡ (generated_job (bare plan) number).inputs
-made_asked None None plan number = refl
-made_asked None (Some workers) plan number = refl
-made_asked (Some limit) None plan number = refl
-made_asked (Some limit) (Some workers) plan number = refl
+made_asked : (laws : Laws) (limit : Option ℤ) (workers : Option ℕ) (plan : Plan) (number : ℕ) → (generated_job laws (with_workers workers (with_limit limit plan)) number).inputs ≡ (generated_job laws (bare plan) number).inputs
+made_asked laws None None plan number = refl
+made_asked laws None (Some workers) plan number = refl
+made_asked laws (Some limit) None plan number = refl
+made_asked laws (Some limit) (Some workers) plan number = refl
 
 -- The headline --
 
 -- a graph was found, and its run came from this
-headline : (invocation : Invocation) (contents : List (List ℕ)) (plan : Plan) (status : Status) (all : CallDevices) (from : Origin) → LoadedAll invocation.files contents all.store → IsGraph invocation contents plan → IsOrigin invocation.instruction plan all.input from
-    → OneRun (telling_from invocation.instruction.report from) (job_from (as_asked invocation.instruction plan) from) (end_from from) status all.output all.notes all.boxes → Headline invocation status all
-headline invocation contents plan status all from loaded graph origin run = record {
+headline : (laws : Laws) (invocation : Invocation) (contents : List (List ℕ)) (plan : Plan) (status : Status) (all : CallDevices) (from : Origin) → LoadedAll invocation.files contents all.store → IsGraph invocation contents plan → IsOrigin invocation.instruction plan all.input from
+    → OneRun (telling_from invocation.instruction.report from) (job_from laws (as_asked invocation.instruction plan) from) (end_from from) status all.output all.notes all.boxes → Headline laws invocation status all
+headline laws invocation contents plan status all from loaded graph origin run = record {
   contents = contents;
   loaded = loaded;
   plan = plan;
   graph = graph;
   from = from;
   origin = origin;
-  run = bare_run invocation.instruction plan from status all.output all.notes all.boxes run;
+  run = bare_run laws invocation.instruction plan from status all.output all.notes all.boxes run;
 }
 
 -- what the inputs of a plan's graph are doesn't ask for its limit and workers
@@ -176,20 +177,20 @@ came_asked None (Some workers) plan input read came = came
 came_asked (Some limit) None plan input read came = came
 came_asked (Some limit) (Some workers) plan input read came = came
 
-lines_headline : (invocation : Invocation) (contents : List (List ℕ)) (plan : Plan) (status : Status) (all : CallDevices) → invocation.instruction.verb ≡ Use Run → status ≢ OutOfMemory → LoadedAll invocation.files contents all.store → IsGraph invocation contents plan
-    → RanOverLines invocation.instruction.report (as_asked invocation.instruction plan) status (run_devices_of all) all.boxes → Headline invocation status all
-lines_headline invocation contents plan status all verb some loaded graph (inl one) =
-    headline invocation contents plan status all (from_input one.read) loaded graph (verb, came_asked invocation.instruction.limit invocation.instruction.workers plan all.input one.read one.came) one.run
-lines_headline invocation contents plan status all verb some loaded graph (inr short) = absurd (some short.is)
+lines_headline : (laws : Laws) (invocation : Invocation) (contents : List (List ℕ)) (plan : Plan) (status : Status) (all : CallDevices) → invocation.instruction.verb ≡ Use Run → status ≢ OutOfMemory → LoadedAll invocation.files contents all.store → IsGraph invocation contents plan
+    → RanOverLines laws invocation.instruction.report (as_asked invocation.instruction plan) status (run_devices_of all) all.boxes → Headline laws invocation status all
+lines_headline laws invocation contents plan status all verb some loaded graph (inl one) =
+    headline laws invocation contents plan status all (from_input one.read) loaded graph (verb, came_asked invocation.instruction.limit invocation.instruction.workers plan all.input one.read one.came) one.run
+lines_headline laws invocation contents plan status all verb some loaded graph (inr short) = absurd (some short.is)
 
-packets_headline : (invocation : Invocation) (contents : List (List ℕ)) (plan : Plan) (status : Status) (all : CallDevices) → invocation.instruction.verb ≡ Use Generate → status ≢ OutOfMemory → LoadedAll invocation.files contents all.store → IsGraph invocation contents plan
-    → Untouched all.input → RanOverPackets invocation.instruction.report (as_asked invocation.instruction plan) invocation.instruction.number status all.output all.notes all.boxes → Headline invocation status all
-packets_headline invocation contents plan status all verb some loaded graph unread (inl one) = headline invocation contents plan status all (from_number invocation.instruction.number) loaded graph (verb, refl, unread) one
-packets_headline invocation contents plan status all verb some loaded graph unread (inr short) = absurd (some short.is)
+packets_headline : (laws : Laws) (invocation : Invocation) (contents : List (List ℕ)) (plan : Plan) (status : Status) (all : CallDevices) → invocation.instruction.verb ≡ Use Generate → status ≢ OutOfMemory → LoadedAll invocation.files contents all.store → IsGraph invocation contents plan
+    → Untouched all.input → RanOverPackets laws invocation.instruction.report (as_asked invocation.instruction plan) invocation.instruction.number status all.output all.notes all.boxes → Headline laws invocation status all
+packets_headline laws invocation contents plan status all verb some loaded graph unread (inl one) = headline laws invocation contents plan status all (from_number invocation.instruction.number) loaded graph (verb, refl, unread) one
+packets_headline laws invocation contents plan status all verb some loaded graph unread (inr short) = absurd (some short.is)
 
-live_lines_headline : (invocation : Invocation) (contents : List (List ℕ)) (plan : Plan) (status : Status) (all : CallDevices) → invocation.instruction.verb ≡ Use Run → status ≢ OutOfMemory → LoadedAll invocation.files contents all.store → IsLiveGraph invocation contents plan
-    → RanLive invocation.instruction.report (as_asked invocation.instruction plan) status (run_devices_of all) all.boxes → LiveHeadline invocation status all
-live_lines_headline invocation contents plan status all verb some loaded graph (inl one) = record {
+live_lines_headline : (laws : Laws) (invocation : Invocation) (contents : List (List ℕ)) (plan : Plan) (status : Status) (all : CallDevices) → invocation.instruction.verb ≡ Use Run → status ≢ OutOfMemory → LoadedAll invocation.files contents all.store → IsLiveGraph invocation contents plan
+    → RanLive laws invocation.instruction.report (as_asked invocation.instruction plan) status (run_devices_of all) all.boxes → LiveHeadline laws invocation status all
+live_lines_headline laws invocation contents plan status all verb some loaded graph (inl one) = record {
   contents = contents;
   loaded = loaded;
   plan = plan;
@@ -199,50 +200,50 @@ live_lines_headline invocation contents plan status all verb some loaded graph (
   first = one.first;
   later = one.later;
   batches = bare_batches invocation.instruction plan one.read (one.first ∷ one.later) one.batches;
-  run = bare_live invocation.instruction plan (from_input one.read) one.first one.later status all.output all.notes all.boxes one.run;
+  run = bare_live laws invocation.instruction plan (from_input one.read) one.first one.later status all.output all.notes all.boxes one.run;
 }
-live_lines_headline invocation contents plan status all verb some loaded graph (inr short) = absurd (some short.is)
+live_lines_headline laws invocation contents plan status all verb some loaded graph (inr short) = absurd (some short.is)
 
-live_packets_headline : (invocation : Invocation) (contents : List (List ℕ)) (plan : Plan) (status : Status) (all : CallDevices) → invocation.instruction.verb ≡ Use Generate → status ≢ OutOfMemory → LoadedAll invocation.files contents all.store → IsLiveGraph invocation contents plan
-    → Untouched all.input → RanLiveMade invocation.instruction.report (as_asked invocation.instruction plan) invocation.instruction.number status all.output all.notes all.boxes → LiveHeadline invocation status all
-live_packets_headline invocation contents plan status all verb some loaded graph unread (inl one) = record {
+live_packets_headline : (laws : Laws) (invocation : Invocation) (contents : List (List ℕ)) (plan : Plan) (status : Status) (all : CallDevices) → invocation.instruction.verb ≡ Use Generate → status ≢ OutOfMemory → LoadedAll invocation.files contents all.store → IsLiveGraph invocation contents plan
+    → Untouched all.input → RanLiveMade laws invocation.instruction.report (as_asked invocation.instruction plan) invocation.instruction.number status all.output all.notes all.boxes → LiveHeadline laws invocation status all
+live_packets_headline laws invocation contents plan status all verb some loaded graph unread (inl one) = record {
   contents = contents;
   loaded = loaded;
   plan = plan;
   graph = graph;
   from = from_number invocation.instruction.number;
   origin = (verb, refl, unread);
-  first = (generated_job (as_asked invocation.instruction plan) invocation.instruction.number).inputs;
+  first = (generated_job laws (as_asked invocation.instruction plan) invocation.instruction.number).inputs;
   later = [];
-  batches = ap (λ (i : Inputs). i ∷ []) (made_asked invocation.instruction.limit invocation.instruction.workers plan invocation.instruction.number);
-  run = bare_live invocation.instruction plan (from_number invocation.instruction.number) (generated_job (as_asked invocation.instruction plan) invocation.instruction.number).inputs [] status all.output all.notes all.boxes one;
+  batches = ap (λ (i : Inputs). i ∷ []) (made_asked laws invocation.instruction.limit invocation.instruction.workers plan invocation.instruction.number);
+  run = bare_live laws invocation.instruction plan (from_number invocation.instruction.number) (generated_job laws (as_asked invocation.instruction plan) invocation.instruction.number).inputs [] status all.output all.notes all.boxes one;
 }
-live_packets_headline invocation contents plan status all verb some loaded graph unread (inr short) = absurd (some short.is)
+live_packets_headline laws invocation contents plan status all verb some loaded graph unread (inr short) = absurd (some short.is)
 
 -- a call did what there was to do, and the graph wasn't refused
-did_headline : (invocation : Invocation) (status : Status) (all : CallDevices) (called : CallDid status invocation all) (way : Way) → (way ≡ Run) ⊎ (way ≡ Generate) → invocation.instruction.verb ≡ Use way → status ≢ GraphRefused → status ≢ OutOfMemory
-    → Due invocation called.contents way called.action → RanGraph invocation status all
-did_headline invocation status all called way used verb good some (inl refused) = absurd (good (let d : DidAction (refuse refused.0) status all = subst (λ (j : Action). DidAction j status all) refused.1 called.did in d.ended))
-did_headline invocation status all called way (inl is) verb good some (inr (inl found)) =
+did_headline : (laws : Laws) (invocation : Invocation) (status : Status) (all : CallDevices) (called : CallDid laws status invocation all) (way : Way) → (way ≡ Run) ⊎ (way ≡ Generate) → invocation.instruction.verb ≡ Use way → status ≢ GraphRefused → status ≢ OutOfMemory
+    → Due invocation called.contents way called.action → RanGraph laws invocation status all
+did_headline laws invocation status all called way used verb good some (inl refused) = absurd (good (let d : DidAction laws (refuse refused.0) status all = subst (λ (j : Action). DidAction laws j status all) refused.1 called.did in d.ended))
+did_headline laws invocation status all called way (inl is) verb good some (inr (inl found)) =
     let same : called.action ≡ run_plan invocation.instruction.report (as_asked invocation.instruction found.plan) = found.is ∙ ap (λ (w : Way). way_action w invocation.instruction found.plan) is in
-    inl (lines_headline invocation called.contents found.plan status all (verb ∙ ap Use is) some called.loaded found.graph (subst (λ (j : Action). DidAction j status all) same called.did))
-did_headline invocation status all called way (inr is) verb good some (inr (inl found)) =
+    inl (lines_headline laws invocation called.contents found.plan status all (verb ∙ ap Use is) some called.loaded found.graph (subst (λ (j : Action). DidAction laws j status all) same called.did))
+did_headline laws invocation status all called way (inr is) verb good some (inr (inl found)) =
     let same : called.action ≡ generate invocation.instruction.report invocation.instruction.number (as_asked invocation.instruction found.plan) = found.is ∙ ap (λ (w : Way). way_action w invocation.instruction found.plan) is in
-    let d : GeneratedGraph invocation.instruction.report invocation.instruction.number (as_asked invocation.instruction found.plan) status all = subst (λ (j : Action). DidAction j status all) same called.did in
-    inl (packets_headline invocation called.contents found.plan status all (verb ∙ ap Use is) some called.loaded found.graph d.unread d.ran)
-did_headline invocation status all called way (inl is) verb good some (inr (inr found)) =
+    let d : GeneratedGraph laws invocation.instruction.report invocation.instruction.number (as_asked invocation.instruction found.plan) status all = subst (λ (j : Action). DidAction laws j status all) same called.did in
+    inl (packets_headline laws invocation called.contents found.plan status all (verb ∙ ap Use is) some called.loaded found.graph d.unread d.ran)
+did_headline laws invocation status all called way (inl is) verb good some (inr (inr found)) =
     let same : called.action ≡ run_live invocation.instruction.report (as_asked invocation.instruction found.plan) = found.is ∙ ap (λ (w : Way). live_action w invocation.instruction found.graph.first found.plan) is in
-    inr (live_lines_headline invocation called.contents found.plan status all (verb ∙ ap Use is) some called.loaded found.graph (subst (λ (j : Action). DidAction j status all) same called.did))
-did_headline invocation status all called way (inr is) verb good some (inr (inr found)) =
+    inr (live_lines_headline laws invocation called.contents found.plan status all (verb ∙ ap Use is) some called.loaded found.graph (subst (λ (j : Action). DidAction laws j status all) same called.did))
+did_headline laws invocation status all called way (inr is) verb good some (inr (inr found)) =
     let same : called.action ≡ generate_live invocation.instruction.report invocation.instruction.number (as_asked invocation.instruction found.plan) = found.is ∙ ap (λ (w : Way). live_action w invocation.instruction found.graph.first found.plan) is in
-    let d : GeneratedLive invocation.instruction.report invocation.instruction.number (as_asked invocation.instruction found.plan) status all = subst (λ (j : Action). DidAction j status all) same called.did in
-    inr (live_packets_headline invocation called.contents found.plan status all (verb ∙ ap Use is) some called.loaded found.graph d.unread d.ran)
+    let d : GeneratedLive laws invocation.instruction.report invocation.instruction.number (as_asked invocation.instruction found.plan) status all = subst (λ (j : Action). DidAction laws j status all) same called.did in
+    inr (live_packets_headline laws invocation called.contents found.plan status all (verb ∙ ap Use is) some called.loaded found.graph d.unread d.ran)
 
-call_headline : (status : Status) (invocation : Invocation) (all : CallDevices) → CallDid status invocation all → RunsGraph invocation.instruction.verb → status ≢ GraphRefused → status ≢ OutOfMemory → RanGraph invocation status all
-call_headline status invocation all called (inl verb) good some =
-    did_headline invocation status all called Run (inl refl) verb good some (due_by invocation called.shaped called.contents Run called.action verb called.due)
-call_headline status invocation all called (inr verb) good some =
-    did_headline invocation status all called Generate (inr refl) verb good some (due_by invocation called.shaped called.contents Generate called.action verb called.due)
+call_headline : (laws : Laws) (status : Status) (invocation : Invocation) (all : CallDevices) → CallDid laws status invocation all → RunsGraph invocation.instruction.verb → status ≢ GraphRefused → status ≢ OutOfMemory → RanGraph laws invocation status all
+call_headline laws status invocation all called (inl verb) good some =
+    did_headline laws invocation status all called Run (inl refl) verb good some (due_by invocation called.shaped called.contents Run called.action verb called.due)
+call_headline laws status invocation all called (inr verb) good some =
+    did_headline laws invocation status all called Generate (inr refl) verb good some (due_by invocation called.shaped called.contents Generate called.action verb called.due)
 
 -- no run ends so
 store_ran : IsOneOf StoreFault ran_statuses → ⊥
@@ -272,23 +273,23 @@ memory_ran (inr (inr (inr (inr (inl e))))) = cc
 memory_ran (inr (inr (inr (inr (inr (inl e)))))) = cc
 memory_ran (inr (inr (inr (inr (inr (inr none)))))) = none
 
-called_headline : (status : Status) (invocation : Invocation) (all : CallDevices) → Called status invocation all → RunsGraph invocation.instruction.verb → IsOneOf status ran_statuses → RanGraph invocation status all
-called_headline Good invocation all called runs one = call_headline Good invocation all called runs (λ e. cc) (λ e. cc)
-called_headline StoreFault invocation all called runs one = absurd (store_ran one)
-called_headline Usage invocation all called runs one = elim called [ ]
-called_headline GraphRefused invocation all called runs one = absurd (refused_ran one)
-called_headline LineRefused invocation all called runs one = call_headline LineRefused invocation all called runs (λ e. cc) (λ e. cc)
-called_headline NodeFault invocation all called runs one = call_headline NodeFault invocation all called runs (λ e. cc) (λ e. cc)
-called_headline Stalled invocation all called runs one = call_headline Stalled invocation all called runs (λ e. cc) (λ e. cc)
-called_headline ReadFault invocation all called runs one = call_headline ReadFault invocation all called runs (λ e. cc) (λ e. cc)
-called_headline WriteFault invocation all called runs one = call_headline WriteFault invocation all called runs (λ e. cc) (λ e. cc)
-called_headline OutOfMemory invocation all called runs one = absurd (memory_ran one)
+called_headline : (laws : Laws) (status : Status) (invocation : Invocation) (all : CallDevices) → Called laws status invocation all → RunsGraph invocation.instruction.verb → IsOneOf status ran_statuses → RanGraph laws invocation status all
+called_headline laws Good invocation all called runs one = call_headline laws Good invocation all called runs (λ e. cc) (λ e. cc)
+called_headline laws StoreFault invocation all called runs one = absurd (store_ran one)
+called_headline laws Usage invocation all called runs one = elim called [ ]
+called_headline laws GraphRefused invocation all called runs one = absurd (refused_ran one)
+called_headline laws LineRefused invocation all called runs one = call_headline laws LineRefused invocation all called runs (λ e. cc) (λ e. cc)
+called_headline laws NodeFault invocation all called runs one = call_headline laws NodeFault invocation all called runs (λ e. cc) (λ e. cc)
+called_headline laws Stalled invocation all called runs one = call_headline laws Stalled invocation all called runs (λ e. cc) (λ e. cc)
+called_headline laws ReadFault invocation all called runs one = call_headline laws ReadFault invocation all called runs (λ e. cc) (λ e. cc)
+called_headline laws WriteFault invocation all called runs one = call_headline laws WriteFault invocation all called runs (λ e. cc) (λ e. cc)
+called_headline laws OutOfMemory invocation all called runs one = absurd (memory_ran one)
 
-pub came-headline : (outers : List OuterShape) (request : Request) (status : Status) (all : CallDevices) → CallEnded outers request status all
-    → IfSome (command_by request) (λ command. RunsGraph command.instruction.verb → IsOneOf status ran_statuses → RanGraph (invocation command outers) status all)
-came-headline outers asks_usage status all came = tt
-came-headline outers (asks_text text) status all came = tt
-came-headline outers (asks_command command) status all came = called_headline status (invocation command outers) all came
+pub came-headline : (laws : Laws) (outers : List OuterShape) (request : Request) (status : Status) (all : CallDevices) → CallEnded laws outers request status all
+    → IfSome (command_by request) (λ command. RunsGraph command.instruction.verb → IsOneOf status ran_statuses → RanGraph laws (invocation command outers) status all)
+came-headline laws outers asks_usage status all came = tt
+came-headline laws outers (asks_text text) status all came = tt
+came-headline laws outers (asks_command command) status all came = called_headline laws status (invocation command outers) all came
 
 -- There is one headline --
 
@@ -339,17 +340,17 @@ one_origin instruction plan input other bytes (from_input read) (from_number num
 one_origin instruction plan input other bytes (from_number number) (from_input read) left left_too un un_too one two = absurd (not_both instruction two.0 one.0)
 one_origin instruction plan input other bytes (from_number number) (from_number again) left left_too un un_too one two = ap from_number (one.1 ∙ sym two.1)
 
-pub one_headline : (invocation : Invocation) (status other_status : Status) (all other : CallDevices) (contents : List (List ℕ)) (bytes : List ℕ) (a : Headline invocation status all) (b : Headline invocation other_status other)
+pub one_headline : (laws : Laws) (invocation : Invocation) (status other_status : Status) (all other : CallDevices) (contents : List (List ℕ)) (bytes : List ℕ) (a : Headline laws invocation status all) (b : Headline laws invocation other_status other)
     → loads_of all.store.before.content invocation.files ≡ Some contents → loads_of other.store.before.content invocation.files ≡ Some contents → all.input.before.left ≡ Some bytes → other.input.before.left ≡ Some bytes
     → Unrisen all.input.before.faults all.input.now.faults → Unrisen other.input.before.faults other.input.now.faults → (a.plan ≡ b.plan) × (a.from ≡ b.from) × (a.run.streams ≡ b.run.streams)
-one_headline invocation status other_status all other contents bytes a b loads loads_too left left_too un un_too =
+one_headline laws invocation status other_status all other contents bytes a b loads loads_too left left_too un un_too =
     let in_a : IsGraph invocation contents a.plan = subst (λ (cs : List (List ℕ)). IsGraph invocation cs a.plan) (told_contents invocation.files a.contents contents all.store a.loaded loads) a.graph in
     let in_b : IsGraph invocation contents b.plan = subst (λ (cs : List (List ℕ)). IsGraph invocation cs b.plan) (told_contents invocation.files b.contents contents other.store b.loaded loads_too) b.graph in
     let plans = one_plan invocation contents a.plan b.plan in_a in_b in
     let origin : IsOrigin invocation.instruction b.plan all.input a.from = subst (λ (p : Plan). IsOrigin invocation.instruction p all.input a.from) plans a.origin in
     let origins = one_origin invocation.instruction b.plan all.input other.input bytes a.from b.from left left_too un un_too origin b.origin in
-    let jobs : job_from (bare a.plan) a.from ≡ job_from (bare b.plan) b.from = ap (λ (p : Plan). job_from (bare p) a.from) plans ∙ ap (job_from (bare b.plan)) origins in (
+    let jobs : job_from laws (bare a.plan) a.from ≡ job_from laws (bare b.plan) b.from = ap (λ (p : Plan). job_from laws (bare p) a.from) plans ∙ ap (job_from laws (bare b.plan)) origins in (
       plans,
       origins,
-      one_solution (job_from (bare b.plan) b.from) a.run.streams b.run.streams (subst (λ (j : equations.Job). equations.IsSolution j a.run.streams) jobs a.run.solution) b.run.solution,
+      one_solution (job_from laws (bare b.plan) b.from) a.run.streams b.run.streams (subst (λ (j : equations.Job). equations.IsSolution j a.run.streams) jobs a.run.solution) b.run.solution,
     )

@@ -1,5 +1,6 @@
 -- There is one headline of a run of a graph with free nodes.
 use Rattle.std.proofs.Common.{◌≡◌, ℕ, List, [], ◌∷◌, Some, sym, ap, ◌∙◌, subst}
+use Rattle.mg_calc.specs.Rules.{Laws}
 use Rattle.mg_calc.specs.declared.inputs.Inputs.{Inputs}
 use Rattle.mg_calc.specs.declared.plan.Plan.{Plan}
 use Rattle.mg_calc.specs.Equations.{Job, IsSolution}
@@ -30,40 +31,40 @@ one_live_plan invocation contents plan other a b =
     same_check plan other (sym a.checked ∙ ap (check_of invocation.outers) graph ∙ b.checked)
 
 -- of one origin there are the same batches
-same_batches : (plan : Plan) (from : Origin) (batches other : List Inputs) → AreBatchesFrom plan from batches → AreBatchesFrom plan from other → batches ≡ other
-same_batches plan (from_input read) batches other a b = one-batches plan read batches other a b
-same_batches plan (from_number number) batches other a b = a ∙ sym b
+same_batches : (laws : Laws) (plan : Plan) (from : Origin) (batches other : List Inputs) → AreBatchesFrom laws plan from batches → AreBatchesFrom laws plan from other → batches ≡ other
+same_batches laws plan (from_input read) batches other a b = one-batches plan read batches other a b
+same_batches laws plan (from_number number) batches other a b = a ∙ sym b
 
 -- what had come with the last of some batches
 abbrev last_in : Inputs → List Inputs → Inputs
 last_in inputs [] = inputs
 last_in inputs (first ∷ later) = last_batch first later
 
-pub one_live_headline : (invocation : Invocation) (status other_status : Status) (all other : CallDevices) (contents : List (List ℕ)) (bytes : List ℕ) (a : LiveHeadline invocation status all) (b : LiveHeadline invocation other_status other)
+pub one_live_headline : (laws : Laws) (invocation : Invocation) (status other_status : Status) (all other : CallDevices) (contents : List (List ℕ)) (bytes : List ℕ) (a : LiveHeadline laws invocation status all) (b : LiveHeadline laws invocation other_status other)
     → loads_of all.store.before.content invocation.files ≡ Some contents → loads_of other.store.before.content invocation.files ≡ Some contents → all.input.before.left ≡ Some bytes → other.input.before.left ≡ Some bytes
     → Unrisen all.input.before.faults all.input.now.faults → Unrisen other.input.before.faults other.input.now.faults
     → (a.plan ≡ b.plan) × (a.from ≡ b.from) × (a.first ∷ a.later ≡ b.first ∷ b.later) × (a.run.comes.takens ≡ b.run.comes.takens) × (a.run.comes.streams ≡ b.run.comes.streams)
-one_live_headline invocation status other_status all other contents bytes a b loads loads_too left left_too un un_too =
+one_live_headline laws invocation status other_status all other contents bytes a b loads loads_too left left_too un un_too =
     let in_a : IsLiveGraph invocation contents a.plan = subst (λ (cs : List (List ℕ)). IsLiveGraph invocation cs a.plan) (told_contents invocation.files a.contents contents all.store a.loaded loads) a.graph in
     let in_b : IsLiveGraph invocation contents b.plan = subst (λ (cs : List (List ℕ)). IsLiveGraph invocation cs b.plan) (told_contents invocation.files b.contents contents other.store b.loaded loads_too) b.graph in
     let plans = one_live_plan invocation contents a.plan b.plan in_a in_b in
     let origin : IsOrigin invocation.instruction b.plan all.input a.from = subst (λ (p : Plan). IsOrigin invocation.instruction p all.input a.from) plans a.origin in
     let origins = one_origin invocation.instruction b.plan all.input other.input bytes a.from b.from left left_too un un_too origin b.origin in
-    let before : AreBatchesFrom (bare b.plan) b.from (a.first ∷ a.later) =
-    subst (λ (o : Origin). AreBatchesFrom (bare b.plan) o (a.first ∷ a.later)) origins (subst (λ (p : Plan). AreBatchesFrom (bare p) a.from (a.first ∷ a.later)) plans a.batches) in
-    let batches = same_batches (bare b.plan) b.from (a.first ∷ a.later) (b.first ∷ b.later) before b.batches in
-    let rounds : AllRounds (split_of (bare b.plan)) (b.first ∷ b.later) (none_taken (split_of (bare b.plan))) a.run.comes.takens =
-    subst (λ (l : List Inputs). AllRounds (split_of (bare b.plan)) l (none_taken (split_of (bare b.plan))) a.run.comes.takens) batches
-    (subst (λ (p : Plan). AllRounds (split_of (bare p)) (a.first ∷ a.later) (none_taken (split_of (bare p))) a.run.comes.takens) plans a.run.comes.rounds) in
-    let logs = all_rounds_one (split_of (bare b.plan)) (b.first ∷ b.later) (none_taken (split_of (bare b.plan))) a.run.comes.takens b.run.comes.takens rounds b.run.comes.rounds in
+    let before : AreBatchesFrom laws (bare b.plan) b.from (a.first ∷ a.later) =
+    subst (λ (o : Origin). AreBatchesFrom laws (bare b.plan) o (a.first ∷ a.later)) origins (subst (λ (p : Plan). AreBatchesFrom laws (bare p) a.from (a.first ∷ a.later)) plans a.batches) in
+    let batches = same_batches laws (bare b.plan) b.from (a.first ∷ a.later) (b.first ∷ b.later) before b.batches in
+    let rounds : AllRounds laws (split_of (bare b.plan)) (b.first ∷ b.later) (none_taken (split_of (bare b.plan))) a.run.comes.takens =
+    subst (λ (l : List Inputs). AllRounds laws (split_of (bare b.plan)) l (none_taken (split_of (bare b.plan))) a.run.comes.takens) batches
+    (subst (λ (p : Plan). AllRounds laws (split_of (bare p)) (a.first ∷ a.later) (none_taken (split_of (bare p))) a.run.comes.takens) plans a.run.comes.rounds) in
+    let logs = all_rounds_one laws (split_of (bare b.plan)) (b.first ∷ b.later) (none_taken (split_of (bare b.plan))) a.run.comes.takens b.run.comes.takens rounds b.run.comes.rounds in
     let bases : last_batch a.first a.later ≡ last_batch b.first b.later = ap (last_in a.first) batches in
-    let jobs : core_job (split_of (bare a.plan)) (last_batch a.first a.later) a.run.comes.takens ≡ core_job (split_of (bare b.plan)) (last_batch b.first b.later) b.run.comes.takens =
-    ap (λ (p : Plan). core_job (split_of (bare p)) (last_batch a.first a.later) a.run.comes.takens) plans
-    ∙ ap (λ (i : Inputs). core_job (split_of (bare b.plan)) i a.run.comes.takens) bases
-    ∙ ap (core_job (split_of (bare b.plan)) (last_batch b.first b.later)) logs in (
+    let jobs : core_job laws (split_of (bare a.plan)) (last_batch a.first a.later) a.run.comes.takens ≡ core_job laws (split_of (bare b.plan)) (last_batch b.first b.later) b.run.comes.takens =
+    ap (λ (p : Plan). core_job laws (split_of (bare p)) (last_batch a.first a.later) a.run.comes.takens) plans
+    ∙ ap (λ (i : Inputs). core_job laws (split_of (bare b.plan)) i a.run.comes.takens) bases
+    ∙ ap (core_job laws (split_of (bare b.plan)) (last_batch b.first b.later)) logs in (
       plans,
       origins,
       batches,
       logs,
-      one_solution (core_job (split_of (bare b.plan)) (last_batch b.first b.later) b.run.comes.takens) a.run.comes.streams b.run.comes.streams (subst (λ (j : Job). IsSolution j a.run.comes.streams) jobs a.run.comes.solution) b.run.comes.solution,
+      one_solution (core_job laws (split_of (bare b.plan)) (last_batch b.first b.later) b.run.comes.takens) a.run.comes.streams b.run.comes.streams (subst (λ (j : Job). IsSolution j a.run.comes.streams) jobs a.run.comes.solution) b.run.comes.solution,
     )

@@ -4,10 +4,11 @@ use Rattle.std.specs.List.{flat_map}
 use Rattle.mg_edge.specs.Edge.{SinkTold}
 use Rattle.mg_value.specs.Payload.{Plain}
 use Rattle.mg_settled.specs.Prefix.{StreamPrefix}
+use Rattle.mg_calc.specs.Rules.{Laws}
 use Rattle.mg_calc.specs.declared.inputs.Inputs.{Inputs}
 use Rattle.mg_calc.specs.declared.node_fault.NodeFault.{NodeFault}
 use Rattle.mg_calc.specs.declared.plan.Plan.{Plan}
-use Rattle.mg_calc.specs.Told.{CalculatorTold}
+use Rattle.mg_calc.specs.Told.{BoxTold}
 use Rattle.mg_free.specs.Core.{split_of}
 use Rattle.mg_free.specs.Rounds.{Taken, none_taken, core_job, IsRound, Rounds, rests, round, AllRounds, ends, batch}
 use Rattle.mg_free.specs.Turns.{last_batch}
@@ -32,40 +33,40 @@ use Rattle.mg_run.proofs.Unlimited.{limited_plan, unlimited, faults_same, counts
 
 -- The rounds --
 
-round_same : (plan : Plan) (limit : ℤ) (workers : ℕ) (inputs : Inputs) (before after : List Taken) → IsRound (split_of (limited_plan plan limit workers)) inputs before after → IsRound (split_of plan) inputs before after
-round_same plan limit workers inputs before after r = record { streams = r.streams; solution = unlimited (core_job (split_of plan) inputs before) limit workers r.streams r.solution; turns = r.turns }
+round_same : (laws : Laws) (plan : Plan) (limit : ℤ) (workers : ℕ) (inputs : Inputs) (before after : List Taken) → IsRound laws (split_of (limited_plan plan limit workers)) inputs before after → IsRound laws (split_of plan) inputs before after
+round_same laws plan limit workers inputs before after r = record { streams = r.streams; solution = unlimited (core_job laws (split_of plan) inputs before) limit workers r.streams r.solution; turns = r.turns }
 
-rounds_same : (plan : Plan) (limit : ℤ) (workers : ℕ) (inputs : Inputs) (before after : List Taken) → Rounds (split_of (limited_plan plan limit workers)) inputs before after → Rounds (split_of plan) inputs before after
-rounds_same plan limit workers inputs before after (rests one) = rests (round_same plan limit workers inputs before before one)
-rounds_same plan limit workers inputs before after (round {after = next} one changed others) = round (round_same plan limit workers inputs before next one) changed (rounds_same plan limit workers inputs next after others)
+rounds_same : (laws : Laws) (plan : Plan) (limit : ℤ) (workers : ℕ) (inputs : Inputs) (before after : List Taken) → Rounds laws (split_of (limited_plan plan limit workers)) inputs before after → Rounds laws (split_of plan) inputs before after
+rounds_same laws plan limit workers inputs before after (rests one) = rests (round_same laws plan limit workers inputs before before one)
+rounds_same laws plan limit workers inputs before after (round {after = next} one changed others) = round (round_same laws plan limit workers inputs before next one) changed (rounds_same laws plan limit workers inputs next after others)
 
-all_rounds_same : (plan : Plan) (limit : ℤ) (workers : ℕ) (batches : List Inputs) (before last : List Taken) → AllRounds (split_of (limited_plan plan limit workers)) batches before last → AllRounds (split_of plan) batches before last
-all_rounds_same plan limit workers [] before last ends = ends
-all_rounds_same plan limit workers (inputs ∷ later) before last (batch {after = after} one others) =
-    batch (rounds_same plan limit workers inputs before after one) (all_rounds_same plan limit workers later after last others)
+all_rounds_same : (laws : Laws) (plan : Plan) (limit : ℤ) (workers : ℕ) (batches : List Inputs) (before last : List Taken) → AllRounds laws (split_of (limited_plan plan limit workers)) batches before last → AllRounds laws (split_of plan) batches before last
+all_rounds_same laws plan limit workers [] before last ends = ends
+all_rounds_same laws plan limit workers (inputs ∷ later) before last (batch {after = after} one others) =
+    batch (rounds_same laws plan limit workers inputs before after one) (all_rounds_same laws plan limit workers later after last others)
 
 -- What is told --
 
-tells_same : (plan : Plan) (limit : ℤ) (workers : ℕ) (base : Inputs) (streams : List (StreamPrefix Plain)) (takens : List Taken) (live : Outcomes)
-    → LiveTells (limited_plan plan limit workers) (core_job (split_of (limited_plan plan limit workers)) base takens) streams (split_of (limited_plan plan limit workers)).free takens live
-    → LiveTells plan (core_job (split_of plan) base takens) streams (split_of plan).free takens live
-tells_same plan limit workers base streams takens live t = record {
-  faults = t.faults ∙ ap (λ (fs : List NodeFault). map (renumbered_fault (split_of plan).numbers) fs) (faults_same (core_job (split_of plan) base takens) limit workers streams);
-  sets = t.sets ∙ ap (λ (cs : List ℕ). sets_by plan.nodes cs (map (λ (taken : Taken). length taken.log) takens)) (counts_same (core_job (split_of plan) base takens) limit workers streams);
+tells_same : (laws : Laws) (plan : Plan) (limit : ℤ) (workers : ℕ) (base : Inputs) (streams : List (StreamPrefix Plain)) (takens : List Taken) (live : Outcomes)
+    → LiveTells (limited_plan plan limit workers) (core_job laws (split_of (limited_plan plan limit workers)) base takens) streams (split_of (limited_plan plan limit workers)).free takens live
+    → LiveTells plan (core_job laws (split_of plan) base takens) streams (split_of plan).free takens live
+tells_same laws plan limit workers base streams takens live t = record {
+  faults = t.faults ∙ ap (λ (fs : List NodeFault). map (renumbered_fault (split_of plan).numbers) fs) (faults_same (core_job laws (split_of plan) base takens) limit workers streams);
+  sets = t.sets ∙ ap (λ (cs : List ℕ). sets_by plan.nodes cs (map (λ (taken : Taken). length taken.log) takens)) (counts_same (core_job laws (split_of plan) base takens) limit workers streams);
   ends = t.ends;
   arrivals = t.arrivals;
 }
 
-comes_same : (plan : Plan) (limit : ℤ) (workers : ℕ) (first : Inputs) (later : List Inputs) → ComesTo (limited_plan plan limit workers) first later → ComesTo plan first later
-comes_same plan limit workers first later c = record {
+comes_same : (laws : Laws) (plan : Plan) (limit : ℤ) (workers : ℕ) (first : Inputs) (later : List Inputs) → ComesTo laws (limited_plan plan limit workers) first later → ComesTo laws plan first later
+comes_same laws plan limit workers first later c = record {
   takens = c.takens;
-  rounds = all_rounds_same plan limit workers (first ∷ later) (none_taken (split_of plan)) c.takens c.rounds;
+  rounds = all_rounds_same laws plan limit workers (first ∷ later) (none_taken (split_of plan)) c.takens c.rounds;
   streams = c.streams;
-  solution = unlimited (core_job (split_of plan) (last_batch first later) c.takens) limit workers c.streams c.solution;
+  solution = unlimited (core_job laws (split_of plan) (last_batch first later) c.takens) limit workers c.streams c.solution;
   logs = c.logs;
   outputs = c.outputs;
   live = c.live;
-  tells = tells_same plan limit workers (last_batch first later) c.streams c.takens c.live c.tells;
+  tells = tells_same laws plan limit workers (last_batch first later) c.streams c.takens c.live c.tells;
 }
 
 -- The answer --
@@ -82,39 +83,39 @@ answer_same form report plan limit workers end live streams =
       status = status;
     }
 
-live_same : (form : OutputForm) (report : Bool) (plan : Plan) (limit : ℤ) (workers : ℕ) (first : Inputs) (later : List Inputs) (end : FeedEnd) (a : RunAnswer)
-    → IsLiveAnswer form report (limited_plan plan limit workers) first later end a → IsLiveAnswer form report plan first later end a
+live_same : (laws : Laws) (form : OutputForm) (report : Bool) (plan : Plan) (limit : ℤ) (workers : ℕ) (first : Inputs) (later : List Inputs) (end : FeedEnd) (a : RunAnswer)
+    → IsLiveAnswer laws form report (limited_plan plan limit workers) first later end a → IsLiveAnswer laws form report plan first later end a
 unfolding comes_same
-live_same form report plan limit workers first later end a is = record {
-  comes = comes_same plan limit workers first later is.comes;
+live_same laws form report plan limit workers first later end a is = record {
+  comes = comes_same laws plan limit workers first later is.comes;
   is = is.is ∙ answer_same form report plan limit workers end is.comes.live is.comes.streams;
 }
 
 pub batches_same : (plan : Plan) (limit : ℤ) (workers : ℕ) (read : Read) (batches : List Inputs) → AreBatchesOf (limited_plan plan limit workers) read batches → AreBatchesOf plan read batches
 batches_same plan limit workers read batches b = record { lines = b.lines; in_batches = b.in_batches; are = b.are }
 
-lines_same : (report : Bool) (plan : Plan) (limit : ℤ) (workers : ℕ) (input : List ℕ) (a : RunAnswer) → AnswersLive report (limited_plan plan limit workers) input a → AnswersLive report plan input a
-lines_same report plan limit workers input a is = record {
+lines_same : (laws : Laws) (report : Bool) (plan : Plan) (limit : ℤ) (workers : ℕ) (input : List ℕ) (a : RunAnswer) → AnswersLive laws report (limited_plan plan limit workers) input a → AnswersLive laws report plan input a
+lines_same laws report plan limit workers input a is = record {
   first = is.first;
   later = is.later;
   batches = batches_same plan limit workers (ended_input (inputs_of plan) input) (is.first ∷ is.later) is.batches;
-  answers = live_same packet_lines report plan limit workers is.first is.later (ended_input (inputs_of plan) input).end a is.answers;
+  answers = live_same laws packet_lines report plan limit workers is.first is.later (ended_input (inputs_of plan) input).end a is.answers;
 }
 
-pub live_asked : (report : Bool) (limit : Option ℤ) (workers : Option ℕ) (plan : Plan) (input : List ℕ) (a : RunAnswer) → AnswersLive report (with_workers workers (with_limit limit plan)) input a → AnswersLive report plan input a
-live_asked report None None plan input a is = is
-live_asked report (Some limit) None plan input a is = lines_same report plan (limit_or limit plan.limit) plan.workers input a is
-live_asked report None (Some workers) plan input a is = lines_same report plan plan.limit (min workers MOST_WORKERS) input a is
-live_asked report (Some limit) (Some workers) plan input a is = lines_same report plan (limit_or limit plan.limit) (min workers MOST_WORKERS) input a is
+pub live_asked : (laws : Laws) (report : Bool) (limit : Option ℤ) (workers : Option ℕ) (plan : Plan) (input : List ℕ) (a : RunAnswer) → AnswersLive laws report (with_workers workers (with_limit limit plan)) input a → AnswersLive laws report plan input a
+live_asked laws report None None plan input a is = is
+live_asked laws report (Some limit) None plan input a is = lines_same laws report plan (limit_or limit plan.limit) plan.workers input a is
+live_asked laws report None (Some workers) plan input a is = lines_same laws report plan plan.limit (min workers MOST_WORKERS) input a is
+live_asked laws report (Some limit) (Some workers) plan input a is = lines_same laws report plan (limit_or limit plan.limit) (min workers MOST_WORKERS) input a is
 
-made_same : (report : Bool) (number : ℕ) (plan : Plan) (limit : ℤ) (workers : ℕ) (a : RunAnswer) → AnswersLiveMade report (limited_plan plan limit workers) number a → AnswersLiveMade report plan number a
-made_same report number plan limit workers a is = live_same totals report plan limit workers (generated_job plan number).inputs [] Ended a is
+made_same : (laws : Laws) (report : Bool) (number : ℕ) (plan : Plan) (limit : ℤ) (workers : ℕ) (a : RunAnswer) → AnswersLiveMade laws report (limited_plan plan limit workers) number a → AnswersLiveMade laws report plan number a
+made_same laws report number plan limit workers a is = live_same laws totals report plan limit workers (generated_job laws plan number).inputs [] Ended a is
 
-pub live_made_asked : (report : Bool) (number : ℕ) (limit : Option ℤ) (workers : Option ℕ) (plan : Plan) (a : RunAnswer) → AnswersLiveMade report (with_workers workers (with_limit limit plan)) number a → AnswersLiveMade report plan number a
-live_made_asked report number None None plan a is = is
-live_made_asked report number (Some limit) None plan a is = made_same report number plan (limit_or limit plan.limit) plan.workers a is
-live_made_asked report number None (Some workers) plan a is = made_same report number plan plan.limit (min workers MOST_WORKERS) a is
-live_made_asked report number (Some limit) (Some workers) plan a is = made_same report number plan (limit_or limit plan.limit) (min workers MOST_WORKERS) a is
+pub live_made_asked : (laws : Laws) (report : Bool) (number : ℕ) (limit : Option ℤ) (workers : Option ℕ) (plan : Plan) (a : RunAnswer) → AnswersLiveMade laws report (with_workers workers (with_limit limit plan)) number a → AnswersLiveMade laws report plan number a
+live_made_asked laws report number None None plan a is = is
+live_made_asked laws report number (Some limit) None plan a is = made_same laws report number plan (limit_or limit plan.limit) plan.workers a is
+live_made_asked laws report number None (Some workers) plan a is = made_same laws report number plan plan.limit (min workers MOST_WORKERS) a is
+live_made_asked laws report number (Some limit) (Some workers) plan a is = made_same laws report number plan (limit_or limit plan.limit) (min workers MOST_WORKERS) a is
 
 -- A run --
 
@@ -124,13 +125,13 @@ failed_same report plan limit workers end live =
     λ i. (end_note end ++ flat_map (fault_note plan) live.faults ++ notes_same WriteFault plan limit workers (end_bounds live.ends.items) stopped i)
     ++ live.arrivals.items ++ asked_report report (report_by plan live.sets live.ends.items)
 
-pub unlimited_live : (form : OutputForm) (report : Bool) (plan : Plan) (limit : ℤ) (workers : ℕ) (first : Inputs) (later : List Inputs) (end : FeedEnd) (status : Status) (output notes : Device SinkTold) (boxes : Device (List CalculatorTold))
-    → OneLive form report (limited_plan plan limit workers) first later end status output notes boxes → OneLive form report plan first later end status output notes boxes
+pub unlimited_live : (laws : Laws) (form : OutputForm) (report : Bool) (plan : Plan) (limit : ℤ) (workers : ℕ) (first : Inputs) (later : List Inputs) (end : FeedEnd) (status : Status) (output notes : Device SinkTold) (boxes : Device (List BoxTold))
+    → OneLive laws form report (limited_plan plan limit workers) first later end status output notes boxes → OneLive laws form report plan first later end status output notes boxes
 unfolding comes_same
-unlimited_live form report plan limit workers first later end status output notes boxes r =
-    let job = core_job (split_of plan) (last_batch first later) r.comes.takens in
+unlimited_live laws form report plan limit workers first later end status output notes boxes r =
+    let job = core_job laws (split_of plan) (last_batch first later) r.comes.takens in
     record {
-      comes = comes_same plan limit workers first later r.comes;
+      comes = comes_same laws plan limit workers first later r.comes;
       wrote = subst (λ (a : RunAnswer). WroteBy status a (told_failed report plan end r.comes.live) output notes) (answer_same form report plan limit workers end r.comes.live r.comes.streams)
           (subst (λ (f : List ℕ). WroteBy status (told_answer report (limited_plan plan limit workers) end r.comes.live (output_in form (split_of (limited_plan plan limit workers)).core r.comes.streams)) f output notes)
           (failed_same report plan limit workers end r.comes.live) r.wrote);

@@ -1,7 +1,8 @@
 -- There is one answer, and of a recorded run one end.
 use Rattle.std.proofs.Common.{◌≡◌, ℕ, Bool, List, [], sym, ap, ◌∙◌}
+use Rattle.mg_calc.specs.Rules.{Laws}
 use Rattle.mg_calc.specs.declared.plan.Plan.{Plan}
-use Rattle.mg_calc.specs.Told.{CalculatorTold}
+use Rattle.mg_calc.specs.Told.{BoxTold}
 use Rattle.mg_feed.specs.Graph.{inputs_of}
 use Rattle.mg_feed.specs.declared.feed_end.FeedEnd.TheVariants.{Ended}
 use Rattle.mg_answer.specs.Answer.{totals, ended_input, by_summary, generated_job, AnswersEnded, AnswersGenerated}
@@ -10,22 +11,22 @@ use Rattle.mg_drive.specs.Traced.{TracesEnded}
 use Rattle.mg_run.proofs.OneLiveAnswer.{one-of-live, one-of-lines}
 use Rattle.mg_run.specs.Answer.{RunAnswer, Action, refuse, show, run_plan, run_live, solve, generate, generate_live, trace, replay, AnswersAction, Records, Replays}
 
-pub one-of-run : (report : Bool) (plan : Plan) (input : List ℕ) (a b : RunAnswer) → AnswersEnded report plan input a → AnswersEnded report plan input b → a ≡ b
-one-of-run report plan input a b one two = one-answer report plan (ended_input (inputs_of plan) input) a b one two
+pub one-of-run : (laws : Laws) (report : Bool) (plan : Plan) (input : List ℕ) (a b : RunAnswer) → AnswersEnded laws report plan input a → AnswersEnded laws report plan input b → a ≡ b
+one-of-run laws report plan input a b one two = one-answer laws report plan (ended_input (inputs_of plan) input) a b one two
 
-one-of-made : (report : Bool) (plan : Plan) (number : ℕ) (a b : RunAnswer) → AnswersGenerated report plan number a → AnswersGenerated report plan number b → a ≡ b
-one-of-made report plan number a b one two = one-of (by_summary report) (generated_job plan number) Ended a b one two
+one-of-made : (laws : Laws) (report : Bool) (plan : Plan) (number : ℕ) (a b : RunAnswer) → AnswersGenerated laws report plan number a → AnswersGenerated laws report plan number b → a ≡ b
+one-of-made laws report plan number a b one two = one-of (by_summary report) (generated_job laws plan number) Ended a b one two
 
-pub one-of-job : (job : Action) (boxes : List CalculatorTold) (input : List ℕ) (a b : RunAnswer) → ¬ Records job → ¬ Replays job → AnswersAction job boxes input a → AnswersAction job boxes input b → a ≡ b
-one-of-job (refuse note) boxes input a b other given one two = one ∙ sym two
-one-of-job (show text) boxes input a b other given one two = one ∙ sym two
-one-of-job (run_plan report plan) boxes input a b other given one two = one-of-run report plan input a b one two
-one-of-job (run_live report plan) boxes input a b other given one two = one-of-lines report plan input a b one two
-one-of-job (solve report plan) boxes input a b other given one two = one-of-run report plan input a b one two
-one-of-job (generate report number plan) boxes input a b other given one two = one-of-made report plan number a b one two
-one-of-job (generate_live report number plan) boxes input a b other given one two = one-of-live totals report plan (generated_job plan number).inputs [] Ended a b one two
-one-of-job (trace report plan) boxes input a b other given one two = absurd (other tt)
-one-of-job (replay report plan) boxes input a b other given one two = absurd (given tt)
+pub one-of-job : (laws : Laws) (job : Action) (boxes : List BoxTold) (input : List ℕ) (a b : RunAnswer) → ¬ Records job → ¬ Replays job → AnswersAction laws job boxes input a → AnswersAction laws job boxes input b → a ≡ b
+one-of-job laws (refuse note) boxes input a b other given one two = one ∙ sym two
+one-of-job laws (show text) boxes input a b other given one two = one ∙ sym two
+one-of-job laws (run_plan report plan) boxes input a b other given one two = one-of-run laws report plan input a b one two
+one-of-job laws (run_live report plan) boxes input a b other given one two = one-of-lines laws report plan input a b one two
+one-of-job laws (solve report plan) boxes input a b other given one two = one-of-run laws report plan input a b one two
+one-of-job laws (generate report number plan) boxes input a b other given one two = one-of-made laws report plan number a b one two
+one-of-job laws (generate_live report number plan) boxes input a b other given one two = one-of-live laws totals report plan (generated_job laws plan number).inputs [] Ended a b one two
+one-of-job laws (trace report plan) boxes input a b other given one two = absurd (other tt)
+one-of-job laws (replay report plan) boxes input a b other given one two = absurd (given tt)
 
 -- what two answers end with is the same
 abbrev pub EndAlike : RunAnswer → RunAnswer → Type 0
@@ -34,23 +35,23 @@ EndAlike a b = (a.notes ≡ b.notes) × (a.status ≡ b.status)
 alike : (a b : RunAnswer) → a ≡ b → EndAlike a b
 alike a b same = (ap (λ (x : RunAnswer). x.notes) same, ap (λ (x : RunAnswer). x.status) same)
 
-pub ends-as-run : (report : Bool) (plan : Plan) (boxes : List CalculatorTold) (input : List ℕ) (a b : RunAnswer) → TracesEnded report plan boxes input a → AnswersEnded report plan input b → EndAlike a b
-ends-as-run report plan boxes input a b one two =
-    let same = one-of-run report plan input one.of_run b one.is_answer two in
+pub ends-as-run : (laws : Laws) (report : Bool) (plan : Plan) (boxes : List BoxTold) (input : List ℕ) (a b : RunAnswer) → TracesEnded laws report plan boxes input a → AnswersEnded laws report plan input b → EndAlike a b
+ends-as-run laws report plan boxes input a b one two =
+    let same = one-of-run laws report plan input one.of_run b one.is_answer two in
     (ap (λ (x : RunAnswer). x.notes) one.is ∙ ap (λ (x : RunAnswer). x.notes) same, ap (λ (x : RunAnswer). x.status) one.is ∙ ap (λ (x : RunAnswer). x.status) same)
 
-two-traces : (report : Bool) (plan : Plan) (boxes : List CalculatorTold) (input : List ℕ) (a b : RunAnswer) → TracesEnded report plan boxes input a → TracesEnded report plan boxes input b → EndAlike a b
-two-traces report plan boxes input a b one two =
-    let first = ends-as-run report plan boxes input a two.of_run one two.is_answer in
+two-traces : (laws : Laws) (report : Bool) (plan : Plan) (boxes : List BoxTold) (input : List ℕ) (a b : RunAnswer) → TracesEnded laws report plan boxes input a → TracesEnded laws report plan boxes input b → EndAlike a b
+two-traces laws report plan boxes input a b one two =
+    let first = ends-as-run laws report plan boxes input a two.of_run one two.is_answer in
     (first.0 ∙ sym (ap (λ (x : RunAnswer). x.notes) two.is), first.1 ∙ sym (ap (λ (x : RunAnswer). x.status) two.is))
 
-pub one-end : (job : Action) (boxes : List CalculatorTold) (input : List ℕ) (a b : RunAnswer) → ¬ Replays job → AnswersAction job boxes input a → AnswersAction job boxes input b → EndAlike a b
-one-end (refuse note) boxes input a b given one two = alike a b (one ∙ sym two)
-one-end (show text) boxes input a b given one two = alike a b (one ∙ sym two)
-one-end (run_plan report plan) boxes input a b given one two = alike a b (one-of-run report plan input a b one two)
-one-end (run_live report plan) boxes input a b given one two = alike a b (one-of-lines report plan input a b one two)
-one-end (solve report plan) boxes input a b given one two = alike a b (one-of-run report plan input a b one two)
-one-end (generate report number plan) boxes input a b given one two = alike a b (one-of-made report plan number a b one two)
-one-end (generate_live report number plan) boxes input a b given one two = alike a b (one-of-live totals report plan (generated_job plan number).inputs [] Ended a b one two)
-one-end (trace report plan) boxes input a b given one two = two-traces report plan boxes input a b one two
-one-end (replay report plan) boxes input a b given one two = absurd (given tt)
+pub one-end : (laws : Laws) (job : Action) (boxes : List BoxTold) (input : List ℕ) (a b : RunAnswer) → ¬ Replays job → AnswersAction laws job boxes input a → AnswersAction laws job boxes input b → EndAlike a b
+one-end laws (refuse note) boxes input a b given one two = alike a b (one ∙ sym two)
+one-end laws (show text) boxes input a b given one two = alike a b (one ∙ sym two)
+one-end laws (run_plan report plan) boxes input a b given one two = alike a b (one-of-run laws report plan input a b one two)
+one-end laws (run_live report plan) boxes input a b given one two = alike a b (one-of-lines laws report plan input a b one two)
+one-end laws (solve report plan) boxes input a b given one two = alike a b (one-of-run laws report plan input a b one two)
+one-end laws (generate report number plan) boxes input a b given one two = alike a b (one-of-made laws report plan number a b one two)
+one-end laws (generate_live report number plan) boxes input a b given one two = alike a b (one-of-live laws totals report plan (generated_job laws plan number).inputs [] Ended a b one two)
+one-end laws (trace report plan) boxes input a b given one two = two-traces laws report plan boxes input a b one two
+one-end laws (replay report plan) boxes input a b given one two = absurd (given tt)

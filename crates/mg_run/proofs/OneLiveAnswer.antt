@@ -2,6 +2,7 @@
 use Rattle.std.proofs.Common.{◌≡◌, ℕ, Bool, List, [], ◌∷◌, ◌++◌, map, length, drop, slice_index_or, refl, sym, ap, ◌∙◌, subst}
 use Rattle.mg_value.specs.Payload.{Plain}
 use Rattle.mg_settled.specs.Prefix.{StreamPrefix}
+use Rattle.mg_calc.specs.Rules.{Laws}
 use Rattle.mg_calc.specs.declared.inputs.Inputs.{Inputs}
 use Rattle.mg_calc.specs.declared.node_fault.NodeFault.{NodeFault}
 use Rattle.mg_calc.specs.declared.plan.Plan.{Plan}
@@ -35,40 +36,40 @@ answer_by report whole end fs sets ends arrivals text = record {
 }
 
 -- what the logs and the core's solution make of it
-abbrev answer_in : OutputForm → Bool → Plan → Inputs → FeedEnd → List Taken → List (StreamPrefix Plain) → RunAnswer
-answer_in form report whole base end takens streams =
+abbrev answer_in : Laws → OutputForm → Bool → Plan → Inputs → FeedEnd → List Taken → List (StreamPrefix Plain) → RunAnswer
+answer_in laws form report whole base end takens streams =
     answer_by report whole end
-    (map (renumbered_fault (split_of whole).numbers) (faults (core_job (split_of whole) base takens) streams))
-    (sets_by whole.nodes (counts (core_job (split_of whole) base takens) streams) (map (λ t. length t.log) takens))
+    (map (renumbered_fault (split_of whole).numbers) (faults (core_job laws (split_of whole) base takens) streams))
+    (sets_by whole.nodes (counts (core_job laws (split_of whole) base takens) streams) (map (λ t. length t.log) takens))
     (map (λ s. end_of (stream_of streams (stream_number whole s))) (numbers (length whole.streams)))
     (arrivals_text (split_of whole).free takens)
     (output_in form (split_of whole).core streams)
 
-answer_told : (form : OutputForm) (report : Bool) (whole : Plan) (first : Inputs) (later : List Inputs) (end : FeedEnd) (a : RunAnswer) → (is : IsLiveAnswer form report whole first later end a)
-    → a ≡ answer_in form report whole (last_batch first later) end is.comes.takens is.comes.streams
-answer_told form report whole first later end a is =
+answer_told : (laws : Laws) (form : OutputForm) (report : Bool) (whole : Plan) (first : Inputs) (later : List Inputs) (end : FeedEnd) (a : RunAnswer) → (is : IsLiveAnswer laws form report whole first later end a)
+    → a ≡ answer_in laws form report whole (last_batch first later) end is.comes.takens is.comes.streams
+answer_told laws form report whole first later end a is =
     let told = is.comes.tells in
     is.is ∙ (λ i. answer_by report whole end (told.faults i) (told.sets i) (told.ends i) (told.arrivals i) (output_in form (split_of whole).core is.comes.streams))
 
-pub one-of-live : (form : OutputForm) (report : Bool) (whole : Plan) (first : Inputs) (later : List Inputs) (end : FeedEnd) (a b : RunAnswer) → IsLiveAnswer form report whole first later end a → IsLiveAnswer form report whole first later end b → a ≡ b
-one-of-live form report whole first later end a b one two =
+pub one-of-live : (laws : Laws) (form : OutputForm) (report : Bool) (whole : Plan) (first : Inputs) (later : List Inputs) (end : FeedEnd) (a b : RunAnswer) → IsLiveAnswer laws form report whole first later end a → IsLiveAnswer laws form report whole first later end b → a ≡ b
+one-of-live laws form report whole first later end a b one two =
     let split = split_of whole in
     let base = last_batch first later in
-    let logs = all_rounds_one split (first ∷ later) (none_taken split) one.comes.takens two.comes.takens one.comes.rounds two.comes.rounds in
-    let solution : IsSolution (core_job split base two.comes.takens) one.comes.streams = subst (λ (ts : List Taken). IsSolution (core_job split base ts) one.comes.streams) logs one.comes.solution in
-    let streams = one_solution (core_job split base two.comes.takens) one.comes.streams two.comes.streams solution two.comes.solution in
-    answer_told form report whole first later end a one ∙ (λ i. answer_in form report whole base end (logs i) (streams i)) ∙ sym (answer_told form report whole first later end b two)
+    let logs = all_rounds_one laws split (first ∷ later) (none_taken split) one.comes.takens two.comes.takens one.comes.rounds two.comes.rounds in
+    let solution : IsSolution (core_job laws split base two.comes.takens) one.comes.streams = subst (λ (ts : List Taken). IsSolution (core_job laws split base ts) one.comes.streams) logs one.comes.solution in
+    let streams = one_solution (core_job laws split base two.comes.takens) one.comes.streams two.comes.streams solution two.comes.solution in
+    answer_told laws form report whole first later end a one ∙ (λ i. answer_in laws form report whole base end (logs i) (streams i)) ∙ sym (answer_told laws form report whole first later end b two)
 
 -- the batches of an input are one thing
 pub one-batches : (whole : Plan) (read : Read) (batches other : List Inputs) → AreBatchesOf whole read batches → AreBatchesOf whole read other → batches ≡ other
 one-batches whole read batches other a b =
     sym a.are ∙ ap (come_after (inputs_of whole) read.end []) (one_cut read.lines read.lines a.lines b.lines refl a.in_batches b.in_batches) ∙ b.are
 
-pub one-of-lines : (report : Bool) (whole : Plan) (input : List ℕ) (a b : RunAnswer) → AnswersLive report whole input a → AnswersLive report whole input b → a ≡ b
-one-of-lines report whole input a b one two =
+pub one-of-lines : (laws : Laws) (report : Bool) (whole : Plan) (input : List ℕ) (a b : RunAnswer) → AnswersLive laws report whole input a → AnswersLive laws report whole input b → a ≡ b
+one-of-lines laws report whole input a b one two =
     let end = (ended_input (inputs_of whole) input).end in
     let same = one-batches whole (ended_input (inputs_of whole) input) (one.first ∷ one.later) (two.first ∷ two.later) one.batches two.batches in
     let first : one.first ≡ two.first = ap (λ (l : List Inputs). slice_index_or l 0 one.first) same in
     let later : one.later ≡ two.later = ap (λ (l : List Inputs). drop 1 l) same in
-    one-of-live packet_lines report whole two.first two.later end a b
-    (subst (λ (i : Inputs). IsLiveAnswer packet_lines report whole i two.later end a) first (subst (λ (l : List Inputs). IsLiveAnswer packet_lines report whole one.first l end a) later one.answers)) two.answers
+    one-of-live laws packet_lines report whole two.first two.later end a b
+    (subst (λ (i : Inputs). IsLiveAnswer laws packet_lines report whole i two.later end a) first (subst (λ (l : List Inputs). IsLiveAnswer laws packet_lines report whole one.first l end a) later one.answers)) two.answers

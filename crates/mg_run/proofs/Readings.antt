@@ -1,10 +1,11 @@
 -- What follows of a run as one thing, by its status.
 use Rattle.std.proofs.Common.{◌≡◌, ◌≢◌, ◌⊎◌, inl, inr, ℕ, Bool, List, [], ◌∷◌, length, refl, ap}
 use Rattle.mg_edge.specs.Edge.{SourceTold, SinkTold}
+use Rattle.mg_calc.specs.Rules.{Laws}
 use Rattle.mg_calc.specs.declared.node_fault.NodeFault.{NodeFault as Fault}
 use Rattle.mg_calc.specs.declared.plan.Plan.{Plan}
 use Rattle.mg_calc.specs.Meaning.{faults, stalled}
-use Rattle.mg_calc.specs.Told.{CalculatorTold}
+use Rattle.mg_calc.specs.Told.{BoxTold}
 use Rattle.mg_feed.specs.Ran.{EndCame}
 use Rattle.mg_feed.specs.declared.feed_end.FeedEnd.{FeedEnd}
 use Rattle.mg_feed.specs.declared.feed_end.FeedEnd.TheVariants.{Ended, Failed, Refused, OutOfMemory as no_lines}
@@ -24,12 +25,12 @@ use Rattle.mg_run.specs.Devices.{Device, RunDevices, HasRisen, TookNotes}
 use Rattle.mg_run.specs.Call.{IsOneOf}
 
 -- Without want of memory a run is what mg_answer says of one.
-one_ran : (report : Bool) (plan : Plan) (status : Status) (all : RunDevices) (boxes : Device (List CalculatorTold)) → OneReading report plan status all boxes → runs.RanOn report plan status all
-one_ran report plan status all boxes one =
-    written-ran report plan one.read all status one.came (record { streams = one.run.streams; solution = one.run.solution; by = one.run.wrote })
+one_ran : (laws : Laws) (report : Bool) (plan : Plan) (status : Status) (all : RunDevices) (boxes : Device (List BoxTold)) → OneReading laws report plan status all boxes → runs.RanOn laws report plan status all
+one_ran laws report plan status all boxes one =
+    written-ran laws report plan one.read all status one.came (record { streams = one.run.streams; solution = one.run.solution; by = one.run.wrote })
 
-made_ran : (report : Bool) (plan : Plan) (number : ℕ) (status : Status) (all : RunDevices) (boxes : Device (List CalculatorTold)) → OneMade report plan number status all.output all.notes boxes → runs.RanGenerated report plan number status all
-made_ran report plan number status all boxes one = generated-ran report plan number status all (record { streams = one.streams; solution = one.solution; by = one.wrote })
+made_ran : (laws : Laws) (report : Bool) (plan : Plan) (number : ℕ) (status : Status) (all : RunDevices) (boxes : Device (List BoxTold)) → OneMade laws report plan number status all.output all.notes boxes → runs.RanGenerated laws report plan number status all
+made_ran laws report plan number status all boxes one = generated-ran laws report plan number status all (record { streams = one.streams; solution = one.solution; by = one.wrote })
 
 -- Its status --
 
@@ -53,80 +54,80 @@ no_memory [] [] is = cc
 no_memory [] (n ∷ ns) is = cc
 no_memory (f ∷ fs) ns is = cc
 
-pub lines-no-store : (report : Bool) (plan : Plan) (all : RunDevices) (boxes : Device (List CalculatorTold)) → RanOverLines report plan StoreFault all boxes → ⊥
-lines-no-store report plan all boxes (inl one) = no-status StoreFault one.read.end (faults (job_of plan one.read) one.run.streams) (stalled one.run.streams) (inl refl) one.run.wrote.told
-lines-no-store report plan all boxes (inr short) = let e = short.is in cc
+pub lines-no-store : (laws : Laws) (report : Bool) (plan : Plan) (all : RunDevices) (boxes : Device (List BoxTold)) → RanOverLines laws report plan StoreFault all boxes → ⊥
+lines-no-store laws report plan all boxes (inl one) = no-status StoreFault one.read.end (faults (job_of laws plan one.read) one.run.streams) (stalled one.run.streams) (inl refl) one.run.wrote.told
+lines-no-store laws report plan all boxes (inr short) = let e = short.is in cc
 
-pub lines-no-usage : (report : Bool) (plan : Plan) (all : RunDevices) (boxes : Device (List CalculatorTold)) → RanOverLines report plan Usage all boxes → ⊥
-lines-no-usage report plan all boxes (inl one) = no-status Usage one.read.end (faults (job_of plan one.read) one.run.streams) (stalled one.run.streams) (inr refl) one.run.wrote.told
-lines-no-usage report plan all boxes (inr short) = let e = short.is in cc
+pub lines-no-usage : (laws : Laws) (report : Bool) (plan : Plan) (all : RunDevices) (boxes : Device (List BoxTold)) → RanOverLines laws report plan Usage all boxes → ⊥
+lines-no-usage laws report plan all boxes (inl one) = no-status Usage one.read.end (faults (job_of laws plan one.read) one.run.streams) (stalled one.run.streams) (inr refl) one.run.wrote.told
+lines-no-usage laws report plan all boxes (inr short) = let e = short.is in cc
 
-pub packets-no-store : (report : Bool) (plan : Plan) (number : ℕ) (output notes : Device SinkTold) (boxes : Device (List CalculatorTold)) → RanOverPackets report plan number StoreFault output notes boxes → ⊥
-packets-no-store report plan number output notes boxes (inl one) = no-status StoreFault Ended (faults (generated_job plan number) one.streams) (stalled one.streams) (inl refl) one.wrote.told
-packets-no-store report plan number output notes boxes (inr short) = let e = short.is in cc
+pub packets-no-store : (laws : Laws) (report : Bool) (plan : Plan) (number : ℕ) (output notes : Device SinkTold) (boxes : Device (List BoxTold)) → RanOverPackets laws report plan number StoreFault output notes boxes → ⊥
+packets-no-store laws report plan number output notes boxes (inl one) = no-status StoreFault Ended (faults (generated_job laws plan number) one.streams) (stalled one.streams) (inl refl) one.wrote.told
+packets-no-store laws report plan number output notes boxes (inr short) = let e = short.is in cc
 
-pub packets-no-usage : (report : Bool) (plan : Plan) (number : ℕ) (output notes : Device SinkTold) (boxes : Device (List CalculatorTold)) → RanOverPackets report plan number Usage output notes boxes → ⊥
-packets-no-usage report plan number output notes boxes (inl one) = no-status Usage Ended (faults (generated_job plan number) one.streams) (stalled one.streams) (inr refl) one.wrote.told
-packets-no-usage report plan number output notes boxes (inr short) = let e = short.is in cc
+pub packets-no-usage : (laws : Laws) (report : Bool) (plan : Plan) (number : ℕ) (output notes : Device SinkTold) (boxes : Device (List BoxTold)) → RanOverPackets laws report plan number Usage output notes boxes → ⊥
+packets-no-usage laws report plan number output notes boxes (inl one) = no-status Usage Ended (faults (generated_job laws plan number) one.streams) (stalled one.streams) (inr refl) one.wrote.told
+packets-no-usage laws report plan number output notes boxes (inr short) = let e = short.is in cc
 
 -- Where memory ran out the notes say so.
-pub lines-noted : (report : Bool) (plan : Plan) (all : RunDevices) (boxes : Device (List CalculatorTold)) → RanOverLines report plan OutOfMemory all boxes → TookNotes all.notes memory_note
-lines-noted report plan all boxes (inl one) =
-    absurd (no-want plan all.input one.read.end (faults (job_of plan one.read) one.run.streams) (stalled one.run.streams) one.came.came one.read one.came.by one.run.wrote.told)
-lines-noted report plan all boxes (inr short) = short.noted
+pub lines-noted : (laws : Laws) (report : Bool) (plan : Plan) (all : RunDevices) (boxes : Device (List BoxTold)) → RanOverLines laws report plan OutOfMemory all boxes → TookNotes all.notes memory_note
+lines-noted laws report plan all boxes (inl one) =
+    absurd (no-want plan all.input one.read.end (faults (job_of laws plan one.read) one.run.streams) (stalled one.run.streams) one.came.came one.read one.came.by one.run.wrote.told)
+lines-noted laws report plan all boxes (inr short) = short.noted
 
-pub packets-noted : (report : Bool) (plan : Plan) (number : ℕ) (output notes : Device SinkTold) (boxes : Device (List CalculatorTold)) → RanOverPackets report plan number OutOfMemory output notes boxes → TookNotes notes memory_note
-packets-noted report plan number output notes boxes (inl one) = absurd (no_memory (faults (generated_job plan number) one.streams) (stalled one.streams) one.wrote.told)
-packets-noted report plan number output notes boxes (inr short) = short.noted
+pub packets-noted : (laws : Laws) (report : Bool) (plan : Plan) (number : ℕ) (output notes : Device SinkTold) (boxes : Device (List BoxTold)) → RanOverPackets laws report plan number OutOfMemory output notes boxes → TookNotes notes memory_note
+packets-noted laws report plan number output notes boxes (inl one) = absurd (no_memory (faults (generated_job laws plan number) one.streams) (stalled one.streams) one.wrote.told)
+packets-noted laws report plan number output notes boxes (inr short) = short.noted
 
 -- The calculators --
 
-short_count : (plan : Plan) (input : Device SourceTold) (output : Device SinkTold) (boxes : Device (List CalculatorTold)) → ShortIn plan input output boxes → length boxes.now ≡ length boxes.before
-short_count plan input output boxes (inl short) = ap length short.nothing.uncalled
-short_count plan input output boxes (inr (inl short)) = short.short.had.back.count
-short_count plan input output boxes (inr (inr short)) = (short.short [] (λ ended. refl)).had.back.count
+short_count : (laws : Laws) (plan : Plan) (input : Device SourceTold) (output : Device SinkTold) (boxes : Device (List BoxTold)) → ShortIn laws plan input output boxes → length boxes.now ≡ length boxes.before
+short_count laws plan input output boxes (inl short) = ap length short.nothing.uncalled
+short_count laws plan input output boxes (inr (inl short)) = short.short.had.back.count
+short_count laws plan input output boxes (inr (inr short)) = (short.short [] (λ ended. refl)).had.back.count
 
-pub lines-boxes : (report : Bool) (plan : Plan) (status : Status) (all : RunDevices) (boxes : Device (List CalculatorTold)) → RanOverLines report plan status all boxes → length boxes.now ≡ length boxes.before
-lines-boxes report plan status all boxes (inl one) = one.run.had.back.count
-lines-boxes report plan status all boxes (inr short) = short_count plan all.input all.output boxes short.by
+pub lines-boxes : (laws : Laws) (report : Bool) (plan : Plan) (status : Status) (all : RunDevices) (boxes : Device (List BoxTold)) → RanOverLines laws report plan status all boxes → length boxes.now ≡ length boxes.before
+lines-boxes laws report plan status all boxes (inl one) = one.run.had.back.count
+lines-boxes laws report plan status all boxes (inr short) = short_count laws plan all.input all.output boxes short.by
 
-made_count : (plan : Plan) (number : ℕ) (output : Device SinkTold) (boxes : Device (List CalculatorTold)) → ShortInMade plan number output boxes → length boxes.now ≡ length boxes.before
-made_count plan number output boxes (inl nothing) = ap length nothing.uncalled
-made_count plan number output boxes (inr short) = short.had.back.count
+made_count : (laws : Laws) (plan : Plan) (number : ℕ) (output : Device SinkTold) (boxes : Device (List BoxTold)) → ShortInMade laws plan number output boxes → length boxes.now ≡ length boxes.before
+made_count laws plan number output boxes (inl nothing) = ap length nothing.uncalled
+made_count laws plan number output boxes (inr short) = short.had.back.count
 
-pub packets-boxes : (report : Bool) (plan : Plan) (number : ℕ) (status : Status) (output notes : Device SinkTold) (boxes : Device (List CalculatorTold)) → RanOverPackets report plan number status output notes boxes → length boxes.now ≡ length boxes.before
-packets-boxes report plan number status output notes boxes (inl one) = one.had.back.count
-packets-boxes report plan number status output notes boxes (inr short) = made_count plan number output boxes short.by
+pub packets-boxes : (laws : Laws) (report : Bool) (plan : Plan) (number : ℕ) (status : Status) (output notes : Device SinkTold) (boxes : Device (List BoxTold)) → RanOverPackets laws report plan number status output notes boxes → length boxes.now ≡ length boxes.before
+packets-boxes laws report plan number status output notes boxes (inl one) = one.had.back.count
+packets-boxes laws report plan number status output notes boxes (inr short) = made_count laws plan number output boxes short.by
 
 -- The answer, the input's end and faults --
 
-pub lines-answered : (report : Bool) (plan : Plan) (status : Status) (all : RunDevices) (boxes : Device (List CalculatorTold)) → RanOverLines report plan status all boxes → answers.NoneFailed all → status ≢ OutOfMemory → runs.IsAnswered report plan status all
-lines-answered report plan status all boxes (inl one) none some = on-answered report plan status all (one_ran report plan status all boxes one) none some
-lines-answered report plan status all boxes (inr short) none some = absurd (some short.is)
+pub lines-answered : (laws : Laws) (report : Bool) (plan : Plan) (status : Status) (all : RunDevices) (boxes : Device (List BoxTold)) → RanOverLines laws report plan status all boxes → answers.NoneFailed all → status ≢ OutOfMemory → runs.IsAnswered laws report plan status all
+lines-answered laws report plan status all boxes (inl one) none some = on-answered laws report plan status all (one_ran laws report plan status all boxes one) none some
+lines-answered laws report plan status all boxes (inr short) none some = absurd (some short.is)
 
-pub packets-answered : (report : Bool) (plan : Plan) (number : ℕ) (status : Status) (all : RunDevices) (boxes : Device (List CalculatorTold)) → RanOverPackets report plan number status all.output all.notes boxes → answers.NoneFailed all → status ≢ OutOfMemory
-    → (answer : RunAnswer) × AnswersGenerated report plan number answer × Meets answer status all.output all.notes
-packets-answered report plan number status all boxes (inl one) none some = generated-answered report plan number status all (made_ran report plan number status all boxes one) none.output none.notes some
-packets-answered report plan number status all boxes (inr short) none some = absurd (some short.is)
+pub packets-answered : (laws : Laws) (report : Bool) (plan : Plan) (number : ℕ) (status : Status) (all : RunDevices) (boxes : Device (List BoxTold)) → RanOverPackets laws report plan number status all.output all.notes boxes → answers.NoneFailed all → status ≢ OutOfMemory
+    → (answer : RunAnswer) × AnswersGenerated laws report plan number answer × Meets answer status all.output all.notes
+packets-answered laws report plan number status all boxes (inl one) none some = generated-answered laws report plan number status all (made_ran laws report plan number status all boxes one) none.output none.notes some
+packets-answered laws report plan number status all boxes (inr short) none some = absurd (some short.is)
 
-pub lines-ended : (report : Bool) (plan : Plan) (status : Status) (all : RunDevices) (boxes : Device (List CalculatorTold)) → RanOverLines report plan status all boxes → (status ≡ OutOfMemory → IsOneOf status (Good ∷ NodeFault ∷ Stalled ∷ []) → ⊥)
+pub lines-ended : (laws : Laws) (report : Bool) (plan : Plan) (status : Status) (all : RunDevices) (boxes : Device (List BoxTold)) → RanOverLines laws report plan status all boxes → (status ≡ OutOfMemory → IsOneOf status (Good ∷ NodeFault ∷ Stalled ∷ []) → ⊥)
     → IsOneOf status (Good ∷ NodeFault ∷ Stalled ∷ []) → EndCame all.input.before all.input.now
-lines-ended report plan status all boxes (inl one) short one_of = on-ended report plan status all (one_ran report plan status all boxes one) one_of
-lines-ended report plan status all boxes (inr out) short one_of = absurd (short out.is one_of)
+lines-ended laws report plan status all boxes (inl one) short one_of = on-ended laws report plan status all (one_ran laws report plan status all boxes one) one_of
+lines-ended laws report plan status all boxes (inr out) short one_of = absurd (short out.is one_of)
 
-pub lines-read-risen : (report : Bool) (plan : Plan) (status : Status) (all : RunDevices) (boxes : Device (List CalculatorTold)) → RanOverLines report plan status all boxes → HasRisen all.input.before.faults all.input.now.faults
+pub lines-read-risen : (laws : Laws) (report : Bool) (plan : Plan) (status : Status) (all : RunDevices) (boxes : Device (List BoxTold)) → RanOverLines laws report plan status all boxes → HasRisen all.input.before.faults all.input.now.faults
     → IsOneOf status (ReadFault ∷ WriteFault ∷ OutOfMemory ∷ [])
-lines-read-risen report plan status all boxes (inl one) risen = on-read-risen report plan status all (one_ran report plan status all boxes one) risen
-lines-read-risen report plan status all boxes (inr short) risen = inr (inr (inl short.is))
+lines-read-risen laws report plan status all boxes (inl one) risen = on-read-risen laws report plan status all (one_ran laws report plan status all boxes one) risen
+lines-read-risen laws report plan status all boxes (inr short) risen = inr (inr (inl short.is))
 
 abbrev EitherRisen : RunDevices → Type 0
 EitherRisen all = HasRisen all.output.before.faults all.output.now.faults ⊎ HasRisen all.notes.before.faults all.notes.now.faults
 
-pub lines-write-risen : (report : Bool) (plan : Plan) (status : Status) (all : RunDevices) (boxes : Device (List CalculatorTold)) → RanOverLines report plan status all boxes → EitherRisen all → IsOneOf status (WriteFault ∷ OutOfMemory ∷ [])
-lines-write-risen report plan status all boxes (inl one) risen = on-write-risen report plan status all (one_ran report plan status all boxes one) risen
-lines-write-risen report plan status all boxes (inr short) risen = inr (inl short.is)
+pub lines-write-risen : (laws : Laws) (report : Bool) (plan : Plan) (status : Status) (all : RunDevices) (boxes : Device (List BoxTold)) → RanOverLines laws report plan status all boxes → EitherRisen all → IsOneOf status (WriteFault ∷ OutOfMemory ∷ [])
+lines-write-risen laws report plan status all boxes (inl one) risen = on-write-risen laws report plan status all (one_ran laws report plan status all boxes one) risen
+lines-write-risen laws report plan status all boxes (inr short) risen = inr (inl short.is)
 
-pub packets-write-risen : (report : Bool) (plan : Plan) (number : ℕ) (status : Status) (all : RunDevices) (boxes : Device (List CalculatorTold)) → RanOverPackets report plan number status all.output all.notes boxes → EitherRisen all
+pub packets-write-risen : (laws : Laws) (report : Bool) (plan : Plan) (number : ℕ) (status : Status) (all : RunDevices) (boxes : Device (List BoxTold)) → RanOverPackets laws report plan number status all.output all.notes boxes → EitherRisen all
     → IsOneOf status (WriteFault ∷ OutOfMemory ∷ [])
-packets-write-risen report plan number status all boxes (inl one) risen = generated-risen report plan number status all (made_ran report plan number status all boxes one) risen
-packets-write-risen report plan number status all boxes (inr short) risen = inr (inl short.is)
+packets-write-risen laws report plan number status all boxes (inl one) risen = generated-risen laws report plan number status all (made_ran laws report plan number status all boxes one) risen
+packets-write-risen laws report plan number status all boxes (inr short) risen = inr (inl short.is)

@@ -1,6 +1,7 @@
 -- Which statuses a call may have whose devices failed.
 use Rattle.std.proofs.Common.{◌≡◌, ℕ, List, [], ◌∷◌, ◌⊎◌, inl, inr, refl, ap, arith}
 use Rattle.mg_edge.specs.Edge.{SourceTold, SinkTold}
+use Rattle.mg_calc.specs.Rules.{Laws}
 use Rattle.mg_run.specs.Invocation.{Invocation}
 use Rattle.mg_answer.proofs.Answering.{read-risen as run-read-risen, write-risen as run-write-risen}
 use Rattle.mg_run.proofs.Readings.{lines-read-risen, lines-write-risen, packets-write-risen}
@@ -23,44 +24,44 @@ risen-unwritten : (sink : Device SinkTold) → HasRisen sink.before.faults sink.
 risen-unwritten sink risen untouched = risen-steady _ _ risen (ap (λ s. s.faults) untouched)
 
 -- The store's count rose.
-pub store-risen : (status : Status) (invocation : Invocation) (all : CallDevices) → Called status invocation all → HasRisen all.store.before.faults all.store.now.faults → IsOneOf status (StoreFault ∷ OutOfMemory ∷ [])
-store-risen Good invocation all called risen = absurd (risen-steady _ _ risen called.loaded.steady)
-store-risen StoreFault invocation all called risen = inl refl
-store-risen Usage invocation all called risen = elim called [ ]
-store-risen GraphRefused invocation all called risen = absurd (risen-steady _ _ risen called.loaded.steady)
-store-risen LineRefused invocation all called risen = absurd (risen-steady _ _ risen called.loaded.steady)
-store-risen NodeFault invocation all called risen = absurd (risen-steady _ _ risen called.loaded.steady)
-store-risen Stalled invocation all called risen = absurd (risen-steady _ _ risen called.loaded.steady)
-store-risen ReadFault invocation all called risen = absurd (risen-steady _ _ risen called.loaded.steady)
-store-risen WriteFault invocation all called risen = absurd (risen-steady _ _ risen called.loaded.steady)
-store-risen OutOfMemory invocation all called risen = inr (inl refl)
+pub store-risen : (laws : Laws) (status : Status) (invocation : Invocation) (all : CallDevices) → Called laws status invocation all → HasRisen all.store.before.faults all.store.now.faults → IsOneOf status (StoreFault ∷ OutOfMemory ∷ [])
+store-risen laws Good invocation all called risen = absurd (risen-steady _ _ risen called.loaded.steady)
+store-risen laws StoreFault invocation all called risen = inl refl
+store-risen laws Usage invocation all called risen = elim called [ ]
+store-risen laws GraphRefused invocation all called risen = absurd (risen-steady _ _ risen called.loaded.steady)
+store-risen laws LineRefused invocation all called risen = absurd (risen-steady _ _ risen called.loaded.steady)
+store-risen laws NodeFault invocation all called risen = absurd (risen-steady _ _ risen called.loaded.steady)
+store-risen laws Stalled invocation all called risen = absurd (risen-steady _ _ risen called.loaded.steady)
+store-risen laws ReadFault invocation all called risen = absurd (risen-steady _ _ risen called.loaded.steady)
+store-risen laws WriteFault invocation all called risen = absurd (risen-steady _ _ risen called.loaded.steady)
+store-risen laws OutOfMemory invocation all called risen = inr (inl refl)
 
 -- The input's count rose.
 abbrev read_statuses : List Status
 read_statuses = ReadFault ∷ WriteFault ∷ OutOfMemory ∷ []
 
-read-did : (action : Action) (status : Status) (all : CallDevices) → DidAction action status all → HasRisen all.input.before.faults all.input.now.faults → IsOneOf status read_statuses
-read-did (refuse note) status all did risen = absurd (risen-unread all.input risen did.unread)
-read-did (show text) status all did risen = absurd (risen-unread all.input risen did.unread)
-read-did (run_plan report plan) status all did risen = lines-read-risen report plan status (run_devices_of all) all.boxes did risen
-read-did (run_live report plan) status all did risen = live-read-risen report plan status (run_devices_of all) all.boxes did risen
-read-did (solve report plan) status all did risen = run-read-risen report plan status (run_devices_of all) did.ran risen
-read-did (generate report number plan) status all did risen = absurd (risen-unread all.input risen did.unread)
-read-did (generate_live report number plan) status all did risen = absurd (risen-unread all.input risen did.unread)
-read-did (trace report plan) status all did risen = traced_read_risen report plan all.boxes.before status (run_devices_of all) did.ran risen
-read-did (replay report plan) status all did risen = replayed_read_risen report plan status (run_devices_of all) all.boxes did.replayed risen
+read-did : (laws : Laws) (action : Action) (status : Status) (all : CallDevices) → DidAction laws action status all → HasRisen all.input.before.faults all.input.now.faults → IsOneOf status read_statuses
+read-did laws (refuse note) status all did risen = absurd (risen-unread all.input risen did.unread)
+read-did laws (show text) status all did risen = absurd (risen-unread all.input risen did.unread)
+read-did laws (run_plan report plan) status all did risen = lines-read-risen laws report plan status (run_devices_of all) all.boxes did risen
+read-did laws (run_live report plan) status all did risen = live-read-risen laws report plan status (run_devices_of all) all.boxes did risen
+read-did laws (solve report plan) status all did risen = run-read-risen laws report plan status (run_devices_of all) did.ran risen
+read-did laws (generate report number plan) status all did risen = absurd (risen-unread all.input risen did.unread)
+read-did laws (generate_live report number plan) status all did risen = absurd (risen-unread all.input risen did.unread)
+read-did laws (trace report plan) status all did risen = traced_read_risen laws report plan all.boxes.before status (run_devices_of all) did.ran risen
+read-did laws (replay report plan) status all did risen = replayed_read_risen laws report plan status (run_devices_of all) all.boxes did.replayed risen
 
-pub read-risen : (status : Status) (invocation : Invocation) (all : CallDevices) → Called status invocation all → HasRisen all.input.before.faults all.input.now.faults → IsOneOf status read_statuses
-read-risen Good invocation all called risen = read-did called.action Good all called.did risen
-read-risen StoreFault invocation all called risen = absurd (risen-unread all.input risen called.unread)
-read-risen Usage invocation all called risen = elim called [ ]
-read-risen GraphRefused invocation all called risen = read-did called.action GraphRefused all called.did risen
-read-risen LineRefused invocation all called risen = read-did called.action LineRefused all called.did risen
-read-risen NodeFault invocation all called risen = read-did called.action NodeFault all called.did risen
-read-risen Stalled invocation all called risen = read-did called.action Stalled all called.did risen
-read-risen ReadFault invocation all called risen = inl refl
-read-risen WriteFault invocation all called risen = inr (inl refl)
-read-risen OutOfMemory invocation all called risen = inr (inr (inl refl))
+pub read-risen : (laws : Laws) (status : Status) (invocation : Invocation) (all : CallDevices) → Called laws status invocation all → HasRisen all.input.before.faults all.input.now.faults → IsOneOf status read_statuses
+read-risen laws Good invocation all called risen = read-did laws called.action Good all called.did risen
+read-risen laws StoreFault invocation all called risen = absurd (risen-unread all.input risen called.unread)
+read-risen laws Usage invocation all called risen = elim called [ ]
+read-risen laws GraphRefused invocation all called risen = read-did laws called.action GraphRefused all called.did risen
+read-risen laws LineRefused invocation all called risen = read-did laws called.action LineRefused all called.did risen
+read-risen laws NodeFault invocation all called risen = read-did laws called.action NodeFault all called.did risen
+read-risen laws Stalled invocation all called risen = read-did laws called.action Stalled all called.did risen
+read-risen laws ReadFault invocation all called risen = inl refl
+read-risen laws WriteFault invocation all called risen = inr (inl refl)
+read-risen laws OutOfMemory invocation all called risen = inr (inr (inl refl))
 
 -- The output's count or the notes' rose.
 abbrev write_statuses : List Status
@@ -80,27 +81,27 @@ write-shown text status all shown risen = by shown.written risen
 write-status : (status : Status) → IsOneOf status (WriteFault ∷ OutOfMemory ∷ []) → IsOneOf status write_statuses
 write-status status one = inr (inr one)
 
-write-did : (action : Action) (status : Status) (all : CallDevices) → DidAction action status all → EitherRisen all → IsOneOf status write_statuses
-write-did (refuse note) status all did risen = inr (inl did.ended)
-write-did (show text) status all did risen = write-shown text status all did risen
-write-did (run_plan report plan) status all did risen = write-status status (lines-write-risen report plan status (run_devices_of all) all.boxes did risen)
-write-did (run_live report plan) status all did risen = write-status status (live-write-risen report plan status (run_devices_of all) all.boxes did risen)
-write-did (solve report plan) status all did risen = write-status status (run-write-risen report plan status (run_devices_of all) did.ran risen)
-write-did (generate report number plan) status all did risen =
-    write-status status (packets-write-risen report plan number status (run_devices_of all) all.boxes did.ran risen)
-write-did (generate_live report number plan) status all did risen =
-    write-status status (live-made-write-risen report plan number status (run_devices_of all) all.boxes did.ran risen)
-write-did (trace report plan) status all did risen = write-status status (traced_write_risen report plan all.boxes.before status (run_devices_of all) did.ran risen)
-write-did (replay report plan) status all did risen = write-status status (replayed_write_risen report plan status (run_devices_of all) all.boxes did.replayed risen)
+write-did : (laws : Laws) (action : Action) (status : Status) (all : CallDevices) → DidAction laws action status all → EitherRisen all → IsOneOf status write_statuses
+write-did laws (refuse note) status all did risen = inr (inl did.ended)
+write-did laws (show text) status all did risen = write-shown text status all did risen
+write-did laws (run_plan report plan) status all did risen = write-status status (lines-write-risen laws report plan status (run_devices_of all) all.boxes did risen)
+write-did laws (run_live report plan) status all did risen = write-status status (live-write-risen laws report plan status (run_devices_of all) all.boxes did risen)
+write-did laws (solve report plan) status all did risen = write-status status (run-write-risen laws report plan status (run_devices_of all) did.ran risen)
+write-did laws (generate report number plan) status all did risen =
+    write-status status (packets-write-risen laws report plan number status (run_devices_of all) all.boxes did.ran risen)
+write-did laws (generate_live report number plan) status all did risen =
+    write-status status (live-made-write-risen laws report plan number status (run_devices_of all) all.boxes did.ran risen)
+write-did laws (trace report plan) status all did risen = write-status status (traced_write_risen laws report plan all.boxes.before status (run_devices_of all) did.ran risen)
+write-did laws (replay report plan) status all did risen = write-status status (replayed_write_risen laws report plan status (run_devices_of all) all.boxes did.replayed risen)
 
-pub write-risen : (status : Status) (invocation : Invocation) (all : CallDevices) → Called status invocation all → EitherRisen all → IsOneOf status write_statuses
-write-risen Good invocation all called risen = write-did called.action Good all called.did risen
-write-risen StoreFault invocation all called risen = inl refl
-write-risen Usage invocation all called risen = elim called [ ]
-write-risen GraphRefused invocation all called risen = write-did called.action GraphRefused all called.did risen
-write-risen LineRefused invocation all called risen = write-did called.action LineRefused all called.did risen
-write-risen NodeFault invocation all called risen = write-did called.action NodeFault all called.did risen
-write-risen Stalled invocation all called risen = write-did called.action Stalled all called.did risen
-write-risen ReadFault invocation all called risen = write-did called.action ReadFault all called.did risen
-write-risen WriteFault invocation all called risen = inr (inr (inl refl))
-write-risen OutOfMemory invocation all called risen = inr (inr (inr (inl refl)))
+pub write-risen : (laws : Laws) (status : Status) (invocation : Invocation) (all : CallDevices) → Called laws status invocation all → EitherRisen all → IsOneOf status write_statuses
+write-risen laws Good invocation all called risen = write-did laws called.action Good all called.did risen
+write-risen laws StoreFault invocation all called risen = inl refl
+write-risen laws Usage invocation all called risen = elim called [ ]
+write-risen laws GraphRefused invocation all called risen = write-did laws called.action GraphRefused all called.did risen
+write-risen laws LineRefused invocation all called risen = write-did laws called.action LineRefused all called.did risen
+write-risen laws NodeFault invocation all called risen = write-did laws called.action NodeFault all called.did risen
+write-risen laws Stalled invocation all called risen = write-did laws called.action Stalled all called.did risen
+write-risen laws ReadFault invocation all called risen = write-did laws called.action ReadFault all called.did risen
+write-risen laws WriteFault invocation all called risen = inr (inr (inl refl))
+write-risen laws OutOfMemory invocation all called risen = inr (inr (inr (inl refl)))

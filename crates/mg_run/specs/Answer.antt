@@ -1,10 +1,13 @@
 -- What the program answers, its output text, notes and status, by the command, by what the command's files are, and by the input's bytes.
 -- There is one answer (`src/laws.rt`).
-use Rattle.std.specs.Prelude.{◌≡◌, ℕ, ℤ, pos, negsuc, Bool, ◌==◌, List, [], ◌∷◌, codes, Option, None, Some, min, Result, Ok, Err, if◌then◌else◌}
+use Rattle.std.specs.Prelude.{◌≡◌, ℕ, ℤ, pos, negsuc, Bool, true, false, ◌==◌, List, [], ◌∷◌, codes, Option, None, Some, min, position, Result, Ok, Err, if◌then◌else◌}
 use Rattle.mg_config.specs.Config.{GraphView}
+use Rattle.mg_calc.specs.Rules.{Laws}
+use Rattle.mg_calc.specs.declared.law.Law.{Law}
+use Rattle.mg_calc.specs.declared.law.Law.TheVariants.{Stated}
 use Rattle.mg_calc.specs.declared.plan.Plan.{Plan}
 use Rattle.mg_calc.specs.declared.shape.OuterShape.{OuterShape}
-use Rattle.mg_calc.specs.Told.{CalculatorTold}
+use Rattle.mg_calc.specs.Told.{BoxTold}
 use Rattle.mg_check.specs.Check.{check_of}
 use Rattle.mg_check.specs.declared.fault.CheckFault.{CheckFault}
 use Rattle.mg_run.specs.Invocation.{Invocation}
@@ -20,7 +23,7 @@ use Rattle.mg_drive.specs.Traced.{TracesEnded}
 use Rattle.mg_feed.specs.Lines.{all_lines}
 use Rattle.mg_replay.specs.Replayed.{AnswersTrace}
 use Rattle.mg_free.specs.Core.{first_free}
-use Rattle.mg_files.specs.Notes.{expand_note, free_note}
+use Rattle.mg_files.specs.Notes.{expand_note, free_note, own_law_note}
 use Rattle.mg_words.specs.declared.limits.TheConstants.{MOST_WORKERS}
 use Rattle.mg_words.specs.declared.words.Instruction.{Instruction}
 use Rattle.mg_words.specs.declared.words.Verb.{Verb}
@@ -78,10 +81,25 @@ way_word Generate = codes "generate"
 way_word Trace = codes "trace"
 way_word Replay = codes "replay"
 
+-- a law is stated: what a node of it computes is what an author states of a calculator of the author's own
+abbrev pub is_stated : Law → Bool
+is_stated (Stated number parameters offset) = true
+is_stated _ = false
+
+-- the number of the first node whose law is stated, if there is one
+abbrev pub first_stated : Plan → Option ℕ
+first_stated plan = position (λ node. is_stated node.law) plan.nodes
+
+-- The action of solving a plan without free nodes, by its first node whose law is stated, if it has one. Such a plan is refused, since a
+-- solution takes code for each law, and there is none for these.
+abbrev pub solve_action : Option ℕ → Bool → Plan → Action
+solve_action None report plan = solve report plan
+solve_action (Some first) report plan = refuse (own_law_note first)
+
 -- the action of using a plan without free nodes in a way; for a run that is recorded or made again the number of workers doesn't count
 abbrev pub way_action : Way → Instruction → Plan → Action
 way_action Run instruction plan = run_plan instruction.report (as_asked instruction plan)
-way_action Solve instruction plan = solve instruction.report plan
+way_action Solve instruction plan = solve_action (first_stated plan) instruction.report plan
 way_action Generate instruction plan = generate instruction.report instruction.number (as_asked instruction plan)
 way_action Trace instruction plan = trace instruction.report (with_limit instruction.limit plan)
 way_action Replay instruction plan = replay instruction.report (with_limit instruction.limit plan)
@@ -140,16 +158,16 @@ action_of invocation files = files_action invocation.instruction invocation.oute
 -- and solving it have the same answer, and recording a run has that answer too, but that the output is a trace of any run of the graph over
 -- that input. Making a recorded run again has the answer of its graph's run where the input's lines are such a run to rest, and else
 -- refuses a line. Where packets are made the input doesn't matter.
-abbrev pub AnswersAction : Action → List CalculatorTold → List ℕ → RunAnswer → Type 0
-AnswersAction (refuse note) boxes input given = given ≡ record { output = []; notes = note; status = GraphRefused }
-AnswersAction (show text) boxes input given = given ≡ record { output = text; notes = []; status = Good }
-AnswersAction (run_plan report plan) boxes input given = AnswersEnded report plan input given
-AnswersAction (run_live report plan) boxes input given = AnswersLive report plan input given
-AnswersAction (solve report plan) boxes input given = AnswersEnded report plan input given
-AnswersAction (generate report number plan) boxes input given = AnswersGenerated report plan number given
-AnswersAction (generate_live report number plan) boxes input given = AnswersLiveMade report plan number given
-AnswersAction (trace report plan) boxes input given = TracesEnded report plan boxes input given
-AnswersAction (replay report plan) boxes input given = AnswersTrace report plan boxes (all_lines input) given
+abbrev pub AnswersAction : Laws → Action → List BoxTold → List ℕ → RunAnswer → Type 0
+AnswersAction laws (refuse note) boxes input given = given ≡ record { output = []; notes = note; status = GraphRefused }
+AnswersAction laws (show text) boxes input given = given ≡ record { output = text; notes = []; status = Good }
+AnswersAction laws (run_plan report plan) boxes input given = AnswersEnded laws report plan input given
+AnswersAction laws (run_live report plan) boxes input given = AnswersLive laws report plan input given
+AnswersAction laws (solve report plan) boxes input given = AnswersEnded laws report plan input given
+AnswersAction laws (generate report number plan) boxes input given = AnswersGenerated laws report plan number given
+AnswersAction laws (generate_live report number plan) boxes input given = AnswersLiveMade laws report plan number given
+AnswersAction laws (trace report plan) boxes input given = TracesEnded laws report plan boxes input given
+AnswersAction laws (replay report plan) boxes input given = AnswersTrace laws report plan boxes (all_lines input) given
 
 -- the output of an action is a trace, and there may be many
 abbrev pub Records : Action → Type 0

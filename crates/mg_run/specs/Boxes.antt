@@ -5,7 +5,7 @@ use Rattle.mg_calc.specs.declared.law.Law.TheVariants.{Tally}
 use Rattle.mg_calc.specs.declared.shape.Shape.{Shape}
 use Rattle.mg_calc.specs.declared.shape.OuterShape.{OuterShape}
 use Rattle.mg_calc.specs.Shape.{untagged, IsOuter}
-use Rattle.mg_calc.specs.Told.{CalculatorTold}
+use Rattle.mg_calc.specs.Told.{BoxTold}
 pub use Rattle.mg_drive.specs.Leaves.{RunLeaves}
 
 -- a TallyCalculator: one input of any kind, and one output, on which it counts the sets that it is shown
@@ -20,14 +20,14 @@ tally_shape = record {
 }
 
 -- a TallyCalculator that had no call; with `telling` it keeps a log
-abbrev pub new_tally : Bool → CalculatorTold
+abbrev pub new_tally : Bool → BoxTold
 new_tally telling = record { law = Tally; shape = tally_shape; state = []; log = if telling then Some [] else None }
 
 -- what is known of a calculator before it is called: its shape and its law
-abbrev pub outer_told : CalculatorTold → OuterShape
+abbrev pub outer_told : BoxTold → OuterShape
 outer_told told = record { shape = told.shape; law = told.law }
 
-abbrev pub outers_told : List CalculatorTold → List OuterShape
+abbrev pub outers_told : List BoxTold → List OuterShape
 outers_told boxes = map outer_told boxes
 
 -- a calculator with this law may be handed in

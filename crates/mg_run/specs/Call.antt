@@ -1,5 +1,6 @@
 -- What a call came to, by its status.
 use Rattle.std.specs.Prelude.{◌≡◌, ℕ, ◌⊎◌, Bool, List, All, IfSome}
+use Rattle.mg_calc.specs.Rules.{Laws}
 use Rattle.mg_calc.specs.declared.plan.Plan.{Plan}
 use Rattle.mg_calc.specs.declared.shape.OuterShape.{OuterShape}
 use Rattle.mg_check.specs.Check.{IsOuterShape}
@@ -73,45 +74,45 @@ pub record WasShown (text : List ℕ) (status : Status) (devices : CallDevices) 
 -- A run --
 
 -- The graph of this plan was solved.
-pub record SolvedGraph (report : Bool) (plan : Plan) (status : Status) (devices : CallDevices) : Type 0 where
-  pub ran : runs.Ran report plan status (run_devices_of devices)
+pub record SolvedGraph (laws : Laws) (report : Bool) (plan : Plan) (status : Status) (devices : CallDevices) : Type 0 where
+  pub ran : runs.Ran laws report plan status (run_devices_of devices)
   pub uncalled : Untouched devices.boxes
 
 -- The graph of this plan was run over `number` packets that are made, and a summary of its outputs was written. The input was left as it
 -- was.
-pub record GeneratedGraph (report : Bool) (number : ℕ) (plan : Plan) (status : Status) (devices : CallDevices) : Type 0 where
-  pub ran : RanOverPackets report plan number status devices.output devices.notes devices.boxes
+pub record GeneratedGraph (laws : Laws) (report : Bool) (number : ℕ) (plan : Plan) (status : Status) (devices : CallDevices) : Type 0 where
+  pub ran : RanOverPackets laws report plan number status devices.output devices.notes devices.boxes
   pub unread : Untouched devices.input
 
 -- The graph of this plan, which has free nodes, was run over `number` packets that are made, and a summary of its outputs was written. The
 -- input was left as it was.
-pub record GeneratedLive (report : Bool) (number : ℕ) (plan : Plan) (status : Status) (devices : CallDevices) : Type 0 where
-  pub ran : RanLiveMade report plan number status devices.output devices.notes devices.boxes
+pub record GeneratedLive (laws : Laws) (report : Bool) (number : ℕ) (plan : Plan) (status : Status) (devices : CallDevices) : Type 0 where
+  pub ran : RanLiveMade laws report plan number status devices.output devices.notes devices.boxes
   pub unread : Untouched devices.input
 
 -- The graph of this plan was run over the input, and a trace of the run was written.
-pub record TracedGraph (report : Bool) (plan : Plan) (status : Status) (devices : CallDevices) : Type 0 where
-  pub ran : Traced report plan devices.boxes.before status (run_devices_of devices)
-  pub left : RunLeaves plan status devices.input devices.boxes
+pub record TracedGraph (laws : Laws) (report : Bool) (plan : Plan) (status : Status) (devices : CallDevices) : Type 0 where
+  pub ran : Traced laws report plan devices.boxes.before status (run_devices_of devices)
+  pub left : RunLeaves laws plan status devices.input devices.boxes
 
 -- A recorded run of the graph of this plan was made again.
-pub record ReplayedGraph (report : Bool) (plan : Plan) (status : Status) (devices : CallDevices) : Type 0 where
-  pub replayed : ReplayedBy status report plan (run_devices_of devices) devices.boxes
+pub record ReplayedGraph (laws : Laws) (report : Bool) (plan : Plan) (status : Status) (devices : CallDevices) : Type 0 where
+  pub replayed : ReplayedBy laws status report plan (run_devices_of devices) devices.boxes
   pub left : CalculatorsCameBack plan devices.boxes.before devices.boxes.now
 
 -- A call --
 
 -- what was done with an action; where a graph is run over the input, its outputs are written as they settle
-abbrev pub DidAction : Action → Status → CallDevices → Type 0
-DidAction (refuse note) status devices = WasRefused note status devices
-DidAction (show text) status devices = WasShown text status devices
-DidAction (run_plan report plan) status devices = RanOverLines report plan status (run_devices_of devices) devices.boxes
-DidAction (run_live report plan) status devices = RanLive report plan status (run_devices_of devices) devices.boxes
-DidAction (solve report plan) status devices = SolvedGraph report plan status devices
-DidAction (generate report number plan) status devices = GeneratedGraph report number plan status devices
-DidAction (generate_live report number plan) status devices = GeneratedLive report number plan status devices
-DidAction (trace report plan) status devices = TracedGraph report plan status devices
-DidAction (replay report plan) status devices = ReplayedGraph report plan status devices
+abbrev pub DidAction : Laws → Action → Status → CallDevices → Type 0
+DidAction laws (refuse note) status devices = WasRefused note status devices
+DidAction laws (show text) status devices = WasShown text status devices
+DidAction laws (run_plan report plan) status devices = RanOverLines laws report plan status (run_devices_of devices) devices.boxes
+DidAction laws (run_live report plan) status devices = RanLive laws report plan status (run_devices_of devices) devices.boxes
+DidAction laws (solve report plan) status devices = SolvedGraph laws report plan status devices
+DidAction laws (generate report number plan) status devices = GeneratedGraph laws report number plan status devices
+DidAction laws (generate_live report number plan) status devices = GeneratedLive laws report number plan status devices
+DidAction laws (trace report plan) status devices = TracedGraph laws report plan status devices
+DidAction laws (replay report plan) status devices = ReplayedGraph laws report plan status devices
 
 -- what a command has to do with the contents of its files
 abbrev pub IsActionOf : Invocation → List (List ℕ) → Action → Type 0
@@ -119,13 +120,13 @@ IsActionOf invocation contents action = (files : Files) × AreFiles invocation.f
 
 -- All files were loaded, and what the command has to do with their contents was done. The calculators that are handed in have the shapes of
 -- their laws.
-pub record CallDid (status : Status) (invocation : Invocation) (devices : CallDevices) : Type 0 where
+pub record CallDid (laws : Laws) (status : Status) (invocation : Invocation) (devices : CallDevices) : Type 0 where
   pub shaped : All IsOuterShape invocation.outers
   pub contents : List (List ℕ)
   pub loaded : LoadedAll invocation.files contents devices.store
   pub action : Action
   pub due : IsActionOf invocation contents action
-  pub did : DidAction action status devices
+  pub did : DidAction laws action status devices
 
 -- Nothing was read from the input, written to the output or called.
 pub record DidNothing (devices : CallDevices) : Type 0 where
@@ -134,29 +135,29 @@ pub record DidNothing (devices : CallDevices) : Type 0 where
   pub uncalled : Untouched devices.boxes
 
 -- Memory ran out, before it was known what there is to do or while that was done. The only note says that.
-pub record CallShort (invocation : Invocation) (devices : CallDevices) : Type 0 where
+pub record CallShort (laws : Laws) (invocation : Invocation) (devices : CallDevices) : Type 0 where
   pub noted : TookNotes devices.notes memory_note
-  pub by : DidNothing devices ⊎ CallDid OutOfMemory invocation devices
+  pub by : DidNothing devices ⊎ CallDid laws OutOfMemory invocation devices
 
 -- A call with a command ended with this status.
-abbrev pub Called : Status → Invocation → CallDevices → Type 0
-Called StoreFault invocation devices = WasUnloaded invocation.files devices
-Called Usage invocation devices = ⊥
-Called OutOfMemory invocation devices = CallShort invocation devices
-Called status invocation devices = CallDid status invocation devices
+abbrev pub Called : Laws → Status → Invocation → CallDevices → Type 0
+Called laws StoreFault invocation devices = WasUnloaded invocation.files devices
+Called laws Usage invocation devices = ⊥
+Called laws OutOfMemory invocation devices = CallShort laws invocation devices
+Called laws status invocation devices = CallDid laws status invocation devices
 
 -- A call ended with this status, by what its words ask for and by the calculators that are handed in.
-abbrev pub CallEnded : List OuterShape → Request → Status → CallDevices → Type 0
-CallEnded outers asks_usage status devices = WasUsage status devices
-CallEnded outers (asks_text text) status devices = WasTold text status devices
-CallEnded outers (asks_command command) status devices = Called status (invocation command outers) devices
+abbrev pub CallEnded : Laws → List OuterShape → Request → Status → CallDevices → Type 0
+CallEnded laws outers asks_usage status devices = WasUsage status devices
+CallEnded laws outers (asks_text text) status devices = WasTold text status devices
+CallEnded laws outers (asks_command command) status devices = Called laws status (invocation command outers) devices
 
 -- The call wrote the answer of an action over an input that ends after these bytes.
-abbrev pub MetAnswer : Action → List ℕ → Status → CallDevices → Type 0
-MetAnswer action read status devices = (given : RunAnswer) × AnswersAction action devices.boxes.before read given × Meets given status devices.output devices.notes
+abbrev pub MetAnswer : Laws → Action → List ℕ → Status → CallDevices → Type 0
+MetAnswer laws action read status devices = (given : RunAnswer) × AnswersAction laws action devices.boxes.before read given × Meets given status devices.output devices.notes
 
 -- Where the devices tell the files' bytes and the input's, the call wrote the answer to them.
-abbrev pub IsAnswered : Status → Invocation → CallDevices → Type 0
-IsAnswered status invocation devices =
+abbrev pub IsAnswered : Laws → Status → Invocation → CallDevices → Type 0
+IsAnswered laws status invocation devices =
     IfSome (loads_of devices.store.before.content invocation.files) (λ contents. IfSome devices.input.before.left (λ read.
-    (files : Files) × AreFiles invocation.files contents files × MetAnswer (action_of invocation files) read status devices))
+    (files : Files) × AreFiles invocation.files contents files × MetAnswer laws (action_of invocation files) read status devices))

@@ -3,6 +3,7 @@
 use Rattle.std.specs.Prelude.{◌≡◌, ◌⊎◌, ℕ, negsuc, Bool, List, [], ◌∷◌, None, Some, Ok}
 use Rattle.mg_edge.specs.Edge.{SourceTold}
 use Rattle.mg_config.specs.Config.{GraphView}
+use Rattle.mg_calc.specs.Rules.{Laws}
 use Rattle.mg_calc.specs.declared.inputs.Inputs.{Inputs}
 use Rattle.mg_calc.specs.declared.plan.Plan.{Plan}
 use Rattle.mg_calc.specs.Plan.{IsValid, IsValidWithFree}
@@ -61,9 +62,9 @@ IsOrigin instruction plan input (from_input read) = (instruction.verb ≡ Use Ru
 IsOrigin instruction plan input (from_number number) = (instruction.verb ≡ Use Generate) × (number ≡ instruction.number) × Untouched input
 
 -- the job of a plan over what the input came to, or over packets that are made
-abbrev pub job_from : Plan → Origin → equations.Job
-job_from plan (from_input read) = job_of plan read
-job_from plan (from_number number) = generated_job plan number
+abbrev pub job_from : Laws → Plan → Origin → equations.Job
+job_from laws plan (from_input read) = job_of laws plan read
+job_from laws plan (from_number number) = generated_job laws plan number
 
 -- how the input of a run ended: packets that are made end well
 abbrev pub end_from : Origin → FeedEnd
@@ -81,14 +82,14 @@ bare plan = record plan { limit = negsuc 0; workers = 0 }
 
 -- A call ran its graph, in which no node is free: there is one content of each file, one plan, one thing that it was run over, and one
 -- solution.
-pub record Headline (invocation : Invocation) (status : Status) (devices : CallDevices) : Type 0 where
+pub record Headline (laws : Laws) (invocation : Invocation) (status : Status) (devices : CallDevices) : Type 0 where
   pub contents : List (List ℕ)
   pub loaded : LoadedAll invocation.files contents devices.store
   pub plan : Plan
   pub graph : IsGraph invocation contents plan
   pub from : Origin
   pub origin : IsOrigin invocation.instruction plan devices.input from
-  pub run : OneRun (telling_from invocation.instruction.report from) (job_from (bare plan) from) (end_from from) status devices.output devices.notes devices.boxes
+  pub run : OneRun (telling_from invocation.instruction.report from) (job_from laws (bare plan) from) (end_from from) status devices.output devices.notes devices.boxes
 
 -- Graphs with free nodes --
 
@@ -107,9 +108,9 @@ pub record IsLiveGraph (invocation : Invocation) (contents : List (List ℕ)) (p
 
 -- The batches over which a graph was run, each with what had come by its end: the lines to which the input came, or all packets that are
 -- made as one batch.
-abbrev pub AreBatchesFrom : Plan → Origin → List Inputs → Type 0
-AreBatchesFrom plan (from_input read) batches = AreBatchesOf plan read batches
-AreBatchesFrom plan (from_number number) batches = batches ≡ (generated_job plan number).inputs ∷ []
+abbrev pub AreBatchesFrom : Laws → Plan → Origin → List Inputs → Type 0
+AreBatchesFrom laws plan (from_input read) batches = AreBatchesOf plan read batches
+AreBatchesFrom laws plan (from_number number) batches = batches ≡ (generated_job laws plan number).inputs ∷ []
 
 abbrev pub form_from : Origin → OutputForm
 form_from (from_input read) = packet_lines
@@ -117,7 +118,7 @@ form_from (from_number number) = totals
 
 -- A call ran its graph, which has free nodes: there is one content of each file, one plan, one thing that it was run over, the logs to
 -- which the free nodes' rounds over its batches come, and one solution of the core for these.
-pub record LiveHeadline (invocation : Invocation) (status : Status) (devices : CallDevices) : Type 0 where
+pub record LiveHeadline (laws : Laws) (invocation : Invocation) (status : Status) (devices : CallDevices) : Type 0 where
   pub contents : List (List ℕ)
   pub loaded : LoadedAll invocation.files contents devices.store
   pub plan : Plan
@@ -126,9 +127,9 @@ pub record LiveHeadline (invocation : Invocation) (status : Status) (devices : C
   pub origin : IsOrigin invocation.instruction plan devices.input from
   pub first : Inputs
   pub later : List Inputs
-  pub batches : AreBatchesFrom (bare plan) from (first ∷ later)
-  pub run : OneLive (form_from from) invocation.instruction.report (bare plan) first later (end_from from) status devices.output devices.notes devices.boxes
+  pub batches : AreBatchesFrom laws (bare plan) from (first ∷ later)
+  pub run : OneLive laws (form_from from) invocation.instruction.report (bare plan) first later (end_from from) status devices.output devices.notes devices.boxes
 
 -- a call ran its graph, without free nodes or with
-abbrev pub RanGraph : Invocation → Status → CallDevices → Type 0
-RanGraph invocation status devices = Headline invocation status devices ⊎ LiveHeadline invocation status devices
+abbrev pub RanGraph : Laws → Invocation → Status → CallDevices → Type 0
+RanGraph laws invocation status devices = Headline laws invocation status devices ⊎ LiveHeadline laws invocation status devices

@@ -166,7 +166,7 @@ fn check_action(
     }
 }
 
-// Returns the action of using a graph in a way. A graph without a plan is refused, and so is one whose free nodes don't allow that way.
+// Returns the action of using a graph in a way. A graph without a plan is refused, and so is one whose nodes don't allow that way.
 fn plan_action(
     alloc: Global,
     way: Way,
@@ -182,7 +182,7 @@ fn plan_action(
     match check(alloc, graph, outers) {
         Ok(plan) => match first_free(&plan) {
             Some(node) => live_action(alloc, way, instruction, node, plan),
-            None => Ok(way_action(way, instruction, plan)),
+            None => way_action(alloc, way, instruction, plan),
         },
         Err(fault) => Ok(Action::Refuse(check_note(alloc, &fault)?)),
     }

@@ -15,7 +15,7 @@ ghost use Rattle.mg_edge.specs.Edge.{StoreTold};
 use crate::action::{Action, Use, action_of};
 use crate::outers::outers_of;
 use mg_answer::{Devices, Run, Status, note_out_of_memory, note_write_fault, solve_input};
-use mg_calc::Calculator;
+use mg_calc::NodeCalculator;
 use mg_drive::{Crew, run_lines, run_live_lines, run_live_made, run_made, trace_lines};
 use mg_edge::{Gate, Sink, Source, Store};
 use mg_feed::put_all;
@@ -30,7 +30,15 @@ use std::thread::Threads;
 /// Does what the words of a command line ask for, and returns the status to exit with. A `run` and a `generate` call workers, as many as
 /// the option `--workers` says, or else the graph's `num_threads`, each in a thread of its own; with none of them the call waits for
 /// nobody. Their number changes nothing of what the call answers.
-pub fn run_words<R: Threads + Wait + Sync, S: Source, K: Sink, E: Sink, T: Store, G: Gate + Sync>(
+pub fn run_words<
+    R: Threads + Wait + Sync,
+    S: Source,
+    K: Sink,
+    E: Sink,
+    T: Store,
+    G: Gate + Sync,
+    C: NodeCalculator + Send,
+>(
     rt: &R,
     alloc: Global,
     words: &[MgText],
@@ -38,29 +46,29 @@ pub fn run_words<R: Threads + Wait + Sync, S: Source, K: Sink, E: Sink, T: Store
     input: &mut S,
     output: &mut K,
     notes: &mut E,
-    boxes: &mut Vec<Box<dyn Calculator + Send>>,
+    boxes: &mut Vec<C>,
     gate: &G,
 ) -> Status
     // What the call came to, by what its words ask for. `what_a_call_came_to` tells what follows from it: of each status its cause, of the
     // devices what was done to them, and of the calculators which had a call.
-    ensures came { CallEnded (outers_told (map (λ b. (Calculator-box b).told b.value) boxes.old.items)) (request_of words.now) result
-        (told_apart T.told S.told K.told E.told (λ b. (Calculator-box b).told b.value) store.old store.new input.old input.new output.old output.new notes.old notes.new boxes.old boxes.new) }
+    ensures came { CallEnded C.laws (outers_told (map C.told boxes.old.items)) (request_of words.now) result
+        (told_apart T.told S.told K.told E.told C.told store.old store.new input.old input.new output.old output.new notes.old notes.new boxes.old boxes.new) }
 
     // A `run` or a `generate` that reached its graph is one thing: there is one content of each file, one graph and its plan, one reading
     // of the input and one solution, and the output, the notes, the status and the calls of every box are theirs. Where a node is free
     // there are also the logs to which the free nodes' rounds come over the batches of the input, and the notes tell these. Neither the
     // limit of queues nor the number of workers has a part in it.
     ensures headline { IfSome (command_of words.now) (λ command. RunsGraph command.instruction.verb → IsOneOf result ran_statuses
-        → RanGraph (invocation command (outers_told (map (λ b. (Calculator-box b).told b.value) boxes.old.items))) result
-        (told_apart T.told S.told K.told E.told (λ b. (Calculator-box b).told b.value) store.old store.new input.old input.new output.old output.new notes.old notes.new boxes.old boxes.new)) }
+        → RanGraph C.laws (invocation command (outers_told (map C.told boxes.old.items))) result
+        (told_apart T.told S.told K.told E.told C.told store.old store.new input.old input.new output.old output.new notes.old notes.new boxes.old boxes.new)) }
 
     // Where no device failed and memory didn't run out, the output's text, the notes and the status are those of the answer to the files'
     // bytes and the input's.
     ensures answered { IfSome (command_of words.now) (λ command.
-        NoneFailed (told_apart T.told S.told K.told E.told (λ b. (Calculator-box b).told b.value) store.old store.new input.old input.new output.old output.new notes.old notes.new boxes.old boxes.new)
+        NoneFailed (told_apart T.told S.told K.told E.told C.told store.old store.new input.old input.new output.old output.new notes.old notes.new boxes.old boxes.new)
         → result ≢ Status.OutOfMemory
-        → IsAnswered result (invocation command (outers_told (map (λ b. (Calculator-box b).told b.value) boxes.old.items)))
-        (told_apart T.told S.told K.told E.told (λ b. (Calculator-box b).told b.value) store.old store.new input.old input.new output.old output.new notes.old notes.new boxes.old boxes.new)) }
+        → IsAnswered C.laws result (invocation command (outers_told (map C.told boxes.old.items)))
+        (told_apart T.told S.told K.told E.told C.told store.old store.new input.old input.new output.old output.new notes.old notes.new boxes.old boxes.new)) }
     ensures boxes { length boxes.new.items ≡ length boxes.old.items }
 {
     let mut devices = Devices {
@@ -75,7 +83,7 @@ pub fn run_words<R: Threads + Wait + Sync, S: Source, K: Sink, E: Sink, T: Store
 fn do_words<
     R: Threads + Wait + Sync,
     G: Gate + Sync,
-    C: Calculator + Send,
+    C: NodeCalculator + Send,
     S: Source,
     K: Sink,
     E: Sink,
@@ -88,7 +96,7 @@ fn do_words<
     store: &mut T,
     devices: &mut Devices<'_, '_, '_, S, K, E>,
 ) -> Status
-    ensures came { CallEnded (outers_told (map C.told boxes.old.items)) (request_of words.now) result
+    ensures came { CallEnded C.laws (outers_told (map C.told boxes.old.items)) (request_of words.now) result
         (told_at T.told S.told K.told E.told C.told store.old store.new devices.old devices.new boxes.old boxes.new) }
     ensures same { SameDevices devices.old devices.new }
 {
@@ -101,7 +109,7 @@ fn do_words<
 fn do_request<
     R: Threads + Wait + Sync,
     G: Gate + Sync,
-    C: Calculator + Send,
+    C: NodeCalculator + Send,
     S: Source,
     K: Sink,
     E: Sink,
@@ -114,7 +122,7 @@ fn do_request<
     store: &mut T,
     devices: &mut Devices<'_, '_, '_, S, K, E>,
 ) -> Status
-    ensures came { CallEnded (outers_told (map C.told boxes.old.items)) (request_view request) result
+    ensures came { CallEnded C.laws (outers_told (map C.told boxes.old.items)) (request_view request) result
         (told_at T.told S.told K.told E.told C.told store.old store.new devices.old devices.new boxes.old boxes.new) }
     ensures same { SameDevices devices.old devices.new }
 {
@@ -158,7 +166,7 @@ struct Ordered<'a> {
 fn do_command<
     R: Threads + Wait + Sync,
     G: Gate + Sync,
-    C: Calculator + Send,
+    C: NodeCalculator + Send,
     S: Source,
     K: Sink,
     E: Sink,
@@ -171,7 +179,7 @@ fn do_command<
     store: &mut T,
     devices: &mut Devices<'_, '_, '_, S, K, E>,
 ) -> Status
-    ensures called { Called result (invocation (command ordered.now.instruction ordered.now.files.now) (outers_told (map C.told boxes.old.items)))
+    ensures called { Called C.laws result (invocation (command ordered.now.instruction ordered.now.files.now) (outers_told (map C.told boxes.old.items)))
         (told_at T.told S.told K.told E.told C.told store.old store.new devices.old devices.new boxes.old boxes.new) }
     ensures same { SameDevices devices.old devices.new }
 {
@@ -186,7 +194,7 @@ fn do_command<
 }
 
 // Loads the files of a command, and returns what there is to do with them. `boxes` are the calculators that are handed in.
-fn due_action<C: Calculator, T: Store>(
+fn due_action<C: NodeCalculator, T: Store>(
     alloc: Global,
     ordered: &Ordered<'_>,
     boxes: &[C],
@@ -206,7 +214,7 @@ fn due_action<C: Calculator, T: Store>(
 fn do_action<
     R: Threads + Wait + Sync,
     G: Gate + Sync,
-    C: Calculator + Send,
+    C: NodeCalculator + Send,
     S: Source,
     K: Sink,
     E: Sink,
@@ -219,7 +227,7 @@ fn do_action<
 ) -> Status
     requires can { CanBeDone (outers_told (map C.told boxes.old.items)) (action_view action) }
     requires lawful { All MayBeHandedIn (outers_told (map C.told boxes.old.items)) }
-    ensures did { (store : Device StoreTold) → DidAction (action_view action) result
+    ensures did { (store : Device StoreTold) → DidAction C.laws (action_view action) result
         (with_run store (told_by S.told K.told E.told devices.old devices.new) (device (map C.told boxes.old.items) (map C.told boxes.new.items))) }
     ensures same { SameDevices devices.old devices.new }
 {
@@ -247,7 +255,7 @@ fn do_action<
 fn use_plan<
     R: Threads + Wait + Sync,
     G: Gate + Sync,
-    C: Calculator + Send,
+    C: NodeCalculator + Send,
     S: Source,
     K: Sink,
     E: Sink,
@@ -260,7 +268,7 @@ fn use_plan<
 ) -> Status
     requires can { CanBeDone (outers_told (map C.told boxes.old.items)) (use_action used run.now.report run.now.plan.now) }
     requires lawful { All MayBeHandedIn (outers_told (map C.told boxes.old.items)) }
-    ensures did { (store : Device StoreTold) → DidAction (use_action used run.now.report run.now.plan.now) result
+    ensures did { (store : Device StoreTold) → DidAction C.laws (use_action used run.now.report run.now.plan.now) result
         (with_run store (told_by S.told K.told E.told devices.old devices.new) (device (map C.told boxes.old.items) (map C.told boxes.new.items))) }
     ensures same { SameDevices devices.old devices.new }
 {

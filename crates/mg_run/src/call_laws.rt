@@ -1,5 +1,6 @@
 //! What follows from what a call came to, which is the clause `came` of the top calls. The function does nothing, and its contract is the law.
 ghost use Rattle.std.specs.Prelude.{◌≡◌, ◌≢◌, ◌↔◌, ◌⊎◌, ℕ, List, ◌∷◌, [], false, true, IfSome, length};
+ghost use Rattle.mg_calc.specs.Rules.{Laws};
 ghost use Rattle.mg_calc.specs.declared.shape.OuterShape.{OuterShape};
 ghost use Rattle.mg_words.specs.Command.{reads_input, calls_boxes};
 ghost use Rattle.mg_words.specs.Words.{Request, asks_usage, asks_text, command_by};
@@ -14,44 +15,44 @@ ghost use Rattle.mg_run.specs.Call.{WasUsage, WasTold, CallEnded, Called, IsOneO
 /// calculators that were handed in.
 pub fn what_a_call_came_to()
     // Whether the words are a command is judged first, and depends on no device.
-    ensures usage { (outers : List OuterShape) (request : Request) (status : Status) (devices : CallDevices) → CallEnded outers request status devices
+    ensures usage { (laws : Laws) (outers : List OuterShape) (request : Request) (status : Status) (devices : CallDevices) → CallEnded laws outers request status devices
         → status ≢ OutOfMemory → (status ≡ Usage) ↔ (request ≡ asks_usage) }
-    ensures usage_note { (outers : List OuterShape) (request : Request) (status : Status) (devices : CallDevices) → CallEnded outers request status devices
+    ensures usage_note { (laws : Laws) (outers : List OuterShape) (request : Request) (status : Status) (devices : CallDevices) → CallEnded laws outers request status devices
         → request ≡ asks_usage → WasUsage status devices }
 
     // The help and the version are texts that are only written.
-    ensures told { (outers : List OuterShape) (request : Request) (status : Status) (devices : CallDevices) → CallEnded outers request status devices
+    ensures told { (laws : Laws) (outers : List OuterShape) (request : Request) (status : Status) (devices : CallDevices) → CallEnded laws outers request status devices
         → (text : List ℕ) → request ≡ asks_text text → WasTold text status devices }
 
     // What a call with a command came to, by its status.
-    ensures called { (outers : List OuterShape) (request : Request) (status : Status) (devices : CallDevices) → CallEnded outers request status devices
-        → IfSome (command_by request) (λ command. Called status (invocation command outers) devices) }
+    ensures called { (laws : Laws) (outers : List OuterShape) (request : Request) (status : Status) (devices : CallDevices) → CallEnded laws outers request status devices
+        → IfSome (command_by request) (λ command. Called laws status (invocation command outers) devices) }
 
     // Where memory ran out the notes say that alone.
-    ensures memory_noted { (outers : List OuterShape) (request : Request) (status : Status) (devices : CallDevices) → CallEnded outers request status devices
+    ensures memory_noted { (laws : Laws) (outers : List OuterShape) (request : Request) (status : Status) (devices : CallDevices) → CallEnded laws outers request status devices
         → status ≡ OutOfMemory → TookNotes devices.notes memory_note }
 
     // A `check`, an `expand` and a `generate` leave the input as it was.
-    ensures unread { (outers : List OuterShape) (request : Request) (status : Status) (devices : CallDevices) → CallEnded outers request status devices
+    ensures unread { (laws : Laws) (outers : List OuterShape) (request : Request) (status : Status) (devices : CallDevices) → CallEnded laws outers request status devices
         → IfSome (command_by request) (λ command. reads_input command.instruction.verb ≡ false → Untouched devices.input) }
 
     // A call that read the input and went well, or in which a node failed or a stream never closed, met the input's end.
-    ensures ended { (outers : List OuterShape) (request : Request) (status : Status) (devices : CallDevices) → CallEnded outers request status devices
+    ensures ended { (laws : Laws) (outers : List OuterShape) (request : Request) (status : Status) (devices : CallDevices) → CallEnded laws outers request status devices
         → IfSome (command_by request) (λ command. reads_input command.instruction.verb ≡ true
         → IsOneOf status (Good ∷ NodeFault ∷ Stalled ∷ []) → InputHasEnded devices.input) }
 
     // No fault of a device hides behind another status.
-    ensures store_rose { (outers : List OuterShape) (request : Request) (status : Status) (devices : CallDevices) → CallEnded outers request status devices
+    ensures store_rose { (laws : Laws) (outers : List OuterShape) (request : Request) (status : Status) (devices : CallDevices) → CallEnded laws outers request status devices
         → HasRisen devices.store.before.faults devices.store.now.faults → IsOneOf status (StoreFault ∷ OutOfMemory ∷ []) }
-    ensures read_rose { (outers : List OuterShape) (request : Request) (status : Status) (devices : CallDevices) → CallEnded outers request status devices
+    ensures read_rose { (laws : Laws) (outers : List OuterShape) (request : Request) (status : Status) (devices : CallDevices) → CallEnded laws outers request status devices
         → HasRisen devices.input.before.faults devices.input.now.faults → IsOneOf status (ReadFault ∷ WriteFault ∷ OutOfMemory ∷ []) }
-    ensures write_rose { (outers : List OuterShape) (request : Request) (status : Status) (devices : CallDevices) → CallEnded outers request status devices
+    ensures write_rose { (laws : Laws) (outers : List OuterShape) (request : Request) (status : Status) (devices : CallDevices) → CallEnded laws outers request status devices
         → HasRisen devices.output.before.faults devices.output.now.faults ⊎ HasRisen devices.notes.before.faults devices.notes.now.faults
         → IsOneOf status (Usage ∷ StoreFault ∷ GraphRefused ∷ WriteFault ∷ OutOfMemory ∷ []) }
 
     // As many calculators come back as were handed in, and a command that doesn't run its graph calls none.
-    ensures boxes { (outers : List OuterShape) (request : Request) (status : Status) (devices : CallDevices) → CallEnded outers request status devices
+    ensures boxes { (laws : Laws) (outers : List OuterShape) (request : Request) (status : Status) (devices : CallDevices) → CallEnded laws outers request status devices
         → length devices.boxes.now ≡ length devices.boxes.before }
-    ensures uncalled { (outers : List OuterShape) (request : Request) (status : Status) (devices : CallDevices) → CallEnded outers request status devices
+    ensures uncalled { (laws : Laws) (outers : List OuterShape) (request : Request) (status : Status) (devices : CallDevices) → CallEnded laws outers request status devices
         → IfSome (command_by request) (λ command. calls_boxes command.instruction.verb ≡ false → Untouched devices.boxes) }
 {}

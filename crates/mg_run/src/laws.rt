@@ -1,7 +1,8 @@
 //! Laws of the definitions: each function does nothing, and its contract is the law.
 ghost use Rattle.std.specs.Prelude.{◌≡◌, ◌∷◌, ℕ, ℤ, Bool, List, Option, None, Some};
+ghost use Rattle.mg_calc.specs.Rules.{Laws};
 ghost use Rattle.mg_calc.specs.declared.plan.Plan.{Plan};
-ghost use Rattle.mg_calc.specs.Told.{CalculatorTold};
+ghost use Rattle.mg_calc.specs.Told.{BoxTold};
 ghost use Rattle.mg_files.specs.Files.{Files};
 ghost use Rattle.mg_edge.specs.Edge.{SourceTold, StoreTold};
 ghost use Rattle.mg_feed.specs.Graph.{inputs_of};
@@ -18,9 +19,9 @@ ghost use Rattle.mg_run.specs.Answer.{RunAnswer, Action, run_plan, solve, trace,
 /// the action. A recorded run too has one status and one text of notes, which are those of the run. A recorded run that is made again isn't
 /// part of this law.
 pub fn one_answer()
-    ensures one { (action : Action) (boxes : List CalculatorTold) (input : List ℕ) (a b : RunAnswer) → ¬ Records action → ¬ Replays action → AnswersAction action boxes input a → AnswersAction action boxes input b → a ≡ b }
-    ensures ends { (action : Action) (boxes : List CalculatorTold) (input : List ℕ) (a b : RunAnswer) → ¬ Replays action → AnswersAction action boxes input a → AnswersAction action boxes input b → (a.notes ≡ b.notes) × (a.status ≡ b.status) }
-    ensures as_run { (report : Bool) (plan : Plan) (boxes : List CalculatorTold) (input : List ℕ) (a b : RunAnswer) → AnswersAction (trace report plan) boxes input a → AnswersAction (run_plan report plan) boxes input b
+    ensures one { (laws : Laws) (action : Action) (boxes : List BoxTold) (input : List ℕ) (a b : RunAnswer) → ¬ Records action → ¬ Replays action → AnswersAction laws action boxes input a → AnswersAction laws action boxes input b → a ≡ b }
+    ensures ends { (laws : Laws) (action : Action) (boxes : List BoxTold) (input : List ℕ) (a b : RunAnswer) → ¬ Replays action → AnswersAction laws action boxes input a → AnswersAction laws action boxes input b → (a.notes ≡ b.notes) × (a.status ≡ b.status) }
+    ensures as_run { (laws : Laws) (report : Bool) (plan : Plan) (boxes : List BoxTold) (input : List ℕ) (a b : RunAnswer) → AnswersAction laws (trace report plan) boxes input a → AnswersAction laws (run_plan report plan) boxes input b
         → (a.notes ≡ b.notes) × (a.status ≡ b.status) }
 {}
 
@@ -28,17 +29,17 @@ pub fn one_answer()
 /// words without these options. Of a recorded run the notes and the status are the same. A recorded run that is made again isn't part of
 /// this law, since that is done under the limit that the words ask for.
 pub fn limits_and_workers_change_no_answer()
-    ensures words { (invocation : Invocation) (files : Files) (boxes : List CalculatorTold) (input : List ℕ) (a : RunAnswer) → ¬ Records (action_of invocation files) → ¬ Replays (action_of invocation files)
-        → AnswersAction (action_of invocation files) boxes input a → AnswersAction (action_of (record invocation { instruction = record invocation.instruction { limit = None; workers = None } }) files) boxes input a }
-    ensures recorded { (report : Bool) (limit : Option ℤ) (plan : Plan) (boxes : List CalculatorTold) (input : List ℕ) (a b : RunAnswer)
-        → AnswersAction (trace report (with_limit limit plan)) boxes input a → AnswersAction (run_plan report plan) boxes input b
+    ensures words { (laws : Laws) (invocation : Invocation) (files : Files) (boxes : List BoxTold) (input : List ℕ) (a : RunAnswer) → ¬ Records (action_of invocation files) → ¬ Replays (action_of invocation files)
+        → AnswersAction laws (action_of invocation files) boxes input a → AnswersAction laws (action_of (record invocation { instruction = record invocation.instruction { limit = None; workers = None } }) files) boxes input a }
+    ensures recorded { (laws : Laws) (report : Bool) (limit : Option ℤ) (plan : Plan) (boxes : List BoxTold) (input : List ℕ) (a b : RunAnswer)
+        → AnswersAction laws (trace report (with_limit limit plan)) boxes input a → AnswersAction laws (run_plan report plan) boxes input b
         → (a.notes ≡ b.notes) × (a.status ≡ b.status) }
 {}
 
 /// A graph without free nodes has the same answer whether it is run, with any limit of queues, or solved.
 pub fn run_and_solve_answer_the_same()
-    ensures { (report : Bool) (limit : Option ℤ) (plan : Plan) (boxes : List CalculatorTold) (input : List ℕ) (a b : RunAnswer)
-        → AnswersAction (run_plan report (with_limit limit plan)) boxes input a → AnswersAction (solve report plan) boxes input b → a ≡ b }
+    ensures { (laws : Laws) (report : Bool) (limit : Option ℤ) (plan : Plan) (boxes : List BoxTold) (input : List ℕ) (a b : RunAnswer)
+        → AnswersAction laws (run_plan report (with_limit limit plan)) boxes input a → AnswersAction laws (solve report plan) boxes input b → a ≡ b }
 {}
 
 /// Devices that tell what they hold determine what was run: the contents of the files are those that the store tells, and where no read
@@ -52,7 +53,7 @@ pub fn told_devices_pin_a_headline()
 /// Two calls have the same headline where no node is free: with the same words and boxes, and with stores and inputs that tell the same and
 /// of which no read failed, they have the same plan, the same reading and the same solution.
 pub fn one_headline()
-    ensures { (invocation : Invocation) (status other_status : Status) (devices other : CallDevices) (contents : List (List ℕ)) (bytes : List ℕ) (a : Headline invocation status devices) (b : Headline invocation other_status other)
+    ensures { (laws : Laws) (invocation : Invocation) (status other_status : Status) (devices other : CallDevices) (contents : List (List ℕ)) (bytes : List ℕ) (a : Headline laws invocation status devices) (b : Headline laws invocation other_status other)
         → loads_of devices.store.before.content invocation.files ≡ Some contents → loads_of other.store.before.content invocation.files ≡ Some contents
         → devices.input.before.left ≡ Some bytes → other.input.before.left ≡ Some bytes
         → Unrisen devices.input.before.faults devices.input.now.faults → Unrisen other.input.before.faults other.input.now.faults
@@ -63,7 +64,7 @@ pub fn one_headline()
 /// and of which no read failed, they have the same plan, the same reading, the same batches, the same logs of the free nodes and the same
 /// solution of the core.
 pub fn one_live_headline()
-    ensures { (invocation : Invocation) (status other_status : Status) (devices other : CallDevices) (contents : List (List ℕ)) (bytes : List ℕ) (a : LiveHeadline invocation status devices) (b : LiveHeadline invocation other_status other)
+    ensures { (laws : Laws) (invocation : Invocation) (status other_status : Status) (devices other : CallDevices) (contents : List (List ℕ)) (bytes : List ℕ) (a : LiveHeadline laws invocation status devices) (b : LiveHeadline laws invocation other_status other)
         → loads_of devices.store.before.content invocation.files ≡ Some contents → loads_of other.store.before.content invocation.files ≡ Some contents
         → devices.input.before.left ≡ Some bytes → other.input.before.left ≡ Some bytes
         → Unrisen devices.input.before.faults devices.input.now.faults → Unrisen other.input.before.faults other.input.now.faults

@@ -7,10 +7,13 @@ mod call;
 pub mod call_laws;
 pub mod laws;
 mod limited;
+mod loop_ends;
 mod outers;
+mod stated;
 mod tally;
 mod way;
 
 pub use call::run_words;
+pub use loop_ends::{begin_loop, end_loop};
 pub use mg_answer::{Status, note_out_of_memory};
 pub use tally::tally_box;

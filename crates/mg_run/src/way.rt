@@ -8,8 +8,9 @@ ghost use Rattle.mg_run.specs.Code.Action.{action_view, CanBeDone};
 
 use crate::action::{Action, Use};
 use crate::limited::{as_asked, limited};
+use crate::stated::first_stated;
 use mg_calc::Plan;
-use mg_files::free_note;
+use mg_files::{free_note, own_law_note};
 use mg_words::{Instruction, Way};
 use std::alloc::{AllocError, Global};
 
@@ -26,22 +27,38 @@ pub fn way_word(way: Way) -> &'static str
     }
 }
 
-/// Returns the action of using a plan without free nodes in a way. For a run that is recorded or made again the number of workers in the words
-/// doesn't count.
-pub fn way_action(way: Way, instruction: Instruction, plan: Plan) -> Action
-    ensures due { action_view result ≡ answers.way_action way instruction plan }
-    ensures valid { (outers : List OuterShape) → IsValid plan → OutersFit plan outers → CanBeDone outers (action_view result) }
+/// Returns the action of using a plan without free nodes in a way. A plan with a node whose law is stated isn't solved, but refused. For a run
+/// that is recorded or made again the number of workers in the words doesn't count.
+pub fn way_action(
+    alloc: Global,
+    way: Way,
+    instruction: Instruction,
+    plan: Plan,
+) -> Result<Action, AllocError>
+    ensures due { IfOk result (λ action. action_view action ≡ answers.way_action way instruction plan) }
+    ensures valid { (outers : List OuterShape) → IsValid plan → OutersFit plan outers → IfOk result (λ action. CanBeDone outers (action_view action)) }
 {
     let report = instruction.report;
     match way {
-        Way::Run => Action::Graph(Use::Run, report, as_asked(instruction, plan)),
-        Way::Solve => Action::Graph(Use::Solve, report, plan),
+        Way::Run => Ok(Action::Graph(Use::Run, report, as_asked(instruction, plan))),
+        Way::Solve => solve_action(alloc, report, plan),
         Way::Generate => {
             let made = Use::Generate(instruction.number);
-            Action::Graph(made, report, as_asked(instruction, plan))
+            Ok(Action::Graph(made, report, as_asked(instruction, plan)))
         }
-        Way::Trace => Action::Graph(Use::Trace, report, limited(instruction.limit, plan)),
-        Way::Replay => Action::Graph(Use::Replay, report, limited(instruction.limit, plan)),
+        Way::Trace => Ok(Action::Graph(Use::Trace, report, limited(instruction.limit, plan))),
+        Way::Replay => Ok(Action::Graph(Use::Replay, report, limited(instruction.limit, plan))),
+    }
+}
+
+// Returns the action of solving a plan without free nodes: it is refused where a node's law is stated.
+fn solve_action(alloc: Global, report: bool, plan: Plan) -> Result<Action, AllocError>
+    ensures due { IfOk result (λ action. action_view action ≡ answers.solve_action (answers.first_stated plan) report plan) }
+    ensures valid { (outers : List OuterShape) → IsValid plan → IfOk result (λ action. CanBeDone outers (action_view action)) }
+{
+    match first_stated(&plan) {
+        Some(node) => Ok(Action::Refuse(own_law_note(alloc, node)?)),
+        None => Ok(Action::Graph(Use::Solve, report, plan)),
     }
 }
 

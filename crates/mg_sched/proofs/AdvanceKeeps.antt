@@ -1,5 +1,6 @@
 -- An advance keeps what a net stands for.
 use Rattle.std.proofs.Common.{ℕ, ◌<◌, length, sym, refl, subst, ◌∙◌, arith}
+use Rattle.mg_calc.specs.Rules.{Laws}
 use Rattle.mg_calc.specs.declared.event.Effect.{Effect}
 use Rattle.mg_node.specs.Advances.{advanced}
 use Rattle.mg_node.specs.Job.{LoggedJob}
@@ -14,9 +15,9 @@ use Rattle.mg_sched.proofs.Changed.{CellStep, cell_stands}
 use Rattle.mg_sched.proofs.LimitsKnow.{cell_knows}
 use Rattle.mg_sched.proofs.CellForms.{only_engine, stays_so, gone_same}
 
-pub advance_stands : (job : LoggedJob) (node : ℕ) (effect : Effect) (before now : NetView) → node < length before.plan.nodes → IsRunning before → StandsFor job before → NodeAdvances node effect before now → StandsFor job now
+pub advance_stands : {laws : Laws} (job : LoggedJob laws) (node : ℕ) (effect : Effect) (before now : NetView) → node < length before.plan.nodes → IsRunning before → StandsFor job before → NodeAdvances node effect before now → StandsFor job now
 unfolding StandsFor
-advance_stands job node effect before now within running h a =
+advance_stands {laws} job node effect before now within running h a =
     let long = h.work_queues in
     let work_queue = found before.work_queues node (omega (arith, within, long)) in
     let cell = cell_at job before node a.engine a.intake work_queue.0 h running within a.at a.to work_queue.1 in

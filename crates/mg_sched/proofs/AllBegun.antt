@@ -1,4 +1,5 @@
 -- One node after the other is begun.
+use Rattle.mg_calc.specs.Rules.{Laws}
 use Rattle.std.proofs.Common.{◌≡◌, ℕ, ◌+◌, ◌-◌, ◌<◌, ◌≤◌, length, ap, sym, refl, subst, ◌∙◌, arith}
 use Rattle.std.proofs.lemmas.Option.{same_Some, slice_get_within}
 use Rattle.mg_node.specs.Job.{LoggedJob}
@@ -12,8 +13,8 @@ use Rattle.mg_sched.specs.Views.{NetView}
 use Rattle.mg_sched.proofs.Finding.{found}
 
 -- what nets that stood for a job stand for it still
-abbrev pub Keeps : NetView → NetView → Type 0
-Keeps before now = (job : LoggedJob) → StandsFor job before → StandsFor job now
+abbrev pub Keeps : Laws → NetView → NetView → Type 0
+Keeps laws before now = (job : LoggedJob laws) → StandsFor job before → StandsFor job now
 
 grows_on : (a b c : EngineView) → EngineGrows a b → EngineGrows b c → EngineGrows a c
 grows_on a b c h k =
@@ -69,15 +70,15 @@ begins_on a b c h k =
           omega (arith, first, second);
     }
 
-pub still_some : (before now : NetView) → StandsForSome before → Keeps before now → StandsForSome now
-still_some before now h keeps = record { job = h.job; stands = keeps h.job h.stands }
+pub still_some : {laws : Laws} (before now : NetView) → StandsForSome laws before → Keeps laws before now → StandsForSome laws now
+still_some {laws} before now h keeps = record { job = h.job; stands = keeps h.job h.stands }
 
-upto : (net : NetView) → StandsForSome net → net.begun ≤ length net.plan.nodes
+upto : {laws : Laws} (net : NetView) → StandsForSome laws net → net.begun ≤ length net.plan.nodes
 unfolding StandsFor
-upto net h = h.stands.begun
+upto {laws} net h = h.stands.begun
 
-pub all_begun : (shown net : NetView) (count : ℕ) → shown ≡ net → StandsForSome net → count ≡ length shown.plan.nodes → count ≤ shown.begun → IsRunning net
-all_begun shown net count is h long past =
+pub all_begun : {laws : Laws} (shown net : NetView) (count : ℕ) → shown ≡ net → StandsForSome laws net → count ≡ length shown.plan.nodes → count ≤ shown.begun → IsRunning net
+all_begun {laws} shown net count is h long past =
     (let le = upto net h in
     let begun = ap (λ (v : NetView). v.begun) is in
     let nodes = ap (λ (v : NetView). length v.plan.nodes) is in

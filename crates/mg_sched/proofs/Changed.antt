@@ -2,6 +2,7 @@
 use Rattle.std.proofs.Common.{◌≡◌, ℕ, ◌+◌, ◌-◌, ◌<◌, ◌≤◌, Bool, true, List, length, set, length-set, Some, slice_get, nat_lt, inl, inr, ap, sym, refl, subst, ◌∙◌, arith}
 use Rattle.std.proofs.lemmas.Bool.{cases_eq, lt-ltb}
 use Rattle.mg_stream.specs.Queue.{count_of}
+use Rattle.mg_calc.specs.Rules.{Laws}
 use Rattle.mg_calc.specs.declared.edge.Edge.{Edge}
 use Rattle.mg_node.specs.Views.{IntakeView, EngineView}
 use Rattle.mg_node.specs.Job.{LoggedJob}
@@ -24,15 +25,15 @@ abbrev pub with_arrived : NetView → ℕ → IntakeView → QueueLimits → Net
 with_arrived net place intake limits = record net { intakes = set net.intakes place intake; limits = limits }
 
 -- what a cell has come to: its outputs only grow, and give up no packet; at each port as many came as before
-pub record CellStep (job : LoggedJob) (node : ℕ) (engine engine_now : EngineView) (intake intake_now : IntakeView) (work_queue_now : WorkQueueView) : Type 0 where
+pub record CellStep {laws : Laws} (job : LoggedJob laws) (node : ℕ) (engine engine_now : EngineView) (intake intake_now : IntakeView) (work_queue_now : WorkQueueView) : Type 0 where
   pub cell : IsCell job true node engine_now intake_now work_queue_now
   pub first : engine_now.first ≡ engine.first
   pub outputs : (output : ℕ) → HasGrown (laid_at engine output) (laid_at engine_now output)
   pub gone : (output : ℕ) → (laid_at engine_now output).gone ≤ (laid_at engine output).gone
   pub ports : (port : ℕ) → Stays (port_queue intake.waits port) (port_queue intake_now.waits port)
 
-cell_at : (job : LoggedJob) (b : Bool) (k node : ℕ) (e x : EngineView) (i y : IntakeView) (d z : WorkQueueView) → b ≡ true → k ≡ node → e ≡ x → i ≡ y → d ≡ z → IsCell job true node x y z → IsCell job b k e i d
-cell_at job b k node e x i y d z on at e_is i_is d_is cell =
+cell_at : {laws : Laws} (job : LoggedJob laws) (b : Bool) (k node : ℕ) (e x : EngineView) (i y : IntakeView) (d z : WorkQueueView) → b ≡ true → k ≡ node → e ≡ x → i ≡ y → d ≡ z → IsCell job true node x y z → IsCell job b k e i d
+cell_at {laws} job b k node e x i y d z on at e_is i_is d_is cell =
     subst (λ (c : Bool). IsCell job c k e i d) (sym on)
     (subst (λ (n : ℕ). IsCell job true n e i d) (sym at)
     (subst (λ (v : EngineView). IsCell job true node v i d) (sym e_is)
@@ -99,10 +100,10 @@ old_intake intakes node place port intake intake_now now there stays at = elim (
   | inr other ↦ record { old = now; at = sym (get_other intakes node place intake_now other) ∙ at; stays = record { count = refl; bound = refl } }
 ]
 
-pub cell_stands : (job : LoggedJob) (net : NetView) (node : ℕ) (engine engine_now : EngineView) (intake intake_now : IntakeView) (work_queue_now : WorkQueueView) (limits : QueueLimits) → IsNetOf job net → IsRunning net → node < length net.plan.nodes
+pub cell_stands : {laws : Laws} (job : LoggedJob laws) (net : NetView) (node : ℕ) (engine engine_now : EngineView) (intake intake_now : IntakeView) (work_queue_now : WorkQueueView) (limits : QueueLimits) → IsNetOf job net → IsRunning net → node < length net.plan.nodes
     → slice_get net.engines node ≡ Some engine → slice_get net.intakes node ≡ Some intake → CellStep job node engine engine_now intake intake_now work_queue_now → KnowsLimits (with_cell net node engine_now intake_now work_queue_now limits)
     → IsNetOf job (with_cell net node engine_now intake_now work_queue_now limits)
-cell_stands job net node engine engine_now intake intake_now work_queue_now limits h running within there there_in step knows =
+cell_stands {laws} job net node engine engine_now intake intake_now work_queue_now limits h running within there there_in step knows =
     let begun : net.begun ≡ length net.plan.nodes = running in
     record {
       is_job = h.is_job;
@@ -133,11 +134,11 @@ cell_stands job net node engine engine_now intake intake_now work_queue_now limi
       not_wound = h.not_wound;
     }
 
-pub arrival_stands : (job : LoggedJob) (net : NetView) (place : ℕ) (intake intake_now : IntakeView) (limits : QueueLimits) → IsNetOf job net → slice_get net.intakes place ≡ Some intake → LawfulIntake job place intake_now
+pub arrival_stands : {laws : Laws} (job : LoggedJob laws) (net : NetView) (place : ℕ) (intake intake_now : IntakeView) (limits : QueueLimits) → IsNetOf job net → slice_get net.intakes place ≡ Some intake → LawfulIntake job place intake_now
     → intake_now.claimed ≡ intake.claimed
     → ((e : Edge) (number from : ℕ) (g : EngineView) → slice_get net.plan.edges number ≡ Some e → source_of net.plan e ≡ Some from → slice_get net.engines from ≡ Some g → e.node ≡ place → IsJoined g e intake → IsJoined g e intake_now)
     → KnowsLimits (with_arrived net place intake_now limits) → IsNetOf job (with_arrived net place intake_now limits)
-arrival_stands job net place intake intake_now limits h there lawful claimed joined knows =
+arrival_stands {laws} job net place intake intake_now limits h there lawful claimed joined knows =
     let own : (k : ℕ) (i : IntakeView) → k ≡ place → slice_get (set net.intakes place intake_now) k ≡ Some i → i ≡ intake_now = λ k i here at.
     put_there net.intakes place intake_now i (ap (slice_get (set net.intakes place intake_now)) (sym here) ∙ at) in
     let still : (k : ℕ) (i : IntakeView) → k ≡ place → i ≡ intake_now → LawfulIntake job k i = λ k i here is.

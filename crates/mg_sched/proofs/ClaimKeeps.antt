@@ -1,6 +1,7 @@
 -- A claim keeps what a net stands for.
 use Rattle.std.proofs.lemmas.Grind.{length_at_push}
 use Rattle.std.proofs.Common.{◌≡◌, ℕ, ◌<◌, true, List, [], ◌∷◌, ◌++◌, length, inl, inr, ap, sym, refl, subst, ◌∙◌, arith}
+use Rattle.mg_calc.specs.Rules.{Laws}
 use Rattle.mg_calc.specs.declared.event.Effect.{Effect}
 use Rattle.mg_calc.specs.declared.event.Effect.TheVariants.{Did, Idle, OutOfMemory}
 use Rattle.mg_calc.specs.declared.plan.Plan.{Plan}
@@ -45,16 +46,16 @@ claim_ended Ended engine engine_now intake intake_now c = ap has_ended c.1.same_
 claim_ended NoMemory engine engine_now intake intake_now c = ap has_ended c.2.same_engine
 
 -- a cell that claims
-record ClaimStep (job : LoggedJob) (node : ℕ) (engine engine_now : EngineView) (intake intake_now : IntakeView) (work_queue_now : WorkQueueView) : Type 0 where
+record ClaimStep {laws : Laws} (job : LoggedJob laws) (node : ℕ) (engine engine_now : EngineView) (intake intake_now : IntakeView) (work_queue_now : WorkQueueView) : Type 0 where
   pub step : CellStep job node engine engine_now intake intake_now work_queue_now
   pub ended : has_ended engine_now ≡ has_ended engine
 
-are_cell : (job : LoggedJob) (node : ℕ) (engine : EngineView) (intake : IntakeView) (work_queue : WorkQueueView) → IsCell job true node engine intake work_queue → AreCell engine intake
-are_cell job node engine intake work_queue cell = record { job = job; number = node; lawful_engine = cell.lawful_engine; lawful_intake = cell.lawful_intake; agree = cell.agree }
+are_cell : {laws : Laws} (job : LoggedJob laws) (node : ℕ) (engine : EngineView) (intake : IntakeView) (work_queue : WorkQueueView) → IsCell job true node engine intake work_queue → AreCell laws engine intake
+are_cell {laws} job node engine intake work_queue cell = record { job = job; number = node; lawful_engine = cell.lawful_engine; lawful_intake = cell.lawful_intake; agree = cell.agree }
 
-claim_step : (job : LoggedJob) (node : ℕ) (result : Claimed ℕ) (engine engine_now : EngineView) (intake intake_now : IntakeView) (work_queue work_queue_now : WorkQueueView) → IsCell job true node engine intake work_queue
+claim_step : {laws : Laws} (job : LoggedJob laws) (node : ℕ) (result : Claimed ℕ) (engine engine_now : EngineView) (intake intake_now : IntakeView) (work_queue work_queue_now : WorkQueueView) → IsCell job true node engine intake work_queue
     → Claims {C = ℕ} result engine engine_now intake intake_now → HasWorks job engine_now work_queue_now → ClaimStep job node engine engine_now intake intake_now work_queue_now
-claim_step job node result engine engine_now intake intake_now work_queue work_queue_now cell claims works =
+claim_step {laws} job node result engine engine_now intake intake_now work_queue work_queue_now cell claims works =
     let lawful = claim_lawful {C = ℕ} job node result engine engine_now intake intake_now cell.lawful_engine cell.lawful_intake cell.agree claims in
     let grows = claim_grows {C = ℕ} result engine engine_now intake intake_now (are_cell job node engine intake work_queue cell) claims in
     let s = claim_set_up {X = ℕ} result engine engine_now intake intake_now claims in
@@ -70,17 +71,17 @@ claim_step job node result engine engine_now intake intake_now work_queue work_q
     }
 
 -- where no work is handed out
-kept_step : (job : LoggedJob) (node : ℕ) (result : Claimed ℕ) (engine engine_now : EngineView) (intake intake_now : IntakeView) (work_queue work_queue_now : WorkQueueView) → IsCell job true node engine intake work_queue
+kept_step : {laws : Laws} (job : LoggedJob laws) (node : ℕ) (result : Claimed ℕ) (engine engine_now : EngineView) (intake intake_now : IntakeView) (work_queue work_queue_now : WorkQueueView) → IsCell job true node engine intake work_queue
     → Claims {C = ℕ} result engine engine_now intake intake_now → KeepsOut engine engine_now → work_queue_now ≡ work_queue → ClaimStep job node engine engine_now intake intake_now work_queue_now
-kept_step job node result engine engine_now intake intake_now work_queue work_queue_now cell claims kept work_queue_is =
+kept_step {laws} job node result engine engine_now intake intake_now work_queue work_queue_now cell claims kept work_queue_is =
     let s = claim_set_up {X = ℕ} result engine engine_now intake intake_now claims in
     subst (λ (d : WorkQueueView). ClaimStep job node engine engine_now intake intake_now d) (sym work_queue_is)
     (claim_step job node result engine engine_now intake intake_now work_queue work_queue cell claims (works_kept job engine engine_now work_queue s.in_flight kept cell.works))
 
 -- where one is
-work_step : (job : LoggedJob) (node : ℕ) (engine engine_now : EngineView) (intake intake_now : IntakeView) (work_queue work_queue_now : WorkQueueView) → IsCell job true node engine intake work_queue → TakesWork engine engine_now intake intake_now work_queue work_queue_now
+work_step : {laws : Laws} (job : LoggedJob laws) (node : ℕ) (engine engine_now : EngineView) (intake intake_now : IntakeView) (work_queue work_queue_now : WorkQueueView) → IsCell job true node engine intake work_queue → TakesWork engine engine_now intake intake_now work_queue work_queue_now
     → ClaimStep job node engine engine_now intake intake_now work_queue_now
-work_step job node engine engine_now intake intake_now work_queue work_queue_now cell t =
+work_step {laws} job node engine engine_now intake intake_now work_queue work_queue_now cell t =
     let work = t.work in
     let result : Claimed ℕ = Work work in
     let lawful = claim_lawful {C = ℕ} job node result engine engine_now intake intake_now cell.lawful_engine cell.lawful_intake cell.agree t.claims in
@@ -90,13 +91,13 @@ work_step job node engine engine_now intake intake_now work_queue work_queue_now
     subst (λ (d : WorkQueueView). ClaimStep job node engine engine_now intake intake_now d) (sym t.on_work_queue)
     (claim_step job node result engine engine_now intake intake_now work_queue work_queue_more cell t.claims (works_more job engine engine_now work_queue work s.in_flight goes lawful.work cell.works))
 
-claims_step : (job : LoggedJob) (node : ℕ) (effect : Effect) (engine engine_now : EngineView) (intake intake_now : IntakeView) (work_queue work_queue_now : WorkQueueView) → IsCell job true node engine intake work_queue
+claims_step : {laws : Laws} (job : LoggedJob laws) (node : ℕ) (effect : Effect) (engine engine_now : EngineView) (intake intake_now : IntakeView) (work_queue work_queue_now : WorkQueueView) → IsCell job true node engine intake work_queue
     → ClaimsBy effect engine engine_now intake intake_now work_queue work_queue_now → ClaimStep job node engine engine_now intake intake_now work_queue_now
-claims_step job node Did engine engine_now intake intake_now work_queue work_queue_now cell (inl t) = work_step job node engine engine_now intake intake_now work_queue work_queue_now cell t
-claims_step job node Did engine engine_now intake intake_now work_queue work_queue_now cell (inr a) =
+claims_step {laws} job node Did engine engine_now intake intake_now work_queue work_queue_now cell (inl t) = work_step job node engine engine_now intake intake_now work_queue work_queue_now cell t
+claims_step {laws} job node Did engine engine_now intake intake_now work_queue work_queue_now cell (inr a) =
     kept_step job node Answered engine engine_now intake intake_now work_queue work_queue_now cell a.0
     (claim_puts_out {X = ℕ} Answered engine engine_now intake intake_now (are_cell job node engine intake work_queue cell) a.0) a.1
-claims_step job node Idle engine engine_now intake intake_now work_queue work_queue_now cell c =
+claims_step {laws} job node Idle engine engine_now intake intake_now work_queue work_queue_now cell c =
     let is = are_cell job node engine intake work_queue cell in
     elim c.0 [
       | inl early ↦ kept_step job node NotReady engine engine_now intake intake_now work_queue work_queue_now cell early (claim_puts_out {X = ℕ} NotReady engine engine_now intake intake_now is early) c.1
@@ -104,12 +105,12 @@ claims_step job node Idle engine engine_now intake intake_now work_queue work_qu
       | inr (inr (inl draining)) ↦ kept_step job node Draining engine engine_now intake intake_now work_queue work_queue_now cell draining (claim_puts_out {X = ℕ} Draining engine engine_now intake intake_now is draining) c.1
       | inr (inr (inr ended)) ↦ kept_step job node Ended engine engine_now intake intake_now work_queue work_queue_now cell ended (claim_puts_out {X = ℕ} Ended engine engine_now intake intake_now is ended) c.1
     ]
-claims_step job node OutOfMemory engine engine_now intake intake_now work_queue work_queue_now cell c =
+claims_step {laws} job node OutOfMemory engine engine_now intake intake_now work_queue work_queue_now cell c =
     kept_step job node NoMemory engine engine_now intake intake_now work_queue work_queue_now cell c.0 (claim_puts_out {X = ℕ} NoMemory engine engine_now intake intake_now (are_cell job node engine intake work_queue cell) c.0) c.1
 
-next_stands : (job : LoggedJob) (node : ℕ) (effect : Effect) (before now : NetView) → node < length before.plan.nodes → IsRunning before → StandsFor job before → ClaimsNext node effect before now → StandsFor job now
+next_stands : {laws : Laws} (job : LoggedJob laws) (node : ℕ) (effect : Effect) (before now : NetView) → node < length before.plan.nodes → IsRunning before → StandsFor job before → ClaimsNext node effect before now → StandsFor job now
 unfolding StandsFor
-next_stands job node effect before now within running h c =
+next_stands {laws} job node effect before now within running h c =
     let cell = cell_at job before node c.engine c.intake c.work_queue h running within c.at c.to c.on in
     let s = claims_step job node effect c.engine c.engine_now c.intake c.intake_now c.work_queue c.work_queue_now cell c.claims in
     let n = found before.plan.nodes node within in
@@ -119,16 +120,16 @@ next_stands job node effect before now within running h c =
     (cell_stands job before node c.engine c.engine_now c.intake c.intake_now c.work_queue_now _ h running within c.at c.to s.step
     (claim_knows before node n.0 c.engine c.engine_now c.intake_now c.work_queue_now valid h.limits n.1 c.at s.ended ports))
 
-pub claim_stands : (job : LoggedJob) (node : ℕ) (effect : Effect) (before now : NetView) → node < length before.plan.nodes → IsRunning before → StandsFor job before → ClaimedAt node effect before now → StandsFor job now
-claim_stands job node effect before now within running h c = elim c [
+pub claim_stands : {laws : Laws} (job : LoggedJob laws) (node : ℕ) (effect : Effect) (before now : NetView) → node < length before.plan.nodes → IsRunning before → StandsFor job before → ClaimedAt node effect before now → StandsFor job now
+claim_stands {laws} job node effect before now within running h c = elim c [
   | inl held ↦ rest_stands job effect before now h held.1
   | inr free ↦ next_stands job node effect before now within running h free.1
 ]
 
 -- A work that is handed out finds its work queue with room for it: no more works lie there than the window has entries.
-pub room_left : (job : LoggedJob) (node : ℕ) (work : WorkView) (engine engine_now : EngineView) (intake intake_now : IntakeView) (work_queue : WorkQueueView) → IsCell job true node engine intake work_queue
+pub room_left : {laws : Laws} (job : LoggedJob laws) (node : ℕ) (work : WorkView) (engine engine_now : EngineView) (intake intake_now : IntakeView) (work_queue : WorkQueueView) → IsCell job true node engine intake work_queue
     → Claims {C = ℕ} (Work work) engine engine_now intake intake_now → length work_queue.works < work_queue.room
-room_left job node work engine engine_now intake intake_now work_queue cell claims =
+room_left {laws} job node work engine engine_now intake intake_now work_queue cell claims =
     let more : WorkQueueView = record work_queue { works = work_queue.works ++ work ∷ [] } in
     let step = (work_step job node engine engine_now intake intake_now work_queue more cell (record { work = work; claims = claims; on_work_queue = refl })).step in
     let fit = works_fit job engine_now more step.cell.works in

@@ -4,10 +4,11 @@ use Rattle.std.specs.List.{filter_map}
 use Rattle.std.proofs.lemmas.Option.{slice_get_within}
 use Rattle.mg_value.specs.Payload.{Plain}
 use Rattle.mg_settled.specs.Prefix.{StreamPrefix}
+use Rattle.mg_calc.specs.Rules.{Laws}
 use Rattle.mg_calc.specs.declared.plan.Plan.{Plan}
 use Rattle.mg_calc.specs.declared.plan_node.PlanNode.{PlanNode}
 use Rattle.mg_calc.specs.Shape.{IsOuter}
-use Rattle.mg_calc.specs.Told.{CalculatorTold}
+use Rattle.mg_calc.specs.Told.{BoxTold}
 use Rattle.mg_node.specs.Views.{WorkView, EngineView}
 use Rattle.mg_node.specs.Job.{LoggedJob, Solves}
 use Rattle.mg_node.specs.Lawful.{of_node, LawfulEngine}
@@ -25,15 +26,15 @@ use Rattle.mg_sched.proofs.FrontsBack.{given_at}
 use Rattle.mg_sched.proofs.CountedBack.{knows_standing, knows_wound, own_back}
 
 -- the calculator of a cell in whose work queue nothing lies stands in its engine
-in_engine : (engine : EngineView) (work_queue : WorkQueueView) (told : CalculatorTold) (o : Option CalculatorTold) → work_queue.works ≡ [] → first_handed engine ≡ o → or_else o (on_work_queue work_queue) ≡ Some told → first_handed engine ≡ Some told
+in_engine : (engine : EngineView) (work_queue : WorkQueueView) (told : BoxTold) (o : Option BoxTold) → work_queue.works ≡ [] → first_handed engine ≡ o → or_else o (on_work_queue work_queue) ≡ Some told → first_handed engine ≡ Some told
 in_engine engine work_queue told None none is has =
     absurd (let clash : None ≡ Some told = sym (ap (λ (ws : List WorkView). slice_get (filter_map handed_told (map (λ (w : WorkView). w.context.told) ws)) 0) none) ∙ has in cc)
 in_engine engine work_queue told (Some t) none is has = is ∙ has
 
-pub closed_back : (job : LoggedJob) (net wound : NetView) (solution : List (StreamPrefix Plain)) (number place : ℕ) (node : PlanNode) → StandsFor job net → IsRunning net → NoneOnWorkQueues net → WindsUpNet net wound → wound.wound ≡ length net.plan.nodes
-    → Solves job solution → slice_get net.plan.nodes number ≡ Some node → node.box_number ≡ Some place → IsOuter node.law → (told : CalculatorTold) × (slice_get (given_back wound) place ≡ Some told) × HadClose job solution node told
+pub closed_back : {laws : Laws} (job : LoggedJob laws) (net wound : NetView) (solution : List (StreamPrefix Plain)) (number place : ℕ) (node : PlanNode) → StandsFor job net → IsRunning net → NoneOnWorkQueues net → WindsUpNet laws net wound → wound.wound ≡ length net.plan.nodes
+    → Solves job solution → slice_get net.plan.nodes number ≡ Some node → node.box_number ≡ Some place → IsOuter node.law → (told : BoxTold) × (slice_get (given_back wound) place ≡ Some told) × HadClose job solution node told
 unfolding StandsFor
-closed_back job net wound solution number place node h running none w all solves there boxed outer =
+closed_back {laws} job net wound solution number place node h running none w all solves there boxed outer =
     let within = slice_get_within net.plan.nodes number node there in
     let engines = h.engines in
     let intakes = h.intakes in
@@ -44,7 +45,7 @@ closed_back job net wound solution number place node h running none w all solves
     let d = found net.work_queues number (omega (arith, within, work_queues)) in
     let e = found wound.engines number (omega (arith, within, engines, places)) in
     let not_wound = h.not_wound in
-    let winds : WindsUp g.0 e.0 = w.wound_up number g.0 e.0 (omega (arith, not_wound)) (omega (arith, within, all)) g.1 e.1 in
+    let winds : WindsUp laws g.0 e.0 = w.wound_up number g.0 e.0 (omega (arith, not_wound)) (omega (arith, within, all)) g.1 e.1 in
     let lawful : LawfulEngine job (of_node number) g.0 = (cell_at job net number g.0 i.0 d.0 h running within g.1 i.1 d.1).lawful_engine in
     let plan : wound.plan ≡ net.plan = ap (λ (v : NetView). v.plan) w.parts in
     let on : slice_get wound.work_queues number ≡ Some d.0 = ap (λ (ds : List WorkQueueView). slice_get ds number) (ap (λ (v : NetView). v.work_queues) w.parts) ∙ d.1 in

@@ -3,6 +3,7 @@ use Rattle.std.proofs.Common.{◌≡◌, ◌≢◌, ℕ, ◌+◌, ◌<◌, true,
 use Rattle.std.specs.Prelude.{AllPairs}
 use Rattle.std.proofs.lemmas.Bool.{cases_eq}
 use Rattle.std.proofs.lemmas.Option.{slice_get_within, slice_get-get_or}
+use Rattle.mg_calc.specs.Rules.{Laws}
 use Rattle.mg_calc.specs.declared.plan.Plan.{Plan}
 use Rattle.mg_node.specs.Views.{IntakeView, WorkView, OutcomeView, EngineView}
 use Rattle.mg_node.specs.Job.{LoggedJob}
@@ -59,9 +60,9 @@ one_more_back start engine engine_now on work_queue work_queue_now work h works 
 
 -- A cell whose works come back stays one.
 
-one_back : (job : LoggedJob) (node : ℕ) (engine mid : EngineView) (intake : IntakeView) (work_queue : WorkQueueView) (front : List WorkView) (work : WorkView) → CellStep job node engine mid intake intake (record work_queue { works = front ++ work ∷ [] })
+one_back : {laws : Laws} (job : LoggedJob laws) (node : ℕ) (engine mid : EngineView) (intake : IntakeView) (work_queue : WorkQueueView) (front : List WorkView) (work : WorkView) → CellStep job node engine mid intake intake (record work_queue { works = front ++ work ∷ [] })
     → CellStep job node engine (shelved mid (unrun_of work)) intake intake (record work_queue { works = front })
-one_back job node engine mid intake work_queue front work s =
+one_back {laws} job node engine mid intake work_queue front work s =
     let o = unrun_of work in
     let on : WorkQueueView = record work_queue { works = front ++ work ∷ [] } in
     let works = s.cell.works in
@@ -81,16 +82,16 @@ one_back job node engine mid intake work_queue front work s =
       ports = s.ports;
     }
 
-back_step : (job : LoggedJob) (node : ℕ) (engine : EngineView) (intake : IntakeView) (work_queue : WorkQueueView) (back front : List WorkView) → IsCell job true node engine intake (record work_queue { works = front ++ back })
+back_step : {laws : Laws} (job : LoggedJob laws) (node : ℕ) (engine : EngineView) (intake : IntakeView) (work_queue : WorkQueueView) (back front : List WorkView) → IsCell job true node engine intake (record work_queue { works = front ++ back })
     → CellStep job node engine (all_shelved engine back) intake intake (record work_queue { works = front })
-back_step job node engine intake work_queue [] front cell = record {
+back_step {laws} job node engine intake work_queue [] front cell = record {
   cell = subst (λ (ws : List WorkView). IsCell job true node engine intake (record work_queue { works = ws })) (append-nil front) cell;
   first = refl;
   outputs = λ output. grown_by_itself (laid_at engine output);
   gone = λ output. omega arith;
   ports = λ port. stays_so (port_queue intake.waits port);
 }
-back_step job node engine intake work_queue (work ∷ back) front cell =
+back_step {laws} job node engine intake work_queue (work ∷ back) front cell =
     one_back job node engine (all_shelved engine back) intake work_queue front work
     (back_step job node engine intake work_queue back (front ++ work ∷ []) (subst (λ (ws : List WorkView). IsCell job true node engine intake (record work_queue { works = ws })) (sym (append_assoc front (work ∷ []) back)) cell))
 
@@ -98,9 +99,9 @@ back_ended : (engine : EngineView) (works : List WorkView) → has_ended (all_sh
 back_ended engine [] = refl
 back_ended engine (work ∷ works) = back_ended engine works
 
-pub back_stands : (job : LoggedJob) (node : ℕ) (before now : NetView) → node < length before.plan.nodes → IsRunning before → StandsFor job before → PutsBackAt node before now → StandsFor job now
+pub back_stands : {laws : Laws} (job : LoggedJob laws) (node : ℕ) (before now : NetView) → node < length before.plan.nodes → IsRunning before → StandsFor job before → PutsBackAt node before now → StandsFor job now
 unfolding StandsFor
-back_stands job node before now within running h p =
+back_stands {laws} job node before now within running h p =
     let long = h.intakes in
     let intake = found before.intakes node (omega (arith, within, long)) in
     let cell = cell_at job before node p.engine intake.0 p.work_queue h running within p.at intake.1 p.on in
@@ -112,9 +113,9 @@ back_stands job node before now within running h p =
     (cell_knows before node p.engine engine_now intake.0 work_queue_now within h.limits p.at intake.1 (back_ended p.engine p.work_queue.works)))
 
 -- what a node comes to, read of a net as it is kept
-pub puts_back_at : (shown net : NetView) (node : ℕ) (engine engine_now : EngineView) (work_queue work_queue_now : WorkQueueView) → shown ≡ net → StandsForSome net → node < length net.plan.nodes → engine ≡ get_or shown.engines node engine → work_queue ≡ get_or shown.work_queues node work_queue
+pub puts_back_at : {laws : Laws} (shown net : NetView) (node : ℕ) (engine engine_now : EngineView) (work_queue work_queue_now : WorkQueueView) → shown ≡ net → StandsForSome laws net → node < length net.plan.nodes → engine ≡ get_or shown.engines node engine → work_queue ≡ get_or shown.work_queues node work_queue
     → engine_now ≡ all_shelved engine work_queue.works → work_queue_now ≡ record work_queue { works = [] } → PutsBackAt node net (with_work_queue (with_engine shown node engine_now) node work_queue_now)
-puts_back_at shown net node engine engine_now work_queue work_queue_now is h less value lies now empty = record {
+puts_back_at {laws} shown net node engine engine_now work_queue work_queue_now is h less value lies now empty = record {
   engine = engine;
   at = engine_read shown net node engine is h less value;
   work_queue = work_queue;
@@ -126,13 +127,13 @@ puts_back_at shown net node engine engine_now work_queue work_queue_now is h les
 
 -- Works come back from all work queues, one after the other.
 
-pub record BackTo (before now : NetView) (count : ℕ) : Type 0 where
+pub record BackTo (laws : Laws) (before now : NetView) (count : ℕ) : Type 0 where
   pub puts_back : PutsBack count before.engines now.engines before.work_queues now.work_queues
   pub others : now ≡ record before { engines = now.engines; work_queues = now.work_queues }
-  pub stands : (job : LoggedJob) → StandsFor job before → StandsFor job now
+  pub stands : (job : LoggedJob laws) → StandsFor job before → StandsFor job now
 
-pub back_none : (net : NetView) → BackTo net net 0
-back_none net = record {
+pub back_none : {laws : Laws} (net : NetView) → BackTo laws net net 0
+back_none {laws} net = record {
   puts_back = record {
     engine_count = refl;
     work_queue_count = refl;
@@ -173,22 +174,22 @@ lists_more count engines now work_queues work_queues_now engine work_queue h the
       other_work_queues = λ place le. get_other work_queues_now count place work_queue_now (λ s. omega (arith, s, le)) ∙ h.other_work_queues place (omega (arith, le));
     }
 
-pub back_runs : (before now : NetView) (count : ℕ) → BackTo before now count → IsRunning before → IsRunning now
-back_runs before now count b running = ap (λ (v : NetView). v.begun) b.others ∙ running ∙ sym (ap (λ (v : NetView). length v.plan.nodes) b.others)
+pub back_runs : {laws : Laws} (before now : NetView) (count : ℕ) → BackTo laws before now count → IsRunning before → IsRunning now
+back_runs {laws} before now count b running = ap (λ (v : NetView). v.begun) b.others ∙ running ∙ sym (ap (λ (v : NetView). length v.plan.nodes) b.others)
 
-pub back_some : (before now : NetView) (count : ℕ) → BackTo before now count → StandsForSome before → StandsForSome now
-back_some before now count b h = record { job = h.job; stands = b.stands h.job h.stands }
+pub back_some : {laws : Laws} (before now : NetView) (count : ℕ) → BackTo laws before now count → StandsForSome laws before → StandsForSome laws now
+back_some {laws} before now count b h = record { job = h.job; stands = b.stands h.job h.stands }
 
-pub back_there : (before now : NetView) (count node : ℕ) → BackTo before now count → node < length before.plan.nodes → node < length now.plan.nodes
-back_there before now count node b less = (let same = ap (λ (v : NetView). length v.plan.nodes) b.others in omega (arith, less, same))
+pub back_there : {laws : Laws} (before now : NetView) (count node : ℕ) → BackTo laws before now count → node < length before.plan.nodes → node < length now.plan.nodes
+back_there {laws} before now count node b less = (let same = ap (λ (v : NetView). length v.plan.nodes) b.others in omega (arith, less, same))
 
 -- a net with other engines and work queues is told by these
 told_by_parts : (mid after : NetView) (engines : List EngineView) (work_queues : List WorkQueueView) → after ≡ record mid { engines = engines; work_queues = work_queues } → after ≡ record mid { engines = after.engines; work_queues = after.work_queues }
 told_by_parts mid after engines work_queues is =
     is ∙ (λ i. record mid { engines = sym (ap (λ (v : NetView). v.engines) is) i; work_queues = sym (ap (λ (v : NetView). v.work_queues) is) i })
 
-pub back_more : (before now next : NetView) (node : ℕ) → BackTo before now node → node < length before.plan.nodes → IsRunning before → PutsBackAt node now next → BackTo before next (node + 1)
-back_more before now next node b less running p =
+pub back_more : {laws : Laws} (before now next : NetView) (node : ℕ) → BackTo laws before now node → node < length before.plan.nodes → IsRunning before → PutsBackAt node now next → BackTo laws before next (node + 1)
+back_more {laws} before now next node b less running p =
     let engines : next.engines ≡ set now.engines node (all_shelved p.engine p.work_queue.works) = ap (λ (v : NetView). v.engines) p.now_is in
     let work_queues : next.work_queues ≡ set now.work_queues node (record p.work_queue { works = [] }) = ap (λ (v : NetView). v.work_queues) p.now_is in
     record {
@@ -199,8 +200,8 @@ back_more before now next node b less running p =
       stands = λ job h. back_stands job node now next (back_there before now node node b less) (back_runs before now node b running) (b.stands job h) p;
     }
 
-pub back_end : (before now : NetView) (count last : ℕ) → BackTo before now count → count ≡ last → BackTo before now last
-back_end before now count last b is = subst (λ (n : ℕ). BackTo before now n) is b
+pub back_end : {laws : Laws} (before now : NetView) (count last : ℕ) → BackTo laws before now count → count ≡ last → BackTo laws before now last
+back_end {laws} before now count last b is = subst (λ (n : ℕ). BackTo laws before now n) is b
 
 -- The parts of a net in whose work queues nothing lies are those of one net.
 
@@ -208,17 +209,17 @@ is_there : (o : Option OutcomeView) → (o ≡ None → ⊥) → is_some o ≡ t
 is_there None not_none = absurd (not_none refl)
 is_there (Some x) not_none = refl
 
-nothing_on : (job : LoggedJob) (engine : EngineView) (work_queue : WorkQueueView) → HasWorks job engine work_queue → work_queue.works ≡ [] → NoneOut engine
-nothing_on job engine work_queue h none = λ k d less.
+nothing_on : {laws : Laws} (job : LoggedJob laws) (engine : EngineView) (work_queue : WorkQueueView) → HasWorks job engine work_queue → work_queue.works ≡ [] → NoneOut engine
+nothing_on {laws} job engine work_queue h none = λ k d less.
     let entry = get_or engine.window k d in
     is_there entry.outcome (λ missing.
     let any = h.complete k entry (slice_get-get_or engine.window k d less) missing in
     let within = any.2 in
     absurd (omega (arith, within, ap (λ (ws : List WorkView). length ws) none)))
 
-pub parts_of_net : (job : LoggedJob) (before now : NetView) → IsRunning before → BackTo before now (length before.plan.nodes) → StandsFor job before → ArePartsOf job (parts_in now)
+pub parts_of_net : {laws : Laws} (job : LoggedJob laws) (before now : NetView) → IsRunning before → BackTo laws before now (length before.plan.nodes) → StandsFor job before → ArePartsOf job (parts_in now)
 unfolding StandsFor
-parts_of_net job before now running b stands =
+parts_of_net {laws} job before now running b stands =
     let h : StandsFor job now = b.stands job stands in
     let runs = back_runs before now (length before.plan.nodes) b running in
     let nodes = ap (λ (v : NetView). length v.plan.nodes) b.others in
@@ -267,14 +268,14 @@ parts_of_net job before now running b stands =
       };
     }
 
-pub parts_come_apart : (job : LoggedJob) (before after shown : NetView) → shown ≡ after → IsRunning before → PutsBack (length before.plan.nodes) before.engines after.engines before.work_queues after.work_queues
-    → after ≡ record before { engines = after.engines; work_queues = after.work_queues } → ((other : LoggedJob) → StandsFor other before → StandsFor other after) → StandsFor job before → ArePartsOf job (parts_in shown)
-parts_come_apart job before after shown is running puts_back others stands h =
+pub parts_come_apart : {laws : Laws} (job : LoggedJob laws) (before after shown : NetView) → shown ≡ after → IsRunning before → PutsBack (length before.plan.nodes) before.engines after.engines before.work_queues after.work_queues
+    → after ≡ record before { engines = after.engines; work_queues = after.work_queues } → ((other : LoggedJob laws) → StandsFor other before → StandsFor other after) → StandsFor job before → ArePartsOf job (parts_in shown)
+parts_come_apart {laws} job before after shown is running puts_back others stands h =
     subst (λ (v : NetView). ArePartsOf job (parts_in v)) (sym is) (parts_of_net job before after running (record { puts_back = puts_back; others = others; stands = stands }) h)
 
 -- nothing lies in its work queues
-pub none_on_work_queues : (before now : NetView) → StandsForSome before → PutsBack (length before.plan.nodes) before.engines now.engines before.work_queues now.work_queues → NoneOnWorkQueues now
-none_on_work_queues before now some b = λ node work_queue on.
+pub none_on_work_queues : {laws : Laws} (before now : NetView) → StandsForSome laws before → PutsBack (length before.plan.nodes) before.engines now.engines before.work_queues now.work_queues → NoneOnWorkQueues now
+none_on_work_queues {laws} before now some b = λ node work_queue on.
     let within = slice_get_within now.work_queues node work_queue on in
     let count = b.work_queue_count in
     let long = (places before some).2 in

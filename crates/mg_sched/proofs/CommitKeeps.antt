@@ -1,5 +1,6 @@
 -- A commit keeps what a net stands for.
 use Rattle.std.proofs.Common.{◌≡◌, ℕ, ◌<◌, length, Option, Some, None, Result, Ok, slice_get, ap, sym, refl, subst, ◌∙◌, arith}
+use Rattle.mg_calc.specs.Rules.{Laws}
 use Rattle.mg_calc.specs.declared.event.Effect.{Effect}
 use Rattle.mg_calc.specs.declared.event.Effect.TheVariants.{Did, Idle, OutOfMemory}
 use Rattle.mg_node.specs.declared.role.Role.{Role}
@@ -21,10 +22,10 @@ use Rattle.mg_sched.proofs.LimitsKnow.{stopped_knows}
 use Rattle.mg_sched.proofs.CellForms.{only_engine, stays_so, gone_same}
 use Rattle.mg_sched.proofs.RelaxKeeps.{rest_stands}
 
-laid_stands : (job : LoggedJob) (node number : ℕ) (engine : EngineView) (p : PerformedView) (before now : NetView) → node < length before.plan.nodes → IsRunning before → StandsFor job before → slice_get before.engines node ≡ Some engine
+laid_stands : {laws : Laws} (job : LoggedJob laws) (node number : ℕ) (engine : EngineView) (p : PerformedView) (before now : NetView) → node < length before.plan.nodes → IsRunning before → StandsFor job before → slice_get before.engines node ≡ Some engine
     → shelf_at engine number ≡ Some p → CommitsTo node number engine p before now → StandsFor job now
 unfolding StandsFor
-laid_stands job node number engine p before now within running h at is c =
+laid_stands {laws} job node number engine p before now within running h at is c =
     let long = h.work_queues in
     let more = h.intakes in
     let work_queue = found before.work_queues node (omega (arith, within, long)) in
@@ -33,7 +34,7 @@ laid_stands job node number engine p before now within running h at is c =
     let taken = unshelved_lawful job node engine c.taken number p is c.takes cell.lawful_engine in
     let goes = unshelved_out job node engine c.taken number p cell.lawful_engine is c.takes in
     let outcome = outcome_of p in
-    let some : SomeJobHasEngine c.taken = record { job = job; number = node; lawful = taken.0 } in
+    let some : SomeJobHasEngine laws c.taken = record { job = job; number = node; lawful = taken.0 } in
     let back = commits_back outcome c.laid c.taken c.engine_now goes.out some c.commits in
     let result : Result ℕ ℕ = Ok c.laid in
     let grows : EngineGrows engine c.engine_now = engine_further engine c.taken c.engine_now (unshelving_grows (Some p) engine c.taken number c.takes)
@@ -58,12 +59,12 @@ laid_stands job node number engine p before now within running h at is c =
     (cell_stands job before node engine c.engine_now intake.0 intake.0 work_queue.0 limits h running within at intake.1 step
     (stopped_knows before node engine c.engine_now intake.0 work_queue.0 within h.limits at intake.1 grows.ended))
 
-taken_stands : (job : LoggedJob) (node number : ℕ) (r : Option PerformedView) (effect : Effect) (engine : EngineView) (before now : NetView) → node < length before.plan.nodes → IsRunning before → StandsFor job before → slice_get before.engines node ≡ Some engine
+taken_stands : {laws : Laws} (job : LoggedJob laws) (node number : ℕ) (r : Option PerformedView) (effect : Effect) (engine : EngineView) (before now : NetView) → node < length before.plan.nodes → IsRunning before → StandsFor job before → slice_get before.engines node ≡ Some engine
     → shelf_at engine number ≡ r → CommittedAt node number r effect engine before now → StandsFor job now
-taken_stands job node number None effect engine before now within running h at is c = rest_stands job effect before now h c
-taken_stands job node number (Some p) Did engine before now within running h at is c = laid_stands job node number engine p before now within running h at is c
-taken_stands job node number (Some p) Idle engine before now within running h at is c = absurd c
-taken_stands job node number (Some p) OutOfMemory engine before now within running h at is c = subst (λ (v : NetView). StandsFor job v) (sym c) h
+taken_stands {laws} job node number None effect engine before now within running h at is c = rest_stands job effect before now h c
+taken_stands {laws} job node number (Some p) Did engine before now within running h at is c = laid_stands job node number engine p before now within running h at is c
+taken_stands {laws} job node number (Some p) Idle engine before now within running h at is c = absurd c
+taken_stands {laws} job node number (Some p) OutOfMemory engine before now within running h at is c = subst (λ (v : NetView). StandsFor job v) (sym c) h
 
-pub commit_stands : (job : LoggedJob) (node number : ℕ) (effect : Effect) (before now : NetView) → node < length before.plan.nodes → IsRunning before → StandsFor job before → NodeCommits node number effect before now → StandsFor job now
-commit_stands job node number effect before now within running h c = taken_stands job node number (shelf_at c.engine number) effect c.engine before now within running h c.at refl c.committed
+pub commit_stands : {laws : Laws} (job : LoggedJob laws) (node number : ℕ) (effect : Effect) (before now : NetView) → node < length before.plan.nodes → IsRunning before → StandsFor job before → NodeCommits node number effect before now → StandsFor job now
+commit_stands {laws} job node number effect before now within running h c = taken_stands job node number (shelf_at c.engine number) effect c.engine before now within running h c.at refl c.committed

@@ -4,6 +4,7 @@ use Rattle.std.proofs.lemmas.Bool.{cases_eq}
 use Rattle.mg_value.specs.Payload.{Plain}
 use Rattle.mg_value.specs.Packet.{Stamped}
 use Rattle.mg_stream.specs.Queue.{IsLike, count_of}
+use Rattle.mg_calc.specs.Rules.{Laws}
 use Rattle.mg_calc.specs.declared.edge.Edge.{Edge}
 use Rattle.mg_calc.specs.declared.event.Effect.{Effect}
 use Rattle.mg_calc.specs.declared.plan.Plan.{Plan}
@@ -35,9 +36,9 @@ like_joined g x intake now like h =
     let kept = h.kept in
     record { came = record { count = omega (arith, count, came); bound = omega (arith, bound, low) }; kept = omega (arith, count, kept) }
 
-brings_stands : (job : LoggedJob) (number : ℕ) (e : Edge) (effect : Effect) (before now : NetView) → IsRunning before → StandsFor job before → slice_get before.plan.edges number ≡ Some e → Brings number e effect before now → StandsFor job now
+brings_stands : {laws : Laws} (job : LoggedJob laws) (number : ℕ) (e : Edge) (effect : Effect) (before now : NetView) → IsRunning before → StandsFor job before → slice_get before.plan.edges number ≡ Some e → Brings number e effect before now → StandsFor job now
 unfolding StandsFor
-brings_stands job number e effect before now running h at b =
+brings_stands {laws} job number e effect before now running h at b =
     let valid : IsValid before.plan = subst IsValid (sym h.plan) h.is_job.plan in
     let placed = edge_placed before.plan number e valid at in
     let joined = h.edges e number b.place b.engine b.intake at b.from b.at b.to in
@@ -74,8 +75,8 @@ brings_stands job number e effect before now running h at b =
     ])
     (arrival_knows before number e b.intake b.intake_now valid h.limits at b.to (λ port within other. (like port within other).packets)))
 
-pub deliver_stands : (job : LoggedJob) (number : ℕ) (effect : Effect) (before now : NetView) → IsRunning before → StandsFor job before → DeliversAlong number effect before now → StandsFor job now
-deliver_stands job number effect before now running h d = elim d.delivered [
+pub deliver_stands : {laws : Laws} (job : LoggedJob laws) (number : ℕ) (effect : Effect) (before now : NetView) → IsRunning before → StandsFor job before → DeliversAlong number effect before now → StandsFor job now
+deliver_stands {laws} job number effect before now running h d = elim d.delivered [
   | inl held ↦ rest_stands job effect before now h held.1
   | inr free ↦ brings_stands job number d.edge effect before now running h d.there free.1
 ]

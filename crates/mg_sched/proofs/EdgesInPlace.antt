@@ -1,6 +1,7 @@
 -- Each edge of the parts of one net leads from an engine that has its stream to the port of that stream, and no two lead to one port.
 use Rattle.std.proofs.Common.{◌≡◌, ℕ, ◌+◌, ◌<◌, List, length, Option, Some, slice_get, option_map, ap, sym, subst, ◌∙◌, arith}
 use Rattle.std.proofs.lemmas.Option.{slice_get_within}
+use Rattle.mg_calc.specs.Rules.{Laws}
 use Rattle.mg_calc.specs.declared.edge.Edge.{Edge}
 use Rattle.mg_calc.specs.declared.plan.Plan.{Plan}
 use Rattle.mg_calc.specs.declared.plan_stream.PlanStream.{PlanStream}
@@ -22,20 +23,20 @@ written_below : (plan : Plan) (s : ℕ) (p : Producer) → WrittenBy plan s p �
 written_below plan s (Input i) w = (let less = w.1 in omega (arith, less))
 written_below plan s (Node n port) w = (let less = slice_get_within plan.nodes n w.0 w.1 in omega (arith, less))
 
-has_stream : (job : LoggedJob) (parts : PartsView) (e : Edge) (p : Producer) (engine : EngineView) → ArePartsOf job parts → WrittenBy parts.plan e.stream p → slice_get parts.engines (place_of parts.plan p) ≡ Some engine → HasStream engine e
-has_stream job parts e (Input i) engine h w at =
+has_stream : {laws : Laws} (job : LoggedJob laws) (parts : PartsView) (e : Edge) (p : Producer) (engine : EngineView) → ArePartsOf job parts → WrittenBy parts.plan e.stream p → slice_get parts.engines (place_of parts.plan p) ≡ Some engine → HasStream engine e
+has_stream {laws} job parts e (Input i) engine h w at =
     let known = input_known job i engine (h.inputs i engine at) in
     let same = w.0 in let first = known.first in let one = known.one in
     record { from = omega (arith, same, first); below = omega (arith, same, first, one) }
-has_stream job parts e (Node n port) engine h w at =
+has_stream {laws} job parts e (Node n port) engine h w at =
     let within = slice_get_within parts.plan.nodes n w.0 w.1 in
     let known = engine_known job n engine w.0 (h.engines n engine within at) (subst (λ (plan : Plan). slice_get plan.nodes n ≡ Some w.0) h.plan w.1) in
     let number = number_of engine.first (length w.0.outputs) port e.stream (ap (λ (ns : List ℕ). slice_get ns port) (sym known.set_up.first) ∙ w.2) in
     let less = number.0 in let is = number.1 in let long = known.outputs in
     record { from = omega (arith, is); below = omega (arith, is, less, long) }
 
-pub in_place : (job : LoggedJob) (parts : PartsView) (number : ℕ) (e : Edge) → ArePartsOf job parts → slice_get parts.plan.edges number ≡ Some e → IsInPlace parts number e
-in_place job parts number e h at =
+pub in_place : {laws : Laws} (job : LoggedJob laws) (parts : PartsView) (number : ℕ) (e : Edge) → ArePartsOf job parts → slice_get parts.plan.edges number ≡ Some e → IsInPlace parts number e
+in_place {laws} job parts number e h at =
     let valid : IsValid parts.plan = subst IsValid (sym h.plan) h.is_job.plan in
     let it = producer_there parts.plan valid e.stream (edge_stream parts.plan valid number e at) in
     let place = place_of parts.plan it.0.producer in

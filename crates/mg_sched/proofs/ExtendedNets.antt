@@ -1,4 +1,5 @@
 -- A net that goes on with further input stands for the job that has it.
+use mathlib.Core.Path.{contract'}
 use Rattle.std.proofs.Common.{◌≡◌, ◌⊎◌, inl, inr, ℕ, zero, suc, ◌+◌, ◌-◌, ◌<◌, ◌≤◌, nat_lt, Bool, true, false, List, [], ◌∷◌, ◌++◌, length, length-append, replicate, drop_at, map, Result, Ok, Err, Option, Some, get_or, slice_get, slice_index_or, ap, sym, refl, subst, ◌∙◌, arith}
 use Rattle.std.proofs.lemmas.List.{length-replicate}
 use Rattle.std.proofs.lemmas.List.Elements.{All-weaker}
@@ -8,11 +9,12 @@ use Rattle.mg_value.specs.Payload.{Plain}
 use Rattle.mg_settled.specs.Prefix.{StreamPrefix, IsPrefix, empty_prefix}
 use Rattle.mg_stream.specs.Queue.{StandsFor as StandsForPrefix}
 use Rattle.mg_stream.specs.Pool.{Backlog, queue_of, empty_backlog}
+use Rattle.mg_calc.specs.Rules.{Laws}
 use Rattle.mg_calc.specs.declared.edge.Edge.{Edge}
 use Rattle.mg_calc.specs.declared.inputs.Inputs.{Inputs}
 use Rattle.mg_calc.specs.declared.plan.Plan.{Plan}
 use Rattle.mg_calc.specs.Equations.{IsJob}
-use Rattle.mg_calc.specs.Told.{CalculatorTold}
+use Rattle.mg_calc.specs.Told.{BoxTold}
 use Rattle.mg_calc.proofs.FirstRound.{a_solution}
 use Rattle.mg_calc.proofs.Jobs.{job_known}
 use Rattle.mg_calc.proofs.Rounds.{stream_is_prefix}
@@ -35,22 +37,22 @@ use Rattle.mg_sched.proofs.WoundNets.{order_of}
 
 -- Solutions.
 
-solved : (job : LoggedJob) → IsJob job.job → (streams : List (StreamPrefix Plain)) × Solves job streams
-solved job is =
+solved : {laws : Laws} (job : LoggedJob laws) → IsJob job.job → (streams : List (StreamPrefix Plain)) × Solves job streams
+solved {laws} job is =
     let it = a_solution job.job (job_known job.job is) is.plan is.inputs.streams in
     (it.0, record { is_job = is; solution = it.1 })
 
 -- the solution's stream of a graph input is what was handed in
-handed_in : (job : LoggedJob) (streams : List (StreamPrefix Plain)) (input : ℕ) → Solves job streams → input < length job.job.inputs.streams → get_or streams input empty_prefix ≡ get_or job.job.inputs.streams input empty_prefix
-handed_in job streams input solves less =
+handed_in : {laws : Laws} (job : LoggedJob laws) (streams : List (StreamPrefix Plain)) (input : ℕ) → Solves job streams → input < length job.job.inputs.streams → get_or streams input empty_prefix ≡ get_or job.job.inputs.streams input empty_prefix
+handed_in {laws} job streams input solves less =
     let s = found job.job.inputs.streams input less in
     get_or_from_slice_get streams input s.0 empty_prefix (ap (λ (ss : List (StreamPrefix Plain)). slice_get ss input) (sym solves.solution.meets) ∙ get_first job.job.inputs.streams _ input s.0 s.1)
     ∙ sym (get_or_from_slice_get job.job.inputs.streams input s.0 empty_prefix s.1)
 
 -- so that of the later job is that of the first one with its piece behind
-piece_behind : (more : Inputs) (first later : LoggedJob) (streams longer : List (StreamPrefix Plain)) (input : ℕ) (piece : StreamPrefix Plain) → GoesOnWith more first later → Solves first streams → Solves later longer → slice_get more.streams input ≡ Some piece
+piece_behind : {laws : Laws} (more : Inputs) (first later : LoggedJob laws) (streams longer : List (StreamPrefix Plain)) (input : ℕ) (piece : StreamPrefix Plain) → GoesOnWith more first later → Solves first streams → Solves later longer → slice_get more.streams input ≡ Some piece
     → get_or longer input empty_prefix ≡ joined (get_or streams input empty_prefix) piece
-piece_behind more first later streams longer input piece g solves further at =
+piece_behind {laws} more first later streams longer input piece g solves further at =
     let there = slice_get_within more.streams input piece at in
     let pieces = g.pieces in
     let plan : length later.job.plan.inputs ≡ length first.job.plan.inputs = ap (λ (p : Plan). length p.inputs) g.grows.plan in
@@ -67,9 +69,9 @@ first_stands : (outputs : List (Backlog Plain)) (s : StreamPrefix Plain) → Sta
 first_stands [] s h = absurd h
 first_stands (b ∷ outputs) s h = h.0
 
-pub may_extend : (more : Inputs) (first later : LoggedJob) (engine : EngineView) (input : ℕ) (piece : StreamPrefix Plain) → GoesOnWith more first later → LawfulEngine first (of_input input) engine → slice_get more.streams input ≡ Some piece → MayExtend engine piece
+pub may_extend : {laws : Laws} (more : Inputs) (first later : LoggedJob laws) (engine : EngineView) (input : ℕ) (piece : StreamPrefix Plain) → GoesOnWith more first later → LawfulEngine first (of_input input) engine → slice_get more.streams input ≡ Some piece → MayExtend laws engine piece
 unfolding LawfulEngine
-may_extend more first later engine input piece g h at =
+may_extend {laws} more first later engine input piece g h at =
     let l = solved later g.grows.is_job in
     record {
       job = first;
@@ -83,10 +85,10 @@ may_extend more first later engine input piece g h at =
       };
     }
 
-lawful_extended : (more : Inputs) (first later : LoggedJob) (engine : EngineView) (input : ℕ) (piece : StreamPrefix Plain) → GoesOnWith more first later → LawfulEngine first (of_input input) engine → slice_get more.streams input ≡ Some piece
+lawful_extended : {laws : Laws} (more : Inputs) (first later : LoggedJob laws) (engine : EngineView) (input : ℕ) (piece : StreamPrefix Plain) → GoesOnWith more first later → LawfulEngine first (of_input input) engine → slice_get more.streams input ≡ Some piece
     → LawfulEngine later (of_input input) (extended engine piece)
 unfolding LawfulEngine
-lawful_extended more first later engine input piece g h at =
+lawful_extended {laws} more first later engine input piece g h at =
     let l = solved later g.grows.is_job in
     let there = h.there in
     let plan : length later.job.plan.inputs ≡ length first.job.plan.inputs = ap (λ (p : Plan). length p.inputs) g.grows.plan in
@@ -112,12 +114,12 @@ joined_extended engine piece e intake h =
 
 -- Cells, and what was handed in.
 
-engine_later : (first later : LoggedJob) (begun : Bool) (node : ℕ) (engine : EngineView) → Grows first later → IsEngine first begun node engine → IsEngine later begun node engine
-engine_later first later true node engine g h = engine_stays first later node engine g h
-engine_later first later false node engine g h = unbegun_stays first later node engine g h
+engine_later : {laws : Laws} (first later : LoggedJob laws) (begun : Bool) (node : ℕ) (engine : EngineView) → Grows first later → IsEngine first begun node engine → IsEngine later begun node engine
+engine_later {laws} first later true node engine g h = engine_stays first later node engine g h
+engine_later {laws} first later false node engine g h = unbegun_stays first later node engine g h
 
-cell_later : (first later : LoggedJob) (begun : Bool) (node : ℕ) (engine : EngineView) (intake : IntakeView) (work_queue : WorkQueueView) → Grows first later → IsCell first begun node engine intake work_queue → IsCell later begun node engine intake work_queue
-cell_later first later begun node engine intake work_queue g h = record {
+cell_later : {laws : Laws} (first later : LoggedJob laws) (begun : Bool) (node : ℕ) (engine : EngineView) (intake : IntakeView) (work_queue : WorkQueueView) → Grows first later → IsCell first begun node engine intake work_queue → IsCell later begun node engine intake work_queue
+cell_later {laws} first later begun node engine intake work_queue g h = record {
   lawful_engine = engine_later first later begun node engine g h.lawful_engine;
   lawful_intake = intake_stays first later node intake g h.lawful_intake;
   agree = h.agree;
@@ -130,13 +132,13 @@ cell_later first later begun node engine intake work_queue g h = record {
   };
 }
 
-abbrev with_inputs : LoggedJob → Inputs → LoggedJob
-with_inputs job more = record { job = record { plan = job.job.plan; inputs = more }; boxes = job.boxes }
+abbrev with_inputs : {laws : Laws} → LoggedJob laws → Inputs → LoggedJob laws
+with_inputs {laws} job more = record { job = record { plan = job.job.plan; inputs = more; laws = job.job.laws }; boxes = job.boxes; same = job.same }
 
-spare_later : (first later : LoggedJob) (spare : List (Option CalculatorTold)) → Grows first later → HasSpare first spare → HasSpare later spare
-spare_later first later spare g h =
-    let same : with_inputs first later.job.inputs ≡ later = (λ i. record { job = record { plan = (sym g.plan) i; inputs = later.job.inputs }; boxes = (sym g.boxes) i }) in
-    subst (λ (j : LoggedJob). HasSpare j spare) same (record { count = h.count; numbers = h.numbers; used = h.used; unused = h.unused })
+spare_later : {laws : Laws} (first later : LoggedJob laws) (spare : List (Option BoxTold)) → Grows first later → HasSpare first spare → HasSpare later spare
+spare_later {laws} first later spare g h =
+    let same : with_inputs first later.job.inputs ≡ later = (λ i. record { job = record { plan = (sym g.plan) i; inputs = later.job.inputs; laws = ((sym (contract' first.same) ∙ contract' later.same) i).0 }; boxes = (sym g.boxes) i; same = ((sym (contract' first.same) ∙ contract' later.same) i).1 }) in
+    subst (λ (j : LoggedJob laws). HasSpare j spare) same (record { count = h.count; numbers = h.numbers; used = h.used; unused = h.unused })
 
 -- Nets.
 
@@ -148,10 +150,10 @@ pub record IsExtendedAt (more : Inputs) (before : NetView) (input : ℕ) (engine
   pub piece_at : slice_get more.streams input ≡ Some piece
   pub is : engine ≡ extended old piece
 
-pub extended_at : (more : Inputs) (first later : LoggedJob) (before now : NetView) (input : ℕ) (engine : EngineView) → GoesOnWith more first later → Extends more before now → StandsFor first before
+pub extended_at : {laws : Laws} (more : Inputs) (first later : LoggedJob laws) (before now : NetView) (input : ℕ) (engine : EngineView) → GoesOnWith more first later → Extends more before now → StandsFor first before
     → slice_get now.engines (length before.plan.nodes + input) ≡ Some engine → IsExtendedAt more before input engine
 unfolding StandsFor
-extended_at more first later before now input engine g x h at =
+extended_at {laws} more first later before now input engine g x h at =
     let within = slice_get_within now.engines (length before.plan.nodes + input) engine at in
     let places = x.places in let engines = h.engines in let pieces = g.pieces in let count = h.is_job.inputs.streams in
     let plan : length before.plan.inputs ≡ length first.job.plan.inputs = ap (λ (p : Plan). length p.inputs) h.plan in
@@ -165,18 +167,18 @@ extended_at more first later before now input engine g x h at =
       is = same_Some engine (extended old.0 piece.0) (sym at ∙ x.inputs input old.0 piece.0 old.1 piece.1);
     }
 
-joined_later : (more : Inputs) (first later : LoggedJob) (before now : NetView) (e : Edge) (number place : ℕ) (engine : EngineView) (intake : IntakeView) → GoesOnWith more first later → Extends more before now → StandsFor first before
+joined_later : {laws : Laws} (more : Inputs) (first later : LoggedJob laws) (before now : NetView) (e : Edge) (number place : ℕ) (engine : EngineView) (intake : IntakeView) → GoesOnWith more first later → Extends more before now → StandsFor first before
     → (place < length before.plan.nodes) ⊎ (length before.plan.nodes ≤ place) → ((old : EngineView) → slice_get before.engines place ≡ Some old → IsJoined old e intake) → slice_get now.engines place ≡ Some engine → IsJoined engine e intake
-joined_later more first later before now e number place engine intake g x h (inl less) joined at = joined engine (sym (x.nodes place less) ∙ at)
-joined_later more first later before now e number place engine intake g x h (inr past) joined at =
+joined_later {laws} more first later before now e number place engine intake g x h (inl less) joined at = joined engine (sym (x.nodes place less) ∙ at)
+joined_later {laws} more first later before now e number place engine intake g x h (inr past) joined at =
     let same : place ≡ length before.plan.nodes + (place - length before.plan.nodes) = omega (arith, past) in
     let it = extended_at more first later before now (place - length before.plan.nodes) engine g x h (subst (λ (k : ℕ). slice_get now.engines k ≡ Some engine) same at) in
     subst (λ (v : EngineView). IsJoined v e intake) (sym it.is)
     (joined_extended it.old it.piece e intake (joined it.old (subst (λ (k : ℕ). slice_get before.engines k ≡ Some it.old) (sym same) it.old_at)))
 
-stands_so : (more : Inputs) (first later : LoggedJob) (before now : NetView) → GoesOnWith more first later → Extends more before now → StandsFor first before → IsNetOf later (record before { engines = now.engines })
+stands_so : {laws : Laws} (more : Inputs) (first later : LoggedJob laws) (before now : NetView) → GoesOnWith more first later → Extends more before now → StandsFor first before → IsNetOf later (record before { engines = now.engines })
 unfolding StandsFor
-stands_so more first later before now g x h = record {
+stands_so {laws} more first later before now g x h = record {
   is_job = g.grows.is_job;
   plan = h.plan ∙ sym g.grows.plan;
   given = h.given ∙ g.grows.sides;
@@ -204,9 +206,9 @@ stands_so more first later before now g x h = record {
   not_wound = h.not_wound;
 }
 
-pub extended_stands : (more : Inputs) (first later : LoggedJob) (before now : NetView) → GoesOnWith more first later → Extends more before now → StandsFor first before → StandsFor later now
+pub extended_stands : {laws : Laws} (more : Inputs) (first later : LoggedJob laws) (before now : NetView) → GoesOnWith more first later → Extends more before now → StandsFor first before → StandsFor later now
 unfolding StandsFor
-extended_stands more first later before now g x h = subst (λ (v : NetView). IsNetOf later v) (sym x.parts) (stands_so more first later before now g x h)
+extended_stands {laws} more first later before now g x h = subst (λ (v : NetView). IsNetOf later v) (sym x.parts) (stands_so more first later before now g x h)
 
 -- Nets.
 
@@ -224,9 +226,9 @@ among_first zero i x xs less = absurd (omega (arith, less))
 among_first (suc n) zero x xs less = refl
 among_first (suc n) (suc i) x xs less = among_first n i x xs (omega (arith, less))
 
-are_last : (more : Inputs) (pieces : List (StreamPrefix Plain)) (net : NetView) (n : ℕ) → MayGoOnWith more net → more.streams ≡ replicate n empty_prefix ++ pieces → AreLast more pieces net
+are_last : {laws : Laws} (more : Inputs) (pieces : List (StreamPrefix Plain)) (net : NetView) (n : ℕ) → MayGoOnWith laws more net → more.streams ≡ replicate n empty_prefix ++ pieces → AreLast more pieces net
 unfolding StandsFor
-are_last more pieces net n may is = record {
+are_last {laws} more pieces net n may is = record {
   n = n;
   streams = is;
   from = (let h = may.stands in
@@ -237,20 +239,20 @@ are_last more pieces net n may is = record {
 }
 
 -- the engine of a graph input is lawful, and may be extended by its piece
-may_last : (more : Inputs) (pieces : List (StreamPrefix Plain)) (net : NetView) → MayGoOnWith more net → AreLast more pieces net → MayEach (length net.engines - length pieces) pieces net.engines
+may_last : {laws : Laws} (more : Inputs) (pieces : List (StreamPrefix Plain)) (net : NetView) → MayGoOnWith laws more net → AreLast more pieces net → MayEach laws (length net.engines - length pieces) pieces net.engines
 unfolding StandsFor
-may_last more pieces net may last input engine piece at piece_at =
+may_last {laws} more pieces net may last input engine piece at piece_at =
     let from = last.from in
     let place : length net.engines - length pieces + input ≡ length net.plan.nodes + (last.n + input) = omega (arith, from) in
     may_extend more may.first may.later engine (last.n + input) piece may.goes_on
     (may.stands.inputs (last.n + input) engine (ap (λ (k : ℕ). slice_get net.engines k) (sym place) ∙ at))
     (ap (λ (ss : List (StreamPrefix Plain)). slice_get ss (last.n + input)) last.streams ∙ behind_first last.n input empty_prefix pieces ∙ piece_at)
 
-extends_at : (more : Inputs) (pieces : List (StreamPrefix Plain)) (net : NetView) (now : List EngineView) → MayGoOnWith more net → AreLast more pieces net → AreLonger (length net.engines - length pieces) pieces (length pieces) net.engines now
+extends_at : {laws : Laws} (more : Inputs) (pieces : List (StreamPrefix Plain)) (net : NetView) (now : List EngineView) → MayGoOnWith laws more net → AreLast more pieces net → AreLonger (length net.engines - length pieces) pieces (length pieces) net.engines now
     → (input : ℕ) (engine : EngineView) (piece : StreamPrefix Plain) → slice_get net.engines (length net.plan.nodes + input) ≡ Some engine → slice_get more.streams input ≡ Some piece
     → slice_get now (length net.plan.nodes + input) ≡ Some (extended engine piece)
 unfolding StandsFor
-extends_at more pieces net now may last are input engine piece at piece_at = elim (order_of input last.n) [
+extends_at {laws} more pieces net now may last are input engine piece at piece_at = elim (order_of input last.n) [
   | inl less ↦
       (let from = last.from in
       let nothing : empty_prefix ≡ piece =
@@ -269,9 +271,9 @@ extends_at more pieces net now may last are input engine piece at piece_at = eli
       ∙ are.longer (input - last.n) engine piece (slice_get_within pieces (input - last.n) piece there) (ap (λ (k : ℕ). slice_get net.engines k) (sym place) ∙ at) there)
 ]
 
-extends_so : (more : Inputs) (pieces : List (StreamPrefix Plain)) (net : NetView) (now : List EngineView) → MayGoOnWith more net → AreLast more pieces net → AreLonger (length net.engines - length pieces) pieces (length pieces) net.engines now
+extends_so : {laws : Laws} (more : Inputs) (pieces : List (StreamPrefix Plain)) (net : NetView) (now : List EngineView) → MayGoOnWith laws more net → AreLast more pieces net → AreLonger (length net.engines - length pieces) pieces (length pieces) net.engines now
     → Extends more net (record net { engines = now })
-extends_so more pieces net now may last are = record {
+extends_so {laws} more pieces net now may last are = record {
   parts = refl;
   places = are.places;
   nodes = λ place less. are.others place (inl (let from = last.from in omega (arith, less, from)));
@@ -280,30 +282,30 @@ extends_so more pieces net now may last are = record {
 
 -- The net as it is kept.
 
-last_of : (pieces : List (StreamPrefix Plain)) (shown net : NetView) → shown ≡ net → MayGoOnWith (for_last (length net.plan.inputs) pieces) net → AreLast (for_last (length net.plan.inputs) pieces) pieces shown
-last_of pieces shown net is may = are_last (for_last (length net.plan.inputs) pieces) pieces shown (length net.plan.inputs - length pieces) (subst (MayGoOnWith (for_last (length net.plan.inputs) pieces)) (sym is) may) refl
+last_of : {laws : Laws} (pieces : List (StreamPrefix Plain)) (shown net : NetView) → shown ≡ net → MayGoOnWith laws (for_last (length net.plan.inputs) pieces) net → AreLast (for_last (length net.plan.inputs) pieces) pieces shown
+last_of {laws} pieces shown net is may = are_last (for_last (length net.plan.inputs) pieces) pieces shown (length net.plan.inputs - length pieces) (subst (MayGoOnWith laws (for_last (length net.plan.inputs) pieces)) (sym is) may) refl
 
-pub pieces_fit : (pieces : List (StreamPrefix Plain)) (shown net : NetView) (engines : List EngineView) → shown ≡ net → MayGoOnWith (for_last (length net.plan.inputs) pieces) net → engines ≡ shown.engines → length pieces ≤ length engines
-pieces_fit pieces shown net engines is may engines_are =
+pub pieces_fit : {laws : Laws} (pieces : List (StreamPrefix Plain)) (shown net : NetView) (engines : List EngineView) → shown ≡ net → MayGoOnWith laws (for_last (length net.plan.inputs) pieces) net → engines ≡ shown.engines → length pieces ≤ length engines
+pieces_fit {laws} pieces shown net engines is may engines_are =
     let from = (last_of pieces shown net is may).from in
     let same = ap length engines_are in
     omega (arith, from, same)
 
-pub may_each : (pieces : List (StreamPrefix Plain)) (shown net : NetView) (engines : List EngineView) → shown ≡ net → MayGoOnWith (for_last (length net.plan.inputs) pieces) net → engines ≡ shown.engines
-    → MayEach (length engines - length pieces) pieces engines
-may_each pieces shown net engines is may engines_are =
+pub may_each : {laws : Laws} (pieces : List (StreamPrefix Plain)) (shown net : NetView) (engines : List EngineView) → shown ≡ net → MayGoOnWith laws (for_last (length net.plan.inputs) pieces) net → engines ≡ shown.engines
+    → MayEach laws (length engines - length pieces) pieces engines
+may_each {laws} pieces shown net engines is may engines_are =
     let more : Inputs = for_last (length net.plan.inputs) pieces in
-    subst (λ (es : List EngineView). MayEach (length es - length pieces) pieces es) (sym engines_are) (may_last more pieces shown (subst (MayGoOnWith more) (sym is) may) (last_of pieces shown net is may))
+    subst (λ (es : List EngineView). MayEach laws (length es - length pieces) pieces es) (sym engines_are) (may_last more pieces shown (subst (MayGoOnWith laws more) (sym is) may) (last_of pieces shown net is may))
 
-pub extends_shown : (pieces : List (StreamPrefix Plain)) (shown net : NetView) (engines longer now : List EngineView) → shown ≡ net → MayGoOnWith (for_last (length net.plan.inputs) pieces) net → engines ≡ shown.engines
+pub extends_shown : {laws : Laws} (pieces : List (StreamPrefix Plain)) (shown net : NetView) (engines longer now : List EngineView) → shown ≡ net → MayGoOnWith laws (for_last (length net.plan.inputs) pieces) net → engines ≡ shown.engines
     → AreLonger (length engines - length pieces) pieces (length pieces) engines longer → now ≡ longer → Extends (for_last (length net.plan.inputs) pieces) net (record shown { engines = now })
-extends_shown pieces shown net engines longer now is may engines_are are now_is =
+extends_shown {laws} pieces shown net engines longer now is may engines_are are now_is =
     let more : Inputs = for_last (length net.plan.inputs) pieces in
     let all : AreLonger (length shown.engines - length pieces) pieces (length pieces) shown.engines longer =
     subst (λ (es : List EngineView). AreLonger (length es - length pieces) pieces (length pieces) es longer) engines_are are in
     subst (λ (v : NetView). Extends more v (record shown { engines = now })) is
     (subst (λ (es : List EngineView). Extends more shown (record shown { engines = es })) (sym now_is)
-    (extends_so more pieces shown longer (subst (MayGoOnWith more) (sym is) may) (last_of pieces shown net is may) all))
+    (extends_so more pieces shown longer (subst (MayGoOnWith laws more) (sym is) may) (last_of pieces shown net is may) all))
 
 -- where nothing was laid, it is as it was
 pub same_shown : {A E : Type 0} (r : Result A E) (shown net : NetView) (engines left now : List EngineView) → shown ≡ net → engines ≡ shown.engines → left ≡ engines → now ≡ left → OnErr r (record shown { engines = now } ≡ net)
@@ -312,16 +314,16 @@ same_shown (Err e) shown net engines left now is engines_are unchanged now_is = 
 
 -- Further input of all graph inputs is that of the last ones, as many as there are.
 
-all_streams : (more : Inputs) (net : NetView) → MayGoOnWith more net → (for_last (length net.plan.inputs) more.streams).streams ≡ more.streams
+all_streams : {laws : Laws} (more : Inputs) (net : NetView) → MayGoOnWith laws more net → (for_last (length net.plan.inputs) more.streams).streams ≡ more.streams
 unfolding StandsFor
-all_streams more net may =
+all_streams {laws} more net may =
     let h = may.stands in let pieces = may.goes_on.pieces in let count = h.is_job.inputs.streams in
     let plan : length net.plan.inputs ≡ length may.first.job.plan.inputs = ap (λ (p : Plan). length p.inputs) h.plan in
     let none : length net.plan.inputs - length more.streams ≡ 0 = omega (arith, pieces, count, plan) in
     ap (λ (n : ℕ). replicate n (empty_prefix {X = Plain}) ++ more.streams) none
 
-pub all_go_on : (more : Inputs) (net : NetView) (first later : LoggedJob) → MayGoOnWith more net → GoesOnWith more first later → GoesOnWith (for_last (length net.plan.inputs) more.streams) first later
-all_go_on more net first later may g =
+pub all_go_on : {laws : Laws} (more : Inputs) (net : NetView) (first later : LoggedJob laws) → MayGoOnWith laws more net → GoesOnWith more first later → GoesOnWith (for_last (length net.plan.inputs) more.streams) first later
+all_go_on {laws} more net first later may g =
     let same = sym (all_streams more net may) in
     record {
       grows = g.grows;
@@ -330,11 +332,11 @@ all_go_on more net first later may g =
           ≡ joined (slice_index_or first.job.inputs.streams input empty_prefix) (slice_index_or ss input empty_prefix)) same g.streams;
     }
 
-pub all_may_go_on : (more : Inputs) (net : NetView) → MayGoOnWith more net → MayGoOnWith (for_last (length net.plan.inputs) more.streams) net
-all_may_go_on more net may = record { first = may.first; later = may.later; stands = may.stands; goes_on = all_go_on more net may.first may.later may may.goes_on }
+pub all_may_go_on : {laws : Laws} (more : Inputs) (net : NetView) → MayGoOnWith laws more net → MayGoOnWith laws (for_last (length net.plan.inputs) more.streams) net
+all_may_go_on {laws} more net may = record { first = may.first; later = may.later; stands = may.stands; goes_on = all_go_on more net may.first may.later may may.goes_on }
 
-pub all_extends : (more : Inputs) (before now : NetView) → MayGoOnWith more before → Extends (for_last (length before.plan.inputs) more.streams) before now → Extends more before now
-all_extends more before now may x = record {
+pub all_extends : {laws : Laws} (more : Inputs) (before now : NetView) → MayGoOnWith laws more before → Extends (for_last (length before.plan.inputs) more.streams) before now → Extends more before now
+all_extends {laws} more before now may x = record {
   parts = x.parts;
   places = x.places;
   nodes = x.nodes;

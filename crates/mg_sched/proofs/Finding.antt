@@ -2,6 +2,7 @@
 use Rattle.std.proofs.Common.{◌≡◌, ℕ, ◌+◌, ◌<◌, Bool, true, false, List, length, Some, slice_get, get_or, set, nat_lt, zero, suc, [], ◌∷◌, ap, sym, refl, subst, ◌∙◌, arith}
 use Rattle.std.proofs.lemmas.Bool.Decides.{nat_tests}
 use Rattle.std.proofs.lemmas.Option.{slice_get_read, slice_get-get_or}
+use Rattle.mg_calc.specs.Rules.{Laws}
 use Rattle.mg_calc.specs.declared.edge.Edge.{Edge}
 use Rattle.mg_calc.specs.Plan.{IsValid}
 use Rattle.mg_node.specs.Views.{IntakeView, EngineView}
@@ -12,27 +13,27 @@ use Rattle.mg_sched.specs.Views.{WorkQueueView, NetView}
 use Rattle.mg_sched.specs.StandsFor.{IsCell, StandsFor, StandsForSome, IsRunning}
 
 -- the plan is valid
-pub valid : (net : NetView) → StandsForSome net → IsValid net.plan
+pub valid : {laws : Laws} (net : NetView) → StandsForSome laws net → IsValid net.plan
 unfolding StandsFor
-valid net h = subst IsValid (sym h.stands.plan) h.stands.is_job.plan
+valid {laws} net h = subst IsValid (sym h.stands.plan) h.stands.is_job.plan
 
 -- there is a part at each place
-pub places : (net : NetView) → StandsForSome net → (length net.engines ≡ length net.plan.nodes + length net.plan.inputs) × (length net.intakes ≡ length net.plan.nodes + 1) × (length net.work_queues ≡ length net.plan.nodes)
+pub places : {laws : Laws} (net : NetView) → StandsForSome laws net → (length net.engines ≡ length net.plan.nodes + length net.plan.inputs) × (length net.intakes ≡ length net.plan.nodes + 1) × (length net.work_queues ≡ length net.plan.nodes)
 unfolding StandsFor
-places net h = (h.stands.engines, h.stands.intakes, h.stands.work_queues)
+places {laws} net h = (h.stands.engines, h.stands.intakes, h.stands.work_queues)
 
-pub of_plan : (net : NetView) → StandsForSome net → AreLimitsOf net.plan net.limits
+pub of_plan : {laws : Laws} (net : NetView) → StandsForSome laws net → AreLimitsOf net.plan net.limits
 unfolding StandsFor
-of_plan net h = h.stands.limits.of_plan
+of_plan {laws} net h = h.stands.limits.of_plan
 
 is_below : (n m : ℕ) → n < m → nat_lt n m ≡ true
 is_below n m h = grind (arith, nat_tests)
 
 -- the parts of a node are a cell
-pub cell_at : (job : LoggedJob) (net : NetView) (node : ℕ) (engine : EngineView) (intake : IntakeView) (work_queue : WorkQueueView) → StandsFor job net → IsRunning net → node < length net.plan.nodes → slice_get net.engines node ≡ Some engine
+pub cell_at : {laws : Laws} (job : LoggedJob laws) (net : NetView) (node : ℕ) (engine : EngineView) (intake : IntakeView) (work_queue : WorkQueueView) → StandsFor job net → IsRunning net → node < length net.plan.nodes → slice_get net.engines node ≡ Some engine
     → slice_get net.intakes node ≡ Some intake → slice_get net.work_queues node ≡ Some work_queue → IsCell job true node engine intake work_queue
 unfolding StandsFor
-cell_at job net node engine intake work_queue h running there at to on =
+cell_at {laws} job net node engine intake work_queue h running there at to on =
     let less : node < net.begun = omega (arith, there, running) in
     subst (λ (b : Bool). IsCell job b node engine intake work_queue) (is_below node net.begun less) (h.cells node engine intake work_queue at to on)
 
@@ -42,18 +43,18 @@ found [] i h = absurd (omega (arith, h))
 found (x ∷ xs) zero h = (x, refl)
 found (x ∷ xs) (suc i) h = found xs i (omega (arith, h))
 
-pub are_cell : (net : NetView) (node : ℕ) (engine : EngineView) (intake : IntakeView) → StandsForSome net → IsRunning net → node < length net.plan.nodes → slice_get net.engines node ≡ Some engine → slice_get net.intakes node ≡ Some intake
-    → AreCell engine intake
-are_cell net node engine intake h running there at to =
+pub are_cell : {laws : Laws} (net : NetView) (node : ℕ) (engine : EngineView) (intake : IntakeView) → StandsForSome laws net → IsRunning net → node < length net.plan.nodes → slice_get net.engines node ≡ Some engine → slice_get net.intakes node ≡ Some intake
+    → AreCell laws engine intake
+are_cell {laws} net node engine intake h running there at to =
     let long = (places net h).2 in
     let work_queue = found net.work_queues node (omega (arith, there, long)) in
     let c = cell_at h.job net node engine intake work_queue.0 h.stands running there at to work_queue.1 in
     record { job = h.job; number = node; lawful_engine = c.lawful_engine; lawful_intake = c.lawful_intake; agree = c.agree }
 
 -- each is lawful for the job
-pub parts_lawful : (net : NetView) (node : ℕ) (engine : EngineView) (intake : IntakeView) (h : StandsForSome net) → IsRunning net → node < length net.plan.nodes → slice_get net.engines node ≡ Some engine → slice_get net.intakes node ≡ Some intake
+pub parts_lawful : {laws : Laws} (net : NetView) (node : ℕ) (engine : EngineView) (intake : IntakeView) (h : StandsForSome laws net) → IsRunning net → node < length net.plan.nodes → slice_get net.engines node ≡ Some engine → slice_get net.intakes node ≡ Some intake
     → LawfulEngine h.job (of_node node) engine × LawfulIntake h.job node intake × Agree engine intake
-parts_lawful net node engine intake h running there at to =
+parts_lawful {laws} net node engine intake h running there at to =
     let long = (places net h).2 in
     let work_queue = found net.work_queues node (omega (arith, there, long)) in
     let c = cell_at h.job net node engine intake work_queue.0 h.stands running there at to work_queue.1 in
@@ -64,39 +65,39 @@ pub read_at : {X : Type 0} (xs : List X) (i : ℕ) (x : X) → i < length xs →
 read_at xs i x within is = slice_get_read xs (length xs) i x refl within is
 
 -- a node has an engine, an intake and a work queue
-pub engine_there : (net : NetView) (node : ℕ) → StandsForSome net → node < length net.plan.nodes → node < length net.engines
-engine_there net node h there = (let long = (places net h).0 in omega (arith, long, there))
+pub engine_there : {laws : Laws} (net : NetView) (node : ℕ) → StandsForSome laws net → node < length net.plan.nodes → node < length net.engines
+engine_there {laws} net node h there = (let long = (places net h).0 in omega (arith, long, there))
 
-pub intake_there : (net : NetView) (node : ℕ) → StandsForSome net → node < length net.plan.nodes → node < length net.intakes
-intake_there net node h there = (let long = (places net h).1 in omega (arith, long, there))
+pub intake_there : {laws : Laws} (net : NetView) (node : ℕ) → StandsForSome laws net → node < length net.plan.nodes → node < length net.intakes
+intake_there {laws} net node h there = (let long = (places net h).1 in omega (arith, long, there))
 
-pub work_queue_there : (net : NetView) (node : ℕ) → StandsForSome net → node < length net.plan.nodes → node < length net.work_queues
-work_queue_there net node h there = (let long = (places net h).2 in omega (arith, long, there))
+pub work_queue_there : {laws : Laws} (net : NetView) (node : ℕ) → StandsForSome laws net → node < length net.plan.nodes → node < length net.work_queues
+work_queue_there {laws} net node h there = (let long = (places net h).2 in omega (arith, long, there))
 
 -- The same of parts that are read of a net as it is kept.
 
-pub engine_read : (shown net : NetView) (node : ℕ) (engine : EngineView) → shown ≡ net → StandsForSome net → node < length net.plan.nodes → engine ≡ get_or shown.engines node engine → slice_get net.engines node ≡ Some engine
-engine_read shown net node engine is h there value =
+pub engine_read : {laws : Laws} (shown net : NetView) (node : ℕ) (engine : EngineView) → shown ≡ net → StandsForSome laws net → node < length net.plan.nodes → engine ≡ get_or shown.engines node engine → slice_get net.engines node ≡ Some engine
+engine_read {laws} shown net node engine is h there value =
     subst (λ (v : NetView). slice_get v.engines node ≡ Some engine) is (read_at shown.engines node engine (subst (λ (v : NetView). node < length v.engines) (sym is) (engine_there net node h there)) value)
 
-pub intake_read : (shown net : NetView) (node : ℕ) (intake : IntakeView) → shown ≡ net → StandsForSome net → node < length net.plan.nodes → intake ≡ get_or shown.intakes node intake → slice_get net.intakes node ≡ Some intake
-intake_read shown net node intake is h there value =
+pub intake_read : {laws : Laws} (shown net : NetView) (node : ℕ) (intake : IntakeView) → shown ≡ net → StandsForSome laws net → node < length net.plan.nodes → intake ≡ get_or shown.intakes node intake → slice_get net.intakes node ≡ Some intake
+intake_read {laws} shown net node intake is h there value =
     subst (λ (v : NetView). slice_get v.intakes node ≡ Some intake) is (read_at shown.intakes node intake (subst (λ (v : NetView). node < length v.intakes) (sym is) (intake_there net node h there)) value)
 
-pub work_queue_read : (shown net : NetView) (node : ℕ) (work_queue : WorkQueueView) → shown ≡ net → StandsForSome net → node < length net.plan.nodes → work_queue ≡ get_or shown.work_queues node work_queue → slice_get net.work_queues node ≡ Some work_queue
-work_queue_read shown net node work_queue is h there value =
+pub work_queue_read : {laws : Laws} (shown net : NetView) (node : ℕ) (work_queue : WorkQueueView) → shown ≡ net → StandsForSome laws net → node < length net.plan.nodes → work_queue ≡ get_or shown.work_queues node work_queue → slice_get net.work_queues node ≡ Some work_queue
+work_queue_read {laws} shown net node work_queue is h there value =
     subst (λ (v : NetView). slice_get v.work_queues node ≡ Some work_queue) is (read_at shown.work_queues node work_queue (subst (λ (v : NetView). node < length v.work_queues) (sym is) (work_queue_there net node h there)) value)
 
-pub engine_fits : (shown net : NetView) (node n : ℕ) → shown ≡ net → StandsForSome net → node < length net.plan.nodes → n ≡ length shown.engines → node < n
-engine_fits shown net node n is h there long =
+pub engine_fits : {laws : Laws} (shown net : NetView) (node n : ℕ) → shown ≡ net → StandsForSome laws net → node < length net.plan.nodes → n ≡ length shown.engines → node < n
+engine_fits {laws} shown net node n is h there long =
     let within = subst (λ (v : NetView). node < length v.engines) (sym is) (engine_there net node h there) in omega (arith, within, long)
 
-pub intake_fits : (shown net : NetView) (node n : ℕ) → shown ≡ net → StandsForSome net → node < length net.plan.nodes → n ≡ length shown.intakes → node < n
-intake_fits shown net node n is h there long =
+pub intake_fits : {laws : Laws} (shown net : NetView) (node n : ℕ) → shown ≡ net → StandsForSome laws net → node < length net.plan.nodes → n ≡ length shown.intakes → node < n
+intake_fits {laws} shown net node n is h there long =
     let within = subst (λ (v : NetView). node < length v.intakes) (sym is) (intake_there net node h there) in omega (arith, within, long)
 
-pub work_queue_fits : (shown net : NetView) (node n : ℕ) → shown ≡ net → StandsForSome net → node < length net.plan.nodes → n ≡ length shown.work_queues → node < n
-work_queue_fits shown net node n is h there long =
+pub work_queue_fits : {laws : Laws} (shown net : NetView) (node n : ℕ) → shown ≡ net → StandsForSome laws net → node < length net.plan.nodes → n ≡ length shown.work_queues → node < n
+work_queue_fits {laws} shown net node n is h there long =
     let within = subst (λ (v : NetView). node < length v.work_queues) (sym is) (work_queue_there net node h there) in omega (arith, within, long)
 
 -- an edge that is read; what stands past the last one is none of them

@@ -5,10 +5,11 @@ use Rattle.std.proofs.lemmas.List.{map-id}
 use Rattle.std.proofs.lemmas.Option.{slice_get_within}
 use Rattle.mg_value.specs.Payload.{Plain}
 use Rattle.mg_settled.specs.Prefix.{StreamPrefix}
+use Rattle.mg_calc.specs.Rules.{Laws}
 use Rattle.mg_calc.specs.declared.plan.Plan.{Plan}
 use Rattle.mg_calc.specs.declared.plan_node.PlanNode.{PlanNode}
 use Rattle.mg_calc.specs.Shape.{IsOuter}
-use Rattle.mg_calc.specs.Told.{CalculatorTold}
+use Rattle.mg_calc.specs.Told.{BoxTold}
 use Rattle.mg_node.specs.Views.{EngineView}
 use Rattle.mg_node.specs.Job.{LoggedJob, Solves}
 use Rattle.mg_node.specs.Had.{HadCalls}
@@ -36,8 +37,8 @@ left_further before between now first second = second ∙ ap (λ (v : NetView). 
 pub left_report : (before now : NetView) → LeavesNodes before now → report_of now ≡ report_of before
 left_report before now left = ap report_of left
 
-knows_left : (job : LoggedJob) (before now : NetView) → LeavesNodes before now → KnowsBack job before → KnowsBack job now
-knows_left job before now left k = subst (KnowsBack job) (sym left) (record {
+knows_left : {laws : Laws} (job : LoggedJob laws) (before now : NetView) → LeavesNodes before now → KnowsBack job before → KnowsBack job now
+knows_left {laws} job before now left k = subst (KnowsBack job) (sym left) (record {
   is_job = k.is_job;
   plan = k.plan;
   spare = k.spare;
@@ -49,15 +50,15 @@ knows_left job before now left k = subst (KnowsBack job) (sym left) (record {
 -- The calculator of a node.
 
 -- what the node's cell has is what lies in its place
-in_place : (job : LoggedJob) (solution : List (StreamPrefix Plain)) (node : PlanNode) (engine : EngineView) (work_queue : WorkQueueView) (found_there : Option CalculatorTold)
-    → (told : CalculatorTold) × (first_handed engine ≡ Some told) × HadCalls job solution node told → found_there ≡ cell_told engine work_queue → (told : CalculatorTold) × (found_there ≡ Some told) × HadCalls job solution node told
-in_place job solution node engine work_queue found_there had is = (had.0, is ∙ ap (λ (o : Option CalculatorTold). or_else o (on_work_queue work_queue)) had.1, had.2)
+in_place : {laws : Laws} (job : LoggedJob laws) (solution : List (StreamPrefix Plain)) (node : PlanNode) (engine : EngineView) (work_queue : WorkQueueView) (found_there : Option BoxTold)
+    → (told : BoxTold) × (first_handed engine ≡ Some told) × HadCalls job solution node told → found_there ≡ cell_told engine work_queue → (told : BoxTold) × (found_there ≡ Some told) × HadCalls job solution node told
+in_place {laws} job solution node engine work_queue found_there had is = (had.0, is ∙ ap (λ (o : Option BoxTold). or_else o (on_work_queue work_queue)) had.1, had.2)
 
-pub used_back : (job : LoggedJob) (rested net wound : NetView) (solution : List (StreamPrefix Plain)) (number place : ℕ) (node : PlanNode) → StandsFor job rested → IsRunning rested → IsAtRest rested → Solves job solution
-    → LeavesNodes rested net → WindsUpNet net wound → wound.wound ≡ length net.plan.nodes → slice_get net.plan.nodes number ≡ Some node → node.box_number ≡ Some place → IsOuter node.law
-    → (told : CalculatorTold) × (slice_get (given_back wound) place ≡ Some told) × HadCalls job solution node told
+pub used_back : {laws : Laws} (job : LoggedJob laws) (rested net wound : NetView) (solution : List (StreamPrefix Plain)) (number place : ℕ) (node : PlanNode) → StandsFor job rested → IsRunning rested → IsAtRest laws rested → Solves job solution
+    → LeavesNodes rested net → WindsUpNet laws net wound → wound.wound ≡ length net.plan.nodes → slice_get net.plan.nodes number ≡ Some node → node.box_number ≡ Some place → IsOuter node.law
+    → (told : BoxTold) × (slice_get (given_back wound) place ≡ Some told) × HadCalls job solution node told
 unfolding StandsFor
-used_back job rested net wound solution number place node h running rest solves left w all there boxed outer =
+used_back {laws} job rested net wound solution number place node h running rest solves left w all there boxed outer =
     let plan_is : net.plan ≡ rested.plan = ap (λ (v : NetView). v.plan) left in
     let there_too : slice_get rested.plan.nodes number ≡ Some node = subst (λ (p : Plan). slice_get p.nodes number ≡ Some node) plan_is there in
     let within = slice_get_within rested.plan.nodes number node there_too in
@@ -73,7 +74,7 @@ used_back job rested net wound solution number place node h running rest solves 
     let e = found wound.engines number (omega (arith, long, wound_engines)) in
     let none : net.wound ≡ 0 = ap (λ (v : NetView). v.wound) left ∙ h.not_wound in
     let winds = w.wound_up number g.0 e.0 (omega (arith, none)) (omega (arith, below, all)) at e.1 in
-    let had : (told : CalculatorTold) × (first_handed e.0 ≡ Some told) × HadCalls job solution node told = had_calls job number node g.0 e.0 n.intake solution solves n.there (ap is_some boxed) outer n.lawful_engine n.lawful_intake n.agree n.rests n.came winds in
+    let had : (told : BoxTold) × (first_handed e.0 ≡ Some told) × HadCalls job solution node told = had_calls job number node g.0 e.0 n.intake solution solves n.there (ap is_some boxed) outer n.lawful_engine n.lawful_intake n.agree n.rests n.came winds in
     let knows = knows_wound job net wound (knows_left job rested net left (knows_standing job rested h)) w in
     let there_wound : slice_get wound.plan.nodes number ≡ Some node = subst (λ (p : Plan). slice_get p.nodes number ≡ Some node) (sym (ap (λ (v : NetView). v.plan) w.parts)) there in
     let same_work_queues : wound.work_queues ≡ rested.work_queues = ap (λ (v : NetView). v.work_queues) w.parts ∙ ap (λ (v : NetView). v.work_queues) left in
@@ -81,21 +82,21 @@ used_back job rested net wound solution number place node h running rest solves 
     in_place job solution node e.0 d.0 (slice_get (given_back wound) place) had (own_back (given_back wound) job wound number place node e.0 d.0 refl knows there_wound boxed e.1 on).0
 
 -- All that were handed in come back.
-pub count_back : (job : LoggedJob) (net : NetView) → StoodFor job net → length (given_back net) ≡ length job.boxes
-count_back job net stood = counted (λ (t : CalculatorTold). t) (given_back net) job net (map-id (given_back net)) (knows_back job net stood)
+pub count_back : {laws : Laws} (job : LoggedJob laws) (net : NetView) → StoodFor job net → length (given_back net) ≡ length job.boxes
+count_back {laws} job net stood = counted (λ (t : BoxTold). t) (given_back net) job net (map-id (given_back net)) (knows_back job net stood)
 
 -- One that no node uses is as it lay, and it lies there.
-pub unused_is_back : (job : LoggedJob) (net : NetView) (place : ℕ) (told : CalculatorTold) → StoodFor job net → slice_get net.spare place ≡ Some (Some told) → slice_get (given_back net) place ≡ Some told
-unused_is_back job net place told stood lies = unused_back (given_back net) job net place told refl (knows_back job net stood) lies
+pub unused_is_back : {laws : Laws} (job : LoggedJob laws) (net : NetView) (place : ℕ) (told : BoxTold) → StoodFor job net → slice_get net.spare place ≡ Some (Some told) → slice_get (given_back net) place ≡ Some told
+unused_is_back {laws} job net place told stood lies = unused_back (given_back net) job net place told refl (knows_back job net stood) lies
 
-pub unused_lies : (job : LoggedJob) (net : NetView) (place : ℕ) → StandsFor job net → place < length job.boxes → All (λ n. ¬ (n.box_number ≡ Some place)) net.plan.nodes → (told : CalculatorTold) × (slice_get net.spare place ≡ Some (Some told))
+pub unused_lies : {laws : Laws} (job : LoggedJob laws) (net : NetView) (place : ℕ) → StandsFor job net → place < length job.boxes → All (λ n. ¬ (n.box_number ≡ Some place)) net.plan.nodes → (told : BoxTold) × (slice_get net.spare place ≡ Some (Some told))
 unfolding StandsFor
-unused_lies job net place h less unused =
+unused_lies {laws} job net place h less unused =
     let count = h.spare.count in
     let it = found net.spare place (omega (arith, less, count)) in
     lies it.0 it.1
   where
-    lies : (o : Option CalculatorTold) → slice_get net.spare place ≡ Some o → (told : CalculatorTold) × (slice_get net.spare place ≡ Some (Some told))
+    lies : (o : Option BoxTold) → slice_get net.spare place ≡ Some o → (told : BoxTold) × (slice_get net.spare place ≡ Some (Some told))
     lies None at =
         let u = h.spare.used place at in
         let theirs : slice_get job.job.plan.nodes u.0 ≡ Some u.1 = read_at job.job.plan.nodes u.0 u.1 u.2 (sym u.3) in

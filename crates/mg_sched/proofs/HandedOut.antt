@@ -8,7 +8,7 @@ use Rattle.mg_value.specs.Payload.{Plain}
 use Rattle.mg_settled.specs.Prefix.{StreamPrefix}
 use Rattle.mg_calc.specs.declared.plan.Plan.{Plan}
 use Rattle.mg_calc.specs.declared.plan_node.PlanNode.{PlanNode}
-use Rattle.mg_calc.specs.Told.{CalculatorTold}
+use Rattle.mg_calc.specs.Told.{BoxTold}
 use Rattle.mg_route.specs.HolderView.{HolderView, holder_view}
 use Rattle.mg_node.specs.Views.{EngineView}
 use Rattle.mg_node.specs.Fresh.{own_told, fresh_engine}
@@ -72,7 +72,7 @@ earlier_or_last nodes count number t = elim (below t.place count) [
 later : (nodes : List PlanNode) (count number : ℕ) → HasTaken nodes count number → HasTaken nodes (count + 1) number
 later nodes count number t = (let less = t.before in record { place = t.place; node = t.node; before = omega (arith, less); there = t.there; takes = t.takes })
 
-pub left_first : (nodes : List PlanNode) (given : List (Option CalculatorTold)) → ((number : ℕ) → ¬ (slice_get given number ≡ Some None)) → IsLeftOver nodes given 0 given
+pub left_first : (nodes : List PlanNode) (given : List (Option BoxTold)) → ((number : ℕ) → ¬ (slice_get given number ≡ Some None)) → IsLeftOver nodes given 0 given
 left_first nodes given full = record {
   places = refl;
   taken = λ number there. absurd (full number there);
@@ -80,7 +80,7 @@ left_first nodes given full = record {
 }
 
 -- a node without a number takes nothing
-pub left_passed : (nodes : List PlanNode) (given now : List (Option CalculatorTold)) (count : ℕ) (node : PlanNode) → IsLeftOver nodes given count now → slice_get nodes count ≡ Some node → node.box_number ≡ None → IsLeftOver nodes given (count + 1) now
+pub left_passed : (nodes : List PlanNode) (given now : List (Option BoxTold)) (count : ℕ) (node : PlanNode) → IsLeftOver nodes given count now → slice_get nodes count ≡ Some node → node.box_number ≡ None → IsLeftOver nodes given (count + 1) now
 left_passed nodes given now count node l there none = record {
   places = l.places;
   taken = λ number gone. later nodes count number (l.taken number gone);
@@ -97,7 +97,7 @@ left_passed nodes given now count node l there none = record {
     no_number a b number same none takes = (let not_one : None ≡ Some number = sym none ∙ ap (λ (m : PlanNode). m.box_number) same ∙ takes in absurd cc)
 
 -- a node with a number takes the one of its place
-pub left_taken : (nodes : List PlanNode) (given now after : List (Option CalculatorTold)) (count number : ℕ) (node : PlanNode) (lay : CalculatorTold) → IsLeftOver nodes given count now → slice_get nodes count ≡ Some node → node.box_number ≡ Some number
+pub left_taken : (nodes : List PlanNode) (given now after : List (Option BoxTold)) (count number : ℕ) (node : PlanNode) (lay : BoxTold) → IsLeftOver nodes given count now → slice_get nodes count ≡ Some node → node.box_number ≡ Some number
     → slice_get now number ≡ Some (Some lay) → after ≡ set now number None → IsLeftOver nodes given (count + 1) after
 left_taken nodes given now after count number node lay l there takes lies is = subst (IsLeftOver nodes given (count + 1)) (sym is) (record {
   places = length-set now number None ∙ l.places;
@@ -117,10 +117,10 @@ left_taken nodes given now after count number node lay l there takes lies is = s
   ];
 })
   where
-    not_none : (told : CalculatorTold) → None ≡ Some told → ⊥
+    not_none : (told : BoxTold) → None ≡ Some told → ⊥
     not_none told same = absurd cc
 
-    not_here : (m : ℕ) (told : CalculatorTold) → number ≡ m → slice_get (set now number None) m ≡ Some (Some told) → ⊥
+    not_here : (m : ℕ) (told : BoxTold) → number ≡ m → slice_get (set now number None) m ≡ Some (Some told) → ⊥
     not_here m told same lies_there =
         let gone : slice_get (set now number None) m ≡ Some None = subst (λ (n : ℕ). slice_get (set now number None) n ≡ Some None) same (get_set now number (Some lay) None lies) in
         not_none told (some_same _ None (Some told) gone lies_there)
@@ -131,12 +131,12 @@ some_below {X} (o ∷ os) zero is = omega arith
 some_below {X} (o ∷ os) (suc n) is = (let less = some_below os n is in omega (arith, less))
 
 -- it finds one there
-pub record Finds (given now : List (Option CalculatorTold)) (number : ℕ) : Type 0 where
-  pub told : CalculatorTold
+pub record Finds (given now : List (Option BoxTold)) (number : ℕ) : Type 0 where
+  pub told : BoxTold
   pub at_first : slice_get given number ≡ Some (Some told)
   pub lies : slice_get now number ≡ Some (Some told)
 
-pub finds : (nodes : List PlanNode) (given now : List (Option CalculatorTold)) (count number : ℕ) (node : PlanNode) → IsLeftOver nodes given count now → AllPairs ◌≢◌ (filter_map (λ n. n.box_number) nodes) → FindEach nodes given
+pub finds : (nodes : List PlanNode) (given now : List (Option BoxTold)) (count number : ℕ) (node : PlanNode) → IsLeftOver nodes given count now → AllPairs ◌≢◌ (filter_map (λ n. n.box_number) nodes) → FindEach nodes given
     → slice_get nodes count ≡ Some node → node.box_number ≡ Some number → Finds given now number
 finds nodes given now count number node l apart find there takes = lying (slice_get now number) refl
   where
@@ -144,25 +144,25 @@ finds nodes given now count number node l apart find there takes = lying (slice_
     wanted = subst (λ (o : Option ℕ). IfSome o (λ n. IsSomeAnd (slice_get given n) (λ told. IsSome told))) takes
         (at_each (λ (n : PlanNode). IfSome n.box_number (λ m. IsSomeAnd (slice_get given m) (λ told. IsSome told))) nodes count node find there)
 
-    none_past : (os : List (Option CalculatorTold)) (n : ℕ) → n < length os → slice_get os n ≡ None → ⊥
+    none_past : (os : List (Option BoxTold)) (n : ℕ) → n < length os → slice_get os n ≡ None → ⊥
     none_past [] n less is = omega (arith, less)
     none_past (o ∷ os) zero less is = absurd cc
     none_past (o ∷ os) (suc n) less is = none_past os n (omega (arith, less)) is
 
-    lying : (o : Option (Option CalculatorTold)) → slice_get now number ≡ o → Finds given now number
+    lying : (o : Option (Option BoxTold)) → slice_get now number ≡ o → Finds given now number
     lying None is = (let same = l.places in let less = some_below given number wanted in absurd (none_past now number (omega (arith, same, less)) is))
     lying (Some None) is = (let t = l.taken number is in absurd (none_twice nodes t.place count number t.node node apart t.before t.there there t.takes takes))
     lying (Some (Some told)) is = record { told = told; at_first = (l.others number told is).0; lies = is }
 
 -- Engines.
 
-before_first : (given : List (Option CalculatorTold)) (place : ℕ) (node : PlanNode) → own_told node ≡ holder_before given 0 place node
+before_first : (given : List (Option BoxTold)) (place : ℕ) (node : PlanNode) → own_told node ≡ holder_before given 0 place node
 before_first given place node = elim (below place 0) [
   | inl is ↦ (let less = is.1 in absurd (omega (arith, less)))
   | inr is_not ↦ ap (λ (b : Bool). if b then first_holder given node else own_told node) (sym is_not.0)
 ]
 
-before_other : (given : List (Option CalculatorTold)) (count place : ℕ) (node : PlanNode) → place ≢ count → holder_before given count place node ≡ holder_before given (count + 1) place node
+before_other : (given : List (Option BoxTold)) (count place : ℕ) (node : PlanNode) → place ≢ count → holder_before given count place node ≡ holder_before given (count + 1) place node
 before_other given count place node other = elim (below place count) [
   | inl is ↦ (let less = is.1 in ap (λ (b : Bool). if b then first_holder given node else own_told node) (is.0 ∙ sym (lt-ltb place (count + 1) (omega (arith, less)))))
   | inr is_not ↦ elim (below place (count + 1)) [
@@ -171,7 +171,7 @@ before_other given count place node other = elim (below place count) [
   ]
 ]
 
-before_all : (given : List (Option CalculatorTold)) (count place : ℕ) (node : PlanNode) → place < count → holder_before given count place node ≡ first_holder given node
+before_all : (given : List (Option BoxTold)) (count place : ℕ) (node : PlanNode) → place < count → holder_before given count place node ≡ first_holder given node
 before_all given count place node less = ap (λ (b : Bool). if b then first_holder given node else own_told node) (lt-ltb place count less)
 
 -- an engine's calculator is another one
@@ -182,18 +182,18 @@ told_same plan streams told other place engine at same = record {
   input = at.input;
 }
 
-pub engines_first : (plan : Plan) (streams : List (StreamPrefix Plain)) (given : List (Option CalculatorTold)) (engines : List EngineView) → AtPlaces (IsEngineAt plan streams (λ _ node. own_told node)) engines
+pub engines_first : (plan : Plan) (streams : List (StreamPrefix Plain)) (given : List (Option BoxTold)) (engines : List EngineView) → AtPlaces (IsEngineAt plan streams (λ _ node. own_told node)) engines
     → AtPlaces (IsEngineAt plan streams (holder_before given 0)) engines
 engines_first plan streams given engines all place engine there =
     told_same plan streams (λ _ node. own_told node) (holder_before given 0) place engine (all place engine there) (λ node at. before_first given place node)
 
-pub engines_last : (plan : Plan) (streams : List (StreamPrefix Plain)) (given : List (Option CalculatorTold)) (engines : List EngineView) (count : ℕ) → count ≡ length plan.nodes → AtPlaces (IsEngineAt plan streams (holder_before given count)) engines
+pub engines_last : (plan : Plan) (streams : List (StreamPrefix Plain)) (given : List (Option BoxTold)) (engines : List EngineView) (count : ℕ) → count ≡ length plan.nodes → AtPlaces (IsEngineAt plan streams (holder_before given count)) engines
     → AtPlaces (IsEngineAt plan streams (λ _ node. first_holder given node)) engines
 engines_last plan streams given engines count all_nodes all place engine there =
     told_same plan streams (holder_before given count) (λ _ node. first_holder given node) place engine (all place engine there)
     (λ node at. before_all given count place node (let less = slice_get_within plan.nodes place node at in omega (arith, less, all_nodes)))
 
-pub engines_passed : (plan : Plan) (streams : List (StreamPrefix Plain)) (given : List (Option CalculatorTold)) (engines : List EngineView) (count : ℕ) (node : PlanNode) → slice_get plan.nodes count ≡ Some node → node.box_number ≡ None
+pub engines_passed : (plan : Plan) (streams : List (StreamPrefix Plain)) (given : List (Option BoxTold)) (engines : List EngineView) (count : ℕ) (node : PlanNode) → slice_get plan.nodes count ≡ Some node → node.box_number ≡ None
     → AtPlaces (IsEngineAt plan streams (holder_before given count)) engines → AtPlaces (IsEngineAt plan streams (holder_before given (count + 1))) engines
 engines_passed plan streams given engines count node there none all place engine lies =
     told_same plan streams (holder_before given count) (holder_before given (count + 1)) place engine (all place engine lies) same
@@ -217,7 +217,7 @@ engines_passed plan streams given engines count node there none all place engine
     ]
 
 -- the engine that is handed its calculator
-pub engines_taken : (plan : Plan) (streams : List (StreamPrefix Plain)) (given : List (Option CalculatorTold)) (engines : List EngineView) (count number : ℕ) (node : PlanNode) (told : CalculatorTold) (engine engine_now : EngineView) → slice_get plan.nodes count ≡ Some node
+pub engines_taken : (plan : Plan) (streams : List (StreamPrefix Plain)) (given : List (Option BoxTold)) (engines : List EngineView) (count number : ℕ) (node : PlanNode) (told : BoxTold) (engine engine_now : EngineView) → slice_get plan.nodes count ≡ Some node
     → node.box_number ≡ Some number → slice_get given number ≡ Some (Some told) → slice_get engines count ≡ Some engine
     → ((held : HolderView) → engine ≡ fresh_engine node count held → engine_now ≡ fresh_engine node count (holder_view true told))
     → AtPlaces (IsEngineAt plan streams (holder_before given count)) engines → AtPlaces (IsEngineAt plan streams (holder_before given (count + 1))) (set engines count engine_now)
@@ -234,7 +234,7 @@ engines_taken plan streams given engines count number node told engine engine_no
 
     holder : (m : PlanNode) → node ≡ m → holder_view true told ≡ first_holder given m
     holder m same = sym (ap (λ (o : Option ℕ). unwrap_or (option_map (holder_view true) (option_and_then (λ number. unwrap_or (slice_get given number) None) o)) (own_told m)) (ap (λ (n : PlanNode). n.box_number) (sym same) ∙ takes)
-        ∙ ap (λ (o : Option (Option CalculatorTold)). unwrap_or (option_map (holder_view true) (unwrap_or o None)) (own_told m)) at_first)
+        ∙ ap (λ (o : Option (Option BoxTold)). unwrap_or (option_map (holder_view true) (unwrap_or o None)) (own_told m)) at_first)
 
     fresh : (m : PlanNode) → node ≡ m → engine_now ≡ fresh_engine m count (holder_before given (count + 1) count m)
     fresh m same = handed (holder_before given count count node) before ∙ ap (λ (n : PlanNode). fresh_engine n count (holder_view true told)) same

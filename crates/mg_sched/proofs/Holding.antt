@@ -1,6 +1,7 @@
 -- Feeders that are throttled, as the limits tell it.
 use Rattle.std.proofs.Common.{◌≡◌, ◌↔◌, ℕ, ◌<◌, Bool, true, false, not, length, Some, None, option_map, slice_get, ap, sym, refl, subst, ◌∙◌, arith}
 use Rattle.std.proofs.lemmas.Option.{same_Some, slice_get_within}
+use Rattle.mg_calc.specs.Rules.{Laws}
 use Rattle.mg_calc.specs.declared.edge.Edge.{Edge}
 use Rattle.mg_calc.specs.declared.plan.Plan.{Plan}
 use Rattle.mg_calc.specs.declared.plan_node.PlanNode.{PlanNode}
@@ -31,8 +32,8 @@ input_there plan e input valid within from =
     let same = w.0 in let less = w.1 in
     omega (arith, same, less)
 
-pub input_fits : (net : NetView) (e : Edge) (input : ℕ) → StandsForSome net → e.stream < length net.plan.streams → producer_of net.plan e.stream ≡ Some (Input input) → input < net.limits.feeders
-input_fits net e input h within from =
+pub input_fits : {laws : Laws} (net : NetView) (e : Edge) (input : ℕ) → StandsForSome laws net → e.stream < length net.plan.streams → producer_of net.plan e.stream ≡ Some (Input input) → input < net.limits.feeders
+input_fits {laws} net e input h within from =
     let there = input_there net.plan e input (valid net h) within from in
     let same = (of_plan net h).marked_feeders in
     let at = slice_get_within (feeders net.plan) input (graph_input input) (feeder_of_input net.plan input there) in
@@ -50,15 +51,15 @@ same_input : (a b : ℕ) → Some (Input a) ≡ Some (Input b) → a ≡ b
 same_input a b h = cc
 
 -- an edge from a graph input
-pub held_input : (net : NetView) (e : Edge) (input : ℕ) (answer : Bool) → StandsForSome net → e.stream < length net.plan.streams → producer_of net.plan e.stream ≡ Some (Input input) → Told net.limits input answer → not answer ≡ true → IsHeld net e
-held_input net e input answer h within from told is = record {
+pub held_input : {laws : Laws} (net : NetView) (e : Edge) (input : ℕ) (answer : Bool) → StandsForSome laws net → e.stream < length net.plan.streams → producer_of net.plan e.stream ≡ Some (Input input) → Told net.limits input answer → not answer ≡ true → IsHeld net e
+held_input {laws} net e input answer h within from told is = record {
   input = input;
   from = from;
   throttled = (told net.plan (graph_input input) (of_plan net h) (feeder_of_input net.plan input (input_there net.plan e input (valid net h) within from))).0 (not_true answer is);
 }
 
-pub free_input : (net : NetView) (e : Edge) (input : ℕ) (answer : Bool) → StandsForSome net → e.stream < length net.plan.streams → producer_of net.plan e.stream ≡ Some (Input input) → Told net.limits input answer → not answer ≡ false → ¬ IsHeld net e
-free_input net e input answer h within from told is held =
+pub free_input : {laws : Laws} (net : NetView) (e : Edge) (input : ℕ) (answer : Bool) → StandsForSome laws net → e.stream < length net.plan.streams → producer_of net.plan e.stream ≡ Some (Input input) → Told net.limits input answer → not answer ≡ false → ¬ IsHeld net e
+free_input {laws} net e input answer h within from told is held =
     let other : input ≡ held.input = same_input input held.input (sym from ∙ held.from) in
     let told_by = told net.plan (graph_input input) (of_plan net h) (feeder_of_input net.plan input (input_there net.plan e input (valid net h) within from)) in
     let no_feed : answer ≡ false = told_by.1 (subst (λ (n : ℕ). IsThrottled net.plan net.limits (graph_input n)) (sym other) held.throttled) in
@@ -66,21 +67,21 @@ free_input net e input answer h within from told is held =
 
 -- Sources.
 
-pub source_fits : (net : NetView) (node feeder : ℕ) (planned : PlanNode) → StandsForSome net → IsFeederOf net.plan node planned (Some feeder) → feeder < net.limits.feeders
-source_fits net node feeder planned h own =
+pub source_fits : {laws : Laws} (net : NetView) (node feeder : ℕ) (planned : PlanNode) → StandsForSome laws net → IsFeederOf net.plan node planned (Some feeder) → feeder < net.limits.feeders
+source_fits {laws} net node feeder planned h own =
     let same = (of_plan net h).marked_feeders in
     let at = slice_get_within (feeders net.plan) feeder (source_node node) own.1 in
     omega (arith, same, at)
 
-pub held_source : (net : NetView) (node feeder : ℕ) (planned : PlanNode) (answer : Bool) → StandsForSome net → slice_get net.plan.nodes node ≡ Some planned → IsFeederOf net.plan node planned (Some feeder) → Told net.limits feeder answer
+pub held_source : {laws : Laws} (net : NetView) (node feeder : ℕ) (planned : PlanNode) (answer : Bool) → StandsForSome laws net → slice_get net.plan.nodes node ≡ Some planned → IsFeederOf net.plan node planned (Some feeder) → Told net.limits feeder answer
     → not answer ≡ true → IsHeldSource net node
-held_source net node feeder planned answer h there own told is = record {
+held_source {laws} net node feeder planned answer h there own told is = record {
   feeds = (sources_have_feeders net.plan node).1 (planned, there, own.0);
   throttled = (told net.plan (source_node node) (of_plan net h) own.1).0 (not_true answer is);
 }
 
-pub free_source : (net : NetView) (node feeder : ℕ) (planned : PlanNode) (answer : Bool) → StandsForSome net → IsFeederOf net.plan node planned (Some feeder) → Told net.limits feeder answer → not answer ≡ false → ¬ IsHeldSource net node
-free_source net node feeder planned answer h own told is held =
+pub free_source : {laws : Laws} (net : NetView) (node feeder : ℕ) (planned : PlanNode) (answer : Bool) → StandsForSome laws net → IsFeederOf net.plan node planned (Some feeder) → Told net.limits feeder answer → not answer ≡ false → ¬ IsHeldSource net node
+free_source {laws} net node feeder planned answer h own told is held =
     let no_feed : answer ≡ false = (told net.plan (source_node node) (of_plan net h) own.1).1 held.throttled in
     absurd (let yes_feed = not_false answer is in cc)
 

@@ -3,6 +3,7 @@ use Rattle.std.proofs.Common.{◌≡◌, ℕ, zero, suc, ◌+◌, ◌<◌, ◌==
 use Rattle.std.specs.Bool.{⊤}
 use Rattle.std.proofs.lemmas.Bool.Decides.{nat_tests}
 use Rattle.std.proofs.lemmas.Option.{slice_get_within}
+use Rattle.mg_calc.specs.Rules.{Laws}
 use Rattle.mg_calc.specs.declared.edge.Edge.{Edge}
 use Rattle.mg_calc.specs.declared.plan.Plan.{Plan}
 use Rattle.mg_calc.specs.Plan.{numbers}
@@ -52,11 +53,11 @@ all_noted_same (n ∷ ns) qs k know =
     (q.0, ap (slice_get qs) (sym next) ∙ q.1, q.2)))
 
 -- what a net's limits know of the ports of a node
-pub know_ports : (job : LoggedJob) (net : NetView) (node : ℕ) (intake : IntakeView) → StandsFor job net → IsRunning net → node < length net.plan.nodes → slice_get net.intakes node ≡ Some intake
+pub know_ports : {laws : Laws} (job : LoggedJob laws) (net : NetView) (node : ℕ) (intake : IntakeView) → StandsFor job net → IsRunning net → node < length net.plan.nodes → slice_get net.intakes node ≡ Some intake
     → (j n : ℕ) → slice_get (lengths_of intake.waits) j ≡ Some n → (q : Queue) × (slice_get net.limits.queues (first_edge net.plan node + j) ≡ Some q) × (q.waiting ≡ n)
 unfolding StandsFor
-know_ports job net node intake h running less to j n at =
-    let some : StandsForSome net = record { job = job; stands = h } in
+know_ports {laws} job net node intake h running less to j n at =
+    let some : StandsForSome laws net = record { job = job; stands = h } in
     let ok = valid net some in
     let port = mapped_at (λ (p : ℕ). length (port_queue intake.waits p).packets) (numbers (ports_in intake.waits)) j n at in
     let number = number_of 0 (ports_in intake.waits) j port.0 port.1 in
@@ -96,8 +97,8 @@ pub same_parts : (net : NetView) (node : ℕ) (engine : EngineView) (intake : In
     → with_work_queue (with_intake (with_engine net node engine) node intake) node work_queue ≡ net
 same_parts net node engine intake work_queue at to on = λ i. record net { engines = same_put net.engines node engine at i; intakes = same_put net.intakes node intake to i; work_queues = same_put net.work_queues node work_queue on i }
 
-pub claimed_none : (job : LoggedJob) (node : ℕ) (before now : NetView) → StandsFor job before → IsRunning before → node < length before.plan.nodes → ClaimsNext node Idle before now → now ≡ before
-claimed_none job node before now h running less c =
+pub claimed_none : {laws : Laws} (job : LoggedJob laws) (node : ℕ) (before now : NetView) → StandsFor job before → IsRunning before → node < length before.plan.nodes → ClaimsNext node Idle before now → now ≡ before
+claimed_none {laws} job node before now h running less c =
     let first = first_edge before.plan node in
     let told : all_noted before.limits.queues first (lengths_of c.intake.waits) ≡ before.limits.queues = all_noted_same (lengths_of c.intake.waits) before.limits.queues first (know_ports job before node c.intake h running less c.to) in
     by_same (elim c.claims.0 [
@@ -137,10 +138,10 @@ committed_none : (node number : ℕ) (shelf : Option PerformedView) (engine : En
 committed_none node number None engine before now r = r.same
 committed_none node number (Some p) engine before now c = absurd c
 
-brought_nothing : (job : LoggedJob) (number : ℕ) (e : Edge) (before now : NetView) → IsRunning before → StandsFor job before → slice_get before.plan.edges number ≡ Some e → Brings number e Idle before now → now ≡ before
+brought_nothing : {laws : Laws} (job : LoggedJob laws) (number : ℕ) (e : Edge) (before now : NetView) → IsRunning before → StandsFor job before → slice_get before.plan.edges number ≡ Some e → Brings number e Idle before now → now ≡ before
 unfolding StandsFor
-brought_nothing job number e before now running h at b =
-    let some : StandsForSome before = record { job = job; stands = h } in
+brought_nothing {laws} job number e before now running h at b =
+    let some : StandsForSome laws before = record { job = job; stands = h } in
     let same = b.still (brought_none b.answer (sym b.effect_is)) in
     let within = slice_get_within before.plan.edges number e at in
     let long = queues_long before some in
@@ -152,27 +153,27 @@ brought_nothing job number e before now running h at b =
     ∙ ap (λ (qs : List Queue). with_limits before (record before.limits { queues = qs })) (noted_same before.limits.queues number (length (port_queue b.intake.waits e.port).packets) q.0 q.1 known)
 
 -- A step that did nothing: the net is as it was.
-pub idle_same : (job : LoggedJob) (event : Event) (before now : NetView) → IsEventOf before event → IsRunning before → StandsFor job before → Acts event Idle before now → now ≡ before
+pub idle_same : {laws : Laws} (job : LoggedJob laws) (event : Event) (before now : NetView) → IsEventOf before event → IsRunning before → StandsFor job before → Acts laws event Idle before now → now ≡ before
 unfolding StandsFor
-idle_same job (Deliver number) before now of running h a = elim a.delivered [
+idle_same {laws} job (Deliver number) before now of running h a = elim a.delivered [
   | inl held ↦ held.1.same
   | inr brings ↦ brought_nothing job number a.edge before now running h a.there brings.1
 ]
-idle_same job (Advance node) before now of running h a =
+idle_same {laws} job (Advance node) before now of running h a =
     let moved = not_advanced (is_advanced a.engine a.intake.waits) (sym a.effect_is) in
     a.now_is
     ∙ ap (λ (outputs : List (Backlog Plain)). with_engine before node (record a.engine { outputs = outputs })) (raised_none (advance_bound a.engine a.intake.waits) a.engine.outputs moved)
     ∙ ap (λ (es : List EngineView). record before { engines = es }) (same_put before.engines node a.engine a.at)
-idle_same job (Claim node) before now of running h a = elim a [
+idle_same {laws} job (Claim node) before now of running h a = elim a [
   | inl held ↦ held.1.same
   | inr claims ↦ claimed_none job node before now h running of claims.1
 ]
-idle_same job (Perform node number) before now of running h a = elim a.performed [
+idle_same {laws} job (Perform node number) before now of running h a = elim a.performed [
   | inl none ↦ none.1.same
   | inr performs ↦ absurd performs.performed
 ]
-idle_same job (Commit node number) before now of running h a = committed_none node number (shelf_at a.engine number) a.engine before now a.committed
-idle_same job Relax before now of running h a = elim a [
+idle_same {laws} job (Commit node number) before now of running h a = committed_none node number (shelf_at a.engine number) a.engine before now a.committed
+idle_same {laws} job Relax before now of running h a = elim a [
   | inl none ↦ none.1.same
   | inr full ↦ absurd (not_busy Did (sym full.1) tt)
 ]

@@ -1,4 +1,5 @@
 -- A net of which a stream is kept stands for what it stood for.
+use Rattle.mg_calc.specs.Rules.{Laws}
 use Rattle.std.proofs.Common.{◌≡◌, ℕ, zero, suc, ◌+◌, ◌<◌, ◌≤◌, Bool, true, false, if◌then◌else◌, List, [], ◌∷◌, length, length-set, get_or, set, get_or-set_same, get_or-set_other, inl, inr, ap, sym, refl, subst, ◌∙◌, arith}
 use Rattle.std.proofs.lemmas.Bool.{cases_eq, cases_lt}
 use Rattle.mg_node.specs.Job.{LoggedJob}
@@ -48,12 +49,12 @@ all_spared kept before now upto all h s = elim (cases_lt s upto) [
 ]
 
 -- there is a mark for each stream
-marks_of : (job : LoggedJob) (net : NetView) → StandsFor job net → length net.kept ≡ length net.plan.streams
+marks_of : {laws : Laws} (job : LoggedJob laws) (net : NetView) → StandsFor job net → length net.kept ≡ length net.plan.streams
 unfolding StandsFor
-marks_of job net h = h.kept
+marks_of {laws} job net h = h.kept
 
-pub marks_long : (net : NetView) → StandsForSome net → length net.kept ≡ length net.plan.streams
-marks_long net h = marks_of h.job net h.stands
+pub marks_long : {laws : Laws} (net : NetView) → StandsForSome laws net → length net.kept ≡ length net.plan.streams
+marks_long {laws} net h = marks_of h.job net h.stands
 
 pub keeps_one : (shown before now : NetView) (stream : ℕ) → shown ≡ before → now ≡ record shown { kept = now.kept } → now.kept ≡ set shown.kept stream true → stream < length shown.kept → Keeps stream before now
 keeps_one shown before now stream is parts marks within = subst (λ (v : NetView). Keeps stream v now) is (record {
@@ -62,9 +63,9 @@ keeps_one shown before now stream is parts marks within = subst (λ (v : NetView
   others = λ other not. ap (λ (ks : List Bool). get_or ks other false) marks ∙ get_or-set_other shown.kept stream other true false not;
 })
 
-pub kept_stands : (job : LoggedJob) (before now : NetView) → now ≡ record before { kept = now.kept } → length now.kept ≡ length before.kept → StandsFor job before → StandsFor job now
+pub kept_stands : {laws : Laws} (job : LoggedJob laws) (before now : NetView) → now ≡ record before { kept = now.kept } → length now.kept ≡ length before.kept → StandsFor job before → StandsFor job now
 unfolding StandsFor
-kept_stands job before now parts long h = subst (λ (v : NetView). IsNetOf job v) (sym parts) (record {
+kept_stands {laws} job before now parts long h = subst (λ (v : NetView). IsNetOf job v) (sym parts) (record {
   is_job = h.is_job;
   plan = h.plan;
   given = h.given;

@@ -1,4 +1,5 @@
 -- Engines of graph inputs that are extended one by one, and shortened again from the last one on.
+use Rattle.mg_calc.specs.Rules.{Laws}
 use Rattle.std.proofs.Common.{◌≡◌, ◌≢◌, ◌⊎◌, inl, inr, ℕ, suc, ◌+◌, ◌<◌, ◌≤◌, List, [], ◌∷◌, length, set, Some, slice_get, ap, sym, refl, subst, subst₂, ◌∙◌, arith}
 use Rattle.std.proofs.lemmas.Option.{same_Some, slice_get_within}
 use Rattle.mg_value.specs.Payload.{Plain}
@@ -52,9 +53,9 @@ one_longer from pieces count before now new engine piece h at piece_at is = reco
 next_there : (from : ℕ) (pieces : List (StreamPrefix Plain)) (count : ℕ) (before now : List EngineView) (engine : EngineView) → AreLonger from pieces count before now → slice_get now (from + count) ≡ Some engine → slice_get before (from + count) ≡ Some engine
 next_there from pieces count before now engine h at = sym (h.others (from + count) (inr (omega arith))) ∙ at
 
-pub may_next : (from : ℕ) (pieces : List (StreamPrefix Plain)) (count : ℕ) (before now : List EngineView) (piece : StreamPrefix Plain) → AreLonger from pieces count before now → MayEach from pieces before → slice_get pieces count ≡ Some piece
-    → (engine : EngineView) → slice_get now (from + count) ≡ Some engine → MayExtend engine piece
-may_next from pieces count before now piece h may piece_at engine at = may count engine piece (next_there from pieces count before now engine h at) piece_at
+pub may_next : {laws : Laws} (from : ℕ) (pieces : List (StreamPrefix Plain)) (count : ℕ) (before now : List EngineView) (piece : StreamPrefix Plain) → AreLonger from pieces count before now → MayEach laws from pieces before → slice_get pieces count ≡ Some piece
+    → (engine : EngineView) → slice_get now (from + count) ≡ Some engine → MayExtend laws engine piece
+may_next {laws} from pieces count before now piece h may piece_at engine at = may count engine piece (next_there from pieces count before now engine h at) piece_at
 
 pub longer_next : (from : ℕ) (pieces : List (StreamPrefix Plain)) (count : ℕ) (before now new : List EngineView) (piece : StreamPrefix Plain) → AreLonger from pieces count before now → from + count < length before → slice_get pieces count ≡ Some piece
     → ((engine : EngineView) → slice_get now (from + count) ≡ Some engine → new ≡ set now (from + count) (extended engine piece)) → AreLonger from pieces (count + 1) before new
@@ -98,33 +99,33 @@ all_shorter from pieces before now h = same_places now before h.places (λ place
 
 -- what a step of the loop backward finds, and what it leaves
 
-was_longer : (from : ℕ) (pieces : List (StreamPrefix Plain)) (bounds : List ℕ) (count : ℕ) (before now : List EngineView) (piece : StreamPrefix Plain) (bound : ℕ) (old engine : EngineView) → WereLonger from pieces bounds (count + 1) before now
-    → slice_get pieces count ≡ Some piece → slice_get bounds count ≡ Some bound → slice_get before (from + count) ≡ Some old → slice_get now (from + count) ≡ Some engine → WasExtended piece bound old engine
-was_longer from pieces bounds count before now piece bound old engine h piece_at bound_at old_at at = record {
+was_longer : {laws : Laws} (from : ℕ) (pieces : List (StreamPrefix Plain)) (bounds : List ℕ) (count : ℕ) (before now : List EngineView) (piece : StreamPrefix Plain) (bound : ℕ) (old engine : EngineView) → WereLonger laws from pieces bounds (count + 1) before now
+    → slice_get pieces count ≡ Some piece → slice_get bounds count ≡ Some bound → slice_get before (from + count) ≡ Some old → slice_get now (from + count) ≡ Some engine → WasExtended laws piece bound old engine
+was_longer {laws} from pieces bounds count before now piece bound old engine h piece_at bound_at old_at at = record {
   may = h.may count old piece old_at piece_at;
   is = same_Some engine (extended old piece) (sym at ∙ h.are.longer count old piece (omega arith) old_at piece_at);
   bound_was = h.bounds_were count bound bound_at old old_at;
 }
 
-old_there : (from : ℕ) (pieces : List (StreamPrefix Plain)) (bounds : List ℕ) (count : ℕ) (before now : List EngineView) → WereLonger from pieces bounds (count + 1) before now → (old : EngineView) × (slice_get before (from + count) ≡ Some old)
-old_there from pieces bounds count before now h = (let within = h.within in found before (from + count) (omega (arith, within)))
+old_there : {laws : Laws} (from : ℕ) (pieces : List (StreamPrefix Plain)) (bounds : List ℕ) (count : ℕ) (before now : List EngineView) → WereLonger laws from pieces bounds (count + 1) before now → (old : EngineView) × (slice_get before (from + count) ≡ Some old)
+old_there {laws} from pieces bounds count before now h = (let within = h.within in found before (from + count) (omega (arith, within)))
 
-pub some_longer_there : (from : ℕ) (pieces : List (StreamPrefix Plain)) (bounds : List ℕ) (count : ℕ) (now : List EngineView) → SomeLonger from pieces bounds (count + 1) now → from + count < length now
-some_longer_there from pieces bounds count now h = (let within = h.were.within in let places = h.were.are.places in omega (arith, within, places))
+pub some_longer_there : {laws : Laws} (from : ℕ) (pieces : List (StreamPrefix Plain)) (bounds : List ℕ) (count : ℕ) (now : List EngineView) → SomeLonger laws from pieces bounds (count + 1) now → from + count < length now
+some_longer_there {laws} from pieces bounds count now h = (let within = h.were.within in let places = h.were.are.places in omega (arith, within, places))
 
-pub some_longer_at : (from : ℕ) (pieces : List (StreamPrefix Plain)) (bounds : List ℕ) (count : ℕ) (now : List EngineView) (piece : StreamPrefix Plain) (bound : ℕ) → SomeLonger from pieces bounds (count + 1) now
-    → slice_get pieces count ≡ Some piece → slice_get bounds count ≡ Some bound → (engine : EngineView) → slice_get now (from + count) ≡ Some engine → SomeExtended piece bound engine
-some_longer_at from pieces bounds count now piece bound h piece_at bound_at engine at =
+pub some_longer_at : {laws : Laws} (from : ℕ) (pieces : List (StreamPrefix Plain)) (bounds : List ℕ) (count : ℕ) (now : List EngineView) (piece : StreamPrefix Plain) (bound : ℕ) → SomeLonger laws from pieces bounds (count + 1) now
+    → slice_get pieces count ≡ Some piece → slice_get bounds count ≡ Some bound → (engine : EngineView) → slice_get now (from + count) ≡ Some engine → SomeExtended laws piece bound engine
+some_longer_at {laws} from pieces bounds count now piece bound h piece_at bound_at engine at =
     let old = old_there from pieces bounds count h.before now h.were in
     record { before = old.0; was = was_longer from pieces bounds count h.before now piece bound old.0 engine h.were piece_at bound_at old.1 at }
 
 -- a place is given by its number
-abbrev ShortensAt : ℕ → List EngineView → List EngineView → StreamPrefix Plain → ℕ → Type 0
-ShortensAt place now new piece bound = (before engine : EngineView) → slice_get now place ≡ Some engine → WasExtended piece bound before engine → new ≡ set now place before
+abbrev ShortensAt : Laws → ℕ → List EngineView → List EngineView → StreamPrefix Plain → ℕ → Type 0
+ShortensAt laws place now new piece bound = (before engine : EngineView) → slice_get now place ≡ Some engine → WasExtended laws piece bound before engine → new ≡ set now place before
 
-pub shorter_were : (from : ℕ) (pieces : List (StreamPrefix Plain)) (bounds : List ℕ) (count : ℕ) (before now new : List EngineView) (piece : StreamPrefix Plain) (bound : ℕ) → WereLonger from pieces bounds (count + 1) before now
-    → slice_get pieces count ≡ Some piece → slice_get bounds count ≡ Some bound → ShortensAt (from + count) now new piece bound → WereLonger from pieces bounds count before new
-shorter_were from pieces bounds count before now new piece bound h piece_at bound_at step =
+pub shorter_were : {laws : Laws} (from : ℕ) (pieces : List (StreamPrefix Plain)) (bounds : List ℕ) (count : ℕ) (before now new : List EngineView) (piece : StreamPrefix Plain) (bound : ℕ) → WereLonger laws from pieces bounds (count + 1) before now
+    → slice_get pieces count ≡ Some piece → slice_get bounds count ≡ Some bound → ShortensAt laws (from + count) now new piece bound → WereLonger laws from pieces bounds count before new
+shorter_were {laws} from pieces bounds count before now new piece bound h piece_at bound_at step =
     let old = old_there from pieces bounds count before now h in
     let within = h.within in let places = h.are.places in
     let engine = found now (from + count) (omega (arith, within, places)) in
@@ -135,24 +136,24 @@ shorter_were from pieces bounds count before now new piece bound h piece_at boun
       within = omega (arith, within);
     }
 
-pub shortened_all : (from : ℕ) (pieces : List (StreamPrefix Plain)) (bounds : List ℕ) (count : ℕ) (before now : List EngineView) → count ≤ 0 → WereLonger from pieces bounds count before now → now ≡ before
-shortened_all from pieces bounds count before now none h =
+pub shortened_all : {laws : Laws} (from : ℕ) (pieces : List (StreamPrefix Plain)) (bounds : List ℕ) (count : ℕ) (before now : List EngineView) → count ≤ 0 → WereLonger laws from pieces bounds count before now → now ≡ before
+shortened_all {laws} from pieces bounds count before now none h =
     all_shorter from pieces before now (subst (λ (n : ℕ). AreLonger from pieces n before now) (omega (arith, none)) h.are)
 
 -- what the whole call leaves: all are extended, or none
 pub longer_all : (from n : ℕ) (pieces : List (StreamPrefix Plain)) (count : ℕ) (before now : List EngineView) → n ≡ from → count ≡ length pieces → AreLonger n pieces count before now → AreLonger from pieces (length pieces) before now
 longer_all from n pieces count before now from_is all h = subst₂ (λ (m k : ℕ). AreLonger m pieces k before now) from_is all h
 
-pub shorter_again : (from : ℕ) (pieces : List (StreamPrefix Plain)) (bounds : List ℕ) (count : ℕ) (before now new : List EngineView) → AreLonger from pieces count before now → MayEach from pieces before → AtPlaces (IsBound from before) bounds
-    → from + count ≤ length before → ((old : List EngineView) → WereLonger from pieces bounds count old now → new ≡ old) → new ≡ before
-shorter_again from pieces bounds count before now new are may bounds_were within step = step before (record { are = are; may = may; bounds_were = bounds_were; within = within })
+pub shorter_again : {laws : Laws} (from : ℕ) (pieces : List (StreamPrefix Plain)) (bounds : List ℕ) (count : ℕ) (before now new : List EngineView) → AreLonger from pieces count before now → MayEach laws from pieces before → AtPlaces (IsBound from before) bounds
+    → from + count ≤ length before → ((old : List EngineView) → WereLonger laws from pieces bounds count old now → new ≡ old) → new ≡ before
+shorter_again {laws} from pieces bounds count before now new are may bounds_were within step = step before (record { are = are; may = may; bounds_were = bounds_were; within = within })
 
 -- an engine that may be extended has an output
-has_output : (engine : EngineView) (piece : StreamPrefix Plain) → MayExtend engine piece → 0 < length engine.outputs
-has_output engine piece may = (let one = (input_known may.job may.input engine may.lawful).one in omega (arith, one))
+has_output : {laws : Laws} (engine : EngineView) (piece : StreamPrefix Plain) → MayExtend laws engine piece → 0 < length engine.outputs
+has_output {laws} engine piece may = (let one = (input_known may.job may.input engine may.lawful).one in omega (arith, one))
 
-pub has_bound : (from input : ℕ) (pieces : List (StreamPrefix Plain)) (engines : List EngineView) (engine : EngineView) → MayEach from pieces engines → input < length pieces → slice_get engines (from + input) ≡ Some engine → 0 < length engine.outputs
-has_bound from input pieces engines engine may less at = (let piece = found pieces input less in has_output engine piece.0 (may input engine piece.0 at piece.1))
+pub has_bound : {laws : Laws} (from input : ℕ) (pieces : List (StreamPrefix Plain)) (engines : List EngineView) (engine : EngineView) → MayEach laws from pieces engines → input < length pieces → slice_get engines (from + input) ≡ Some engine → 0 < length engine.outputs
+has_bound {laws} from input pieces engines engine may less at = (let piece = found pieces input less in has_output engine piece.0 (may input engine piece.0 at piece.1))
 
 pub bound_there : (from input : ℕ) (engines : List EngineView) (engine : EngineView) (bound : ℕ) → slice_get engines (from + input) ≡ Some engine → bound ≡ (laid_at engine 0).bound → IsBound from engines input bound
 bound_there from input engines engine bound at is = λ other other_at. ap (λ (v : EngineView). (laid_at v 0).bound) (same_Some other engine (sym other_at ∙ at)) ∙ sym is

@@ -4,6 +4,7 @@ use Rattle.std.proofs.lemmas.Bool.Decides.{nat_tests}
 use Rattle.mg_time.specs.Time.{done}
 use Rattle.mg_value.specs.Payload.{Plain}
 use Rattle.mg_stream.specs.Pool.{Backlog}
+use Rattle.mg_calc.specs.Rules.{Laws}
 use Rattle.mg_calc.specs.declared.event.Effect.{Effect}
 use Rattle.mg_calc.specs.declared.event.Effect.TheVariants.{Did}
 use Rattle.mg_calc.proofs.Earlier.{get_map}
@@ -65,9 +66,9 @@ engine_falls e outputs fall = omega (arith, fall)
 engine_low : (e : EngineView) (outputs : List (Backlog Plain)) → sum_by output_left outputs ≤ sum_by output_left e.outputs → engine_left (record e { outputs = outputs }) ≤ engine_left e
 engine_low e outputs low = omega (arith, low)
 
-pub advance_less : (job : LoggedJob) (node : ℕ) (before now : NetView) → node < length before.plan.nodes → IsRunning before → StandsFor job before → NodeAdvances node Did before now → left_in now < left_in before
+pub advance_less : {laws : Laws} (job : LoggedJob laws) (node : ℕ) (before now : NetView) → node < length before.plan.nodes → IsRunning before → StandsFor job before → NodeAdvances node Did before now → left_in now < left_in before
 unfolding StandsFor
-advance_less job node before now within running h a =
+advance_less {laws} job node before now within running h a =
     let long = h.work_queues in
     let work_queue = found before.work_queues node (omega (arith, within, long)) in
     let cell = cell_at job before node a.engine a.intake work_queue.0 h running within a.at a.to work_queue.1 in

@@ -8,6 +8,7 @@ use Rattle.mg_value.specs.Packet.{Stamped}
 use Rattle.mg_settled.specs.Loopback.{packet_of}
 use Rattle.mg_stream.specs.Queue.{count_of}
 use Rattle.mg_stream.specs.Pool.{Backlog}
+use Rattle.mg_calc.specs.Rules.{Laws}
 use Rattle.mg_calc.specs.Plan.{numbers}
 use Rattle.mg_calc.specs.declared.event.Effect.{Effect}
 use Rattle.mg_calc.specs.declared.event.Effect.TheVariants.{Did, Idle, OutOfMemory}
@@ -49,9 +50,9 @@ unrun_left true o work is h = absurd (let some : IfSome o (λ x. IsSome x.answer
     cc)
 unrun_left false o work is h = ap came_left is
 
-unrun_less : (job : LoggedJob) (node : ℕ) (engine now : EngineView) (work : WorkView) → LawfulEngine job (of_node node) engine → TakesUnrun engine now work → engine_left now < engine_left engine
+unrun_less : {laws : Laws} (job : LoggedJob laws) (node : ℕ) (engine now : EngineView) (work : WorkView) → LawfulEngine job (of_node node) engine → TakesUnrun engine now work → engine_left now < engine_left engine
 unfolding LawfulEngine
-unrun_less job node engine now work h t =
+unrun_less {laws} job node engine now work h t =
     let entry = t.hands.entry in
     let out : EntryView = record { phase = entry.phase; outcome = None; committed = false } in
     let three : entry_left entry ≡ 3 = unrun_left entry.committed entry.outcome work t.hands.outcome (h.entries t.place entry t.hands.there).committed in
@@ -123,9 +124,9 @@ record ClaimsLess (engine engine_now : EngineView) (intake intake_now : IntakeVi
   pub engine_less : engine_left engine_now < engine_left engine
   pub intake_same : intake_left intake_now ≡ intake_left intake
 
-work_less : (job : LoggedJob) (node : ℕ) (work : WorkView) (engine engine_now : EngineView) (intake intake_now : IntakeView) → LawfulEngine job (of_node node) engine → engine.claimed < 2 ^ 64 → Claims {C = ℕ} (Work work) engine engine_now intake intake_now
+work_less : {laws : Laws} (job : LoggedJob laws) (node : ℕ) (work : WorkView) (engine engine_now : EngineView) (intake intake_now : IntakeView) → LawfulEngine job (of_node node) engine → engine.claimed < 2 ^ 64 → Claims {C = ℕ} (Work work) engine engine_now intake intake_now
     → ClaimsLess engine engine_now intake intake_now
-work_less job node work engine engine_now intake intake_now h few claims = elim claims [
+work_less {laws} job node work engine engine_now intake intake_now h few claims = elim claims [
   | inl unrun ↦ record { engine_less = unrun_less job node engine engine_now work h unrun.1; intake_same = ap intake_left unrun.2 }
   | inr further ↦ elim further.1 [
     | inl called ↦ record { engine_less = hands_less engine engine_now (Call engine.claimed) called.0.context called.0.hands refl few; intake_same = ap intake_left called.1 }
@@ -139,21 +140,21 @@ work_less job node work engine engine_now intake intake_now h few claims = elim 
   ]
 ]
 
-answered_less : (job : LoggedJob) (node : ℕ) (engine engine_now : EngineView) (intake intake_now : IntakeView) (work_queue : WorkQueueView) → IsCell job true node engine intake work_queue → engine.claimed < 2 ^ 64 → Claims {C = ℕ} Answered engine engine_now intake intake_now
+answered_less : {laws : Laws} (job : LoggedJob laws) (node : ℕ) (engine engine_now : EngineView) (intake intake_now : IntakeView) (work_queue : WorkQueueView) → IsCell job true node engine intake work_queue → engine.claimed < 2 ^ 64 → Claims {C = ℕ} Answered engine engine_now intake intake_now
     → ClaimsLess engine engine_now intake intake_now
-answered_less job node engine engine_now intake intake_now work_queue cell few claims =
+answered_less {laws} job node engine engine_now intake intake_now work_queue cell few claims =
     let t = claims.1 in
-    let is_cell : AreCell engine intake = record { job = job; number = node; lawful_engine = cell.lawful_engine; lawful_intake = cell.lawful_intake; agree = cell.agree } in
+    let is_cell : AreCell laws engine intake = record { job = job; number = node; lawful_engine = cell.lawful_engine; lawful_intake = cell.lawful_intake; agree = cell.agree } in
     let grows = claim_grows {C = ℕ} Answered engine engine_now intake intake_now is_cell claims in
     record {
       engine_less = answer_less engine engine_now intake intake_now t grows.engine_grows.outputs few;
       intake_same = intake_same intake intake_now (ap (λ (v : IntakeView). ports_in v.waits) t.intake_is ∙ sym (ap ports_in t.waits)) (claim_stays {X = ℕ} Answered engine engine_now intake intake_now claims);
     }
 
-cell_less : (job : LoggedJob) (node : ℕ) (engine engine_now : EngineView) (intake intake_now : IntakeView) (work_queue work_queue_now : WorkQueueView) → IsCell job true node engine intake work_queue → engine.claimed < 2 ^ 64 → ClaimsBy Did engine engine_now intake intake_now work_queue work_queue_now
+cell_less : {laws : Laws} (job : LoggedJob laws) (node : ℕ) (engine engine_now : EngineView) (intake intake_now : IntakeView) (work_queue work_queue_now : WorkQueueView) → IsCell job true node engine intake work_queue → engine.claimed < 2 ^ 64 → ClaimsBy Did engine engine_now intake intake_now work_queue work_queue_now
     → ClaimsLess engine engine_now intake intake_now
-cell_less job node engine engine_now intake intake_now work_queue work_queue_now cell few (inl t) = work_less job node t.work engine engine_now intake intake_now cell.lawful_engine few t.claims
-cell_less job node engine engine_now intake intake_now work_queue work_queue_now cell few (inr a) = answered_less job node engine engine_now intake intake_now work_queue cell few a.0
+cell_less {laws} job node engine engine_now intake intake_now work_queue work_queue_now cell few (inl t) = work_less job node t.work engine engine_now intake intake_now cell.lawful_engine few t.claims
+cell_less {laws} job node engine engine_now intake intake_now work_queue work_queue_now cell few (inr a) = answered_less job node engine engine_now intake intake_now work_queue cell few a.0
 
 -- Nets: what a claim leaves of the engine and the intake counts alone.
 both_put : (now with_one net new old new_in old_in : ℕ) → now + old_in ≡ with_one + new_in → with_one + old ≡ net + new → now + (old + old_in) ≡ net + (new + new_in)
@@ -173,14 +174,14 @@ both_less now net new old new_in old_in is less same = omega (arith, is, less, s
 both_same : (now net new old new_in old_in : ℕ) → now + (old + old_in) ≡ net + (new + new_in) → new ≡ old → new_in ≡ old_in → now ≤ net
 both_same now net new old new_in old_in is one two = omega (arith, is, one, two)
 
-next_less : (job : LoggedJob) (node : ℕ) (before now : NetView) → node < length before.plan.nodes → IsRunning before → StandsFor job before → ClaimsNext node Did before now → left_in now < left_in before
-next_less job node before now within running h c =
+next_less : {laws : Laws} (job : LoggedJob laws) (node : ℕ) (before now : NetView) → node < length before.plan.nodes → IsRunning before → StandsFor job before → ClaimsNext node Did before now → left_in now < left_in before
+next_less {laws} job node before now within running h c =
     let cell = cell_at job before node c.engine c.intake c.work_queue h running within c.at c.to c.on in
     let less = cell_less job node c.engine c.engine_now c.intake c.intake_now c.work_queue c.work_queue_now cell (claims_small job (of_node node) c.engine cell.lawful_engine) c.claims in
     both_less (left_in now) (left_in before) (engine_left c.engine_now) (engine_left c.engine) (intake_left c.intake_now) (intake_left c.intake) (next_left node Did before now c) less.engine_less less.intake_same
 
-pub claim_less : (job : LoggedJob) (node : ℕ) (before now : NetView) → node < length before.plan.nodes → IsRunning before → StandsFor job before → NodeClaims node Did before now → left_in now < left_in before
-claim_less job node before now within running h c = elim c [
+pub claim_less : {laws : Laws} (job : LoggedJob laws) (node : ℕ) (before now : NetView) → node < length before.plan.nodes → IsRunning before → StandsFor job before → NodeClaims node Did before now → left_in now < left_in before
+claim_less {laws} job node before now within running h c = elim c [
   | inl held ↦ absurd (not_idle held.1.idle)
   | inr free ↦ next_less job node before now within running h free.1
 ]
@@ -201,13 +202,13 @@ next_same node effect before now other c =
     let same = claims_none effect c.engine c.engine_now c.intake c.intake_now c.work_queue c.work_queue_now other c.claims in
     both_same (left_in now) (left_in before) (engine_left c.engine_now) (engine_left c.engine) (intake_left c.intake_now) (intake_left c.intake) (next_left node effect before now c) (ap engine_left same.same_engine) (ap intake_left same.same_intake)
 
-next_no_more : (job : LoggedJob) (node : ℕ) (effect : Effect) (before now : NetView) → node < length before.plan.nodes → IsRunning before → StandsFor job before → ClaimsNext node effect before now → left_in now ≤ left_in before
-next_no_more job node Did before now within running h c = less_left (left_in now) (left_in before) (next_less job node before now within running h c)
-next_no_more job node Idle before now within running h c = next_same node Idle before now (λ e. not_idle (sym e)) c
-next_no_more job node OutOfMemory before now within running h c = next_same node OutOfMemory before now (λ e. not_without (sym e)) c
+next_no_more : {laws : Laws} (job : LoggedJob laws) (node : ℕ) (effect : Effect) (before now : NetView) → node < length before.plan.nodes → IsRunning before → StandsFor job before → ClaimsNext node effect before now → left_in now ≤ left_in before
+next_no_more {laws} job node Did before now within running h c = less_left (left_in now) (left_in before) (next_less job node before now within running h c)
+next_no_more {laws} job node Idle before now within running h c = next_same node Idle before now (λ e. not_idle (sym e)) c
+next_no_more {laws} job node OutOfMemory before now within running h c = next_same node OutOfMemory before now (λ e. not_without (sym e)) c
 
-pub claim_no_more : (job : LoggedJob) (node : ℕ) (effect : Effect) (before now : NetView) → node < length before.plan.nodes → IsRunning before → StandsFor job before → NodeClaims node effect before now → left_in now ≤ left_in before
-claim_no_more job node effect before now within running h c = elim c [
+pub claim_no_more : {laws : Laws} (job : LoggedJob laws) (node : ℕ) (effect : Effect) (before now : NetView) → node < length before.plan.nodes → IsRunning before → StandsFor job before → NodeClaims node effect before now → left_in now ≤ left_in before
+claim_no_more {laws} job node effect before now within running h c = elim c [
   | inl held ↦ same_left before now held.1.same
   | inr free ↦ next_no_more job node effect before now within running h free.1
 ]

@@ -5,6 +5,7 @@ use Rattle.std.proofs.lemmas.List.{length-map}
 use Rattle.std.proofs.lemmas.List.Sums.{sum_by-cons}
 use Rattle.mg_value.specs.Payload.{Plain}
 use Rattle.mg_stream.specs.Pool.{Backlog}
+use Rattle.mg_calc.specs.Rules.{Laws}
 use Rattle.mg_calc.specs.declared.event.Effect.{Effect}
 use Rattle.mg_calc.specs.declared.event.Effect.TheVariants.{Did, Idle, OutOfMemory}
 use Rattle.mg_node.specs.Views.{PerformedView, OutcomeView, EntryView, EngineView}
@@ -70,20 +71,20 @@ front_less offset (entry ∷ entries) front window =
 found_left : (entry : EntryView) (p : PerformedView) → IsFound entry p → entry_left entry ≡ 1
 found_left entry p f = λ i. if f.left i then 0 else came_left ((f.there ∙ ap Some f.performed) i)
 
-found_phase : (job : LoggedJob) (node : ℕ) (engine : EngineView) (number : ℕ) (entry : EntryView) (p : PerformedView) → LawfulEngine job (of_node node) engine → slice_get engine.window (number - engine.laid) ≡ Some entry → IsFound entry p → p.work.phase ≡ entry.phase
+found_phase : {laws : Laws} (job : LoggedJob laws) (node : ℕ) (engine : EngineView) (number : ℕ) (entry : EntryView) (p : PerformedView) → LawfulEngine job (of_node node) engine → slice_get engine.window (number - engine.laid) ≡ Some entry → IsFound entry p → p.work.phase ≡ entry.phase
 unfolding LawfulEngine
-found_phase job node engine number entry p h at f =
+found_phase {laws} job node engine number entry p h at f =
     let stands : StandsAt job node (engine.laid + (number - engine.laid)) entry.phase f.outcome =
     subst (λ (o : Option OutcomeView). IfSome o (λ x. StandsAt job node (engine.laid + (number - engine.laid)) entry.phase x)) f.there (h.entries (number - engine.laid) entry at).outcome in
     ap (λ (o : OutcomeView). o.work.phase) (sym f.performed) ∙ stands.phase_is
 
 -- an engine that commits
-commit_engine : (job : LoggedJob) (node number laid : ℕ) (engine taken now : EngineView) (p : PerformedView) → LawfulEngine job (of_node node) engine → shelf_at engine number ≡ Some p → Unshelves (Some p) engine taken number → Commits (outcome_of p) laid taken now
+commit_engine : {laws : Laws} (job : LoggedJob laws) (node number laid : ℕ) (engine taken now : EngineView) (p : PerformedView) → LawfulEngine job (of_node node) engine → shelf_at engine number ≡ Some p → Unshelves (Some p) engine taken number → Commits (outcome_of p) laid taken now
     → engine_left now < engine_left engine
-commit_engine job node number laid engine taken now p h is takes commits =
+commit_engine {laws} job node number laid engine taken now p h is takes commits =
     let outcome = outcome_of p in
     let lawful = (unshelved_lawful job node engine taken number p is takes h).0 in
-    let some : SomeJobHasEngine taken = record { job = job; number = node; lawful = lawful } in
+    let some : SomeJobHasEngine laws taken = record { job = job; number = node; lawful = lawful } in
     let it = found_at engine number p is in
     let out = (unshelved_out job node engine taken number p h is takes).out in
     let window = window_with taken outcome in
@@ -138,10 +139,10 @@ stopped_same : (net : NetView) (node : ℕ) (engine : EngineView) → left_in (w
 stopped_same net node engine = ap (λ (n : ℕ). sum_by engine_left net.engines + sum_by intake_left net.intakes + n) (ended_left (has_ended engine) node net.limits)
 
 -- Nets.
-laid_less : (job : LoggedJob) (node number : ℕ) (engine : EngineView) (p : PerformedView) (before now : NetView) → node < length before.plan.nodes → IsRunning before → StandsFor job before → slice_get before.engines node ≡ Some engine
+laid_less : {laws : Laws} (job : LoggedJob laws) (node number : ℕ) (engine : EngineView) (p : PerformedView) (before now : NetView) → node < length before.plan.nodes → IsRunning before → StandsFor job before → slice_get before.engines node ≡ Some engine
     → shelf_at engine number ≡ Some p → CommitsTo node number engine p before now → left_in now < left_in before
 unfolding StandsFor
-laid_less job node number engine p before now within running h at is c =
+laid_less {laws} job node number engine p before now within running h at is c =
     let long = h.work_queues in
     let more = h.intakes in
     let work_queue = found before.work_queues node (omega (arith, within, long)) in
@@ -153,21 +154,21 @@ laid_less job node number engine p before now within running h at is c =
     (put_less (left_in next) (left_in before) (engine_left c.engine_now) (engine_left engine) (engine_put before node engine c.engine_now at)
     (commit_engine job node number c.laid engine c.taken c.engine_now p cell.lawful_engine is c.takes c.commits))
 
-taken_less : (job : LoggedJob) (node number : ℕ) (r : Option PerformedView) (engine : EngineView) (before now : NetView) → node < length before.plan.nodes → IsRunning before → StandsFor job before → slice_get before.engines node ≡ Some engine
+taken_less : {laws : Laws} (job : LoggedJob laws) (node number : ℕ) (r : Option PerformedView) (engine : EngineView) (before now : NetView) → node < length before.plan.nodes → IsRunning before → StandsFor job before → slice_get before.engines node ≡ Some engine
     → shelf_at engine number ≡ r → CommittedAt node number r Did engine before now → left_in now < left_in before
-taken_less job node number None engine before now within running h at is c = absurd (not_idle c.idle)
-taken_less job node number (Some p) engine before now within running h at is c = laid_less job node number engine p before now within running h at is c
+taken_less {laws} job node number None engine before now within running h at is c = absurd (not_idle c.idle)
+taken_less {laws} job node number (Some p) engine before now within running h at is c = laid_less job node number engine p before now within running h at is c
 
-pub commit_less : (job : LoggedJob) (node number : ℕ) (before now : NetView) → node < length before.plan.nodes → IsRunning before → StandsFor job before → NodeCommits node number Did before now → left_in now < left_in before
-commit_less job node number before now within running h c = taken_less job node number (shelf_at c.engine number) c.engine before now within running h c.at refl c.committed
+pub commit_less : {laws : Laws} (job : LoggedJob laws) (node number : ℕ) (before now : NetView) → node < length before.plan.nodes → IsRunning before → StandsFor job before → NodeCommits node number Did before now → left_in now < left_in before
+commit_less {laws} job node number before now within running h c = taken_less job node number (shelf_at c.engine number) c.engine before now within running h c.at refl c.committed
 
 -- and what did nothing leaves as much
-taken_no_more : (job : LoggedJob) (node number : ℕ) (r : Option PerformedView) (effect : Effect) (engine : EngineView) (before now : NetView) → node < length before.plan.nodes → IsRunning before → StandsFor job before → slice_get before.engines node ≡ Some engine
+taken_no_more : {laws : Laws} (job : LoggedJob laws) (node number : ℕ) (r : Option PerformedView) (effect : Effect) (engine : EngineView) (before now : NetView) → node < length before.plan.nodes → IsRunning before → StandsFor job before → slice_get before.engines node ≡ Some engine
     → shelf_at engine number ≡ r → CommittedAt node number r effect engine before now → left_in now ≤ left_in before
-taken_no_more job node number None effect engine before now within running h at is c = same_left before now c.same
-taken_no_more job node number (Some p) Did engine before now within running h at is c = less_left (left_in now) (left_in before) (laid_less job node number engine p before now within running h at is c)
-taken_no_more job node number (Some p) Idle engine before now within running h at is c = absurd c
-taken_no_more job node number (Some p) OutOfMemory engine before now within running h at is c = same_left before now c
+taken_no_more {laws} job node number None effect engine before now within running h at is c = same_left before now c.same
+taken_no_more {laws} job node number (Some p) Did engine before now within running h at is c = less_left (left_in now) (left_in before) (laid_less job node number engine p before now within running h at is c)
+taken_no_more {laws} job node number (Some p) Idle engine before now within running h at is c = absurd c
+taken_no_more {laws} job node number (Some p) OutOfMemory engine before now within running h at is c = same_left before now c
 
-pub commit_no_more : (job : LoggedJob) (node number : ℕ) (effect : Effect) (before now : NetView) → node < length before.plan.nodes → IsRunning before → StandsFor job before → NodeCommits node number effect before now → left_in now ≤ left_in before
-commit_no_more job node number effect before now within running h c = taken_no_more job node number (shelf_at c.engine number) effect c.engine before now within running h c.at refl c.committed
+pub commit_no_more : {laws : Laws} (job : LoggedJob laws) (node number : ℕ) (effect : Effect) (before now : NetView) → node < length before.plan.nodes → IsRunning before → StandsFor job before → NodeCommits node number effect before now → left_in now ≤ left_in before
+commit_no_more {laws} job node number effect before now within running h c = taken_no_more job node number (shelf_at c.engine number) effect c.engine before now within running h c.at refl c.committed

@@ -5,6 +5,7 @@ use Rattle.std.proofs.lemmas.List.{length-take}
 use Rattle.mg_time.specs.Time.{done}
 use Rattle.mg_value.specs.Payload.{Plain}
 use Rattle.mg_stream.specs.Queue.{Waiting, count_of}
+use Rattle.mg_calc.specs.Rules.{Laws}
 use Rattle.mg_calc.specs.declared.edge.Edge.{Edge}
 use Rattle.mg_calc.specs.declared.event.Effect.{Effect}
 use Rattle.mg_calc.specs.declared.event.Effect.TheVariants.{Did}
@@ -100,15 +101,15 @@ intake_falls before now port same grows there more few top =
 -- Nets.
 
 -- the intake to which packets came
-record Brought (job : LoggedJob) (e : Edge) (before now : IntakeView) : Type 0 where
+record Brought {laws : Laws} (job : LoggedJob laws) (e : Edge) (before now : IntakeView) : Type 0 where
   pub there : e.port < ports_in before.waits
   pub ports : ports_in now.waits ≡ ports_in before.waits
   pub grows : IntakeGrows before now
   pub lawful : LawfulIntake job e.node now
 
-brought : (job : LoggedJob) (number : ℕ) (e : Edge) (effect : Effect) (before now : NetView) → IsRunning before → StandsFor job before → slice_get before.plan.edges number ≡ Some e → (b : Brings number e effect before now) → Brought job e b.intake b.intake_now
+brought : {laws : Laws} (job : LoggedJob laws) (number : ℕ) (e : Edge) (effect : Effect) (before now : NetView) → IsRunning before → StandsFor job before → slice_get before.plan.edges number ≡ Some e → (b : Brings number e effect before now) → Brought job e b.intake b.intake_now
 unfolding StandsFor
-brought job number e effect before now running h at b =
+brought {laws} job number e effect before now running h at b =
     let valid : IsValid before.plan = subst IsValid (sym h.plan) h.is_job.plan in
     let placed = edge_placed before.plan number e valid at in
     let joined = h.edges e number b.place b.engine b.intake at b.from b.at b.to in
@@ -130,8 +131,8 @@ brought_left number e effect before now b =
     ∙ ap (λ (n : ℕ). n + intake_left b.intake) (noted_same (with_intake before e.node b.intake_now) number told)
     ∙ intake_put before e.node b.intake b.intake_now b.to
 
-pub deliver_less : (job : LoggedJob) (number : ℕ) (before now : NetView) → IsRunning before → StandsFor job before → DeliversAlong number Did before now → left_in now < left_in before
-deliver_less job number before now running h d = elim d.delivered [
+pub deliver_less : {laws : Laws} (job : LoggedJob laws) (number : ℕ) (before now : NetView) → IsRunning before → StandsFor job before → DeliversAlong number Did before now → left_in now < left_in before
+deliver_less {laws} job number before now running h d = elim d.delivered [
   | inl held ↦ absurd (not_idle held.1.idle)
   | inr free ↦
       (let b = free.1 in
@@ -141,8 +142,8 @@ deliver_less job number before now running h d = elim d.delivered [
       (intake_falls b.intake b.intake_now d.edge.port it.ports it.grows it.there more (counts_small job d.edge.node d.edge.port b.intake_now it.lawful) (port_bounds_small job d.edge.node d.edge.port b.intake_now it.lawful)))
 ]
 
-pub deliver_no_more : (job : LoggedJob) (number : ℕ) (effect : Effect) (before now : NetView) → IsRunning before → StandsFor job before → DeliversAlong number effect before now → left_in now ≤ left_in before
-deliver_no_more job number effect before now running h d = elim d.delivered [
+pub deliver_no_more : {laws : Laws} (job : LoggedJob laws) (number : ℕ) (effect : Effect) (before now : NetView) → IsRunning before → StandsFor job before → DeliversAlong number effect before now → left_in now ≤ left_in before
+deliver_no_more {laws} job number effect before now running h d = elim d.delivered [
   | inl held ↦ subst (λ (v : NetView). left_in v ≤ left_in before) (sym held.1.same) (omega arith)
   | inr free ↦
       (let b = free.1 in

@@ -1,4 +1,5 @@
 -- What is left to do of an engine whose window or outputs are others.
+use Rattle.mg_calc.specs.Rules.{Laws}
 use Rattle.std.proofs.Common.{◌≡◌, ℕ, zero, suc, ◌+◌, ◌-◌, ◌*◌, ◌^◌, ◌<◌, ◌≤◌, ◌||◌, Bool, true, false, List, [], ◌∷◌, length, set, get_or, Option, Some, None, IfSome, IsSome, slice_get, sum_by, ap, sym, refl, subst, ◌∙◌, arith, if◌then◌else◌}
 use Rattle.std.specs.List.{list_any}
 use Rattle.std.proofs.lemmas.List.Sums.{sum_by-cons}
@@ -71,6 +72,6 @@ none_left : (committed : Bool) (o : Option OutcomeView) → o ≡ None → (comm
 none_left true o is h = absurd (let some : IsSome o = (h refl).0 in let none : IsSome (let z : Option OutcomeView = None in z) = subst IsSome is some in cc)
 none_left false o is h = ap came_left is
 
-pub out_left : (job : LoggedJob) (node : ℕ) (engine : EngineView) (work : WorkView) (out : IsOut engine work) → LawfulEngine job (of_node node) engine → entry_left out.entry ≡ 2
+pub out_left : {laws : Laws} (job : LoggedJob laws) (node : ℕ) (engine : EngineView) (work : WorkView) (out : IsOut engine work) → LawfulEngine job (of_node node) engine → entry_left out.entry ≡ 2
 unfolding LawfulEngine
-out_left job node engine work out h = none_left out.entry.committed out.entry.outcome out.out (h.entries (work.number - engine.laid) out.entry out.there).committed
+out_left {laws} job node engine work out h = none_left out.entry.committed out.entry.outcome out.out (h.entries (work.number - engine.laid) out.entry out.there).committed

@@ -4,6 +4,7 @@ use Rattle.std.proofs.lemmas.Bool.{cases_Bool}
 use Rattle.std.proofs.lemmas.Bool.Decides.{nat_tests}
 use Rattle.std.proofs.lemmas.List.Folds.{Any-from_list_any}
 use Rattle.std.proofs.lemmas.Option.{slice_get_within, slice_get_read}
+use Rattle.mg_calc.specs.Rules.{Laws}
 use Rattle.mg_calc.specs.declared.event.Effect.{Effect}
 use Rattle.mg_calc.specs.declared.event.Effect.TheVariants.{Did}
 use Rattle.mg_node.specs.Job.{LoggedJob}
@@ -21,10 +22,10 @@ use Rattle.mg_sched.proofs.SumsFall.{sums_fall, sum_mapped}
 use Rattle.mg_sched.proofs.LeftParts.{queue_left, not_idle}
 
 -- few packets wait in a queue
-few_there : (job : LoggedJob) (net : NetView) (number : ℕ) (q : Queue) → StandsFor job net → slice_get net.limits.queues number ≡ Some q → q.waiting + 1 < 2 ^ 64
+few_there : {laws : Laws} (job : LoggedJob laws) (net : NetView) (number : ℕ) (q : Queue) → StandsFor job net → slice_get net.limits.queues number ≡ Some q → q.waiting + 1 < 2 ^ 64
 unfolding StandsFor
-few_there job net number q h at =
-    let some : StandsForSome net = record { job = job; stands = h } in
+few_there {laws} job net number q h at =
+    let some : StandsForSome laws net = record { job = job; stands = h } in
     let within = slice_get_within net.limits.queues number q at in
     let long = queues_long net some in
     let e = found net.plan.edges number (omega (arith, within, long)) in
@@ -53,22 +54,22 @@ queue_low q few = elim (cases_Bool (is_full q)) [
   | inr free ↦ subst (λ (b : Bool). queue_left (let x : Queue = if b then record q { limit = Some (q.waiting + 1) } else q in x) ≤ queue_left q) (sym free) (omega arith)
 ]
 
-queues_fall : (job : LoggedJob) (net : NetView) → StandsFor job net → IsAnyFull net.limits → sum_by queue_left (map relaxed net.limits.queues) < sum_by queue_left net.limits.queues
-queues_fall job net h full =
+queues_fall : {laws : Laws} (job : LoggedJob laws) (net : NetView) → StandsFor job net → IsAnyFull net.limits → sum_by queue_left (map relaxed net.limits.queues) < sum_by queue_left net.limits.queues
+queues_fall {laws} job net h full =
     let qs = net.limits.queues in
     let some = Any-from_list_any is_full qs full in
     let at : slice_get qs some.0 ≡ Some some.1 = slice_get_read qs (length qs) some.0 some.1 refl some.2 (sym some.3) in
     let fall = sums_fall queue_left (λ (q : Queue). queue_left (relaxed q)) qs some.0 some.1 (λ j q there. queue_low q (few_there job net j q h there)) at (full_falls some.1 (few_there job net some.0 some.1 h at) some.4) in
     omega (arith, fall, sum_mapped queue_left relaxed qs)
 
-pub relax_less : (job : LoggedJob) (before now : NetView) → StandsFor job before → LimitsRelax Did before now → left_in now < left_in before
-relax_less job before now h r = elim r [
+pub relax_less : {laws : Laws} (job : LoggedJob laws) (before now : NetView) → StandsFor job before → LimitsRelax Did before now → left_in now < left_in before
+relax_less {laws} job before now h r = elim r [
   | inl none ↦ absurd (not_idle none.1.idle)
   | inr some ↦ (let fall = queues_fall job before h some.0 in subst (λ (v : NetView). left_in v < left_in before) (sym some.2) (omega (arith, fall)))
 ]
 
-pub relax_no_more : (job : LoggedJob) (effect : Effect) (before now : NetView) → StandsFor job before → LimitsRelax effect before now → left_in now ≤ left_in before
-relax_no_more job effect before now h r = elim r [
+pub relax_no_more : {laws : Laws} (job : LoggedJob laws) (effect : Effect) (before now : NetView) → StandsFor job before → LimitsRelax effect before now → left_in now ≤ left_in before
+relax_no_more {laws} job effect before now h r = elim r [
   | inl none ↦ subst (λ (v : NetView). left_in v ≤ left_in before) (sym none.1.same) (omega arith)
   | inr some ↦ (let fall = queues_fall job before h some.0 in subst (λ (v : NetView). left_in v ≤ left_in before) (sym some.2) (omega (arith, fall)))
 ]

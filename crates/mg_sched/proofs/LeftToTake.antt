@@ -11,6 +11,7 @@ use Rattle.mg_stream.specs.Queue.{Waiting, StandsFor as IsQueueOf}
 use Rattle.mg_stream.specs.Pool.{queues_of}
 use Rattle.mg_policy.specs.Inbox.{next_set, StandAfter}
 use Rattle.mg_policy.proofs.Standing.{what_is_next}
+use Rattle.mg_calc.specs.Rules.{Laws}
 use Rattle.mg_calc.specs.declared.law.Law.TheVariants.{Loopback}
 use Rattle.mg_calc.specs.declared.plan.Plan.{Plan}
 use Rattle.mg_calc.specs.declared.plan_node.PlanNode.{PlanNode}
@@ -40,9 +41,9 @@ next_after policy k qs ss h =
     ap (λ (es : List (TimedSet Plain)). slice_get es 0) (what_is_next policy k qs ss h) ∙ get_drop k (settled_sets policy ss) 0 ∙ ap (slice_get (settled_sets policy ss)) none
 
 -- so it is where the streams came in whole
-sets_left : (job : LoggedJob) (streams : List (StreamPrefix Plain)) (consumer claimed : ℕ) (waits : Pending) → HoldsWaits job streams consumer claimed waits → ¬ (law_of job.job.plan consumer ≡ Some Loopback)
+sets_left : {laws : Laws} (job : LoggedJob laws) (streams : List (StreamPrefix Plain)) (consumer claimed : ℕ) (waits : Pending) → HoldsWaits job streams consumer claimed waits → ¬ (law_of job.job.plan consumer ≡ Some Loopback)
     → HasCome (record { claimed = claimed; waits = waits }) (streams_at streams (ports_of job.job.plan consumer)) → HasLeft claimed waits (settled_sets (policy_of job.job.plan consumer) (streams_at streams (ports_of job.job.plan consumer)))
-sets_left job streams consumer claimed (Sets inbox) holds other came =
+sets_left {laws} job streams consumer claimed (Sets inbox) holds other came =
     let h = holds.1 in
     let qs = queues_of inbox.pool in
     let ss = streams_at streams (ports_of job.job.plan consumer) in
@@ -50,7 +51,7 @@ sets_left job streams consumer claimed (Sets inbox) holds other came =
     let same : h.came ≡ ss = all_stood_same (λ (q : Waiting Plain). q) qs h.came ss ss h.stands.each each h.extended (all_by_themselves ss) in
     let stands : StandAfter inbox.policy claimed qs ss = subst (StandAfter inbox.policy claimed qs) same h.stands in
     subst (λ (p : Policy). HasLeft claimed (Sets inbox) (settled_sets p ss)) h.policy (record { next = next_after inbox.policy claimed qs ss stands; claimed = stands.gone.claimed })
-sets_left job streams consumer claimed (Loop held) holds other came = absurd (other holds.0)
+sets_left {laws} job streams consumer claimed (Loop held) holds other came = absurd (other holds.0)
 
 -- the collector is no loopback
 no_loop : (plan : Plan) → law_of plan (length plan.nodes) ≡ Some Loopback → ⊥
@@ -63,10 +64,10 @@ none_past (x ∷ xs) zero none = absurd (none-some x (sym none))
 none_past (x ∷ xs) (suc k) none = (let rest = none_past xs k none in omega (arith, rest))
 
 -- of a net's collector
-pub collector_holds : (job : LoggedJob) (net : NetView) (solution : List (StreamPrefix Plain)) (intake : IntakeView) → StandsFor job net → Solves job solution → collector_of net ≡ Some intake
+pub collector_holds : {laws : Laws} (job : LoggedJob laws) (net : NetView) (solution : List (StreamPrefix Plain)) (intake : IntakeView) → StandsFor job net → Solves job solution → collector_of net ≡ Some intake
     → HoldsWaits job solution (length net.plan.nodes) intake.claimed intake.waits × ¬ (law_of job.job.plan (length net.plan.nodes) ≡ Some Loopback)
 unfolding StandsFor LawfulIntake
-collector_holds job net solution intake h solves there =
+collector_holds {laws} job net solution intake h solves there =
     let last : ℕ = length net.plan.nodes in
     let lawful = h.collector intake there in
     let same : lawful.streams ≡ solution = one_solution job.job lawful.streams solution lawful.solves.solution solves.solution in (
@@ -74,10 +75,10 @@ collector_holds job net solution intake h solves there =
       subst (λ (p : Plan). ¬ (law_of p last ≡ Some Loopback)) h.plan (no_loop net.plan),
     )
 
-collector_left : (job : LoggedJob) (net : NetView) (solution : List (StreamPrefix Plain)) (intake : IntakeView) → StandsFor job net → Solves job solution → collector_of net ≡ Some intake
+collector_left : {laws : Laws} (job : LoggedJob laws) (net : NetView) (solution : List (StreamPrefix Plain)) (intake : IntakeView) → StandsFor job net → Solves job solution → collector_of net ≡ Some intake
     → HasCome intake (streams_at solution (ports_of net.plan (length net.plan.nodes))) → HasLeft intake.claimed intake.waits (settled_outputs net.plan solution)
 unfolding StandsFor
-collector_left job net solution intake h solves there came =
+collector_left {laws} job net solution intake h solves there came =
     let last : ℕ = length net.plan.nodes in
     let holds = collector_holds job net solution intake h solves there in
     subst (λ (p : Plan). HasLeft intake.claimed intake.waits (settled_sets (policy_of p last) (streams_at solution (ports_of p last)))) (sym h.plan)
@@ -85,23 +86,23 @@ collector_left job net solution intake h solves there came =
     (subst (λ (p : Plan). HasCome intake (streams_at solution (ports_of p last))) h.plan came))
 
 -- where all has come and there is no next one, all are claimed
-pub all_claimed : (job : LoggedJob) (net : NetView) (solution : List (StreamPrefix Plain)) (intake : IntakeView) → StandsFor job net → Solves job solution → collector_of net ≡ Some intake
+pub all_claimed : {laws : Laws} (job : LoggedJob laws) (net : NetView) (solution : List (StreamPrefix Plain)) (intake : IntakeView) → StandsFor job net → Solves job solution → collector_of net ≡ Some intake
     → HasCome intake (streams_at solution (ports_of net.plan (length net.plan.nodes))) → next_set_of intake.waits ≡ None → intake.claimed ≡ length (settled_outputs net.plan solution)
-all_claimed job net solution intake h solves there came none =
+all_claimed {laws} job net solution intake h solves there came none =
     let left = collector_left job net solution intake h solves there came in
     let most = left.claimed in
     let past = none_past (settled_outputs net.plan solution) intake.claimed (sym left.next ∙ none) in
     omega (arith, most, past)
 
 -- In a net at rest all has come.
-pub collector_comes : (job : LoggedJob) (net : NetView) (solution : List (StreamPrefix Plain)) (intake : IntakeView) → StandsFor job net → IsRunning net → IsAtRest net → Solves job solution → collector_of net ≡ Some intake
+pub collector_comes : {laws : Laws} (job : LoggedJob laws) (net : NetView) (solution : List (StreamPrefix Plain)) (intake : IntakeView) → StandsFor job net → IsRunning net → IsAtRest laws net → Solves job solution → collector_of net ≡ Some intake
     → HasCome intake (streams_at solution (ports_of net.plan (length net.plan.nodes)))
-collector_comes job net solution intake h running rest solves there = rests_with_inputs job net solution (length net.plan.nodes) intake h running rest solves (omega arith) there
+collector_comes {laws} job net solution intake h running rest solves there = rests_with_inputs job net solution (length net.plan.nodes) intake h running rest solves (omega arith) there
 
-pub left_next : (job : LoggedJob) (net : NetView) (solution : List (StreamPrefix Plain)) (intake : IntakeView) → StandsFor job net → IsRunning net → IsAtRest net → Solves job solution → collector_of net ≡ Some intake
+pub left_next : {laws : Laws} (job : LoggedJob laws) (net : NetView) (solution : List (StreamPrefix Plain)) (intake : IntakeView) → StandsFor job net → IsRunning net → IsAtRest laws net → Solves job solution → collector_of net ≡ Some intake
     → next_set_of intake.waits ≡ slice_get (settled_outputs net.plan solution) intake.claimed
-left_next job net solution intake h running rest solves there = (collector_left job net solution intake h solves there (collector_comes job net solution intake h running rest solves there)).next
+left_next {laws} job net solution intake h running rest solves there = (collector_left job net solution intake h solves there (collector_comes job net solution intake h running rest solves there)).next
 
-pub left_all : (job : LoggedJob) (net : NetView) (solution : List (StreamPrefix Plain)) (intake : IntakeView) → StandsFor job net → IsRunning net → IsAtRest net → Solves job solution → collector_of net ≡ Some intake
+pub left_all : {laws : Laws} (job : LoggedJob laws) (net : NetView) (solution : List (StreamPrefix Plain)) (intake : IntakeView) → StandsFor job net → IsRunning net → IsAtRest laws net → Solves job solution → collector_of net ≡ Some intake
     → next_set_of intake.waits ≡ None → intake.claimed ≡ length (settled_outputs net.plan solution)
-left_all job net solution intake h running rest solves there none = all_claimed job net solution intake h solves there (collector_comes job net solution intake h running rest solves there) none
+left_all {laws} job net solution intake h running rest solves there none = all_claimed job net solution intake h solves there (collector_comes job net solution intake h running rest solves there) none

@@ -11,12 +11,13 @@ use Rattle.mg_stream.specs.Queue.{Waiting, IsLike, empty_queue}
 use Rattle.mg_stream.specs.Pool.{Backlog, empty_backlog, queue_of}
 use Rattle.mg_loopback.specs.Loopback.{Held, queue_at, IsFresh as IsFreshLoop}
 use Rattle.mg_policy.specs.Inbox.{Gathered}
+use Rattle.mg_calc.specs.Rules.{Laws}
 use Rattle.mg_calc.specs.declared.edge.Edge.{Edge}
 use Rattle.mg_calc.specs.declared.inputs.Inputs.{Inputs}
 use Rattle.mg_calc.specs.declared.plan.Plan.{Plan}
 use Rattle.mg_calc.specs.declared.plan_node.PlanNode.{PlanNode}
 use Rattle.mg_calc.specs.Equations.{IsJob}
-use Rattle.mg_calc.specs.Told.{CalculatorTold}
+use Rattle.mg_calc.specs.Told.{BoxTold}
 use Rattle.mg_route.specs.HolderView.{HolderView}
 use Rattle.mg_calc.proofs.Earlier.{get_map}
 use Rattle.mg_node.specs.declared.role.Role.{Role}
@@ -54,13 +55,13 @@ front {X} (z ∷ xs) ys zero x there = there
 front {X} (z ∷ xs) ys (suc i) x there = front xs ys i x there
 
 -- the engine of a graph input has what was handed in, which is in the solution
-input_engine_lawful : (plan : Plan) (inputs : Inputs) (boxes : List CalculatorTold) (input : ℕ) (s : StreamPrefix Plain) → IsJob (record { plan = plan; inputs = inputs }) → slice_get inputs.streams input ≡ Some s
-    → LawfulEngine (job_of plan inputs boxes) (of_input input) (input_engine input (get_or plan.inputs input 0) s)
-input_engine_lawful plan inputs boxes input s is there =
-    let found = solved (job_of plan inputs boxes) is in
+input_engine_lawful : {laws : Laws} (plan : Plan) (inputs : Inputs) (boxes : List BoxTold) (input : ℕ) (s : StreamPrefix Plain) → IsJob (record { plan = plan; inputs = inputs; laws = laws }) → slice_get inputs.streams input ≡ Some s
+    → LawfulEngine (job_of laws plan inputs boxes) (of_input input) (input_engine input (get_or plan.inputs input 0) s)
+input_engine_lawful {laws} plan inputs boxes input s is there =
+    let found = solved (job_of laws plan inputs boxes) is in
     let same = is.inputs.streams in
     let less = slice_get_within inputs.streams input s there in
-    input_lawful (job_of plan inputs boxes) found.0 plan input s (omega (arith, same, less)) (at_each IsPrefix inputs.streams input s is.inputs.prefixes there) refl found.1
+    input_lawful (job_of laws plan inputs boxes) found.0 plan input s (omega (arith, same, less)) (at_each IsPrefix inputs.streams input s is.inputs.prefixes there) refl found.1
     (get_or_from_slice_get found.0 input s empty_prefix (ap (λ (ss : List (StreamPrefix Plain)). slice_get ss input) (sym found.1.solution.meets) ∙ front inputs.streams _ input s there))
 
 -- at an output nothing was given up, and its bound is at least the first
@@ -77,9 +78,9 @@ gives_input : (s : StreamPrefix Plain) (i : ℕ) → IsPrefix s → GivesAll (qu
 gives_input s zero is = record { gone = refl; bound = is.opened }
 gives_input s (suc i) is = record { gone = refl; bound = omega arith }
 
-pub gives_all : (plan : Plan) (inputs : Inputs) (told : ℕ → PlanNode → HolderView) (engines : List EngineView) (place : ℕ) (engine : EngineView) (e : Edge) → IsJob (record { plan = plan; inputs = inputs })
+pub gives_all : {laws : Laws} (plan : Plan) (inputs : Inputs) (told : ℕ → PlanNode → HolderView) (engines : List EngineView) (place : ℕ) (engine : EngineView) (e : Edge) → IsJob (record { plan = plan; inputs = inputs; laws = laws })
     → length engines ≡ length plan.nodes + length plan.inputs → AtPlaces (IsEngineAt plan inputs.streams told) engines → slice_get engines place ≡ Some engine → GivesAll (output_at engine e)
-gives_all plan inputs told engines place engine e is count all there = elim (below place (length plan.nodes)) [
+gives_all {laws} plan inputs told engines place engine e is count all there = elim (below place (length plan.nodes)) [
   | inl less ↦ (let node = there_at plan.nodes place less.1 in
       subst (λ (v : EngineView). GivesAll (output_at v e)) (sym ((all place engine there).node node.0 node.1)) (gives_none (length node.0.outputs) (e.stream - get_or node.0.outputs 0 0)))
   | inr past ↦ (let most = slice_get_within engines place engine there in let same = is.inputs.streams in let more = past.1 in
@@ -88,9 +89,9 @@ gives_all plan inputs told engines place engine e is count all there = elim (bel
       (gives_input s.0 (e.stream - get_or plan.inputs (place - length plan.nodes) 0) (at_each IsPrefix inputs.streams _ s.0 is.inputs.prefixes s.1)))
 ]
 
-gives_at : (plan : Plan) (inputs : Inputs) (told : ℕ → PlanNode → HolderView) (engines : List EngineView) (place k : ℕ) (engine : EngineView) → IsJob (record { plan = plan; inputs = inputs })
+gives_at : {laws : Laws} (plan : Plan) (inputs : Inputs) (told : ℕ → PlanNode → HolderView) (engines : List EngineView) (place k : ℕ) (engine : EngineView) → IsJob (record { plan = plan; inputs = inputs; laws = laws })
     → length engines ≡ length plan.nodes + length plan.inputs → AtPlaces (IsEngineAt plan inputs.streams told) engines → slice_get engines place ≡ Some engine → GivesAll (laid_at engine k)
-gives_at plan inputs told engines place k engine is count all there = elim (below place (length plan.nodes)) [
+gives_at {laws} plan inputs told engines place k engine is count all there = elim (below place (length plan.nodes)) [
   | inl less ↦ (let node = there_at plan.nodes place less.1 in
       subst (λ (v : EngineView). GivesAll (laid_at v k)) (sym ((all place engine there).node node.0 node.1)) (gives_none (length node.0.outputs) k))
   | inr past ↦ (let most = slice_get_within engines place engine there in let same = is.inputs.streams in let more = past.1 in
@@ -99,8 +100,8 @@ gives_at plan inputs told engines place k engine is count all there = elim (belo
       (gives_input s.0 k (at_each IsPrefix inputs.streams _ s.0 is.inputs.prefixes s.1)))
 ]
 
-whole_new : (plan : Plan) (inputs : Inputs) (told : ℕ → PlanNode → HolderView) (net : NetView) → IsJob (record { plan = plan; inputs = inputs }) → HasParts plan inputs told net → (stream : ℕ) → HasFrom net stream 0
-whole_new plan inputs told net is parts stream output at =
+whole_new : {laws : Laws} (plan : Plan) (inputs : Inputs) (told : ℕ → PlanNode → HolderView) (net : NetView) → IsJob (record { plan = plan; inputs = inputs; laws = laws }) → HasParts plan inputs told net → (stream : ℕ) → HasFrom net stream 0
+whole_new {laws} plan inputs told net is parts stream output at =
     let port = output_of at.producer in
     let gives = gives_at plan inputs told net.engines (place_of net.plan at.producer) port at.engine is parts.engine_count parts.engines at.engine_is in
     let own = ap (λ (b : Backlog Plain). b.gone) (get_or_from_slice_get at.engine.outputs port output empty_backlog at.output_is) in
@@ -140,8 +141,8 @@ agree_none : (role : Role) (a b : ℕ) → a ≡ 0 → b ≡ 0 → AgreeBy role 
 agree_none (Source calls) a b none none_too = none_too
 agree_none role a b none none_too = none ∙ sym none_too
 
-nothing_claimed : (job : LoggedJob) (node : PlanNode) (number : ℕ) (told : HolderView) → HasWorks job (fresh_engine node number told) (record { room = node.in_flight; works = [] })
-nothing_claimed job node number told = record {
+nothing_claimed : {laws : Laws} (job : LoggedJob laws) (node : PlanNode) (number : ℕ) (told : HolderView) → HasWorks job (fresh_engine node number told) (record { room = node.in_flight; works = [] })
+nothing_claimed {laws} job node number told = record {
   room = refl;
   out = λ i d less. absurd (omega (arith, less));
   lawful = λ i d less. absurd (omega (arith, less));
@@ -149,11 +150,11 @@ nothing_claimed job node number told = record {
   complete = λ place entry there. absurd cc;
 }
 
-new_cell : (plan : Plan) (inputs : Inputs) (boxes : List CalculatorTold) (place : ℕ) (node : PlanNode) (engine : EngineView) (intake : IntakeView) (work_queue : WorkQueueView) → IsJob (record { plan = plan; inputs = inputs }) → BoxesFit plan boxes → slice_get plan.nodes place ≡ Some node
-    → engine ≡ fresh_engine node place (first_holder (given_of boxes) node) → IsIntakeAt plan place intake → work_queue ≡ record { room = node.in_flight; works = [] } → IsCell (job_of plan inputs boxes) false place engine intake work_queue
-new_cell plan inputs boxes place node engine intake work_queue is fit there engine_is intake_is work_queue_is =
-    let job = job_of plan inputs boxes in
-    let found = solved (job_of plan inputs boxes) is in
+new_cell : {laws : Laws} (plan : Plan) (inputs : Inputs) (boxes : List BoxTold) (place : ℕ) (node : PlanNode) (engine : EngineView) (intake : IntakeView) (work_queue : WorkQueueView) → IsJob (record { plan = plan; inputs = inputs; laws = laws }) → BoxesFit plan boxes → slice_get plan.nodes place ≡ Some node
+    → engine ≡ fresh_engine node place (first_holder (given_of boxes) node) → IsIntakeAt plan place intake → work_queue ≡ record { room = node.in_flight; works = [] } → IsCell (job_of laws plan inputs boxes) false place engine intake work_queue
+new_cell {laws} plan inputs boxes place node engine intake work_queue is fit there engine_is intake_is work_queue_is =
+    let job = job_of laws plan inputs boxes in
+    let found = solved (job_of laws plan inputs boxes) is in
     record {
       lawful_engine = fresh_unbegun job place node (first_holder (given_of boxes) node) engine (handed plan inputs boxes place node fit there) engine_is;
       lawful_intake = intake_is.lawful job found.0 refl found.1;
@@ -176,9 +177,9 @@ new_knows plan inputs told net e parts = record {
 
 -- Nets.
 
-net_of : (plan : Plan) (inputs : Inputs) (boxes : List CalculatorTold) (net : NetView) → IsJob (record { plan = plan; inputs = inputs }) → BoxesFit plan boxes → HasParts plan inputs (λ _ node. first_holder (given_of boxes) node) net
-    → IsLeftOver plan.nodes (given_of boxes) (length plan.nodes) net.spare → net.begun ≡ 0 → net.wound ≡ 0 → IsNetOf (job_of plan inputs boxes) net
-net_of plan inputs boxes net is fit parts left begun wound = record {
+net_of : {laws : Laws} (plan : Plan) (inputs : Inputs) (boxes : List BoxTold) (net : NetView) → IsJob (record { plan = plan; inputs = inputs; laws = laws }) → BoxesFit plan boxes → HasParts plan inputs (λ _ node. first_holder (given_of boxes) node) net
+    → IsLeftOver plan.nodes (given_of boxes) (length plan.nodes) net.spare → net.begun ≡ 0 → net.wound ≡ 0 → IsNetOf (job_of laws plan inputs boxes) net
+net_of {laws} plan inputs boxes net is fit parts left begun wound = record {
   is_job = is;
   plan = parts.plan_is;
   given = parts.given_is;
@@ -189,7 +190,7 @@ net_of plan inputs boxes net is fit parts left begun wound = record {
       let less = slice_get_within net.work_queues place work_queue work_queue_at in
       let count = parts.work_queue_count in
       let node = there_at plan.nodes place (omega (arith, less, count)) in
-      subst (λ (b : Bool). IsCell (job_of plan inputs boxes) b place engine intake work_queue) (sym (ap (λ (n : ℕ). nat_lt place n) begun ∙ le-ltb place 0 (omega arith)))
+      subst (λ (b : Bool). IsCell (job_of laws plan inputs boxes) b place engine intake work_queue) (sym (ap (λ (n : ℕ). nat_lt place n) begun ∙ le-ltb place 0 (omega arith)))
       (new_cell plan inputs boxes place node.0 engine intake work_queue is fit node.1 ((parts.engines place engine engine_at).node node.0 node.1) (parts.intakes place intake intake_at) (parts.work_queues place work_queue work_queue_at node.0 node.1));
   inputs = λ input engine there.
       let at : slice_get net.engines (length plan.nodes + input) ≡ Some engine = subst (λ (n : ℕ). slice_get net.engines (n + input) ≡ Some engine) (sym nodes) there in
@@ -197,8 +198,8 @@ net_of plan inputs boxes net is fit parts left begun wound = record {
       let count = parts.engine_count in
       let same = is.inputs.streams in
       let s = there_at inputs.streams input (omega (arith, most, count, same)) in
-      subst (λ (v : EngineView). LawfulEngine (job_of plan inputs boxes) (of_input input) v) (sym ((parts.engines (length plan.nodes + input) engine at).input input s.0 refl s.1)) (input_engine_lawful plan inputs boxes input s.0 is s.1);
-  collector = λ intake there. (let found = solved (job_of plan inputs boxes) is in (parts.intakes (length net.plan.nodes) intake there).lawful (job_of plan inputs boxes) found.0 refl found.1);
+      subst (λ (v : EngineView). LawfulEngine (job_of laws plan inputs boxes) (of_input input) v) (sym ((parts.engines (length plan.nodes + input) engine at).input input s.0 refl s.1)) (input_engine_lawful plan inputs boxes input s.0 is s.1);
+  collector = λ intake there. (let found = solved (job_of laws plan inputs boxes) is in (parts.intakes (length net.plan.nodes) intake there).lawful (job_of laws plan inputs boxes) found.0 refl found.1);
   edges = λ e number place engine intake edge_at source engine_at intake_at.
       let gives = gives_all plan inputs (λ _ node. first_holder (given_of boxes) node) net.engines place engine e is parts.engine_count parts.engines engine_at in
       let waits = nothing_waits plan e.node e.port intake.waits (parts.intakes e.node intake intake_at).fresh.holds in
@@ -225,14 +226,14 @@ net_of plan inputs boxes net is fit parts left begun wound = record {
     nodes : length plan.nodes ≡ length net.plan.nodes
     nodes = ap (λ (p : Plan). length p.nodes) (sym parts.plan_is)
 
-pub stands : (plan : Plan) (inputs : Inputs) (boxes : List CalculatorTold) (net : NetView) → IsJob (record { plan = plan; inputs = inputs }) → BoxesFit plan boxes → HasParts plan inputs (λ _ node. first_holder (given_of boxes) node) net
-    → IsLeftOver plan.nodes (given_of boxes) (length plan.nodes) net.spare → net.begun ≡ 0 → net.wound ≡ 0 → StandsFor (job_of plan inputs boxes) net
+pub stands : {laws : Laws} (plan : Plan) (inputs : Inputs) (boxes : List BoxTold) (net : NetView) → IsJob (record { plan = plan; inputs = inputs; laws = laws }) → BoxesFit plan boxes → HasParts plan inputs (λ _ node. first_holder (given_of boxes) node) net
+    → IsLeftOver plan.nodes (given_of boxes) (length plan.nodes) net.spare → net.begun ≡ 0 → net.wound ≡ 0 → StandsFor (job_of laws plan inputs boxes) net
 unfolding StandsFor
-stands plan inputs boxes net is fit parts left begun wound = net_of plan inputs boxes net is fit parts left begun wound
+stands {laws} plan inputs boxes net is fit parts left begun wound = net_of plan inputs boxes net is fit parts left begun wound
 
-pub net_made : (plan : Plan) (inputs : Inputs) (boxes : List CalculatorTold) (net : NetView) → IsJob (record { plan = plan; inputs = inputs }) → BoxesFit plan boxes → HasParts plan inputs (λ _ node. first_holder (given_of boxes) node) net
-    → IsLeftOver plan.nodes (given_of boxes) (length plan.nodes) net.spare → net.begun ≡ 0 → net.wound ≡ 0 → IsMade plan inputs boxes net
-net_made plan inputs boxes net is fit parts left begun wound = record {
+pub net_made : {laws : Laws} (plan : Plan) (inputs : Inputs) (boxes : List BoxTold) (net : NetView) → IsJob (record { plan = plan; inputs = inputs; laws = laws }) → BoxesFit plan boxes → HasParts plan inputs (λ _ node. first_holder (given_of boxes) node) net
+    → IsLeftOver plan.nodes (given_of boxes) (length plan.nodes) net.spare → net.begun ≡ 0 → net.wound ≡ 0 → IsMade laws plan inputs boxes net
+net_made {laws} plan inputs boxes net is fit parts left begun wound = record {
   stands = stands plan inputs boxes net is fit parts left begun wound;
   begun = begun;
   fresh = λ consumer intake there. (parts.intakes consumer intake there).fresh;
@@ -243,11 +244,11 @@ net_made plan inputs boxes net is fit parts left begun wound = record {
 }
 
 -- a net of parts, once its engines have the calculators that were handed in
-pub joined_made : (plan : Plan) (inputs : Inputs) (boxes : List CalculatorTold) (before net : NetView) → IsJob (record { plan = plan; inputs = inputs }) → BoxesFit plan boxes → HasParts plan inputs (λ _ node. own_told node) before
+pub joined_made : {laws : Laws} (plan : Plan) (inputs : Inputs) (boxes : List BoxTold) (before net : NetView) → IsJob (record { plan = plan; inputs = inputs; laws = laws }) → BoxesFit plan boxes → HasParts plan inputs (λ _ node. own_told node) before
     → net ≡ record before { engines = net.engines; spare = net.spare } → length net.engines ≡ length before.engines
     → (AtPlaces (IsEngineAt plan inputs.streams (λ _ node. own_told node)) before.engines → AtPlaces (IsEngineAt plan inputs.streams (λ _ node. first_holder (given_of boxes) node)) net.engines)
-    → IsLeftOver plan.nodes (given_of boxes) (length plan.nodes) net.spare → before.begun ≡ 0 → before.wound ≡ 0 → IsMade plan inputs boxes net
-joined_made plan inputs boxes before net is fit parts same count engines left begun wound = net_made plan inputs boxes net is fit (record {
+    → IsLeftOver plan.nodes (given_of boxes) (length plan.nodes) net.spare → before.begun ≡ 0 → before.wound ≡ 0 → IsMade laws plan inputs boxes net
+joined_made {laws} plan inputs boxes before net is fit parts same count engines left begun wound = net_made plan inputs boxes net is fit (record {
   plan_is = ap (λ (n : NetView). n.plan) same ∙ parts.plan_is;
   given_is = ap (λ (n : NetView). n.given) same ∙ parts.given_is;
   engine_count = count ∙ parts.engine_count;

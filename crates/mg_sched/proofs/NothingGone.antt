@@ -5,6 +5,7 @@ use Rattle.std.proofs.lemmas.Option.{same_Some, none-some, slice_get_within, get
 use Rattle.mg_value.specs.Payload.{Plain}
 use Rattle.mg_settled.specs.Prefix.{StreamPrefix}
 use Rattle.mg_stream.specs.Pool.{Backlog, empty_backlog}
+use Rattle.mg_calc.specs.Rules.{Laws}
 use Rattle.mg_calc.specs.declared.event.Event.{Event}
 use Rattle.mg_calc.specs.declared.event.Event.TheVariants.{Deliver, Advance, Claim, Perform, Commit, Relax}
 use Rattle.mg_calc.specs.declared.event.Effect.{Effect}
@@ -97,12 +98,12 @@ next_gone node effect before now c =
     another_gone before now node c.engine c.engine_now (ap (λ (v : NetView). v.plan) c.now_is) c.at (ap (λ (v : NetView). v.engines) c.now_is)
     (claims_gone effect c.engine c.engine_now c.intake c.intake_now c.work_queue c.work_queue_now c.claims)
 
-performs_gone : (node number : ℕ) (effect : Effect) (work_queue : WorkQueueView) (before now : NetView) → Performs node number effect work_queue before now → SameGone before now
-performs_gone node number Did work_queue before now p =
+performs_gone : {laws : Laws} (node number : ℕ) (effect : Effect) (work_queue : WorkQueueView) (before now : NetView) → Performs laws node number effect work_queue before now → SameGone before now
+performs_gone {laws} node number Did work_queue before now p =
     let is = p.performed.2 in
     another_gone before now node p.engine (shelved p.engine (outcome_of p.performed.0)) (ap (λ (v : NetView). v.plan) is) p.at (ap (λ (v : NetView). v.engines) is) refl
-performs_gone node number Idle work_queue before now p = absurd p.performed
-performs_gone node number OutOfMemory work_queue before now p = same_gone before now (ap (λ (v : NetView). v.plan) p.performed) (ap (λ (v : NetView). v.engines) p.performed)
+performs_gone {laws} node number Idle work_queue before now p = absurd p.performed
+performs_gone {laws} node number OutOfMemory work_queue before now p = same_gone before now (ap (λ (v : NetView). v.plan) p.performed) (ap (λ (v : NetView). v.engines) p.performed)
 
 commits_gone : (node number : ℕ) (shelf : Option PerformedView) (effect : Effect) (engine : EngineView) (before now : NetView) → slice_get before.engines node ≡ Some engine → CommittedAt node number shelf effect engine before now
     → SameGone before now
@@ -114,30 +115,30 @@ commits_gone node number (Some p) Did engine before now at c =
 commits_gone node number (Some p) Idle engine before now at c = absurd c
 commits_gone node number (Some p) OutOfMemory engine before now at c = same_gone before now (ap (λ (v : NetView). v.plan) c) (ap (λ (v : NetView). v.engines) c)
 
-acts_gone : (event : Event) (effect : Effect) (before now : NetView) → Acts event effect before now → SameGone before now
-acts_gone (Deliver edge) effect before now a = elim a.delivered [
+acts_gone : (laws : Laws) (event : Event) (effect : Effect) (before now : NetView) → Acts laws event effect before now → SameGone before now
+acts_gone laws (Deliver edge) effect before now a = elim a.delivered [
   | inl held ↦ rest_gone effect before now held.1
   | inr brings ↦ (let b = brings.1 in same_gone before now (ap (λ (v : NetView). v.plan) b.now_is) (ap (λ (v : NetView). v.engines) b.now_is))
 ]
-acts_gone (Advance node) effect before now a =
+acts_gone laws (Advance node) effect before now a =
     another_gone before now node a.engine (advanced a.engine a.intake.waits) (ap (λ (v : NetView). v.plan) a.now_is) a.at (ap (λ (v : NetView). v.engines) a.now_is) (advance_set_up a.engine (advanced a.engine a.intake.waits) a.intake.waits refl).given_up
-acts_gone (Claim node) effect before now a = elim a [
+acts_gone laws (Claim node) effect before now a = elim a [
   | inl held ↦ rest_gone effect before now held.1
   | inr claims ↦ next_gone node effect before now claims.1
 ]
-acts_gone (Perform node number) effect before now a = elim a.performed [
+acts_gone laws (Perform node number) effect before now a = elim a.performed [
   | inl none ↦ rest_gone effect before now none.1
   | inr performs ↦ performs_gone node number effect a.work_queue before now performs
 ]
-acts_gone (Commit node number) effect before now a = commits_gone node number (shelf_at a.engine number) effect a.engine before now a.at a.committed
-acts_gone Relax effect before now a = elim a [
+acts_gone laws (Commit node number) effect before now a = commits_gone node number (shelf_at a.engine number) effect a.engine before now a.at a.committed
+acts_gone laws Relax effect before now a = elim a [
   | inl none ↦ rest_gone effect before now none.1
   | inr full ↦ same_gone before now (ap (λ (v : NetView). v.plan) full.2) (ap (λ (v : NetView). v.engines) full.2)
 ]
 
-becomes_gone : (before now : NetView) → Becomes before now → SameGone before now
-becomes_gone before now itself = same_gone before now refl refl
-becomes_gone before now (step event effect between after h of acts) = gone_on before between after (becomes_gone before between h) (acts_gone event effect between after acts)
+becomes_gone : {laws : Laws} (before now : NetView) → Becomes laws before now → SameGone before now
+becomes_gone {laws} before now itself = same_gone before now refl refl
+becomes_gone {laws} before now (step event effect between after h of acts) = gone_on before between after (becomes_gone before between h) (acts_gone laws event effect between after acts)
 
 -- So what is there from a number on stays there.
 
@@ -168,8 +169,8 @@ has_from before now stream number g has output is =
     let same = at.2 in
     omega (arith, few, same)
 
-pub steps_keep : (before now : NetView) (stream number : ℕ) → Becomes before now → HasFrom before stream number → HasFrom now stream number
-steps_keep before now stream number h = has_from before now stream number (becomes_gone before now h)
+pub steps_keep : {laws : Laws} (before now : NetView) (stream number : ℕ) → Becomes laws before now → HasFrom before stream number → HasFrom now stream number
+steps_keep {laws} before now stream number h = has_from before now stream number (becomes_gone before now h)
 
 -- Further input.
 
@@ -177,9 +178,9 @@ lengthened_gone : (outputs : List (Backlog Plain)) (piece : StreamPrefix Plain) 
 lengthened_gone [] piece = refl
 lengthened_gone (b ∷ outputs) piece = ap (λ (l : List ℕ). b.gone ∷ l) (lengthened_gone outputs piece)
 
-extends_at : (more : Inputs) (first later : LoggedJob) (before now : NetView) (place : ℕ) (engine : EngineView) → GoesOnWith more first later → Extends more before now → StandsFor first before → slice_get now.engines place ≡ Some engine
+extends_at : {laws : Laws} (more : Inputs) (first later : LoggedJob laws) (before now : NetView) (place : ℕ) (engine : EngineView) → GoesOnWith more first later → Extends more before now → StandsFor first before → slice_get now.engines place ≡ Some engine
     → HadGone before.engines place engine
-extends_at more first later before now place engine g x h at = elim (order_of place (length before.plan.nodes)) [
+extends_at {laws} more first later before now place engine g x h at = elim (order_of place (length before.plan.nodes)) [
   | inl less ↦ record { old = engine; at = sym (x.nodes place less) ∙ at; gone = refl }
   | inr past ↦
       (let same : place ≡ length before.plan.nodes + (place - length before.plan.nodes) = omega (arith, past) in
@@ -191,8 +192,8 @@ extends_at more first later before now place engine g x h at = elim (order_of pl
       })
 ]
 
-pub extends_keep : (more : Inputs) (before now : NetView) (stream number : ℕ) → MayGoOnWith more before → Extends more before now → HasFrom before stream number → HasFrom now stream number
-extends_keep more before now stream number may x =
+pub extends_keep : {laws : Laws} (more : Inputs) (before now : NetView) (stream number : ℕ) → MayGoOnWith laws more before → Extends more before now → HasFrom before stream number → HasFrom now stream number
+extends_keep {laws} more before now stream number may x =
     has_from before now stream number (record {
       plan = ap (λ (v : NetView). v.plan) x.parts;
       engines = λ place engine at. extends_at more may.first may.later before now place engine may.goes_on x may.stands at;
@@ -204,8 +205,8 @@ none_goes : (b : Bool) (n : ℕ) (o : Backlog Plain) → b ≡ true → (without
 none_goes true n o is = omega arith
 none_goes false n o is = absurd cc
 
-pub trims_keep : (before now : NetView) (stream number : ℕ) → StandsForSome before → Trims before now → is_kept before stream ≡ true → HasFrom before stream number → HasFrom now stream number
-trims_keep before now stream number h t kept has output is =
+pub trims_keep : {laws : Laws} (before now : NetView) (stream number : ℕ) → StandsForSome laws before → Trims before now → is_kept before stream ≡ true → HasFrom before stream number → HasFrom now stream number
+trims_keep {laws} before now stream number h t kept has output is =
     let plan = ap (λ (v : NetView). v.plan) t.parts in
     let place = place_of before.plan is.producer in
     let there : slice_get now.engines place ≡ Some is.engine = ap (λ (p : Plan). slice_get now.engines (place_of p is.producer)) (sym plan) ∙ is.engine_is in

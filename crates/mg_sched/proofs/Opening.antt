@@ -9,6 +9,7 @@ use Rattle.mg_value.specs.Payload.{Plain}
 use Rattle.mg_settled.specs.Prefix.{StreamPrefix}
 use Rattle.mg_stream.specs.Pool.{Backlog, empty_backlog}
 use Rattle.mg_stream.specs.Queue.{count_of}
+use Rattle.mg_calc.specs.Rules.{Laws}
 use Rattle.mg_calc.specs.declared.cause.Cause.{Cause}
 use Rattle.mg_calc.specs.declared.edge.Edge.{Edge}
 use Rattle.mg_calc.specs.declared.emission.Laid.{Laid}
@@ -16,7 +17,7 @@ use Rattle.mg_calc.specs.declared.plan.Plan.{Plan}
 use Rattle.mg_calc.specs.declared.plan_node.PlanNode.{PlanNode}
 use Rattle.mg_calc.specs.Equations.{sides_of}
 use Rattle.mg_calc.specs.Plan.{node_sides}
-use Rattle.mg_route.specs.HolderView.{HolderView}
+use Rattle.mg_route.specs.HolderView.{HolderView, held_rules}
 use Rattle.mg_node.specs.declared.role.Role.{Role}
 use Rattle.mg_node.specs.Begun.{opened_entry, own_contexts, opened_node, IsUnbegun, HasBegun, LawfulUnbegun, SomeUnbegun, IsNew}
 use Rattle.mg_node.specs.Fresh.{context_of, contexts_of, fresh_engine}
@@ -87,22 +88,22 @@ made_none node number told engine window idle is none = record {
   none = none;
 }
 
-unbegun_none : (node : PlanNode) (number : ℕ) (told : HolderView) (sides : List (Option Plain)) (engine : EngineView) → IsUnbegun node number told sides engine → HasNone node engine
-unbegun_none node number told sides engine (inl is) = made_none node number told engine [] (contexts_of node told) is (none_in engine (ap (λ (v : EngineView). v.window) is))
-unbegun_none node number told sides engine (inr o) = made_none node number told engine (opened_entry number (context_of node o.now) o.answer ∷ []) (own_contexts node) o.is
+unbegun_none : {laws : Laws} (node : PlanNode) (number : ℕ) (told : HolderView) (sides : List (Option Plain)) (engine : EngineView) → IsUnbegun laws node number told sides engine → HasNone node engine
+unbegun_none {laws} node number told sides engine (inl is) = made_none node number told engine [] (contexts_of node told) is (none_in engine (ap (λ (v : EngineView). v.window) is))
+unbegun_none {laws} node number told sides engine (inr o) = made_none node number told engine (opened_entry number (context_of node o.now) o.answer ∷ []) (own_contexts node) o.is
     (λ place entry at out. none_opened number (context_of node o.now) o.answer place entry (ap (λ (v : EngineView). slice_get v.window place) (sym o.is) ∙ at) out)
 
-unbegun_goes : (node : PlanNode) (number : ℕ) (told : HolderView) (sides : List (Option Plain)) (engine : EngineView) → IsUnbegun node number told sides engine → has_ended engine ≡ false
-unbegun_goes node number told sides engine (inl is) = ap has_ended is
-unbegun_goes node number told sides engine (inr o) = ap has_ended o.is
+unbegun_goes : {laws : Laws} (node : PlanNode) (number : ℕ) (told : HolderView) (sides : List (Option Plain)) (engine : EngineView) → IsUnbegun laws node number told sides engine → has_ended engine ≡ false
+unbegun_goes {laws} node number told sides engine (inl is) = ap has_ended is
+unbegun_goes {laws} node number told sides engine (inr o) = ap has_ended o.is
 
-begun_none : (node : PlanNode) (number : ℕ) (told : HolderView) (sides : List (Option Plain)) (engine : EngineView) → HasBegun node number told sides engine → HasNone node engine
-begun_none node number told sides engine b = record {
+begun_none : {laws : Laws} (node : PlanNode) (number : ℕ) (told : HolderView) (sides : List (Option Plain)) (engine : EngineView) → HasBegun laws node number told sides engine → HasNone node engine
+begun_none {laws} node number told sides engine b = record {
   role = ap (λ (v : EngineView). v.role) b.is;
   first = ap (λ (v : EngineView). v.first) b.is;
   in_flight = ap (λ (v : EngineView). v.in_flight) b.is;
   claimed = ap (λ (v : EngineView). v.claimed) b.is;
-  gone = λ output. ap (λ (v : EngineView). (laid_at v output).gone) b.is ∙ whole_gone (opened_node node sides).outputs output;
+  gone = λ output. ap (λ (v : EngineView). (laid_at v output).gone) b.is ∙ whole_gone (opened_node (held_rules laws told) node sides).outputs output;
   none = none_in engine (ap (λ (v : EngineView). v.window) b.is);
 }
 
@@ -112,15 +113,15 @@ abbrev pub with_opened : NetView → ℕ → EngineView → QueueLimits → ℕ 
 with_opened net node engine limits begun = record net { engines = set net.engines node engine; limits = limits; begun = begun }
 
 -- what the engine has come to
-record OpenStep (job : LoggedJob) (begun : Bool) (number : ℕ) (engine engine_now : EngineView) : Type 0 where
+record OpenStep {laws : Laws} (job : LoggedJob laws) (begun : Bool) (number : ℕ) (engine engine_now : EngineView) : Type 0 where
   pub node : PlanNode
   pub lawful : IsEngine job begun number engine_now
   pub before : HasNone node engine
   pub now : HasNone node engine_now
   pub grows : EngineGrows engine engine_now
 
-kept_works : (job : LoggedJob) (node : PlanNode) (engine engine_now : EngineView) (work_queue : WorkQueueView) → HasNone node engine → HasNone node engine_now → HasWorks job engine work_queue → HasWorks job engine_now work_queue
-kept_works job node engine engine_now work_queue b n h = record {
+kept_works : {laws : Laws} (job : LoggedJob laws) (node : PlanNode) (engine engine_now : EngineView) (work_queue : WorkQueueView) → HasNone node engine → HasNone node engine_now → HasWorks job engine work_queue → HasWorks job engine_now work_queue
+kept_works {laws} job node engine engine_now work_queue b n h = record {
   room = h.room ∙ b.in_flight ∙ sym n.in_flight;
   out = All-weaker (IsOut engine) (IsOut engine_now) (λ w o. absurd (b.none (w.number - engine.laid) o.entry o.there o.out)) work_queue.works h.out;
   lawful = h.lawful;
@@ -128,9 +129,9 @@ kept_works job node engine engine_now work_queue b n h = record {
   complete = λ place entry at none. absurd (n.none place entry at none);
 }
 
-opened_cell : (job : LoggedJob) (was begun : Bool) (number : ℕ) (engine engine_now : EngineView) (intake : IntakeView) (work_queue : WorkQueueView) → OpenStep job begun number engine engine_now → IsCell job was number engine intake work_queue
+opened_cell : {laws : Laws} (job : LoggedJob laws) (was begun : Bool) (number : ℕ) (engine engine_now : EngineView) (intake : IntakeView) (work_queue : WorkQueueView) → OpenStep job begun number engine engine_now → IsCell job was number engine intake work_queue
     → IsCell job begun number engine_now intake work_queue
-opened_cell job was begun number engine engine_now intake work_queue s cell = record {
+opened_cell {laws} job was begun number engine engine_now intake work_queue s cell = record {
   lawful_engine = s.lawful;
   lawful_intake = cell.lawful_intake;
   agree = subst (λ (r : Role). AgreeBy r engine_now.claimed intake.claimed) (s.before.role ∙ sym s.now.role) (subst (λ (n : ℕ). AgreeBy engine.role n intake.claimed) (s.before.claimed ∙ sym s.now.claimed) cell.agree);
@@ -161,9 +162,9 @@ same_test k b c other (inr next) = elim (cases_lt k b) [
   | inr past ↦ not_below k b past ∙ sym (not_below k c (omega (arith, past, next, other)))
 ]
 
-opened_stands : (job : LoggedJob) (net : NetView) (engine engine_now : EngineView) (limits : QueueLimits) (begun : ℕ) → IsNetOf job net → net.begun < length net.plan.nodes → slice_get net.engines net.begun ≡ Some engine
+opened_stands : {laws : Laws} (job : LoggedJob laws) (net : NetView) (engine engine_now : EngineView) (limits : QueueLimits) (begun : ℕ) → IsNetOf job net → net.begun < length net.plan.nodes → slice_get net.engines net.begun ≡ Some engine
     → (begun ≡ net.begun) ⊎ (begun ≡ net.begun + 1) → OpenStep job (nat_lt net.begun begun) net.begun engine engine_now → KnowsLimits (with_opened net net.begun engine_now limits begun) → IsNetOf job (with_opened net net.begun engine_now limits begun)
-opened_stands job net engine engine_now limits begun h within there next s knows =
+opened_stands {laws} job net engine engine_now limits begun h within there next s knows =
     let node = net.begun in
     record {
       is_job = h.is_job;
@@ -210,7 +211,7 @@ knows_begun net begun h = record {
 
 -- What is found where the next node is begun.
 
-record IsNextOf (job : LoggedJob) (net : NetView) (sides : List (Option Plain)) (engine : EngineView) : Type 0 where
+record IsNextOf {laws : Laws} (job : LoggedJob laws) (net : NetView) (sides : List (Option Plain)) (engine : EngineView) : Type 0 where
   pub node : PlanNode
   pub there : slice_get job.job.plan.nodes net.begun ≡ Some node
   pub is : sides ≡ sides_of job.job node
@@ -221,9 +222,9 @@ record IsNextOf (job : LoggedJob) (net : NetView) (sides : List (Option Plain)) 
 abbrev pub AreSides : NetView → List (Option Plain) → Type 0
 AreSides net sides = (planned : PlanNode) → slice_get net.plan.nodes net.begun ≡ Some planned → sides ≡ node_sides net.plan net.given planned
 
-next_of : (job : LoggedJob) (net : NetView) (sides : List (Option Plain)) (engine : EngineView) → StandsFor job net → net.begun < length net.plan.nodes → slice_get net.engines net.begun ≡ Some engine → AreSides net sides → IsNextOf job net sides engine
+next_of : {laws : Laws} (job : LoggedJob laws) (net : NetView) (sides : List (Option Plain)) (engine : EngineView) → StandsFor job net → net.begun < length net.plan.nodes → slice_get net.engines net.begun ≡ Some engine → AreSides net sides → IsNextOf job net sides engine
 unfolding StandsFor
-next_of job net sides engine h within at are =
+next_of {laws} job net sides engine h within at are =
     let intakes = h.intakes in
     let work_queues = h.work_queues in
     let n = found net.plan.nodes net.begun within in
@@ -240,26 +241,26 @@ next_of job net sides engine h within at are =
       solves = s.1;
     }
 
-pub may_begin_next : (net : NetView) (sides : List (Option Plain)) (engine : EngineView) → StandsForSome net → net.begun < length net.plan.nodes → slice_get net.engines net.begun ≡ Some engine → AreSides net sides → SomeUnbegun sides engine
-may_begin_next net sides engine h within at are =
+pub may_begin_next : {laws : Laws} (net : NetView) (sides : List (Option Plain)) (engine : EngineView) → StandsForSome laws net → net.begun < length net.plan.nodes → slice_get net.engines net.begun ≡ Some engine → AreSides net sides → SomeUnbegun laws sides engine
+may_begin_next {laws} net sides engine h within at are =
     let n = next_of h.job net sides engine h.stands within at are in
     may_begin h.job net.begun n.node sides engine n.unbegun n.there n.is
 
 -- What the engine tells where it is begun, and where it isn't.
 
-abbrev pub StaysUnbegun : List (Option Plain) → EngineView → EngineView → Type 0
-StaysUnbegun sides engine now = (job : LoggedJob) (number : ℕ) (node : PlanNode) → slice_get job.job.plan.nodes number ≡ Some node → sides ≡ sides_of job.job node → LawfulUnbegun job number engine → LawfulUnbegun job number now
+abbrev pub StaysUnbegun : Laws → List (Option Plain) → EngineView → EngineView → Type 0
+StaysUnbegun laws sides engine now = (job : LoggedJob laws) (number : ℕ) (node : PlanNode) → slice_get job.job.plan.nodes number ≡ Some node → sides ≡ sides_of job.job node → LawfulUnbegun job number engine → LawfulUnbegun job number now
 
-abbrev pub IsLawfulThen : List (Option Plain) → EngineView → EngineView → Type 0
-IsLawfulThen sides engine now = (job : LoggedJob) (number : ℕ) (node : PlanNode) (streams : List (StreamPrefix Plain)) → Solves job streams → slice_get job.job.plan.nodes number ≡ Some node → sides ≡ sides_of job.job node → LawfulUnbegun job number engine
+abbrev pub IsLawfulThen : Laws → List (Option Plain) → EngineView → EngineView → Type 0
+IsLawfulThen laws sides engine now = (job : LoggedJob laws) (number : ℕ) (node : PlanNode) (streams : List (StreamPrefix Plain)) → Solves job streams → slice_get job.job.plan.nodes number ≡ Some node → sides ≡ sides_of job.job node → LawfulUnbegun job number engine
     → LawfulEngine job (of_node number) now
 
-abbrev pub IsBegunThen : List (Option Plain) → EngineView → EngineView → Type 0
-IsBegunThen sides engine now = (node : PlanNode) (number : ℕ) (told : HolderView) → IsNew node told → IsUnbegun node number told sides engine → HasBegun node number told sides now
+abbrev pub IsBegunThen : Laws → List (Option Plain) → EngineView → EngineView → Type 0
+IsBegunThen laws sides engine now = (node : PlanNode) (number : ℕ) (told : HolderView) → IsNew node told → IsUnbegun laws node number told sides engine → HasBegun laws node number told sides now
 
-limits_then : (job : LoggedJob) (net : NetView) (engine engine_now : EngineView) (begun : ℕ) → IsNetOf job net → net.begun < length net.plan.nodes → slice_get net.engines net.begun ≡ Some engine → (has_ended engine ≡ true → has_ended engine_now ≡ true)
+limits_then : {laws : Laws} (job : LoggedJob laws) (net : NetView) (engine engine_now : EngineView) (begun : ℕ) → IsNetOf job net → net.begun < length net.plan.nodes → slice_get net.engines net.begun ≡ Some engine → (has_ended engine ≡ true → has_ended engine_now ≡ true)
     → KnowsLimits (with_opened net net.begun engine_now (stopped_by net.begun engine_now net.limits) begun)
-limits_then job net engine engine_now begun h within at ended =
+limits_then {laws} job net engine engine_now begun h within at ended =
     let intakes = h.intakes in
     let work_queues = h.work_queues in
     let i = found net.intakes net.begun (omega (arith, within, intakes)) in
@@ -268,19 +269,19 @@ limits_then job net engine engine_now begun h within at ended =
     knows_begun (with_limits (with_engine net net.begun engine_now) limits) begun
     (subst (λ (v : NetView). KnowsLimits v) (only_engine net net.begun engine_now i.0 d.0 limits i.1 d.1) (stopped_knows net net.begun engine engine_now i.0 d.0 within h.limits at i.1 ended))
 
-limits_still : (job : LoggedJob) (net : NetView) (engine engine_now : EngineView) → IsNetOf job net → net.begun < length net.plan.nodes → slice_get net.engines net.begun ≡ Some engine → has_ended engine_now ≡ has_ended engine
+limits_still : {laws : Laws} (job : LoggedJob laws) (net : NetView) (engine engine_now : EngineView) → IsNetOf job net → net.begun < length net.plan.nodes → slice_get net.engines net.begun ≡ Some engine → has_ended engine_now ≡ has_ended engine
     → KnowsLimits (with_opened net net.begun engine_now net.limits net.begun)
-limits_still job net engine engine_now h within at ended =
+limits_still {laws} job net engine engine_now h within at ended =
     let intakes = h.intakes in
     let work_queues = h.work_queues in
     let i = found net.intakes net.begun (omega (arith, within, intakes)) in
     let d = found net.work_queues net.begun (omega (arith, within, work_queues)) in
     subst (λ (v : NetView). KnowsLimits v) (only_engine net net.begun engine_now i.0 d.0 net.limits i.1 d.1) (cell_knows net net.begun engine engine_now i.0 d.0 within h.limits at i.1 ended)
 
-unbegun_net : (job : LoggedJob) (net : NetView) (sides : List (Option Plain)) (engine now : EngineView) → StandsFor job net → net.begun < length net.plan.nodes → slice_get net.engines net.begun ≡ Some engine → AreSides net sides → EngineGrows engine now
-    → StaysUnbegun sides engine now → StandsFor job (with_engine net net.begun now)
+unbegun_net : {laws : Laws} (job : LoggedJob laws) (net : NetView) (sides : List (Option Plain)) (engine now : EngineView) → StandsFor job net → net.begun < length net.plan.nodes → slice_get net.engines net.begun ≡ Some engine → AreSides net sides → EngineGrows engine now
+    → StaysUnbegun laws sides engine now → StandsFor job (with_engine net net.begun now)
 unfolding StandsFor
-unbegun_net job net sides engine now h within at are grows stays =
+unbegun_net {laws} job net sides engine now h within at are grows stays =
     let n = next_of job net sides engine h within at are in
     let lawful = stays job net.begun n.node n.there n.is n.unbegun in
     let old = unbegun_parts job net.begun n.node sides engine n.there n.is n.unbegun in
@@ -296,10 +297,10 @@ unbegun_net job net sides engine now h within at are grows stays =
       grows = grows;
     })) (limits_still job net engine now h within at (goes ∙ sym was))
 
-begun_net : (job : LoggedJob) (net : NetView) (sides : List (Option Plain)) (engine now : EngineView) → StandsFor job net → net.begun < length net.plan.nodes → slice_get net.engines net.begun ≡ Some engine → AreSides net sides → EngineGrows engine now
-    → IsLawfulThen sides engine now → IsBegunThen sides engine now → StandsFor job (with_opened net net.begun now (stopped_by net.begun now net.limits) (net.begun + 1))
+begun_net : {laws : Laws} (job : LoggedJob laws) (net : NetView) (sides : List (Option Plain)) (engine now : EngineView) → StandsFor job net → net.begun < length net.plan.nodes → slice_get net.engines net.begun ≡ Some engine → AreSides net sides → EngineGrows engine now
+    → IsLawfulThen laws sides engine now → IsBegunThen laws sides engine now → StandsFor job (with_opened net net.begun now (stopped_by net.begun now net.limits) (net.begun + 1))
 unfolding StandsFor
-begun_net job net sides engine now h within at are grows lawful begun =
+begun_net {laws} job net sides engine now h within at are grows lawful begun =
     let n = next_of job net sides engine h within at are in
     let old = unbegun_parts job net.begun n.node sides engine n.there n.is n.unbegun in
     let more : net.begun < net.begun + 1 = omega arith in
@@ -352,16 +353,16 @@ begins_by net engine engine_now limits begun at grows none more = record {
 }
 
 -- an engine that stays unbegun, or is begun, has given up nothing
-unbegun_whole : (net : NetView) (sides : List (Option Plain)) (engine now : EngineView) → StandsForSome net → net.begun < length net.plan.nodes → slice_get net.engines net.begun ≡ Some engine → AreSides net sides → StaysUnbegun sides engine now
+unbegun_whole : {laws : Laws} (net : NetView) (sides : List (Option Plain)) (engine now : EngineView) → StandsForSome laws net → net.begun < length net.plan.nodes → slice_get net.engines net.begun ≡ Some engine → AreSides net sides → StaysUnbegun laws sides engine now
     → (output : ℕ) → (laid_at now output).gone ≡ 0
-unbegun_whole net sides engine now h within at are stays =
+unbegun_whole {laws} net sides engine now h within at are stays =
     let n = next_of h.job net sides engine h.stands within at are in
     let new = unbegun_parts h.job net.begun n.node sides now n.there n.is (stays h.job net.begun n.node n.there n.is n.unbegun) in
     (unbegun_none n.node net.begun new.told sides now new.unbegun).gone
 
-begun_whole : (net : NetView) (sides : List (Option Plain)) (engine now : EngineView) → StandsForSome net → net.begun < length net.plan.nodes → slice_get net.engines net.begun ≡ Some engine → AreSides net sides → IsBegunThen sides engine now
+begun_whole : {laws : Laws} (net : NetView) (sides : List (Option Plain)) (engine now : EngineView) → StandsForSome laws net → net.begun < length net.plan.nodes → slice_get net.engines net.begun ≡ Some engine → AreSides net sides → IsBegunThen laws sides engine now
     → (output : ℕ) → (laid_at now output).gone ≡ 0
-begun_whole net sides engine now h within at are begun =
+begun_whole {laws} net sides engine now h within at are begun =
     let n = next_of h.job net sides engine h.stands within at are in
     let old = unbegun_parts h.job net.begun n.node sides engine n.there n.is n.unbegun in
     (begun_none n.node net.begun old.told sides now (begun n.node net.begun old.told (is_new h.job net.begun n.node old.told old.handed) old.unbegun)).gone
@@ -371,22 +372,22 @@ begun_whole net sides engine now h within at are begun =
 pub begun_there : (shown net : NetView) → shown ≡ net → net.begun < length net.plan.nodes → shown.begun < length net.plan.nodes
 begun_there shown net is within = subst (λ (v : NetView). v.begun < length net.plan.nodes) (sym is) within
 
-pub begun_engine : (shown net : NetView) (engine : EngineView) → shown ≡ net → StandsForSome net → net.begun < length net.plan.nodes → engine ≡ get_or shown.engines shown.begun engine → slice_get net.engines net.begun ≡ Some engine
-begun_engine shown net engine is h within value =
+pub begun_engine : {laws : Laws} (shown net : NetView) (engine : EngineView) → shown ≡ net → StandsForSome laws net → net.begun < length net.plan.nodes → engine ≡ get_or shown.engines shown.begun engine → slice_get net.engines net.begun ≡ Some engine
+begun_engine {laws} shown net engine is h within value =
     ap (λ (v : NetView). slice_get net.engines v.begun) (sym is) ∙ engine_read shown net shown.begun engine is h (begun_there shown net is within) value
 
 pub sides_are : (shown net : NetView) (sides : List (Option Plain)) → shown ≡ net → AreSides shown sides → AreSides net sides
 sides_are shown net sides is are = subst (λ (v : NetView). AreSides v sides) is are
 
-pub unbegun_stands : (job : LoggedJob) (shown net : NetView) (sides : List (Option Plain)) (engine now : EngineView) → shown ≡ net → StandsForSome net → StandsFor job net → net.begun < length net.plan.nodes → engine ≡ get_or shown.engines shown.begun engine
-    → AreSides shown sides → EngineGrows engine now → StaysUnbegun sides engine now → StandsFor job (with_engine shown shown.begun now)
-unbegun_stands job shown net sides engine now is some h within value are grows stays =
+pub unbegun_stands : {laws : Laws} (job : LoggedJob laws) (shown net : NetView) (sides : List (Option Plain)) (engine now : EngineView) → shown ≡ net → StandsForSome laws net → StandsFor job net → net.begun < length net.plan.nodes → engine ≡ get_or shown.engines shown.begun engine
+    → AreSides shown sides → EngineGrows engine now → StaysUnbegun laws sides engine now → StandsFor job (with_engine shown shown.begun now)
+unbegun_stands {laws} job shown net sides engine now is some h within value are grows stays =
     subst (λ (v : NetView). StandsFor job (with_engine v v.begun now)) (sym is)
     (unbegun_net job net sides engine now h within (begun_engine shown net engine is some within value) (sides_are shown net sides is are) grows stays)
 
-pub unbegun_begins : (shown net : NetView) (sides : List (Option Plain)) (engine now : EngineView) → shown ≡ net → StandsForSome net → net.begun < length net.plan.nodes → engine ≡ get_or shown.engines shown.begun engine → AreSides shown sides → EngineGrows engine now
-    → StaysUnbegun sides engine now → BeginsNet net (with_engine shown shown.begun now)
-unbegun_begins shown net sides engine now is some within value are grows stays =
+pub unbegun_begins : {laws : Laws} (shown net : NetView) (sides : List (Option Plain)) (engine now : EngineView) → shown ≡ net → StandsForSome laws net → net.begun < length net.plan.nodes → engine ≡ get_or shown.engines shown.begun engine → AreSides shown sides → EngineGrows engine now
+    → StaysUnbegun laws sides engine now → BeginsNet net (with_engine shown shown.begun now)
+unbegun_begins {laws} shown net sides engine now is some within value are grows stays =
     let at = begun_engine shown net engine is some within value in
     subst (λ (v : NetView). BeginsNet net (with_engine v v.begun now)) (sym is)
     (begins_by net engine now net.limits net.begun at grows (unbegun_whole net sides engine now some within at (sides_are shown net sides is are) stays) (omega arith))
@@ -396,42 +397,42 @@ abbrev pub Stopped : NetView → EngineView → NetView → Type 0
 Stopped shown now new = (engine : EngineView) → slice_get (set shown.engines shown.begun now) shown.begun ≡ Some engine
     → new ≡ with_opened shown shown.begun now (stopped_by shown.begun engine shown.limits) (shown.begun + 1)
 
-stopped_is : (shown net : NetView) (now : EngineView) (new : NetView) → shown ≡ net → StandsForSome net → net.begun < length net.plan.nodes → Stopped shown now new → new ≡ with_opened net net.begun now (stopped_by net.begun now net.limits) (net.begun + 1)
-stopped_is shown net now new is some within stopped =
+stopped_is : {laws : Laws} (shown net : NetView) (now : EngineView) (new : NetView) → shown ≡ net → StandsForSome laws net → net.begun < length net.plan.nodes → Stopped shown now new → new ≡ with_opened net net.begun now (stopped_by net.begun now net.limits) (net.begun + 1)
+stopped_is {laws} shown net now new is some within stopped =
     let s = subst (λ (v : NetView). Stopped v now new) is stopped in
     let there = engine_there net net.begun some within in
     let long = length-set net.engines net.begun now in
     let it = found (set net.engines net.begun now) net.begun (omega (arith, there, long)) in
     s now (it.1 ∙ ap Some (put_there net.engines net.begun now it.0 it.1))
 
-pub begun_begins : (shown net : NetView) (sides : List (Option Plain)) (engine now : EngineView) (new : NetView) → shown ≡ net → StandsForSome net → net.begun < length net.plan.nodes → engine ≡ get_or shown.engines shown.begun engine → AreSides shown sides
-    → EngineGrows engine now → IsBegunThen sides engine now → Stopped shown now new → BeginsNet net new
-begun_begins shown net sides engine now new is some within value are grows begun stopped =
+pub begun_begins : {laws : Laws} (shown net : NetView) (sides : List (Option Plain)) (engine now : EngineView) (new : NetView) → shown ≡ net → StandsForSome laws net → net.begun < length net.plan.nodes → engine ≡ get_or shown.engines shown.begun engine → AreSides shown sides
+    → EngineGrows engine now → IsBegunThen laws sides engine now → Stopped shown now new → BeginsNet net new
+begun_begins {laws} shown net sides engine now new is some within value are grows begun stopped =
     let at = begun_engine shown net engine is some within value in
     subst (λ (v : NetView). BeginsNet net v) (sym (stopped_is shown net now new is some within stopped))
     (begins_by net engine now (stopped_by net.begun now net.limits) (net.begun + 1) at grows (begun_whole net sides engine now some within at (sides_are shown net sides is are) begun) (omega arith))
 
-pub begun_next : (shown net : NetView) (now : EngineView) (new : NetView) → shown ≡ net → StandsForSome net → net.begun < length net.plan.nodes → Stopped shown now new → new.begun ≡ net.begun + 1
-begun_next shown net now new is some within stopped = ap (λ (v : NetView). v.begun) (stopped_is shown net now new is some within stopped)
+pub begun_next : {laws : Laws} (shown net : NetView) (now : EngineView) (new : NetView) → shown ≡ net → StandsForSome laws net → net.begun < length net.plan.nodes → Stopped shown now new → new.begun ≡ net.begun + 1
+begun_next {laws} shown net now new is some within stopped = ap (λ (v : NetView). v.begun) (stopped_is shown net now new is some within stopped)
 
-pub begun_stands : (job : LoggedJob) (shown net : NetView) (sides : List (Option Plain)) (engine now : EngineView) (new : NetView) → shown ≡ net → StandsForSome net → StandsFor job net → net.begun < length net.plan.nodes → engine ≡ get_or shown.engines shown.begun engine
-    → AreSides shown sides → EngineGrows engine now → IsLawfulThen sides engine now → IsBegunThen sides engine now → Stopped shown now new → StandsFor job new
-begun_stands job shown net sides engine now new is some h within value are grows lawful begun stopped =
+pub begun_stands : {laws : Laws} (job : LoggedJob laws) (shown net : NetView) (sides : List (Option Plain)) (engine now : EngineView) (new : NetView) → shown ≡ net → StandsForSome laws net → StandsFor job net → net.begun < length net.plan.nodes → engine ≡ get_or shown.engines shown.begun engine
+    → AreSides shown sides → EngineGrows engine now → IsLawfulThen laws sides engine now → IsBegunThen laws sides engine now → Stopped shown now new → StandsFor job new
+begun_stands {laws} job shown net sides engine now new is some h within value are grows lawful begun stopped =
     subst (StandsFor job) (sym (stopped_is shown net now new is some within stopped))
     (begun_net job net sides engine now h within (begun_engine shown net engine is some within value) (sides_are shown net sides is are) grows lawful begun)
 
-pub few_begun : (shown net : NetView) → shown ≡ net → StandsForSome net → net.begun < length net.plan.nodes → shown.begun + 1 < 2 ^ 32
-few_begun shown net is h within = (let low = begun_there shown net is within in let few = (valid net h).ranges.nodes in omega (arith, low, few))
+pub few_begun : {laws : Laws} (shown net : NetView) → shown ≡ net → StandsForSome laws net → net.begun < length net.plan.nodes → shown.begun + 1 < 2 ^ 32
+few_begun {laws} shown net is h within = (let low = begun_there shown net is within in let few = (valid net h).ranges.nodes in omega (arith, low, few))
 
-pub reached_there : (shown net : NetView) → shown ≡ net → StandsForSome net → net.begun < length net.plan.nodes → shown.begun < length shown.limits.reached
-reached_there shown net is h within =
+pub reached_there : {laws : Laws} (shown net : NetView) → shown ≡ net → StandsForSome laws net → net.begun < length net.plan.nodes → shown.begun < length shown.limits.reached
+reached_there {laws} shown net is h within =
     (let low = begun_there shown net is within in
     let marked = (of_plan net h).marked_nodes in
     let same = ap (λ (v : NetView). length v.limits.reached) is in
     omega (arith, low, marked, same))
 
-pub set_there : (shown net : NetView) (now : EngineView) → shown ≡ net → StandsForSome net → net.begun < length net.plan.nodes → shown.begun < length (set shown.engines shown.begun now)
-set_there shown net now is h within =
+pub set_there : {laws : Laws} (shown net : NetView) (now : EngineView) → shown ≡ net → StandsForSome laws net → net.begun < length net.plan.nodes → shown.begun < length (set shown.engines shown.begun now)
+set_there {laws} shown net now is h within =
     (let low = begun_there shown net is within in
     let there = engine_there net shown.begun h low in
     let same = ap (λ (v : NetView). length v.engines) is in

@@ -14,6 +14,7 @@ use Rattle.mg_settled.specs.Extension.{IsExtendedBy, AreExtendedBy}
 use Rattle.mg_settled.specs.Settled.{settled_sets, inputs_of}
 use Rattle.mg_settled.proofs.Lemmas.{extended_by_itself, sets-stay}
 use Rattle.mg_stream.specs.Queue.{StandsFor as IsQueueOf}
+use Rattle.mg_calc.specs.Rules.{Laws}
 use Rattle.mg_calc.specs.declared.law.Law.TheVariants.{Loopback}
 use Rattle.mg_calc.specs.declared.plan.Plan.{Plan}
 use Rattle.mg_calc.specs.declared.plan_node.PlanNode.{PlanNode}
@@ -63,9 +64,9 @@ taking_leaves_nodes false set_old set_now before now t = subst (LeavesNodes befo
 
 -- What has come stays so when a set is taken.
 
-came_kept : (job : LoggedJob) (consumer : ℕ) (solution : List (StreamPrefix Plain)) (intake now : IntakeView) (set_now : List (Option (Stamped Plain))) → Solves job solution → LawfulIntake job consumer intake → Takes intake now set_now
+came_kept : {laws : Laws} (job : LoggedJob laws) (consumer : ℕ) (solution : List (StreamPrefix Plain)) (intake now : IntakeView) (set_now : List (Option (Stamped Plain))) → Solves job solution → LawfulIntake job consumer intake → Takes intake now set_now
     → HasCome intake (streams_at solution (ports_of job.job.plan consumer)) → HasCome now (streams_at solution (ports_of job.job.plan consumer))
-came_kept job consumer solution intake now set_now solves lawful takes came =
+came_kept {laws} job consumer solution intake now set_now solves lawful takes came =
     let streams = streams_at solution (ports_of job.job.plan consumer) in
     let reached = intake_has_reached job consumer now solution solves (takes.stays_lawful job consumer lawful) in
     let long = zip_long IsExtendedBy reached.came streams reached.extended in
@@ -79,10 +80,10 @@ came_kept job consumer solution intake now set_now solves lawful takes came =
           subst (IsQueueOf (port_queue now.waits port)) (sym same) own;
     }
 
-take_keeps : (job : LoggedJob) (solution : List (StreamPrefix Plain)) (set_now : List (Option (Stamped Plain))) (before now : NetView) → StandsFor job before → Solves job solution → HasAllOutputs solution before → TakesNext before now set_now
+take_keeps : {laws : Laws} (job : LoggedJob laws) (solution : List (StreamPrefix Plain)) (set_now : List (Option (Stamped Plain))) (before now : NetView) → StandsFor job before → Solves job solution → HasAllOutputs solution before → TakesNext before now set_now
     → HasAllOutputs solution now
 unfolding StandsFor
-take_keeps job solution set_now before now h solves all t =
+take_keeps {laws} job solution set_now before now h solves all t =
     let last = length before.plan.nodes in
     let same : t.intake ≡ all.intake = (let e : Some t.intake ≡ Some all.intake = sym t.there ∙ all.there in cc) in
     let came : HasCome t.intake (streams_at solution (ports_of job.job.plan last)) = subst (λ (p : Plan). HasCome t.intake (streams_at solution (ports_of p last))) h.plan (subst (λ (i : IntakeView). HasCome i (streams_at solution (ports_of before.plan last))) (sym same) all.came) in
@@ -95,21 +96,21 @@ take_keeps job solution set_now before now h solves all t =
           (subst (λ (p : Plan). HasCome t.intake_now (streams_at solution (ports_of job.job.plan (length p.nodes)))) h.plan kept);
     }
 
-pub taking_keeps : (job : LoggedJob) (solution : List (StreamPrefix Plain)) (taken : Bool) (set_old set_now : List (Option (Stamped Plain))) (before now : NetView) → StandsFor job before → Solves job solution → HasAllOutputs solution before
+pub taking_keeps : {laws : Laws} (job : LoggedJob laws) (solution : List (StreamPrefix Plain)) (taken : Bool) (set_old set_now : List (Option (Stamped Plain))) (before now : NetView) → StandsFor job before → Solves job solution → HasAllOutputs solution before
     → TakesOut taken set_old set_now before now → HasAllOutputs solution now
-taking_keeps job solution true set_old set_now before now h solves all t = take_keeps job solution set_now before now h solves all t
-taking_keeps job solution false set_old set_now before now h solves all t = subst (HasAllOutputs solution) (sym t.same) all
+taking_keeps {laws} job solution true set_old set_now before now h solves all t = take_keeps job solution set_now before now h solves all t
+taking_keeps {laws} job solution false set_old set_now before now h solves all t = subst (HasAllOutputs solution) (sym t.same) all
 
-pub all_come_at_rest : (job : LoggedJob) (solution : List (StreamPrefix Plain)) (net : NetView) → StandsFor job net → IsRunning net → IsAtRest net → Solves job solution → HasAllOutputs solution net
-all_come_at_rest job solution net h running rest solves =
+pub all_come_at_rest : {laws : Laws} (job : LoggedJob laws) (solution : List (StreamPrefix Plain)) (net : NetView) → StandsFor job net → IsRunning net → IsAtRest laws net → Solves job solution → HasAllOutputs solution net
+all_come_at_rest {laws} job solution net h running rest solves =
     let long = (places net (record { job = job; stands = h })).1 in
     let it = found net.intakes (length net.plan.nodes) (omega (arith, long)) in
     record { intake = it.0; there = it.1; came = collector_comes job net solution it.0 h running rest solves it.1 }
 
 -- And where nothing is taken any more, all of it was.
-pub all_were_taken : (job : LoggedJob) (solution : List (StreamPrefix Plain)) (set_old set_now : List (Option (Stamped Plain))) (net now : NetView) → StandsFor job net → Solves job solution → HasAllOutputs solution net
+pub all_were_taken : {laws : Laws} (job : LoggedJob laws) (solution : List (StreamPrefix Plain)) (set_old set_now : List (Option (Stamped Plain))) (net now : NetView) → StandsFor job net → Solves job solution → HasAllOutputs solution net
     → TakesOut false set_old set_now net now → taken_out net ≡ length (settled_outputs net.plan solution)
-all_were_taken job solution set_old set_now net now h solves all t =
+all_were_taken {laws} job solution set_old set_now net now h solves all t =
     let same : all.intake ≡ t.intake = (let e : Some all.intake ≡ Some t.intake = sym all.there ∙ t.there in cc) in
     taken_by net t.intake t.there
     ∙ all_claimed job net solution t.intake h solves t.there (subst (λ (i : IntakeView). HasCome i (streams_at solution (ports_of net.plan (length net.plan.nodes)))) same all.came) t.none
@@ -122,18 +123,18 @@ sets_grow policy ss ts e =
     let cut = length-take (length (settled_sets policy ss)) (settled_sets policy ts) in
     omega (arith, same, cut)
 
-few_claimed : (job : LoggedJob) (streams : List (StreamPrefix Plain)) (consumer claimed : ℕ) (waits : Pending) → HoldsWaits job streams consumer claimed waits → ¬ (law_of job.job.plan consumer ≡ Some Loopback)
+few_claimed : {laws : Laws} (job : LoggedJob laws) (streams : List (StreamPrefix Plain)) (consumer claimed : ℕ) (waits : Pending) → HoldsWaits job streams consumer claimed waits → ¬ (law_of job.job.plan consumer ≡ Some Loopback)
     → claimed ≤ length (settled_sets (policy_of job.job.plan consumer) (streams_at streams (ports_of job.job.plan consumer)))
-few_claimed job streams consumer claimed (Sets inbox) holds other =
+few_claimed {laws} job streams consumer claimed (Sets inbox) holds other =
     let h = holds.1 in
     let most = h.stands.gone.claimed in
     let grow = sets_grow inbox.policy h.came (streams_at streams (ports_of job.job.plan consumer)) h.extended in
     subst (λ (p : Policy). claimed ≤ length (settled_sets p (streams_at streams (ports_of job.job.plan consumer)))) h.policy (omega (arith, most, grow))
-few_claimed job streams consumer claimed (Loop held) holds other = absurd (other holds.0)
+few_claimed {laws} job streams consumer claimed (Loop held) holds other = absurd (other holds.0)
 
-pub few_taken : (job : LoggedJob) (solution : List (StreamPrefix Plain)) (net : NetView) → StandsFor job net → Solves job solution → taken_out net ≤ length (settled_outputs net.plan solution)
+pub few_taken : {laws : Laws} (job : LoggedJob laws) (solution : List (StreamPrefix Plain)) (net : NetView) → StandsFor job net → Solves job solution → taken_out net ≤ length (settled_outputs net.plan solution)
 unfolding StandsFor
-few_taken job solution net h solves =
+few_taken {laws} job solution net h solves =
     let last = length net.plan.nodes in
     let long = (places net (record { job = job; stands = h })).1 in
     let it = found net.intakes last (omega (arith, long)) in
@@ -149,8 +150,8 @@ same_streams streams [] within = refl
 same_streams streams (n ∷ numbers) within =
     ap₂ (λ (s : StreamPrefix Plain) (ss : List (StreamPrefix Plain)). s ∷ ss) (get_or_default streams n empty_prefix (closed empty_prefix) within.0) (same_streams streams numbers within.1)
 
-pub outputs_by_default : (job : LoggedJob) (solution : List (StreamPrefix Plain)) → Solves job solution → settled_outputs job.job.plan solution ≡ settled_sets Default (inputs_of solution job.job.plan.outputs)
-outputs_by_default job solution solves =
+pub outputs_by_default : {laws : Laws} (job : LoggedJob laws) (solution : List (StreamPrefix Plain)) → Solves job solution → settled_outputs job.job.plan solution ≡ settled_sets Default (inputs_of solution job.job.plan.outputs)
+outputs_by_default {laws} job solution solves =
     let plan = job.job.plan in
     let last = length plan.nodes in
     let count : length solution ≡ length plan.streams = solution_has_each job.job (job_known job.job solves.is_job) solution solves.solution in

@@ -1,5 +1,6 @@
 -- A work that is performed keeps what a net stands for.
 use Rattle.std.proofs.Common.{◌≡◌, ℕ, ◌<◌, ◌++◌, length, All, Some, slice_get, inl, inr, ap, sym, refl, subst, ◌∙◌, arith}
+use Rattle.mg_calc.specs.Rules.{Laws}
 use Rattle.mg_calc.specs.declared.event.Effect.{Effect}
 use Rattle.mg_calc.specs.declared.event.Effect.TheVariants.{Did, Idle, OutOfMemory}
 use Rattle.mg_node.specs.Views.{WorkView}
@@ -21,10 +22,10 @@ use Rattle.mg_sched.proofs.LimitsKnow.{cell_knows}
 use Rattle.mg_sched.proofs.CellForms.{engine_and_work_queue, stays_so}
 use Rattle.mg_sched.proofs.RelaxKeeps.{rest_stands}
 
-done_stands : (job : LoggedJob) (node number : ℕ) (effect : Effect) (work_queue : WorkQueueView) (before now : NetView) → node < length before.plan.nodes → IsRunning before → StandsFor job before → slice_get before.work_queues node ≡ Some work_queue
-    → (q : Performs node number effect work_queue before now) → PerformedBy effect node q.engine work_queue (q.front ++ q.back) q.work before now → StandsFor job now
+done_stands : {laws : Laws} (job : LoggedJob laws) (node number : ℕ) (effect : Effect) (work_queue : WorkQueueView) (before now : NetView) → node < length before.plan.nodes → IsRunning before → StandsFor job before → slice_get before.work_queues node ≡ Some work_queue
+    → (q : Performs laws node number effect work_queue before now) → PerformedBy laws effect node q.engine work_queue (q.front ++ q.back) q.work before now → StandsFor job now
 unfolding StandsFor
-done_stands job node number Did work_queue before now within running h on q d =
+done_stands {laws} job node number Did work_queue before now within running h on q d =
     let long = h.intakes in
     let intake = found before.intakes node (omega (arith, within, long)) in
     let cell = cell_at job before node q.engine intake.0 work_queue h running within q.at intake.1 on in
@@ -51,11 +52,11 @@ done_stands job node number Did work_queue before now within running h on q d =
     subst (λ (v : NetView). IsNetOf job v) (engine_and_work_queue before node engine_now intake.0 work_queue_now intake.1 ∙ sym d.2)
     (cell_stands job before node q.engine engine_now intake.0 intake.0 work_queue_now before.limits h running within q.at intake.1 step
     (cell_knows before node q.engine engine_now intake.0 work_queue_now within h.limits q.at intake.1 refl))
-done_stands job node number Idle work_queue before now within running h on q d = absurd d
-done_stands job node number OutOfMemory work_queue before now within running h on q d = subst (λ (v : NetView). IsNetOf job v) (sym d) h
+done_stands {laws} job node number Idle work_queue before now within running h on q d = absurd d
+done_stands {laws} job node number OutOfMemory work_queue before now within running h on q d = subst (λ (v : NetView). IsNetOf job v) (sym d) h
 
-pub perform_stands : (job : LoggedJob) (node number : ℕ) (effect : Effect) (before now : NetView) → node < length before.plan.nodes → IsRunning before → StandsFor job before → NodePerforms node number effect before now → StandsFor job now
-perform_stands job node number effect before now within running h p = elim p.performed [
+pub perform_stands : {laws : Laws} (job : LoggedJob laws) (node number : ℕ) (effect : Effect) (before now : NetView) → node < length before.plan.nodes → IsRunning before → StandsFor job before → NodePerforms laws node number effect before now → StandsFor job now
+perform_stands {laws} job node number effect before now within running h p = elim p.performed [
   | inl none ↦ rest_stands job effect before now h none.1
   | inr some ↦ done_stands job node number effect p.work_queue before now within running h p.on some some.performed
 ]

@@ -3,6 +3,7 @@ use Rattle.std.proofs.Common.{◌≡◌, ℕ, ◌+◌, ◌<◌, ◌≤◌, Bool,
 use Rattle.std.proofs.lemmas.Bool.{cases_eq, lt-ltb, true≢false}
 use Rattle.std.proofs.lemmas.List.{length-map}
 use Rattle.std.proofs.lemmas.Option.{none-some, slice_get_within, get_or_from_slice_get}
+use Rattle.mg_calc.specs.Rules.{Laws}
 use Rattle.mg_calc.specs.declared.edge.Edge.{Edge}
 use Rattle.mg_calc.specs.declared.plan.Plan.{Plan}
 use Rattle.mg_calc.specs.Plan.{IsValid}
@@ -28,28 +29,28 @@ use Rattle.mg_sched.proofs.PlanEdges.{mapped_at, ports_of_node, ports_of_collect
 
 -- What parts of one net tell of it.
 
-plan_valid : (job : LoggedJob) (net : NetView) → ArePartsOf job (parts_in net) → IsValid net.plan
-plan_valid job net h = subst IsValid (sym h.plan) h.is_job.plan
+plan_valid : {laws : Laws} (job : LoggedJob laws) (net : NetView) → ArePartsOf job (parts_in net) → IsValid net.plan
+plan_valid {laws} job net h = subst IsValid (sym h.plan) h.is_job.plan
 
-pub valid_plan : (net : NetView) → AreParts (parts_in net) → IsValid net.plan
-valid_plan net h = plan_valid h.job net h.parts_of
+pub valid_plan : {laws : Laws} (net : NetView) → AreParts laws (parts_in net) → IsValid net.plan
+valid_plan {laws} net h = plan_valid h.job net h.parts_of
 
-queues_long : (net : NetView) → AreParts (parts_in net) → length net.limits.queues ≡ length net.plan.edges
-queues_long net h = sym (length-map net.limits.queues (λ (q : Queue). q.node)) ∙ ap (λ (ns : List ℕ). length ns) h.parts_of.rest.limits.queues ∙ length-map net.plan.edges (λ (e : Edge). e.node)
+queues_long : {laws : Laws} (net : NetView) → AreParts laws (parts_in net) → length net.limits.queues ≡ length net.plan.edges
+queues_long {laws} net h = sym (length-map net.limits.queues (λ (q : Queue). q.node)) ∙ ap (λ (ns : List ℕ). length ns) h.parts_of.rest.limits.queues ∙ length-map net.plan.edges (λ (e : Edge). e.node)
 
-pub queues_short : (net : NetView) → AreParts (parts_in net) → length net.limits.queues < 4294967296
-queues_short net h = (let few = (valid_plan net h).ranges.edges in let same = queues_long net h in omega (arith, few, same))
+pub queues_short : {laws : Laws} (net : NetView) → AreParts laws (parts_in net) → length net.limits.queues < 4294967296
+queues_short {laws} net h = (let few = (valid_plan net h).ranges.edges in let same = queues_long net h in omega (arith, few, same))
 
-pub few_wait : (net : NetView) (consumer port : ℕ) (intake : IntakeView) → AreParts (parts_in net) → slice_get net.intakes consumer ≡ Some intake → length (port_queue intake.waits port).packets + 1 < 18446744073709551616
-few_wait net consumer port intake h at = few_packets h.job consumer port intake (h.parts_of.intakes consumer intake at)
+pub few_wait : {laws : Laws} (net : NetView) (consumer port : ℕ) (intake : IntakeView) → AreParts laws (parts_in net) → slice_get net.intakes consumer ≡ Some intake → length (port_queue intake.waits port).packets + 1 < 18446744073709551616
+few_wait {laws} net consumer port intake h at = few_packets h.job consumer port intake (h.parts_of.intakes consumer intake at)
 
 -- how many ports an intake has
-ports_long : (net : NetView) (consumer : ℕ) (intake : IntakeView) → AreParts (parts_in net) → slice_get net.intakes consumer ≡ Some intake → ports_in intake.waits ≡ length (ports_of net.plan consumer)
-ports_long net consumer intake h at = intake_ports h.job consumer intake (h.parts_of.intakes consumer intake at) ∙ ap (λ (p : Plan). length (ports_of p consumer)) (sym h.parts_of.plan)
+ports_long : {laws : Laws} (net : NetView) (consumer : ℕ) (intake : IntakeView) → AreParts laws (parts_in net) → slice_get net.intakes consumer ≡ Some intake → ports_in intake.waits ≡ length (ports_of net.plan consumer)
+ports_long {laws} net consumer intake h at = intake_ports h.job consumer intake (h.parts_of.intakes consumer intake at) ∙ ap (λ (p : Plan). length (ports_of p consumer)) (sym h.parts_of.plan)
 
 -- and its edges are there
-pub ports_fit : (net : NetView) (consumer : ℕ) (intake : IntakeView) → AreParts (parts_in net) → slice_get net.intakes consumer ≡ Some intake → first_edge net.plan consumer + ports_in intake.waits ≤ length net.limits.queues
-ports_fit net consumer intake h at =
+pub ports_fit : {laws : Laws} (net : NetView) (consumer : ℕ) (intake : IntakeView) → AreParts laws (parts_in net) → slice_get net.intakes consumer ≡ Some intake → first_edge net.plan consumer + ports_in intake.waits ≤ length net.limits.queues
+ports_fit {laws} net consumer intake h at =
     let valid = valid_plan net h in
     let long = queues_long net h in
     let ports = ports_long net consumer intake h at in
@@ -70,22 +71,22 @@ ports_fit net consumer intake h at =
     ]
 
 -- a consumer has an intake
-pub intake_there : (net : NetView) (consumer : ℕ) → AreParts (parts_in net) → consumer ≤ length net.plan.nodes → consumer < length net.intakes
-intake_there net consumer h upto = (let count = h.parts_of.intake_count in omega (arith, upto, count))
+pub intake_there : {laws : Laws} (net : NetView) (consumer : ℕ) → AreParts laws (parts_in net) → consumer ≤ length net.plan.nodes → consumer < length net.intakes
+intake_there {laws} net consumer h upto = (let count = h.parts_of.intake_count in omega (arith, upto, count))
 
 -- and its node an engine and marks, also once the limits were told what waits there
 abbrev Notes : NetView → NetView → ℕ → Type 0
 Notes net mid consumer = (intake : IntakeView) → slice_get net.intakes consumer ≡ Some intake → mid ≡ with_noted net (first_edge net.plan consumer) (lengths_of intake.waits)
 
-pub engine_there : (net mid : NetView) (node : ℕ) → AreParts (parts_in net) → node < length net.plan.nodes → Notes net mid node → node < length mid.engines
-engine_there net mid node h less notes =
+pub engine_there : {laws : Laws} (net mid : NetView) (node : ℕ) → AreParts laws (parts_in net) → node < length net.plan.nodes → Notes net mid node → node < length mid.engines
+engine_there {laws} net mid node h less notes =
     (let i = found net.intakes node (intake_there net node h (omega (arith, less))) in
     let same = ap (λ (v : NetView). length v.engines) (notes i.0 i.1) in
     let count = h.parts_of.engine_count in
     omega (arith, less, same, count))
 
-pub marks_there : (net mid : NetView) (node : ℕ) → AreParts (parts_in net) → node < length net.plan.nodes → Notes net mid node → node < length mid.limits.reached
-marks_there net mid node h less notes =
+pub marks_there : {laws : Laws} (net mid : NetView) (node : ℕ) → AreParts laws (parts_in net) → node < length net.plan.nodes → Notes net mid node → node < length mid.limits.reached
+marks_there {laws} net mid node h less notes =
     (let i = found net.intakes node (intake_there net node h (omega (arith, less))) in
     let same = ap (λ (v : NetView). length v.limits.reached) (notes i.0 i.1) in
     let count = h.parts_of.rest.limits.marked_nodes in
@@ -93,8 +94,8 @@ marks_there net mid node h less notes =
 
 -- Limits that are told.
 
-pub told_none : (net : NetView) → AreParts (parts_in net) → ToldTo 0 0 net net
-told_none net h = record {
+pub told_none : {laws : Laws} (net : NetView) → AreParts laws (parts_in net) → ToldTo 0 0 net net
+told_none {laws} net h = record {
   same = refl;
   of_plan = h.parts_of.rest.limits;
   waiting = λ number e q intake at_e at_q less at. absurd (omega (arith, less));
@@ -103,8 +104,8 @@ told_none net h = record {
 }
 
 -- the parts stay those of one net
-with_other_limits : (job : LoggedJob) (net : NetView) (limits : QueueLimits) (noted stops : ℕ) → ArePartsOf job (parts_in net) → ToldTo noted stops net (with_limits net limits) → ArePartsOf job (parts_in (with_limits net limits))
-with_other_limits job net limits noted stops h t = record {
+with_other_limits : {laws : Laws} (job : LoggedJob laws) (net : NetView) (limits : QueueLimits) (noted stops : ℕ) → ArePartsOf job (parts_in net) → ToldTo noted stops net (with_limits net limits) → ArePartsOf job (parts_in (with_limits net limits))
+with_other_limits {laws} job net limits noted stops h t = record {
   is_job = h.is_job;
   plan = h.plan;
   engine_count = h.engine_count;
@@ -118,8 +119,8 @@ with_other_limits job net limits noted stops h t = record {
   rest = record { given = h.rest.given; work_queues = h.rest.work_queues; empty = h.rest.empty; limits = t.of_plan; counts = t.goes_on; spare = h.rest.spare; kept = h.rest.kept };
 }
 
-pub told_parts : (start now : NetView) (noted stops : ℕ) → AreParts (parts_in start) → ToldTo noted stops start now → AreParts (parts_in now)
-told_parts start now noted stops h t = record {
+pub told_parts : {laws : Laws} (start now : NetView) (noted stops : ℕ) → AreParts laws (parts_in start) → ToldTo noted stops start now → AreParts laws (parts_in now)
+told_parts {laws} start now noted stops h t = record {
   job = h.job;
   parts_of = subst (λ (v : NetView). ArePartsOf h.job (parts_in v)) (sym t.same)
       (with_other_limits h.job start now.limits noted stops h.parts_of (subst (λ (v : NetView). ToldTo noted stops start v) t.same t));
@@ -129,9 +130,9 @@ pub told_back : (start now : NetView) (noted stops node : ℕ) → ToldTo noted 
 told_back start now noted stops node t less = (let same = ap (λ (v : NetView). length v.plan.nodes) t.same in omega (arith, less, same))
 
 -- what waits at the next consumer
-noted_limits : (start : NetView) (limits : QueueLimits) (consumer stops : ℕ) (intake : IntakeView) → AreParts (parts_in start) → slice_get start.intakes consumer ≡ Some intake → ToldTo consumer stops start (with_limits start limits)
+noted_limits : {laws : Laws} (start : NetView) (limits : QueueLimits) (consumer stops : ℕ) (intake : IntakeView) → AreParts laws (parts_in start) → slice_get start.intakes consumer ≡ Some intake → ToldTo consumer stops start (with_limits start limits)
     → ToldTo (consumer + 1) stops start (with_noted (with_limits start limits) (first_edge start.plan consumer) (lengths_of intake.waits))
-noted_limits start limits consumer stops intake h at_own t =
+noted_limits {laws} start limits consumer stops intake h at_own t =
     let ns = lengths_of intake.waits in
     let first = first_edge start.plan consumer in
     let valid = valid_plan start h in
@@ -168,9 +169,9 @@ noted_limits start limits consumer stops intake h at_own t =
           a.counts ∙ t.goes_on number e a.old engine at_e a.at low at going;
     }
 
-pub told_noted : (start now next : NetView) (consumer stops : ℕ) → AreParts (parts_in start) → consumer ≤ length start.plan.nodes → ToldTo consumer stops start now
+pub told_noted : {laws : Laws} (start now next : NetView) (consumer stops : ℕ) → AreParts laws (parts_in start) → consumer ≤ length start.plan.nodes → ToldTo consumer stops start now
     → ((intake : IntakeView) → slice_get now.intakes consumer ≡ Some intake → next ≡ with_noted now (first_edge now.plan consumer) (lengths_of intake.waits)) → ToldTo (consumer + 1) stops start next
-told_noted start now next consumer stops h upto t notes =
+told_noted {laws} start now next consumer stops h upto t notes =
     let count = h.parts_of.intake_count in
     let i = found start.intakes consumer (omega (arith, upto, count)) in
     let to : slice_get now.intakes consumer ≡ Some i.0 = ap (λ (v : NetView). slice_get v.intakes consumer) t.same ∙ i.1 in
@@ -221,9 +222,9 @@ stopped_limits start limits noted node engine false there ended t = record {
   goes_on = t.goes_on;
 }
 
-pub told_stopped : (start now next : NetView) (noted node : ℕ) → AreParts (parts_in start) → node < length start.plan.nodes → ToldTo noted node start now
+pub told_stopped : {laws : Laws} (start now next : NetView) (noted node : ℕ) → AreParts laws (parts_in start) → node < length start.plan.nodes → ToldTo noted node start now
     → ((engine : EngineView) → slice_get now.engines node ≡ Some engine → next ≡ with_limits now (stopped_by node engine now.limits)) → ToldTo noted (node + 1) start next
-told_stopped start now next noted node h less t stops =
+told_stopped {laws} start now next noted node h less t stops =
     let count = h.parts_of.engine_count in
     let g = found start.engines node (omega (arith, less, count)) in
     let to : slice_get now.engines node ≡ Some g.0 = ap (λ (v : NetView). slice_get v.engines node) t.same ∙ g.1 in
@@ -232,8 +233,8 @@ told_stopped start now next noted node h less t stops =
     (stopped_limits start now.limits noted node g.0 (has_ended g.0) g.1 refl (subst (λ (v : NetView). ToldTo noted node start v) t.same t))
 
 -- all that is to be told
-told_limits : (start : NetView) (limits : QueueLimits) → AreParts (parts_in start) → ToldTo (length start.plan.nodes + 1) (length start.plan.nodes) start (with_limits start limits) → KnowsLimits (with_limits start limits)
-told_limits start limits h t = record {
+told_limits : {laws : Laws} (start : NetView) (limits : QueueLimits) → AreParts laws (parts_in start) → ToldTo (length start.plan.nodes + 1) (length start.plan.nodes) start (with_limits start limits) → KnowsLimits (with_limits start limits)
+told_limits {laws} start limits h t = record {
   of_plan = t.of_plan;
   queues = λ number e q at_e at_q. record {
     waiting = λ intake at. let p = (edge_placed start.plan number e (valid_plan start h) at_e).node in t.waiting number e q intake at_e at_q (omega (arith, p)) at;
@@ -241,21 +242,21 @@ told_limits start limits h t = record {
   };
 }
 
-pub told_all : (start now : NetView) → AreParts (parts_in start) → ToldTo (length start.plan.nodes + 1) (length start.plan.nodes) start now → KnowsLimits now
-told_all start now h t =
+pub told_all : {laws : Laws} (start now : NetView) → AreParts laws (parts_in start) → ToldTo (length start.plan.nodes + 1) (length start.plan.nodes) start now → KnowsLimits now
+told_all {laws} start now h t =
     subst KnowsLimits (sym t.same)
     (told_limits start now.limits h (subst (λ (v : NetView). ToldTo (length start.plan.nodes + 1) (length start.plan.nodes) start v) t.same t))
 
 -- all nodes were told, and then the collector is
-pub told_end : (start now next : NetView) (node last : ℕ) → AreParts (parts_in start) → node ≡ length start.plan.nodes → last ≡ length start.plan.nodes → ToldTo node node start now → Notes now next last
+pub told_end : {laws : Laws} (start now next : NetView) (node last : ℕ) → AreParts laws (parts_in start) → node ≡ length start.plan.nodes → last ≡ length start.plan.nodes → ToldTo node node start now → Notes now next last
     → ToldTo (length start.plan.nodes + 1) (length start.plan.nodes) start next
-told_end start now next node last h node_is last_is t notes =
+told_end {laws} start now next node last h node_is last_is t notes =
     told_noted start now next (length start.plan.nodes) (length start.plan.nodes) h (omega arith) (subst (λ (n : ℕ). ToldTo n n start now) node_is t) (subst (λ (n : ℕ). Notes now next n) last_is notes)
 
 -- The net of its parts stands for the job.
 
-pub joined_parts : (parts : PartsView) (net : NetView) → net ≡ net_of parts → AreParts parts → AreParts (parts_in net)
-joined_parts parts net is h = subst (λ (v : NetView). AreParts (parts_in v)) (sym is) (record { job = h.job; parts_of = h.parts_of })
+pub joined_parts : {laws : Laws} (parts : PartsView) (net : NetView) → net ≡ net_of parts → AreParts laws parts → AreParts laws (parts_in net)
+joined_parts {laws} parts net is h = subst (λ (v : NetView). AreParts laws (parts_in v)) (sym is) (record { job = h.job; parts_of = h.parts_of })
 
 pub is_together : (parts : PartsView) (net now : NetView) → net ≡ net_of parts → now ≡ with_limits net now.limits → KnowsLimits now → IsPutTogether parts now
 is_together parts net now is same knows = record { made = same ∙ ap (λ (v : NetView). with_limits v now.limits) is; knows = knows }
@@ -268,8 +269,8 @@ none_missing None there none = true≢false (sym there)
 none_missing (Some x) there none = none-some x (sym none)
 
 -- nothing lies in a work queue, and nothing is out
-no_works : (job : LoggedJob) (engine : EngineView) (work_queue : WorkQueueView) (room : ℕ) → engine.in_flight ≡ room → work_queue ≡ record { room = room; works = [] } → NoneOut engine → HasWorks job engine work_queue
-no_works job engine work_queue room flight is none = subst (HasWorks job engine) (sym is) (record {
+no_works : {laws : Laws} (job : LoggedJob laws) (engine : EngineView) (work_queue : WorkQueueView) (room : ℕ) → engine.in_flight ≡ room → work_queue ≡ record { room = room; works = [] } → NoneOut engine → HasWorks job engine work_queue
+no_works {laws} job engine work_queue room flight is none = subst (HasWorks job engine) (sym is) (record {
   room = sym flight;
   out = λ k d less. absurd (omega (arith, less));
   lawful = λ k d less. absurd (omega (arith, less));
@@ -280,8 +281,8 @@ no_works job engine work_queue room flight is none = subst (HasWorks job engine)
       absurd (none_missing entry.outcome there missing);
 })
 
-net_stands : (job : LoggedJob) (parts : PartsView) (net : NetView) → IsPutTogether parts net → ArePartsOf job parts → IsNetOf job net
-net_stands job parts net put h =
+net_stands : {laws : Laws} (job : LoggedJob laws) (parts : PartsView) (net : NetView) → IsPutTogether parts net → ArePartsOf job parts → IsNetOf job net
+net_stands {laws} job parts net put h =
     subst (IsNetOf job) (sym put.made) (record {
       is_job = h.is_job;
       plan = h.plan;
@@ -313,6 +314,6 @@ net_stands job parts net put h =
       not_wound = refl;
     })
 
-pub together_stands : (job : LoggedJob) (parts : PartsView) (net : NetView) → IsPutTogether parts net → ArePartsOf job parts → StandsFor job net
+pub together_stands : {laws : Laws} (job : LoggedJob laws) (parts : PartsView) (net : NetView) → IsPutTogether parts net → ArePartsOf job parts → StandsFor job net
 unfolding StandsFor
-together_stands job parts net put h = net_stands job parts net put h
+together_stands {laws} job parts net put h = net_stands job parts net put h

@@ -7,6 +7,7 @@ use Rattle.std.proofs.lemmas.Option.{same_Some, slice_get_within}
 use Rattle.mg_value.specs.Payload.{Plain}
 use Rattle.mg_value.specs.Packet.{Stamped}
 use Rattle.mg_stream.specs.Queue.{Waiting, count_of, raised_to}
+use Rattle.mg_calc.specs.Rules.{Laws}
 use Rattle.mg_calc.specs.declared.edge.Edge.{Edge}
 use Rattle.mg_calc.specs.declared.event.Event.TheVariants.{Deliver, Relax}
 use Rattle.mg_calc.specs.declared.event.Effect.TheVariants.{Did, Idle, OutOfMemory}
@@ -39,14 +40,14 @@ not_short e = absurd cc
 
 -- No queue is full, and so no feeder is throttled.
 
-pub none_full : (net : NetView) → IsAtRest net → IsAnyFull net.limits → ⊥
-none_full net rest full = elim (rest Relax tt) [
+pub none_full : (laws : Laws) (net : NetView) → IsAtRest laws net → IsAnyFull net.limits → ⊥
+none_full laws net rest full = elim (rest Relax tt) [
   | inl idle ↦ idle.0 full
   | inr does ↦ did_not does.1
 ]
 
-pub none_throttled : (net : NetView) (feeder : Feeder) → IsAtRest net → IsThrottled net.plan net.limits feeder → ⊥
-none_throttled net feeder rest t = none_full net rest (list_any-from_Any is_full net.limits.queues (t.0, t.1, t.2, t.3, t.4.0))
+pub none_throttled : (laws : Laws) (net : NetView) (feeder : Feeder) → IsAtRest laws net → IsThrottled net.plan net.limits feeder → ⊥
+none_throttled laws net feeder rest t = none_full laws net rest (list_any-from_Any is_full net.limits.queues (t.0, t.1, t.2, t.3, t.4.0))
 
 -- A delivery that does nothing finds all there.
 
@@ -101,10 +102,10 @@ brings_none net number place e engine intake b from at to there joined =
     (subst (λ (g : EngineView). Delivers b.answer (output_at g e) e.port 4294967295 b.intake.waits b.intake_now.waits) same_engine b.moved) in
     came_all b.answer (output_at engine e) e.port intake.waits b.intake_now.waits b.effect_is there joined.came joined.kept moved
 
-pub edge_rests : (job : LoggedJob) (net : NetView) (number place : ℕ) (e : Edge) (engine : EngineView) (intake : IntakeView) → StandsFor job net → IsRunning net → IsAtRest net → slice_get net.plan.edges number ≡ Some e → source_of net.plan e ≡ Some place
+pub edge_rests : {laws : Laws} (job : LoggedJob laws) (net : NetView) (number place : ℕ) (e : Edge) (engine : EngineView) (intake : IntakeView) → StandsFor job net → IsRunning net → IsAtRest laws net → slice_get net.plan.edges number ≡ Some e → source_of net.plan e ≡ Some place
     → slice_get net.engines place ≡ Some engine → slice_get net.intakes e.node ≡ Some intake → HasAllCome (output_at engine e) (port_queue intake.waits e.port)
 unfolding StandsFor
-edge_rests job net number place e engine intake h running rest there from at to =
+edge_rests {laws} job net number place e engine intake h running rest there from at to =
     let d = rest (Deliver number) (slice_get_within net.plan.edges number e there) in
     let same_edge : d.edge ≡ e = same_Some d.edge e (sym d.there ∙ there) in
     let ends = edge_ends net.plan (valid net (record { job = job; stands = h })) number e there in
@@ -112,6 +113,6 @@ edge_rests job net number place e engine intake h running rest there from at to 
     let port = port_there job net number e intake h there lawful in
     let joined = h.edges e number place engine intake there from at to in
     elim d.delivered [
-      | inl held ↦ absurd (none_throttled net (graph_input held.0.input) rest held.0.throttled)
+      | inl held ↦ absurd (none_throttled laws net (graph_input held.0.input) rest held.0.throttled)
       | inr brings ↦ brings_none net number place e engine intake (subst (λ (x : Edge). Brings number x Idle net net) same_edge brings.1) from at to port joined
     ]

@@ -2,6 +2,7 @@
 use Rattle.std.proofs.Common.{◌≡◌, ℕ, ◌+◌, ◌<◌, ◌++◌, Bool, true, false, not, List, [], ◌∷◌, length, Some, Ok, Err, Result, IsSomeAnd, option_map, slice_get, inr, refl, sym, ap, subst, arith}
 use borrow.Author.Count.{below_more}
 use Rattle.mg_value.specs.Payload.{Plain}
+use Rattle.mg_calc.specs.Rules.{Laws}
 use Rattle.mg_calc.specs.declared.cause.Cause.{Cause}
 use Rattle.mg_calc.specs.declared.emission.Laid.{Laid}
 use Rattle.mg_calc.specs.declared.event.Event.{Event}
@@ -25,48 +26,49 @@ use Rattle.mg_sched.proofs.Finding.{found, places, work_queue_there}
 use Rattle.mg_sched.proofs.IdleStays.{idle_same}
 use Rattle.mg_sched.proofs.Becoming.{becomes_one, becomes_runs, becomes_some, becomes_trans}
 use Rattle.mg_sched.proofs.Sweeping.{rests, due_shelves, still_there}
+use Rattle.mg_route.specs.HolderView.{held_rules}
 
 -- One event.
 
-pub finds_one : (b : Bool) (event : Event) (effect : Effect) (before now : NetView) → IsEventOf before event → IsRunning before → StandsForSome before → effect ≡ effect_if b → Acts event effect before now
-    → Finds b (Acts event Idle before before) before now
-finds_one true event effect before now of running some is acts = record { event = event; is_event = of; there = now; acts = subst (λ (x : Effect). Acts event x before now) is acts }
-finds_one false event effect before now of running some is acts =
-    let idle : Acts event Idle before now = subst (λ (x : Effect). Acts event x before now) is acts in
-    let same : now ≡ before = idle_same some.job event before now of running some.stands idle in (same, subst (λ (v : NetView). Acts event Idle before v) same idle)
+pub finds_one : {laws : Laws} (b : Bool) (event : Event) (effect : Effect) (before now : NetView) → IsEventOf before event → IsRunning before → StandsForSome laws before → effect ≡ effect_if b → Acts laws event effect before now
+    → Finds laws b (Acts laws event Idle before before) before now
+finds_one {laws} true event effect before now of running some is acts = record { event = event; is_event = of; there = now; acts = subst (λ (x : Effect). Acts laws event x before now) is acts }
+finds_one {laws} false event effect before now of running some is acts =
+    let idle : Acts laws event Idle before now = subst (λ (x : Effect). Acts laws event x before now) is acts in
+    let same : now ≡ before = idle_same some.job event before now of running some.stands idle in (same, subst (λ (v : NetView). Acts laws event Idle before v) same idle)
 
-pub finds_that : (b : Bool) (P Q : Type 0) (before now : NetView) → (P → Q) → Finds b P before now → Finds b Q before now
-finds_that true P Q before now all h = h
-finds_that false P Q before now all h = (h.0, all h.1)
+pub finds_that : (laws : Laws) (b : Bool) (P Q : Type 0) (before now : NetView) → (P → Q) → Finds laws b P before now → Finds laws b Q before now
+finds_that laws true P Q before now all h = h
+finds_that laws false P Q before now all h = (h.0, all h.1)
 
-pub found_some : (b : Bool) (P : Type 0) (before now : NetView) → b ≡ true → Finds b P before now → MayGoOn before
-found_some b P before now is h = subst (λ (x : Bool). Finds x P before now) is h
+pub found_some : {laws : Laws} (b : Bool) (P : Type 0) (before now : NetView) → b ≡ true → Finds laws b P before now → MayGoOn laws before
+found_some {laws} b P before now is h = subst (λ (x : Bool). Finds laws x P before now) is h
 
-pub found_none : (b : Bool) (P : Type 0) (before now : NetView) → b ≡ false → Finds b P before now → (now ≡ before) × P
-found_none b P before now is h = subst (λ (x : Bool). Finds x P before now) is h
+pub found_none : (laws : Laws) (b : Bool) (P : Type 0) (before now : NetView) → b ≡ false → Finds laws b P before now → (now ≡ before) × P
+found_none laws b P before now is h = subst (λ (x : Bool). Finds laws x P before now) is h
 
 -- One along an edge of a net that is as it was.
 
 edge_there : (k count : ℕ) (before mid : NetView) → mid ≡ before → k < count → count ≡ length before.plan.edges → k < length mid.plan.edges
 edge_there k count before mid same less is = (let long = ap (λ (v : NetView). length v.plan.edges) same in omega (arith, less, is, long))
 
-pub edge_finds : (b : Bool) (k count : ℕ) (effect : Effect) (before mid now : NetView) → mid ≡ before → IsRunning before → StandsForSome before → k < count → count ≡ length before.plan.edges → effect ≡ effect_if b → Acts (Deliver k) effect mid now
-    → Finds b (Acts (Deliver k) Idle mid mid) mid now
-edge_finds b k count effect before mid now same running some less is tells acts =
-    finds_one b (Deliver k) effect mid now (edge_there k count before mid same less is) (subst IsRunning (sym same) running) (subst StandsForSome (sym same) some) tells acts
+pub edge_finds : {laws : Laws} (b : Bool) (k count : ℕ) (effect : Effect) (before mid now : NetView) → mid ≡ before → IsRunning before → StandsForSome laws before → k < count → count ≡ length before.plan.edges → effect ≡ effect_if b → Acts laws (Deliver k) effect mid now
+    → Finds laws b (Acts laws (Deliver k) Idle mid mid) mid now
+edge_finds {laws} b k count effect before mid now same running some less is tells acts =
+    finds_one b (Deliver k) effect mid now (edge_there k count before mid same less is) (subst IsRunning (sym same) running) (subst (StandsForSome laws) (sym same) some) tells acts
 
-pub edge_becomes : (k count : ℕ) (effect : Effect) (before mid now : NetView) → mid ≡ before → k < count → count ≡ length before.plan.edges → Acts (Deliver k) effect mid now → Becomes before now
-edge_becomes k count effect before mid now same less is acts = subst (λ (v : NetView). Becomes v now) same (becomes_one (Deliver k) effect mid now (edge_there k count before mid same less is) acts)
+pub edge_becomes : {laws : Laws} (k count : ℕ) (effect : Effect) (before mid now : NetView) → mid ≡ before → k < count → count ≡ length before.plan.edges → Acts laws (Deliver k) effect mid now → Becomes laws before now
+edge_becomes {laws} k count effect before mid now same less is acts = subst (λ (v : NetView). Becomes laws v now) same (becomes_one (Deliver k) effect mid now (edge_there k count before mid same less is) acts)
 
 -- One at a node, after others.
 
-pub raise_finds : (b : Bool) (node : ℕ) (effect : Effect) (before mid now : NetView) → node < length before.plan.nodes → IsRunning before → StandsForSome before → Becomes before mid → effect ≡ effect_if b → Acts (Advance node) effect mid now
-    → Finds b (Acts (Advance node) Idle mid mid) mid now
-raise_finds b node effect before mid now there running some since tells acts =
+pub raise_finds : {laws : Laws} (b : Bool) (node : ℕ) (effect : Effect) (before mid now : NetView) → node < length before.plan.nodes → IsRunning before → StandsForSome laws before → Becomes laws before mid → effect ≡ effect_if b → Acts laws (Advance node) effect mid now
+    → Finds laws b (Acts laws (Advance node) Idle mid mid) mid now
+raise_finds {laws} b node effect before mid now there running some since tells acts =
     finds_one b (Advance node) effect mid now (still_there node before mid since there) (becomes_runs before mid running since) (becomes_some before mid running some since) tells acts
 
-pub raise_becomes : (node : ℕ) (effect : Effect) (before mid now : NetView) → node < length before.plan.nodes → Becomes before mid → Acts (Advance node) effect mid now → Becomes before now
-raise_becomes node effect before mid now there since acts = becomes_trans before mid now since (becomes_one (Advance node) effect mid now (still_there node before mid since there) acts)
+pub raise_becomes : {laws : Laws} (node : ℕ) (effect : Effect) (before mid now : NetView) → node < length before.plan.nodes → Becomes laws before mid → Acts laws (Advance node) effect mid now → Becomes laws before now
+raise_becomes {laws} node effect before mid now there since acts = becomes_trans before mid now since (becomes_one (Advance node) effect mid now (still_there node before mid since there) acts)
 
 -- A work that is claimed would be performed.
 
@@ -84,15 +86,15 @@ performed_with w state answer = record {
   answer = answer;
 }
 
-some_performed : (w : WorkView) (a : Answer) → answer_in w.context.told.law w.context.told.state w.phase w.context.set ≡ a → (p : PerformedView) × IsPerformed w p
-some_performed w (Ok given) is = (performed_with w given.0 (Ok given.1), record { same = refl; answer = is; log = refl; law = refl; shape = refl; same_handed = refl; set = refl })
-some_performed w (Err cause) is = (performed_with w w.context.told.state (Err cause), record { same = refl; answer = (is, refl); log = refl; law = refl; shape = refl; same_handed = refl; set = refl })
+some_performed : {laws : Laws} (w : WorkView) (a : Answer) → answer_in (held_rules laws w.context.told) w.context.told.law w.context.told.state w.phase w.context.set ≡ a → (p : PerformedView) × IsPerformed laws w p
+some_performed {laws} w (Ok given) is = (performed_with w given.0 (Ok given.1), record { same = refl; answer = is; log = refl; law = refl; shape = refl; same_handed = refl; set = refl })
+some_performed {laws} w (Err cause) is = (performed_with w w.context.told.state (Err cause), record { same = refl; answer = (is, refl); log = refl; law = refl; shape = refl; same_handed = refl; set = refl })
 
-performs_one : (net : NetView) (node number : ℕ) (engine : EngineView) (work_queue : WorkQueueView) (works : List WorkView) → node < length net.plan.nodes → slice_get net.engines node ≡ Some engine → slice_get net.work_queues node ≡ Some work_queue → work_queue.works ≡ works
-    → IsSomeAnd (slice_get works 0) (λ w. w.number ≡ number) → MayGoOn net
-performs_one net node number engine work_queue [] there at on are first = absurd first
-performs_one net node number engine work_queue (w ∷ works) there at on are first =
-    let p = some_performed w (answer_in w.context.told.law w.context.told.state w.phase w.context.set) refl in
+performs_one : {laws : Laws} (net : NetView) (node number : ℕ) (engine : EngineView) (work_queue : WorkQueueView) (works : List WorkView) → node < length net.plan.nodes → slice_get net.engines node ≡ Some engine → slice_get net.work_queues node ≡ Some work_queue → work_queue.works ≡ works
+    → IsSomeAnd (slice_get works 0) (λ w. w.number ≡ number) → MayGoOn laws net
+performs_one {laws} net node number engine work_queue [] there at on are first = absurd first
+performs_one {laws} net node number engine work_queue (w ∷ works) there at on are first =
+    let p = some_performed w (answer_in (held_rules laws w.context.told) w.context.told.law w.context.told.state w.phase w.context.set) refl in
     record {
       event = Perform node number;
       is_event = there;
@@ -100,8 +102,8 @@ performs_one net node number engine work_queue (w ∷ works) there at on are fir
       acts = record { work_queue = work_queue; on = on; performed = inr (record { engine = engine; at = at; work = w; front = []; back = works; works = are; number_is = first; performed = (p.0, p.1, refl) }) };
     }
 
-pub work_goes_on : (net : NetView) (node number : ℕ) → StandsForSome net → node < length net.plan.nodes → HasWork net node number → MayGoOn net
-work_goes_on net node number some there has =
+pub work_goes_on : {laws : Laws} (net : NetView) (node number : ℕ) → StandsForSome laws net → node < length net.plan.nodes → HasWork net node number → MayGoOn laws net
+work_goes_on {laws} net node number some there has =
     let long = (places net some).0 in
     let engine = found net.engines node (omega (arith, there, long)) in
     let work_queue = found net.work_queues node (work_queue_there net node some there) in
@@ -109,39 +111,39 @@ work_goes_on net node number some there has =
 
 -- Nodes.
 
-pub commits_found : (b : Bool) (P : Type 0) (node number : ℕ) (before now : NetView) → HasShelf before node number → Finds b (Acts (Commit node number) Idle before before) before now → Finds b P before now
-commits_found true P node number before now shelf h = h
-commits_found false P node number before now shelf h = absurd (due_shelves node number before shelf h.1)
+pub commits_found : (laws : Laws) (b : Bool) (P : Type 0) (node number : ℕ) (before now : NetView) → HasShelf before node number → Finds laws b (Acts laws (Commit node number) Idle before before) before now → Finds laws b P before now
+commits_found laws true P node number before now shelf h = h
+commits_found laws false P node number before now shelf h = absurd (due_shelves laws node number before shelf h.1)
 
-pub takes_found : (claimed raised : Bool) (node : ℕ) (before mid now : NetView) → HasNoWork before node → HasNoShelf before node → claimed ≡ false → Finds claimed (Acts (Claim node) Idle before before) before mid
-    → Finds raised (Acts (Advance node) Idle mid mid) mid now → Finds raised (RestsAt before node) before now
-takes_found claimed raised node before mid now works shelf is first second =
-    let none = found_none claimed (Acts (Claim node) Idle before before) before mid is first in
-    finds_that raised (Acts (Advance node) Idle before before) (RestsAt before node) before now (λ advances. record { claims = none.1; works = works; shelf = shelf; advances = advances })
-    (subst (λ (v : NetView). Finds raised (Acts (Advance node) Idle v v) v now) none.0 second)
+pub takes_found : (laws : Laws) (claimed raised : Bool) (node : ℕ) (before mid now : NetView) → HasNoWork before node → HasNoShelf before node → claimed ≡ false → Finds laws claimed (Acts laws (Claim node) Idle before before) before mid
+    → Finds laws raised (Acts laws (Advance node) Idle mid mid) mid now → Finds laws raised (RestsAt laws before node) before now
+takes_found laws claimed raised node before mid now works shelf is first second =
+    let none = found_none laws claimed (Acts laws (Claim node) Idle before before) before mid is first in
+    finds_that laws raised (Acts laws (Advance node) Idle before before) (RestsAt laws before node) before now (λ advances. record { claims = none.1; works = works; shelf = shelf; advances = advances })
+    (subst (λ (v : NetView). Finds laws raised (Acts laws (Advance node) Idle v v) v now) none.0 second)
 
 -- Nets.
 
-pub edge_more : (b : Bool) (before mid now : NetView) (k : ℕ) → mid ≡ before → EdgesRest before k → b ≡ false → Finds b (Acts (Deliver k) Idle mid mid) mid now → (now ≡ before) × EdgesRest before (k + 1)
-edge_more b before mid now k same rest is h =
-    let none = found_none b (Acts (Deliver k) Idle before before) before now is (subst (λ (v : NetView). Finds b (Acts (Deliver k) Idle v v) v now) same h) in
-    (none.0, below_more (λ (edge : ℕ). Acts (Deliver edge) Idle before before) k rest none.1)
+pub edge_more : (laws : Laws) (b : Bool) (before mid now : NetView) (k : ℕ) → mid ≡ before → EdgesRest laws before k → b ≡ false → Finds laws b (Acts laws (Deliver k) Idle mid mid) mid now → (now ≡ before) × EdgesRest laws before (k + 1)
+edge_more laws b before mid now k same rest is h =
+    let none = found_none laws b (Acts laws (Deliver k) Idle before before) before now is (subst (λ (v : NetView). Finds laws b (Acts laws (Deliver k) Idle v v) v now) same h) in
+    (none.0, below_more (λ (edge : ℕ). Acts laws (Deliver edge) Idle before before) k rest none.1)
 
-pub node_more : (b : Bool) (before mid now : NetView) (k : ℕ) → mid ≡ before → NodesRest before k → b ≡ false → Finds b (RestsAt mid k) mid now → (now ≡ before) × NodesRest before (k + 1)
-node_more b before mid now k same rest is h =
-    let none = found_none b (RestsAt before k) before now is (subst (λ (v : NetView). Finds b (RestsAt v k) v now) same h) in
-    (none.0, below_more (λ (node : ℕ). RestsAt before node) k rest none.1)
+pub node_more : {laws : Laws} (b : Bool) (before mid now : NetView) (k : ℕ) → mid ≡ before → NodesRest laws before k → b ≡ false → Finds laws b (RestsAt laws mid k) mid now → (now ≡ before) × NodesRest laws before (k + 1)
+node_more {laws} b before mid now k same rest is h =
+    let none = found_none laws b (RestsAt laws before k) before now is (subst (λ (v : NetView). Finds laws b (RestsAt laws v k) v now) same h) in
+    (none.0, below_more (λ (node : ℕ). RestsAt laws before node) k rest none.1)
 
-pub some_later : (before mid : NetView) → mid ≡ before → MayGoOn mid → MayGoOn before
-some_later before mid same h = subst MayGoOn same h
+pub some_later : {laws : Laws} (before mid : NetView) → mid ≡ before → MayGoOn laws mid → MayGoOn laws before
+some_later {laws} before mid same h = subst (MayGoOn laws) same h
 
-pub looked_over : (edges nodes relaxed : Bool) (a b c d : NetView) → StandsForSome a → edges ≡ false → Finds edges (EdgesRest a (length a.plan.edges)) a b → nodes ≡ false → Finds nodes (NodesRest b (length b.plan.nodes)) b c
-    → Finds relaxed (Acts Relax Idle c c) c d → LooksOver (not relaxed) a d
-looked_over edges nodes relaxed a b c d some edges_none e nodes_none n r =
-    let first = found_none edges (EdgesRest a (length a.plan.edges)) a b edges_none e in
-    let second = found_none nodes (NodesRest a (length a.plan.nodes)) a c nodes_none (subst (λ (v : NetView). Finds nodes (NodesRest v (length v.plan.nodes)) v c) first.0 n) in
-    by relaxed (subst (λ (v : NetView). Finds relaxed (Acts Relax Idle v v) v d) second.0 r) first.1 second.1
+pub looked_over : {laws : Laws} (edges nodes relaxed : Bool) (a b c d : NetView) → StandsForSome laws a → edges ≡ false → Finds laws edges (EdgesRest laws a (length a.plan.edges)) a b → nodes ≡ false → Finds laws nodes (NodesRest laws b (length b.plan.nodes)) b c
+    → Finds laws relaxed (Acts laws Relax Idle c c) c d → LooksOver laws (not relaxed) a d
+looked_over {laws} edges nodes relaxed a b c d some edges_none e nodes_none n r =
+    let first = found_none laws edges (EdgesRest laws a (length a.plan.edges)) a b edges_none e in
+    let second = found_none laws nodes (NodesRest laws a (length a.plan.nodes)) a c nodes_none (subst (λ (v : NetView). Finds laws nodes (NodesRest laws v (length v.plan.nodes)) v c) first.0 n) in
+    by relaxed (subst (λ (v : NetView). Finds laws relaxed (Acts laws Relax Idle v v) v d) second.0 r) first.1 second.1
   where
-    by : (x : Bool) → Finds x (Acts Relax Idle a a) a d → EdgesRest a (length a.plan.edges) → NodesRest a (length a.plan.nodes) → LooksOver (not x) a d
+    by : (x : Bool) → Finds laws x (Acts laws Relax Idle a a) a d → EdgesRest laws a (length a.plan.edges) → NodesRest laws a (length a.plan.nodes) → LooksOver laws (not x) a d
     by true f es ns = f
     by false f es ns = (f.0, rests a some es ns f.1)

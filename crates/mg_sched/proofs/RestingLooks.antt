@@ -7,6 +7,7 @@ use Rattle.mg_value.specs.Packet.{Stamped}
 use Rattle.mg_settled.specs.Prefix.{StreamPrefix}
 use Rattle.mg_stream.specs.Queue.{StandsFor as IsQueueOf}
 use Rattle.mg_stream.specs.Pool.{Backlog, empty_backlog, queue_of}
+use Rattle.mg_calc.specs.Rules.{Laws}
 use Rattle.mg_calc.specs.declared.plan_stream.PlanStream.{PlanStream}
 use Rattle.mg_calc.specs.declared.plan_stream.Producer.{Producer}
 use Rattle.mg_calc.specs.Equations.{stream_of}
@@ -38,9 +39,9 @@ plan_stream [] stream producer e = absurd cc
 plan_stream (s ∷ streams) zero producer e = (s, refl, same_Some s.producer producer e)
 plan_stream (s ∷ streams) (suc stream) producer e = plan_stream streams stream producer e
 
-output_stands : (job : LoggedJob) (net : NetView) (solution : List (StreamPrefix Plain)) (stream : ℕ) (output : Backlog Plain) → StandsFor job net → IsRunning net → IsAtRest net → Solves job solution → IsOutputOf net stream output
+output_stands : {laws : Laws} (job : LoggedJob laws) (net : NetView) (solution : List (StreamPrefix Plain)) (stream : ℕ) (output : Backlog Plain) → StandsFor job net → IsRunning net → IsAtRest laws net → Solves job solution → IsOutputOf net stream output
     → IsQueueOf (queue_of 0 output) (stream_of solution stream)
-output_stands job net solution stream output h running rests solves is =
+output_stands {laws} job net solution stream output h running rests solves is =
     let s = plan_stream net.plan.streams stream is.producer is.written in
     let at : slice_get net.engines (place_of net.plan s.0.producer) ≡ Some is.engine = ap (λ (p : Producer). slice_get net.engines (place_of net.plan p)) s.2 ∙ is.engine_is in
     let q = rests_with_streams job net solution stream s.0 is.engine h running rests solves s.1 at in
@@ -50,10 +51,10 @@ output_stands job net solution stream output h running rests solves is =
     let read : get_or is.engine.outputs (stream - is.engine.first) empty_backlog ≡ output = ap (λ (k : ℕ). get_or is.engine.outputs k empty_backlog) port ∙ get_or_from_slice_get is.engine.outputs (output_of is.producer) output empty_backlog is.output_is in
     subst (λ (b : Backlog Plain). IsQueueOf (queue_of 0 b) (stream_of solution stream)) read q
 
-pub packet_at_rest : (job : LoggedJob) (net : NetView) (solution : List (StreamPrefix Plain)) (stream number : ℕ) (output : Backlog Plain) → StandsFor job net → IsRunning net → IsAtRest net → Solves job solution → IsOutputOf net stream output
+pub packet_at_rest : {laws : Laws} (job : LoggedJob laws) (net : NetView) (solution : List (StreamPrefix Plain)) (stream number : ℕ) (output : Backlog Plain) → StandsFor job net → IsRunning net → IsAtRest laws net → Solves job solution → IsOutputOf net stream output
     → HasFrom net stream number → kept_packet output number ≡ slice_get (stream_of solution stream).packets number
-packet_at_rest job net solution stream number output h running rests solves is has = kept_from output (stream_of solution stream) number (output_stands job net solution stream output h running rests solves is) (has output is)
+packet_at_rest {laws} job net solution stream number output h running rests solves is has = kept_from output (stream_of solution stream) number (output_stands job net solution stream output h running rests solves is) (has output is)
 
-pub bound_at_rest : (job : LoggedJob) (net : NetView) (solution : List (StreamPrefix Plain)) (stream : ℕ) (output : Backlog Plain) → StandsFor job net → IsRunning net → IsAtRest net → Solves job solution → IsOutputOf net stream output
+pub bound_at_rest : {laws : Laws} (job : LoggedJob laws) (net : NetView) (solution : List (StreamPrefix Plain)) (stream : ℕ) (output : Backlog Plain) → StandsFor job net → IsRunning net → IsAtRest laws net → Solves job solution → IsOutputOf net stream output
     → output.bound ≡ (stream_of solution stream).bound
-bound_at_rest job net solution stream output h running rests solves is = (output_stands job net solution stream output h running rests solves is).bound
+bound_at_rest {laws} job net solution stream output h running rests solves is = (output_stands job net solution stream output h running rests solves is).bound

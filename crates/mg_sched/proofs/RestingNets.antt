@@ -10,6 +10,7 @@ use Rattle.mg_settled.specs.Extension.{IsExtendedBy, AreExtendedBy}
 use Rattle.mg_settled.proofs.Extending.{all_both_ways}
 use Rattle.mg_settled.proofs.Lemmas.{extended_by_itself}
 use Rattle.mg_stream.specs.Queue.{StandsFor as IsQueueOf}
+use Rattle.mg_calc.specs.Rules.{Laws}
 use Rattle.mg_calc.specs.declared.plan.Plan.{Plan}
 use Rattle.mg_calc.specs.declared.plan_node.PlanNode.{PlanNode}
 use Rattle.mg_calc.specs.declared.plan_stream.PlanStream.{PlanStream}
@@ -67,10 +68,10 @@ in_order plan streams ok long =
 
 -- What is laid meets the equations.
 
-input_meets : (job : LoggedJob) (net : NetView) (solution streams : List (StreamPrefix Plain)) (i : ℕ) → StandsFor job net → Solves job solution → AllLaid net solution streams → i < length net.plan.inputs → IsExtendedBy (stream_of job.job.inputs.streams i) (stream_of streams i)
+input_meets : {laws : Laws} (job : LoggedJob laws) (net : NetView) (solution streams : List (StreamPrefix Plain)) (i : ℕ) → StandsFor job net → Solves job solution → AllLaid net solution streams → i < length net.plan.inputs → IsExtendedBy (stream_of job.job.inputs.streams i) (stream_of streams i)
 unfolding StandsFor
-input_meets job net solution streams i h solves all within =
-    let some : StandsForSome net = record { job = job; stands = h } in
+input_meets {laws} job net solution streams i h solves all within =
+    let some : StandsForSome laws net = record { job = job; stands = h } in
     let it = input_stream net.plan (valid net some) i within in
     let long = (places net some).0 in
     let g = found net.engines (length net.plan.nodes + i) (omega (arith, long, within)) in
@@ -85,11 +86,11 @@ input_meets job net solution streams i h solves all within =
     ap (λ (ss : List (StreamPrefix Plain)). stream_of ss i) (sym solves.solution.meets) ∙ get_or_append_left job.job.inputs.streams outputs empty_prefix i (omega (arith, fit, plan, within)) in
     subst (IsExtendedBy (stream_of job.job.inputs.streams i)) (sym given ∙ sym same) (extended_by_itself (stream_of job.job.inputs.streams i))
 
-node_meets : (job : LoggedJob) (net : NetView) (solution streams : List (StreamPrefix Plain)) (n : ℕ) (node : PlanNode) → StandsFor job net → IsRunning net → IsAtRest net → Solves job solution → AllLaid net solution streams → AreExtendedBy streams solution
+node_meets : {laws : Laws} (job : LoggedJob laws) (net : NetView) (solution streams : List (StreamPrefix Plain)) (n : ℕ) (node : PlanNode) → StandsFor job net → IsRunning net → IsAtRest laws net → Solves job solution → AllLaid net solution streams → AreExtendedBy streams solution
     → slice_get net.plan.nodes n ≡ Some node → AreExtendedBy (outcome_of job.job streams node).outputs (streams_at streams node.outputs)
 unfolding StandsFor
-node_meets job net solution streams n node h running rest solves all below there =
-    let some : StandsForSome net = record { job = job; stands = h } in
+node_meets {laws} job net solution streams n node h running rest solves all below there =
+    let some : StandsForSome laws net = record { job = job; stands = h } in
     let within = slice_get_within net.plan.nodes n node there in
     let long = (places net some).0 in
     let long_too = (places net some).1 in
@@ -108,11 +109,11 @@ node_meets job net solution streams n node h running rest solves all below there
       laid_of = streams_extend streams solution node.outputs below;
     })
 
-round_meets : (job : LoggedJob) (net : NetView) (solution streams : List (StreamPrefix Plain)) → StandsFor job net → IsRunning net → IsAtRest net → Solves job solution → AllLaid net solution streams → AreExtendedBy streams solution
+round_meets : {laws : Laws} (job : LoggedJob laws) (net : NetView) (solution streams : List (StreamPrefix Plain)) → StandsFor job net → IsRunning net → IsAtRest laws net → Solves job solution → AllLaid net solution streams → AreExtendedBy streams solution
     → AreExtendedBy (next_round job.job streams) streams
 unfolding StandsFor
-round_meets job net solution streams h running rest solves all below =
-    let some : StandsForSome net = record { job = job; stands = h } in
+round_meets {laws} job net solution streams h running rest solves all below =
+    let some : StandsForSome laws net = record { job = job; stands = h } in
     let plan = job.job.plan in
     let ok : IsValid plan = solves.is_job.plan in
     let count : length streams ≡ length plan.streams = all.count ∙ ap (λ (p : Plan). length p.streams) h.plan in
@@ -129,9 +130,9 @@ round_meets job net solution streams h running rest solves all below =
     (joined_extended job.job.inputs.streams (flat_map (λ node. (outcome_of job.job streams node).outputs) plan.nodes) streams plan.inputs (flat_map (λ node. node.outputs) plan.nodes) inputs outputs)
 
 -- So it is the solution.
-pub rests_solved : (job : LoggedJob) (net : NetView) (solution streams : List (StreamPrefix Plain)) → StandsFor job net → IsRunning net → IsAtRest net → Solves job solution → AllLaid net solution streams → streams ≡ solution
+pub rests_solved : {laws : Laws} (job : LoggedJob laws) (net : NetView) (solution streams : List (StreamPrefix Plain)) → StandsFor job net → IsRunning net → IsAtRest laws net → Solves job solution → AllLaid net solution streams → streams ≡ solution
 unfolding StandsFor
-rests_solved job net solution streams h running rest solves all =
+rests_solved {laws} job net solution streams h running rest solves all =
     let known = job_known job.job solves.is_job in
     let plan : length net.plan.streams ≡ length job.job.plan.streams = ap (λ (p : Plan). length p.streams) h.plan in
     let count = all.count in
@@ -140,9 +141,9 @@ rests_solved job net solution streams h running rest solves all =
     let prefixes : AllByRecursion IsPrefix streams = each_prefix streams (λ i within. (all.each i (omega (arith, within, count))).prefix) in
     all_both_ways streams solution below (solution_least job.job known solution streams solves.solution prefixes (round_meets job net solution streams h running rest solves all below))
 
-pub rests_with_streams : (job : LoggedJob) (net : NetView) (solution : List (StreamPrefix Plain)) (number : ℕ) (stream : PlanStream) (engine : EngineView) → StandsFor job net → IsRunning net → IsAtRest net → Solves job solution
+pub rests_with_streams : {laws : Laws} (job : LoggedJob laws) (net : NetView) (solution : List (StreamPrefix Plain)) (number : ℕ) (stream : PlanStream) (engine : EngineView) → StandsFor job net → IsRunning net → IsAtRest laws net → Solves job solution
     → slice_get net.plan.streams number ≡ Some stream → slice_get net.engines (place_of net.plan stream.producer) ≡ Some engine → IsQueueOf (laid_at engine (number - engine.first)) (stream_of solution number)
-rests_with_streams job net solution number stream engine h running rest solves there at =
+rests_with_streams {laws} job net solution number stream engine h running rest solves there at =
     let laid = all_laid job net solution h running solves in
     let same : laid.0 ≡ solution = rests_solved job net solution laid.0 h running rest solves laid.1 in
     subst (λ (ss : List (StreamPrefix Plain)). IsQueueOf (laid_at engine (number - engine.first)) (stream_of ss number)) same
@@ -150,7 +151,7 @@ rests_with_streams job net solution number stream engine h running rest solves t
 
 -- Of each node.
 
-pub record HasNode (job : LoggedJob) (net : NetView) (solution : List (StreamPrefix Plain)) (number : ℕ) (node : PlanNode) (engine : EngineView) : Type 0 where
+pub record HasNode {laws : Laws} (job : LoggedJob laws) (net : NetView) (solution : List (StreamPrefix Plain)) (number : ℕ) (node : PlanNode) (engine : EngineView) : Type 0 where
   pub there : slice_get job.job.plan.nodes number ≡ Some node
   pub intake : IntakeView
   pub lawful_engine : LawfulEngine job (of_node number) engine
@@ -159,11 +160,11 @@ pub record HasNode (job : LoggedJob) (net : NetView) (solution : List (StreamPre
   pub rests : IsResting engine intake
   pub came : HasCome intake (inputs_of solution node)
 
-pub has_node : (job : LoggedJob) (net : NetView) (solution : List (StreamPrefix Plain)) (number : ℕ) (node : PlanNode) (engine : EngineView) → StandsFor job net → IsRunning net → IsAtRest net → Solves job solution
+pub has_node : {laws : Laws} (job : LoggedJob laws) (net : NetView) (solution : List (StreamPrefix Plain)) (number : ℕ) (node : PlanNode) (engine : EngineView) → StandsFor job net → IsRunning net → IsAtRest laws net → Solves job solution
     → slice_get net.plan.nodes number ≡ Some node → slice_get net.engines number ≡ Some engine → HasNode job net solution number node engine
 unfolding StandsFor
-has_node job net solution number node engine h running rest solves there at =
-    let some : StandsForSome net = record { job = job; stands = h } in
+has_node {laws} job net solution number node engine h running rest solves there at =
+    let some : StandsForSome laws net = record { job = job; stands = h } in
     let within = slice_get_within net.plan.nodes number node there in
     let long = (places net some).1 in
     let long_work_queues = (places net some).2 in
@@ -182,22 +183,22 @@ has_node job net solution number node engine h running rest solves there at =
       came = subst (λ (ss : List (StreamPrefix Plain)). HasCome i.0 (inputs_of ss node)) same (inputs_come job net solution laid.0 number node i.0 h running rest solves laid.1 there i.1);
     }
 
-pub rests_with_counts : (job : LoggedJob) (net : NetView) (solution : List (StreamPrefix Plain)) (number : ℕ) (node : PlanNode) (engine : EngineView) → StandsFor job net → IsRunning net → IsAtRest net → Solves job solution
+pub rests_with_counts : {laws : Laws} (job : LoggedJob laws) (net : NetView) (solution : List (StreamPrefix Plain)) (number : ℕ) (node : PlanNode) (engine : EngineView) → StandsFor job net → IsRunning net → IsAtRest laws net → Solves job solution
     → slice_get net.plan.nodes number ≡ Some node → slice_get net.engines number ≡ Some engine → engine.laid ≡ count_of job.job solution node
-rests_with_counts job net solution number node engine h running rest solves there at =
+rests_with_counts {laws} job net solution number node engine h running rest solves there at =
     let n = has_node job net solution number node engine h running rest solves there at in
     rests_count job number node engine n.intake solution solves n.there n.lawful_engine n.lawful_intake n.agree n.rests n.came
 
-pub rests_with_faults : (job : LoggedJob) (net : NetView) (solution : List (StreamPrefix Plain)) (number : ℕ) (node : PlanNode) (engine : EngineView) → StandsFor job net → IsRunning net → IsAtRest net → Solves job solution
+pub rests_with_faults : {laws : Laws} (job : LoggedJob laws) (net : NetView) (solution : List (StreamPrefix Plain)) (number : ℕ) (node : PlanNode) (engine : EngineView) → StandsFor job net → IsRunning net → IsAtRest laws net → Solves job solution
     → slice_get net.plan.nodes number ≡ Some node → slice_get net.engines number ≡ Some engine → engine.fault ≡ fault_of job.job solution (number, node)
-rests_with_faults job net solution number node engine h running rest solves there at =
+rests_with_faults {laws} job net solution number node engine h running rest solves there at =
     let n = has_node job net solution number node engine h running rest solves there at in
     rests_fault job number node engine n.intake solution solves n.there n.lawful_engine n.lawful_intake n.agree n.rests n.came
 
 -- And at each consumer, that of the graph's outputs among them.
-pub rests_with_inputs : (job : LoggedJob) (net : NetView) (solution : List (StreamPrefix Plain)) (consumer : ℕ) (intake : IntakeView) → StandsFor job net → IsRunning net → IsAtRest net → Solves job solution
+pub rests_with_inputs : {laws : Laws} (job : LoggedJob laws) (net : NetView) (solution : List (StreamPrefix Plain)) (consumer : ℕ) (intake : IntakeView) → StandsFor job net → IsRunning net → IsAtRest laws net → Solves job solution
     → consumer ≤ length net.plan.nodes → slice_get net.intakes consumer ≡ Some intake → HasCome intake (streams_at solution (ports_of net.plan consumer))
-rests_with_inputs job net solution consumer intake h running rest solves upto to =
+rests_with_inputs {laws} job net solution consumer intake h running rest solves upto to =
     let laid = all_laid job net solution h running solves in
     let same : laid.0 ≡ solution = rests_solved job net solution laid.0 h running rest solves laid.1 in
     subst (λ (ss : List (StreamPrefix Plain)). HasCome intake (streams_at ss (ports_of net.plan consumer))) same (consumers_come job net solution laid.0 consumer intake h running rest solves laid.1 upto to)

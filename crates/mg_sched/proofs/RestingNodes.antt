@@ -6,6 +6,7 @@ use Rattle.std.proofs.lemmas.Bool.{false≢true}
 use Rattle.std.proofs.lemmas.Bool.Decides.{nat_tests}
 use Rattle.std.proofs.lemmas.List.Elements.{recursion_from_All}
 use Rattle.std.proofs.lemmas.Option.{none-some, same_Some, slice_get_within}
+use Rattle.mg_calc.specs.Rules.{Laws}
 use Rattle.mg_calc.specs.declared.cause.Cause.{Cause}
 use Rattle.mg_calc.specs.declared.emission.Laid.{Laid}
 use Rattle.mg_calc.specs.declared.event.Event.TheVariants.{Advance, Claim, Perform, Commit}
@@ -36,8 +37,8 @@ none_left : (works : List WorkView) → ((number : ℕ) → All (λ w. w.number 
 none_left [] other = refl
 none_left (w ∷ works) other = absurd ((recursion_from_All (λ (v : WorkView). v.number ≢ w.number) (w ∷ works) (other w.number)).0 refl)
 
-work_queue_clear : (net : NetView) (node : ℕ) (work_queue : WorkQueueView) → IsAtRest net → node < length net.plan.nodes → slice_get net.work_queues node ≡ Some work_queue → work_queue.works ≡ []
-work_queue_clear net node work_queue rest within on = none_left work_queue.works (λ number.
+work_queue_clear : (laws : Laws) (net : NetView) (node : ℕ) (work_queue : WorkQueueView) → IsAtRest laws net → node < length net.plan.nodes → slice_get net.work_queues node ≡ Some work_queue → work_queue.works ≡ []
+work_queue_clear laws net node work_queue rest within on = none_left work_queue.works (λ number.
     let p = rest (Perform node number) within in
     let same : p.work_queue ≡ work_queue = same_Some p.work_queue work_queue (sym p.on ∙ on) in
     elim p.performed [
@@ -51,8 +52,8 @@ none_shelved : (o : Option PerformedView) (node number : ℕ) (engine : EngineVi
 none_shelved None node number engine net c = refl
 none_shelved (Some p) node number engine net c = absurd c
 
-shelf_clear : (net : NetView) (node number : ℕ) (engine : EngineView) → IsAtRest net → node < length net.plan.nodes → slice_get net.engines node ≡ Some engine → shelf_at engine number ≡ None
-shelf_clear net node number engine rest within at =
+shelf_clear : (laws : Laws) (net : NetView) (node number : ℕ) (engine : EngineView) → IsAtRest laws net → node < length net.plan.nodes → slice_get net.engines node ≡ Some engine → shelf_at engine number ≡ None
+shelf_clear laws net node number engine rest within at =
     let c = rest (Commit node number) within in
     let same : c.engine ≡ engine = same_Some c.engine engine (sym c.at ∙ at) in
     subst (λ (e : EngineView). shelf_at e number ≡ None) same (none_shelved (shelf_at c.engine number) node number c.engine net c.committed)
@@ -68,8 +69,8 @@ first_shelf engine entry entries is =
     ap (λ (t : Bool). if t then None else option_and_then shelf_of (slice_get engine.window (engine.laid - engine.laid))) (none_below engine.laid)
     ∙ ap₂ (λ (k : ℕ) (es : List EntryView). option_and_then shelf_of (slice_get es k)) none is
 
-none_out : (job : LoggedJob) (engine : EngineView) (work_queue : WorkQueueView) (entry : EntryView) (entries : List EntryView) → HasWorks job engine work_queue → work_queue.works ≡ [] → engine.window ≡ entry ∷ entries → entry.outcome ≡ None → ⊥
-none_out job engine work_queue entry entries works clear is out =
+none_out : {laws : Laws} (job : LoggedJob laws) (engine : EngineView) (work_queue : WorkQueueView) (entry : EntryView) (entries : List EntryView) → HasWorks job engine work_queue → work_queue.works ≡ [] → engine.window ≡ entry ∷ entries → entry.outcome ≡ None → ⊥
+none_out {laws} job engine work_queue entry entries works clear is out =
     let some : Any (λ w. w.number ≡ engine.laid + 0) [] = subst (Any (λ w. w.number ≡ engine.laid + 0)) clear (works.complete 0 entry (ap (λ (es : List EntryView). slice_get es 0) is) out) in
     let less = some.2 in
     absurd (omega (arith, less))
@@ -83,17 +84,17 @@ by_answer phase work None committed entries entry is shelf unrun ready = not_bot
 by_answer phase work (Some answer) true entries entry is shelf unrun ready = false≢true (sym ready ∙ ap (λ (e : EntryView). starts_ready (e ∷ entries)) is)
 by_answer phase work (Some answer) false entries entry is shelf unrun ready = not_both (record { work = work; answer = answer }) (shelf_of entry) (ap shelf_of is) shelf
 
-by_outcome : (job : LoggedJob) (engine : EngineView) (work_queue : WorkQueueView) (entry : EntryView) (entries : List EntryView) (outcome : Option OutcomeView) → entry.outcome ≡ outcome → HasWorks job engine work_queue → work_queue.works ≡ [] → engine.window ≡ entry ∷ entries
+by_outcome : {laws : Laws} (job : LoggedJob laws) (engine : EngineView) (work_queue : WorkQueueView) (entry : EntryView) (entries : List EntryView) (outcome : Option OutcomeView) → entry.outcome ≡ outcome → HasWorks job engine work_queue → work_queue.works ≡ [] → engine.window ≡ entry ∷ entries
     → shelf_at engine engine.laid ≡ None → first_unrun 0 (entry ∷ entries) ≡ None → starts_ready (entry ∷ entries) ≡ false → ⊥
-by_outcome job engine work_queue entry entries None outcome works clear is shelf unrun ready = none_out job engine work_queue entry entries works clear is outcome
-by_outcome job engine work_queue entry entries (Some o) outcome works clear is shelf unrun ready =
+by_outcome {laws} job engine work_queue entry entries None outcome works clear is shelf unrun ready = none_out job engine work_queue entry entries works clear is outcome
+by_outcome {laws} job engine work_queue entry entries (Some o) outcome works clear is shelf unrun ready =
     by_answer entry.phase o.work o.answer entry.committed entries entry (ap (λ (x : Option OutcomeView). let e : EntryView = record { phase = entry.phase; outcome = x; committed = entry.committed } in e) outcome)
     (sym (first_shelf engine entry entries is) ∙ shelf) unrun ready
 
-window_clear : (job : LoggedJob) (engine : EngineView) (work_queue : WorkQueueView) (window : List EntryView) → engine.window ≡ window → HasWorks job engine work_queue → work_queue.works ≡ [] → shelf_at engine engine.laid ≡ None → first_unrun 0 window ≡ None → starts_ready window ≡ false
+window_clear : {laws : Laws} (job : LoggedJob laws) (engine : EngineView) (work_queue : WorkQueueView) (window : List EntryView) → engine.window ≡ window → HasWorks job engine work_queue → work_queue.works ≡ [] → shelf_at engine engine.laid ≡ None → first_unrun 0 window ≡ None → starts_ready window ≡ false
     → window ≡ []
-window_clear job engine work_queue [] is works clear shelf unrun ready = refl
-window_clear job engine work_queue (entry ∷ entries) is works clear shelf unrun ready = absurd (by_outcome job engine work_queue entry entries entry.outcome refl works clear is shelf unrun ready)
+window_clear {laws} job engine work_queue [] is works clear shelf unrun ready = refl
+window_clear {laws} job engine work_queue (entry ∷ entries) is works clear shelf unrun ready = absurd (by_outcome job engine work_queue entry entries entry.outcome refl works clear is shelf unrun ready)
 
 -- A claim that does nothing.
 claims_none : (engine engine_now : EngineView) (intake intake_now : IntakeView) (work_queue work_queue_now : WorkQueueView) → ClaimsBy Idle engine engine_now intake intake_now work_queue work_queue_now → 1 ≤ engine.in_flight
@@ -110,10 +111,10 @@ not_advanced : (b : Bool) → Idle ≡ (if b then Did else Idle) → b ≡ false
 not_advanced true e = absurd cc
 not_advanced false e = refl
 
-pub cell_rests : (job : LoggedJob) (net : NetView) (number : ℕ) (node : PlanNode) (engine : EngineView) (intake : IntakeView) (work_queue : WorkQueueView) → StandsFor job net → IsRunning net → IsAtRest net → slice_get net.plan.nodes number ≡ Some node
+pub cell_rests : {laws : Laws} (job : LoggedJob laws) (net : NetView) (number : ℕ) (node : PlanNode) (engine : EngineView) (intake : IntakeView) (work_queue : WorkQueueView) → StandsFor job net → IsRunning net → IsAtRest laws net → slice_get net.plan.nodes number ≡ Some node
     → slice_get net.engines number ≡ Some engine → slice_get net.intakes number ≡ Some intake → slice_get net.work_queues number ≡ Some work_queue → IsResting engine intake
 unfolding StandsFor
-cell_rests job net number node engine intake work_queue h running rest there at to on =
+cell_rests {laws} job net number node engine intake work_queue h running rest there at to on =
     let within = slice_get_within net.plan.nodes number node there in
     let cell = cell_at job net number engine intake work_queue h running within at to on in
     let known = engine_known job number engine node cell.lawful_engine (subst (λ (plan : Plan). slice_get plan.nodes number ≡ Some node) h.plan there) in
@@ -124,10 +125,10 @@ cell_rests job net number node engine intake work_queue h running rest there at 
     let same_engine : a.engine ≡ engine = same_Some a.engine engine (sym a.at ∙ at) in
     let same_intake : a.intake ≡ intake = same_Some a.intake intake (sym a.to ∙ to) in
     let clear : has_ended engine ≡ false → first_unrun 0 engine.window ≡ None → engine.window ≡ [] = λ goes unrun.
-    window_clear job engine work_queue engine.window refl cell.works (work_queue_clear net number work_queue rest within on) (shelf_clear net number engine.laid engine rest within at) unrun (nothing_ready job number engine cell.lawful_engine goes) in
+    window_clear job engine work_queue engine.window refl cell.works (work_queue_clear laws net number work_queue rest within on) (shelf_clear laws net number engine.laid engine rest within at) unrun (nothing_ready job number engine cell.lawful_engine goes) in
     record {
       claims = elim (rest (Claim number) within) [
-        | inl held ↦ absurd (none_throttled net (source_node number) rest held.0.throttled)
+        | inl held ↦ absurd (none_throttled laws net (source_node number) rest held.0.throttled)
         | inr (other, c) ↦
             (let first : c.engine ≡ engine = same_Some c.engine engine (sym c.at ∙ at) in
             let second : c.intake ≡ intake = same_Some c.intake intake (sym c.to ∙ to) in

@@ -6,6 +6,7 @@ use Rattle.std.proofs.lemmas.List.Folds.{list_any-from_Any}
 use Rattle.std.proofs.lemmas.Option.{same_Some, slice_get_within}
 use Rattle.mg_stream.specs.Pool.{Backlog}
 use Rattle.mg_value.specs.Payload.{Plain}
+use Rattle.mg_calc.specs.Rules.{Laws}
 use Rattle.mg_calc.specs.declared.edge.Edge.{Edge}
 use Rattle.mg_calc.specs.declared.plan.Plan.{Plan}
 use Rattle.mg_calc.specs.declared.plan_stream.PlanStream.{PlanStream}
@@ -71,9 +72,9 @@ brings_brought net number place e engine intake b from at to =
     (same_Some b.engine engine (sym b.at ∙ ap (λ (k : ℕ). slice_get net.engines k) same_place ∙ at))
     (same_Some b.intake intake (sym b.to ∙ to)) (b.still none) b.moved
 
-pub has_brought : (net : NetView) (number place : ℕ) (e : Edge) (engine : EngineView) (intake : IntakeView) → ¬ IsAnyFull net.limits → Acts (Deliver number) Idle net net → slice_get net.plan.edges number ≡ Some e
+pub has_brought : (laws : Laws) (net : NetView) (number place : ℕ) (e : Edge) (engine : EngineView) (intake : IntakeView) → ¬ IsAnyFull net.limits → Acts laws (Deliver number) Idle net net → slice_get net.plan.edges number ≡ Some e
     → source_of net.plan e ≡ Some place → slice_get net.engines place ≡ Some engine → slice_get net.intakes e.node ≡ Some intake → HasBrought engine e intake
-has_brought net number place e engine intake free d there from at to = elim d.delivered [
+has_brought laws net number place e engine intake free d there from at to = elim d.delivered [
   | inl held ↦ absurd (throttled_full net _ free held.0.throttled)
   | inr brings ↦ brings_brought net number place e engine intake
       (subst (λ (x : Edge). Brings number x Idle net net) (same_Some d.edge e (sym d.there ∙ there)) brings.1) from at to
@@ -108,9 +109,9 @@ next_none net node engine intake c at to =
     subst (λ (i : IntakeView). ClaimsNone engine i) (same_Some c.intake intake (sym c.to ∙ to))
     (subst (λ (g : EngineView). ClaimsNone g c.intake) (same_Some c.engine engine (sym c.at ∙ at)) (claims_none c.engine c.engine_now c.intake c.intake_now c.claims.0))
 
-pub is_done : (net : NetView) (node : ℕ) (engine : EngineView) (intake : IntakeView) (work_queue : WorkQueueView) → ¬ IsAnyFull net.limits → RestsAt net node → slice_get net.engines node ≡ Some engine → slice_get net.intakes node ≡ Some intake
+pub is_done : {laws : Laws} (net : NetView) (node : ℕ) (engine : EngineView) (intake : IntakeView) (work_queue : WorkQueueView) → ¬ IsAnyFull net.limits → RestsAt laws net node → slice_get net.engines node ≡ Some engine → slice_get net.intakes node ≡ Some intake
     → slice_get net.work_queues node ≡ Some work_queue → IsDone engine intake work_queue
-is_done net node engine intake work_queue free h at to on =
+is_done {laws} net node engine intake work_queue free h at to on =
     let a = h.advances in
     let same_engine = same_Some a.engine engine (sym a.at ∙ at) in
     let same_intake = same_Some a.intake intake (sym a.to ∙ to) in
@@ -127,10 +128,10 @@ is_done net node engine intake work_queue free h at to on =
 
 -- A place whose parts tell so has nothing to do.
 
-pub delivers_none : (net : NetView) (number place : ℕ) (e : Edge) (engine : EngineView) (intake : IntakeView) → StandsForSome net → ¬ IsAnyFull net.limits → slice_get net.plan.edges number ≡ Some e
-    → source_of net.plan e ≡ Some place → slice_get net.engines place ≡ Some engine → slice_get net.intakes e.node ≡ Some intake → HasBrought engine e intake → Acts (Deliver number) Idle net net
+pub delivers_none : {laws : Laws} (net : NetView) (number place : ℕ) (e : Edge) (engine : EngineView) (intake : IntakeView) → StandsForSome laws net → ¬ IsAnyFull net.limits → slice_get net.plan.edges number ≡ Some e
+    → source_of net.plan e ≡ Some place → slice_get net.engines place ≡ Some engine → slice_get net.intakes e.node ≡ Some intake → HasBrought engine e intake → Acts laws (Deliver number) Idle net net
 unfolding StandsFor
-delivers_none net number place e engine intake some free there from at to h =
+delivers_none {laws} net number place e engine intake some free there from at to h =
     let within = slice_get_within net.plan.edges number e there in
     let long = queues_long net some in
     let q = found net.limits.queues number (omega (arith, within, long)) in
@@ -154,9 +155,9 @@ delivers_none net number place e engine intake some free there from at to h =
     } in
     record { edge = e; there = there; delivered = inr ((λ held. throttled_full net _ free held.throttled), brings) }
 
-claims_nothing : (net : NetView) (node : ℕ) (engine : EngineView) (intake : IntakeView) (work_queue : WorkQueueView) → StandsForSome net → IsRunning net → node < length net.plan.nodes → slice_get net.engines node ≡ Some engine
+claims_nothing : {laws : Laws} (net : NetView) (node : ℕ) (engine : EngineView) (intake : IntakeView) (work_queue : WorkQueueView) → StandsForSome laws net → IsRunning net → node < length net.plan.nodes → slice_get net.engines node ≡ Some engine
     → slice_get net.intakes node ≡ Some intake → slice_get net.work_queues node ≡ Some work_queue → IsDone engine intake work_queue → ClaimsNext node Idle net net
-claims_nothing net node engine intake work_queue some running there at to on d =
+claims_nothing {laws} net node engine intake work_queue some running there at to on d =
     let first = first_edge net.plan node in
     let told : all_noted net.limits.queues first (lengths_of intake.waits) ≡ net.limits.queues =
     all_noted_same (lengths_of intake.waits) net.limits.queues first (know_ports some.job net node intake some.stands running there to) in
@@ -175,9 +176,9 @@ claims_nothing net node engine intake work_queue some running there at to on d =
           ∙ ap (λ (qs : List Queue). with_limits net (record net.limits { queues = qs })) told);
     }
 
-pub rests_at : (net : NetView) (node : ℕ) (engine : EngineView) (intake : IntakeView) (work_queue : WorkQueueView) → StandsForSome net → IsRunning net → ¬ IsAnyFull net.limits → node < length net.plan.nodes → slice_get net.engines node ≡ Some engine
-    → slice_get net.intakes node ≡ Some intake → slice_get net.work_queues node ≡ Some work_queue → IsDone engine intake work_queue → RestsAt net node
-rests_at net node engine intake work_queue some running free there at to on d = record {
+pub rests_at : {laws : Laws} (net : NetView) (node : ℕ) (engine : EngineView) (intake : IntakeView) (work_queue : WorkQueueView) → StandsForSome laws net → IsRunning net → ¬ IsAnyFull net.limits → node < length net.plan.nodes → slice_get net.engines node ≡ Some engine
+    → slice_get net.intakes node ≡ Some intake → slice_get net.work_queues node ≡ Some work_queue → IsDone engine intake work_queue → RestsAt laws net node
+rests_at {laws} net node engine intake work_queue some running free there at to on d = record {
   claims = inr ((λ held. throttled_full net _ free held.throttled), claims_nothing net node engine intake work_queue some running there at to on d);
   works = λ other other_on. subst (λ (k : WorkQueueView). k.works ≡ []) (same_Some work_queue other (sym on ∙ other_on)) d.works;
   shelf = λ other number other_at. subst (λ (g : EngineView). shelf_at g number ≡ None) (same_Some engine other (sym at ∙ other_at)) (d.shelf number);
@@ -217,35 +218,35 @@ was_out : (touched now : ReadyNodes) (place other : ℕ) → ChangesOnly touched
 was_out touched now place other only apart out is = out ((only.others other apart).1 is)
 
 -- a place that rests isn't touched any more
-pub rests_here : (net : NetView) (agenda agenda_now : AgendaView) (place : ℕ) → ¬ IsAnyFull net.limits → ChangesOnly agenda.touched agenda_now.touched place → RestsHere net place → RestsBut net agenda → RestsBut net agenda_now
-rests_here net agenda agenda_now place free only here h = record {
+pub rests_here : {laws : Laws} (net : NetView) (agenda agenda_now : AgendaView) (place : ℕ) → ¬ IsAnyFull net.limits → ChangesOnly agenda.touched agenda_now.touched place → RestsHere laws net place → RestsBut net agenda → RestsBut net agenda_now
+rests_here {laws} net agenda agenda_now place free only here h = record {
   edges = λ number source e engine intake there upto from out_from out_to at to. elim (cases_eq source place) [
-    | inl same ↦ has_brought net number source e engine intake free (here.behind number (e, there, from ∙ ap (λ (k : ℕ). Some k) same)) there from at to
+    | inl same ↦ has_brought laws net number source e engine intake free (here.behind number (e, there, from ∙ ap (λ (k : ℕ). Some k) same)) there from at to
     | inr other ↦ elim (cases_eq e.node place) [
-      | inl same ↦ has_brought net number source e engine intake free (here.into number e there same) there from at to
+      | inl same ↦ has_brought laws net number source e engine intake free (here.into number e there same) there from at to
       | inr apart ↦ h.edges number source e engine intake there upto from (was_out agenda.touched agenda_now.touched place source only other out_from)
           (was_out agenda.touched agenda_now.touched place e.node only apart out_to) at to
     ]
   ];
   nodes = λ node engine intake work_queue there out at to on. elim (cases_eq node place) [
     | inl same ↦ is_done net node engine intake work_queue free
-        (subst (λ (k : ℕ). RestsAt net k) (sym same) (here.node (subst (λ (k : ℕ). k < length net.plan.nodes) same there))) at to on
+        (subst (λ (k : ℕ). RestsAt laws net k) (sym same) (here.node (subst (λ (k : ℕ). k < length net.plan.nodes) same there))) at to on
     | inr apart ↦ h.nodes node engine intake work_queue there (was_out agenda.touched agenda_now.touched place node only apart out) at to on
   ];
 }
 
 -- every edge leads from a place
-edge_source : (net : NetView) (number : ℕ) (e : Edge) → StandsForSome net → slice_get net.plan.edges number ≡ Some e → (place : ℕ) × (source_of net.plan e ≡ Some place)
-edge_source net number e some there =
+edge_source : {laws : Laws} (net : NetView) (number : ℕ) (e : Edge) → StandsForSome laws net → slice_get net.plan.edges number ≡ Some e → (place : ℕ) × (source_of net.plan e ≡ Some place)
+edge_source {laws} net number e some there =
     let ok = valid net some in
     let it = producer_there net.plan ok e.stream (edge_stream net.plan ok number e there) in
     (place_of net.plan it.0.producer, ap (λ (s : Option PlanStream). option_map (place_of net.plan) (option_map (λ x. x.producer) s)) it.1)
 
 -- none is touched
-pub all_rest : (net : NetView) (agenda : AgendaView) → StandsForSome net → IsRunning net → ¬ IsAnyFull net.limits → IsEmpty agenda.touched → RestsBut net agenda → IsAtRest net
-all_rest net agenda some running free none h = rests net some edges nodes (inl (free, record { idle = refl; same = refl }))
+pub all_rest : {laws : Laws} (net : NetView) (agenda : AgendaView) → StandsForSome laws net → IsRunning net → ¬ IsAnyFull net.limits → IsEmpty agenda.touched → RestsBut net agenda → IsAtRest laws net
+all_rest {laws} net agenda some running free none h = rests net some edges nodes (inl (free, record { idle = refl; same = refl }))
   where
-    edges : EdgesRest net (length net.plan.edges)
+    edges : EdgesRest laws net (length net.plan.edges)
     edges = λ number less.
         (let e = found net.plan.edges number less in
         let source = edge_source net number e.0 some e.1 in
@@ -254,7 +255,7 @@ all_rest net agenda some running free none h = rests net some edges nodes (inl (
         delivers_none net number source.0 e.0 engine.0 intake.0 some free e.1 source.1 engine.1 intake.1
         (h.edges number source.0 e.0 engine.0 intake.0 e.1 (edge_ends net.plan (valid net some) number e.0 e.1).0 source.1 (none source.0) (none e.0.node) engine.1 intake.1))
 
-    nodes : NodesRest net (length net.plan.nodes)
+    nodes : NodesRest laws net (length net.plan.nodes)
     nodes = λ node less.
         (let engine = found net.engines node (engine_there net node some less) in
         let intake = found net.intakes node (intake_there net node some less) in
@@ -267,38 +268,38 @@ all_rest net agenda some running free none h = rests net some edges nodes (inl (
 idle_not_did : Idle ≡ Did → ⊥
 idle_not_did e = absurd cc
 
-relax_idle : (a : NetView) → Acts Relax Idle a a → ¬ IsAnyFull a.limits
-relax_idle a r full = elim r [
+relax_idle : (laws : Laws) (a : NetView) → Acts laws Relax Idle a a → ¬ IsAnyFull a.limits
+relax_idle laws a r full = elim r [
   | inl free ↦ free.0 full
   | inr does ↦ idle_not_did does.1
 ]
 
-pub relaxed_none : (did : Bool) (a b : NetView) → did ≡ false → Steps did Relax a b → ¬ IsAnyFull b.limits
-relaxed_none true a b isnt s = absurd (false≢true (sym isnt))
-relaxed_none false a b isnt s = subst (λ (v : NetView). ¬ IsAnyFull v.limits) (sym s.0) (relax_idle a s.1)
+pub relaxed_none : (laws : Laws) (did : Bool) (a b : NetView) → did ≡ false → Steps laws did Relax a b → ¬ IsAnyFull b.limits
+relaxed_none laws true a b isnt s = absurd (false≢true (sym isnt))
+relaxed_none laws false a b isnt s = subst (λ (v : NetView). ¬ IsAnyFull v.limits) (sym s.0) (relax_idle laws a s.1)
 
 -- where nothing was done first, what is done then is all
 pub goes_next : (first second : Bool) (a b c : NetView) → first ≡ false → Goes first a b → Goes second b c → Goes second a c
 goes_next first second a b c isnt one two = subst (λ (v : NetView). Goes second v c) (goes_false first a b isnt one) two
 
 -- a place at which nothing was done
-pub place_rests : (came sent worked : Bool) (a b c d : NetView) (place : ℕ) → Goes came a b → Goes sent b c → Goes worked c d → (came ≡ false → EdgesRestInto b place) → (sent ≡ false → EdgesRestBehind c place)
-    → (worked ≡ false → place < length d.plan.nodes → RestsAt d place) → ((came || sent) || worked) ≡ false → RestsHere d place
-place_rests true sent worked a b c d place one two three into behind node isnt = absurd (false≢true (sym isnt))
-place_rests false true worked a b c d place one two three into behind node isnt = absurd (false≢true (sym isnt))
-place_rests false false true a b c d place one two three into behind node isnt = absurd (false≢true (sym isnt))
-place_rests false false false a b c d place one two three into behind node isnt = record {
-  into = subst (λ (v : NetView). EdgesRestInto v place) (sym (three ∙ two)) (into refl);
-  behind = subst (λ (v : NetView). EdgesRestBehind v place) (sym three) (behind refl);
+pub place_rests : {laws : Laws} (came sent worked : Bool) (a b c d : NetView) (place : ℕ) → Goes came a b → Goes sent b c → Goes worked c d → (came ≡ false → EdgesRestInto laws b place) → (sent ≡ false → EdgesRestBehind laws c place)
+    → (worked ≡ false → place < length d.plan.nodes → RestsAt laws d place) → ((came || sent) || worked) ≡ false → RestsHere laws d place
+place_rests {laws} true sent worked a b c d place one two three into behind node isnt = absurd (false≢true (sym isnt))
+place_rests {laws} false true worked a b c d place one two three into behind node isnt = absurd (false≢true (sym isnt))
+place_rests {laws} false false true a b c d place one two three into behind node isnt = absurd (false≢true (sym isnt))
+place_rests {laws} false false false a b c d place one two three into behind node isnt = record {
+  into = subst (λ (v : NetView). EdgesRestInto laws v place) (sym (three ∙ two)) (into refl);
+  behind = subst (λ (v : NetView). EdgesRestBehind laws v place) (sym three) (behind refl);
   node = node refl;
 }
 
 -- and it isn't touched any more
-pub settles : (net now : NetView) (agenda next agenda_now : AgendaView) (place : ℕ) → now ≡ net → agenda_now ≡ next → ¬ IsAnyFull net.limits → ChangesOnly agenda.touched next.touched place → RestsHere now place → RestsBut net agenda
+pub settles : {laws : Laws} (net now : NetView) (agenda next agenda_now : AgendaView) (place : ℕ) → now ≡ net → agenda_now ≡ next → ¬ IsAnyFull net.limits → ChangesOnly agenda.touched next.touched place → RestsHere laws now place → RestsBut net agenda
     → RestsBut now agenda_now
-settles net now agenda next agenda_now place same unchanged free only here h =
+settles {laws} net now agenda next agenda_now place same unchanged free only here h =
     subst (λ (v : NetView). RestsBut v agenda_now) (sym same)
-    (subst (λ (a : AgendaView). RestsBut net a) (sym unchanged) (rests_here net agenda next place free only (subst (λ (v : NetView). RestsHere v place) same here) h))
+    (subst (λ (a : AgendaView). RestsBut net a) (sym unchanged) (rests_here net agenda next place free only (subst (λ (v : NetView). RestsHere laws v place) same here) h))
 
 -- where something was done the place is touched again
 pub notes_again : (a : NetView) (k next : AgendaView) (b : NetView) (m last : AgendaView) (place : ℕ) → ChangesOnly k.touched next.touched place → Notes a next b m → IsIn last.touched place → ChangesOnly m.touched last.touched place
@@ -319,59 +320,59 @@ notes_again a k next b m last place took notes there put = record {
 -- Edges into a consumer, one port after the other.
 
 -- no edge leads to a place behind the collector's
-pub into_none : (net : NetView) (place : ℕ) → StandsForSome net → length net.plan.nodes < place → EdgesRestInto net place
-into_none net place some past = λ number e there same. absurd (let upto = (edge_ends net.plan (valid net some) number e there).0 in omega (arith, upto, same, past))
+pub into_none : {laws : Laws} (net : NetView) (place : ℕ) → StandsForSome laws net → length net.plan.nodes < place → EdgesRestInto laws net place
+into_none {laws} net place some past = λ number e there same. absurd (let upto = (edge_ends net.plan (valid net some) number e there).0 in omega (arith, upto, same, past))
 
 -- nor does one lead from behind the places
-pub behind_none : (net : NetView) (place : ℕ) → StandsForSome net → length net.plan.nodes + length net.plan.inputs ≤ place → EdgesRestBehind net place
-behind_none net place some past = λ number leads.
+pub behind_none : {laws : Laws} (net : NetView) (place : ℕ) → StandsForSome laws net → length net.plan.nodes + length net.plan.inputs ≤ place → EdgesRestBehind laws net place
+behind_none {laws} net place some past = λ number leads.
     absurd (let within = source_there net number place leads.0 some leads.1 leads.2 in let long = (places net some).0 in omega (arith, within, long, past))
 
-pub ports_more : (did moved : Bool) (first k : ℕ) (a b : NetView) → (did ≡ false → (port : ℕ) → port < k → Acts (Deliver (first + port)) Idle a a) → Goes moved a b → (moved ≡ false → Acts (Deliver (first + k)) Idle b b)
-    → (did || moved) ≡ false → (port : ℕ) → port < k + 1 → Acts (Deliver (first + port)) Idle b b
-ports_more true moved first k a b so_far goes last isnt = absurd (false≢true (sym isnt))
-ports_more false true first k a b so_far goes last isnt = absurd (false≢true (sym isnt))
-ports_more false false first k a b so_far goes last isnt =
-    below_more (λ (port : ℕ). Acts (Deliver (first + port)) Idle b b) k (λ port less. still_idle (Deliver (first + port)) a b (sym goes) (so_far refl port less)) (last refl)
+pub ports_more : (laws : Laws) (did moved : Bool) (first k : ℕ) (a b : NetView) → (did ≡ false → (port : ℕ) → port < k → Acts laws (Deliver (first + port)) Idle a a) → Goes moved a b → (moved ≡ false → Acts laws (Deliver (first + k)) Idle b b)
+    → (did || moved) ≡ false → (port : ℕ) → port < k + 1 → Acts laws (Deliver (first + port)) Idle b b
+ports_more laws true moved first k a b so_far goes last isnt = absurd (false≢true (sym isnt))
+ports_more laws false true first k a b so_far goes last isnt = absurd (false≢true (sym isnt))
+ports_more laws false false first k a b so_far goes last isnt =
+    below_more (λ (port : ℕ). Acts laws (Deliver (first + port)) Idle b b) k (λ port less. still_idle laws (Deliver (first + port)) a b (sym goes) (so_far refl port less)) (last refl)
 
 -- the edge of a port is there
-pub port_edge : (net : NetView) (consumer first port : ℕ) → StandsForSome net → consumer ≤ length net.plan.nodes → first ≡ first_edge net.plan consumer → port < length (ports_of net.plan consumer) → first + port < length net.plan.edges
-port_edge net consumer first port some upto is less =
+pub port_edge : {laws : Laws} (net : NetView) (consumer first port : ℕ) → StandsForSome laws net → consumer ≤ length net.plan.nodes → first ≡ first_edge net.plan consumer → port < length (ports_of net.plan consumer) → first + port < length net.plan.edges
+port_edge {laws} net consumer first port some upto is less =
     let e = edge_number net.plan (valid net some) consumer port upto less in
     let within = slice_get_within net.plan.edges (first_edge net.plan consumer + port) e.0 e.1 in
     omega (arith, within, is)
 
-pub few_edges : (net : NetView) → StandsForSome net → length net.plan.edges < 4294967296
-few_edges net some = let few = (valid net some).ranges.edges in omega (arith, few)
+pub few_edges : {laws : Laws} (net : NetView) → StandsForSome laws net → length net.plan.edges < 4294967296
+few_edges {laws} net some = let few = (valid net some).ranges.edges in omega (arith, few)
 
 -- and all edges into a consumer are those of its ports
-pub into_all : (net : NetView) (consumer first ports : ℕ) → StandsForSome net → first ≡ first_edge net.plan consumer → ports ≡ length (ports_of net.plan consumer)
-    → ((port : ℕ) → port < ports → Acts (Deliver (first + port)) Idle net net) → EdgesRestInto net consumer
-into_all net consumer first ports some is count all = λ number e there same.
+pub into_all : {laws : Laws} (net : NetView) (consumer first ports : ℕ) → StandsForSome laws net → first ≡ first_edge net.plan consumer → ports ≡ length (ports_of net.plan consumer)
+    → ((port : ℕ) → port < ports → Acts laws (Deliver (first + port)) Idle net net) → EdgesRestInto laws net consumer
+into_all {laws} net consumer first ports some is count all = λ number e there same.
     (let at = edge_place net.plan (valid net some) number e there in
     let less : e.port < ports = subst (λ (n : ℕ). e.port < n) (ap (λ (k : ℕ). length (ports_of net.plan k)) same ∙ sym count) at.1 in
     let number_is : first + e.port ≡ number = ap (λ (k : ℕ). k + e.port) (is ∙ ap (first_edge net.plan) (sym same)) ∙ sym at.0 in
-    subst (λ (k : ℕ). Acts (Deliver k) Idle net net) number_is (all e.port less))
+    subst (λ (k : ℕ). Acts laws (Deliver k) Idle net net) number_is (all e.port less))
 
-pub behind_all : (plan : Plan) (place : ℕ) (agenda : AgendaView) (net : NetView) (first : Option ℕ) → IsAgendaOf plan agenda → net.plan ≡ plan → place < length agenda.heads → first ≡ slice_index_or agenda.starts place None
-    → EdgesRestFrom plan first net → EdgesRestBehind net place
-behind_all plan place agenda net first of same within is all = λ number leads.
+pub behind_all : (laws : Laws) (plan : Plan) (place : ℕ) (agenda : AgendaView) (net : NetView) (first : Option ℕ) → IsAgendaOf plan agenda → net.plan ≡ plan → place < length agenda.heads → first ≡ slice_index_or agenda.starts place None
+    → EdgesRestFrom laws plan first net → EdgesRestBehind laws net place
+behind_all laws plan place agenda net first of same within is all = λ number leads.
     (let count = of.start_count in
     all place 0 number (subst (IsFirstFrom plan 0 place) (sym is) (of.leads.first place (omega (arith, within, count)))) (omega arith)
     (subst (λ (p : Plan). LeadsFrom p place number) same leads))
 
 -- The ports of a consumer.
 
-pub consumer_there : (net : NetView) (consumer : ℕ) → StandsForSome net → consumer ≤ length net.plan.nodes → consumer < length net.intakes
-consumer_there net consumer some upto = let long = (places net some).1 in omega (arith, upto, long)
+pub consumer_there : {laws : Laws} (net : NetView) (consumer : ℕ) → StandsForSome laws net → consumer ≤ length net.plan.nodes → consumer < length net.intakes
+consumer_there {laws} net consumer some upto = let long = (places net some).1 in omega (arith, upto, long)
 
-pub consumer_fits : (shown net : NetView) (consumer n : ℕ) → shown ≡ net → StandsForSome net → consumer ≤ length net.plan.nodes → n ≡ length shown.intakes → consumer < n
-consumer_fits shown net consumer n is some upto long =
+pub consumer_fits : {laws : Laws} (shown net : NetView) (consumer n : ℕ) → shown ≡ net → StandsForSome laws net → consumer ≤ length net.plan.nodes → n ≡ length shown.intakes → consumer < n
+consumer_fits {laws} shown net consumer n is some upto long =
     let within = subst (λ (v : NetView). consumer < length v.intakes) (sym is) (consumer_there net consumer some upto) in omega (arith, within, long)
 
-pub ports_counted : (net : NetView) (consumer : ℕ) (intake : IntakeView) → StandsForSome net → consumer ≤ length net.plan.nodes → slice_get net.intakes consumer ≡ Some intake → ports_in intake.waits ≡ length (ports_of net.plan consumer)
+pub ports_counted : {laws : Laws} (net : NetView) (consumer : ℕ) (intake : IntakeView) → StandsForSome laws net → consumer ≤ length net.plan.nodes → slice_get net.intakes consumer ≡ Some intake → ports_in intake.waits ≡ length (ports_of net.plan consumer)
 unfolding StandsFor
-ports_counted net consumer intake some upto to =
+ports_counted {laws} net consumer intake some upto to =
     intake_ports some.job consumer intake (intake_of some.job net consumer intake some.stands upto to) ∙ sym (ap (λ (p : Plan). length (ports_of p consumer)) some.stands.plan)
 
 -- An agenda of a net of which nothing is known.
@@ -383,14 +384,14 @@ woken false net agenda now of same all rests = rests_none net now (length agenda
 
 -- Nets that were only taken up and laid down between.
 
-pub becomes_same : (a b : NetView) → b ≡ a → Becomes a b
-becomes_same a b same = subst (λ (v : NetView). Becomes a v) (sym same) itself
+pub becomes_same : {laws : Laws} (a b : NetView) → b ≡ a → Becomes laws a b
+becomes_same {laws} a b same = subst (λ (v : NetView). Becomes laws a v) (sym same) itself
 
-pub becomes_between : (a b c d : NetView) → b ≡ a → d ≡ c → Becomes b c → Becomes a d
-becomes_between a b c d before after h = subst (λ (v : NetView). Becomes a v) (sym after) (subst (λ (v : NetView). Becomes v c) before h)
+pub becomes_between : {laws : Laws} (a b c d : NetView) → b ≡ a → d ≡ c → Becomes laws b c → Becomes laws a d
+becomes_between {laws} a b c d before after h = subst (λ (v : NetView). Becomes laws a v) (sym after) (subst (λ (v : NetView). Becomes laws v c) before h)
 
-pub heard_between : {H : Type 0} (has_heard : H → H → List Event → Type 0) (x y : H) (a b c d : NetView) → b ≡ a → d ≡ c → Heard has_heard x y b c → Heard has_heard x y a d
-heard_between {H} has_heard x y a b c d before after h = subst (λ (v : NetView). Heard has_heard x y a v) (sym after) (subst (λ (v : NetView). Heard has_heard x y v c) before h)
+pub heard_between : (laws : Laws) {H : Type 0} (has_heard : H → H → List Event → Type 0) (x y : H) (a b c d : NetView) → b ≡ a → d ≡ c → Heard laws has_heard x y b c → Heard laws has_heard x y a d
+heard_between laws {H} has_heard x y a b c d before after h = subst (λ (v : NetView). Heard laws has_heard x y a v) (sym after) (subst (λ (v : NetView). Heard laws has_heard x y v c) before h)
 
 -- The agenda that a net has kept, as it is taken up again.
 

@@ -10,6 +10,7 @@ use Rattle.mg_settled.specs.Ends.{end_of}
 use Rattle.mg_settled.specs.declared.stream_end.StreamEnd.{StreamEnd}
 use Rattle.mg_stream.specs.Queue.{StandsFor as IsQueueOf}
 use Rattle.mg_stream.specs.Pool.{Backlog, queue_of}
+use Rattle.mg_calc.specs.Rules.{Laws}
 use Rattle.mg_calc.specs.declared.plan.Plan.{Plan}
 use Rattle.mg_calc.specs.declared.plan_node.PlanNode.{PlanNode}
 use Rattle.mg_calc.specs.Equations.{stream_of}
@@ -57,16 +58,16 @@ joined_same {X} {Y} {W} {Z} f g e (x ∷ xs) (y ∷ ys) long each =
 
 -- Counts and faults.
 
-pub rests_with_sets : (job : LoggedJob) (net : NetView) (solution : List (StreamPrefix Plain)) → StandsFor job net → IsRunning net → IsAtRest net → Solves job solution → (report_of net).sets ≡ counts job.job solution
+pub rests_with_sets : {laws : Laws} (job : LoggedJob laws) (net : NetView) (solution : List (StreamPrefix Plain)) → StandsFor job net → IsRunning net → IsAtRest laws net → Solves job solution → (report_of net).sets ≡ counts job.job solution
 unfolding StandsFor
-rests_with_sets job net solution h running rest solves =
+rests_with_sets {laws} job net solution h running rest solves =
     let long = h.engines in
     mapped_same (λ (e : EngineView). e.laid) (count_of job.job solution) net.engines net.plan.nodes (omega (arith, long)) (λ i engine node at there. rests_with_counts job net solution i node engine h running rest solves there at)
     ∙ ap (λ (p : Plan). map (count_of job.job solution) p.nodes) h.plan
 
-pub rests_with_all_faults : (job : LoggedJob) (net : NetView) (solution : List (StreamPrefix Plain)) → StandsFor job net → IsRunning net → IsAtRest net → Solves job solution → (report_of net).faults ≡ faults job.job solution
+pub rests_with_all_faults : {laws : Laws} (job : LoggedJob laws) (net : NetView) (solution : List (StreamPrefix Plain)) → StandsFor job net → IsRunning net → IsAtRest laws net → Solves job solution → (report_of net).faults ≡ faults job.job solution
 unfolding StandsFor
-rests_with_all_faults job net solution h running rest solves =
+rests_with_all_faults {laws} job net solution h running rest solves =
     let long = h.engines in
     filtered_same (λ (e : EngineView). e.fault) (fault_of job.job solution) 0 net.engines net.plan.nodes (omega (arith, long)) (λ i engine node at there.
     let start : i ≡ 0 + i = omega arith in
@@ -91,20 +92,20 @@ ends_are streams [] (n ∷ ns) stand = absurd stand
 ends_are streams (b ∷ bs) [] stand = absurd stand
 ends_are streams (b ∷ bs) (n ∷ ns) stand = ap₂ (λ (e : StreamEnd) (es : List StreamEnd). e ∷ es) (end_is b (stream_of streams n) stand.0) (ends_are streams bs ns stand.1)
 
-node_ends : (job : LoggedJob) (net : NetView) (solution : List (StreamPrefix Plain)) → StandsFor job net → IsRunning net → IsAtRest net → Solves job solution
+node_ends : {laws : Laws} (job : LoggedJob laws) (net : NetView) (solution : List (StreamPrefix Plain)) → StandsFor job net → IsRunning net → IsAtRest laws net → Solves job solution
     → flat_map stream_ends_of (node_engines net) ≡ map (end_at solution) (flat_map (λ node. node.outputs) net.plan.nodes)
 unfolding StandsFor
-node_ends job net solution h running rest solves =
+node_ends {laws} job net solution h running rest solves =
     let long = h.engines in
     let laid = all_laid job net solution h running solves in
     let same : laid.0 ≡ solution = rests_solved job net solution laid.0 h running rest solves laid.1 in
     joined_same stream_ends_of (λ (node : PlanNode). node.outputs) (end_at solution) net.engines net.plan.nodes (omega (arith, long)) (λ i engine node at there.
     ends_are solution engine.outputs node.outputs (subst (λ (ss : List (StreamPrefix Plain)). StandForAll engine.outputs (streams_at ss node.outputs)) same (outputs_stand job net solution laid.0 i node engine h running laid.1 there at)))
 
-input_ends : (job : LoggedJob) (net : NetView) (solution : List (StreamPrefix Plain)) → StandsFor job net → Solves job solution → flat_map stream_ends_of (input_engines net) ≡ map (end_at solution) net.plan.inputs
+input_ends : {laws : Laws} (job : LoggedJob laws) (net : NetView) (solution : List (StreamPrefix Plain)) → StandsFor job net → Solves job solution → flat_map stream_ends_of (input_engines net) ≡ map (end_at solution) net.plan.inputs
 unfolding StandsFor
-input_ends job net solution h solves =
-    let some : StandsForSome net = record { job = job; stands = h } in
+input_ends {laws} job net solution h solves =
+    let some : StandsForSome laws net = record { job = job; stands = h } in
     let engines = input_engines net in
     let inputs = net.plan.inputs in
     let all = h.engines in
@@ -118,10 +119,10 @@ input_ends job net solution h solves =
     ∙ ap (λ (n : ℕ). end_at solution n ∷ []) same)
     ∙ ap (map (end_at solution)) (flat_map_single (λ (n : ℕ). n) inputs ∙ map-id inputs)
 
-pub rests_with_ends : (job : LoggedJob) (net : NetView) (solution : List (StreamPrefix Plain)) → StandsFor job net → IsRunning net → IsAtRest net → Solves job solution → (report_of net).streams ≡ map end_of solution
+pub rests_with_ends : {laws : Laws} (job : LoggedJob laws) (net : NetView) (solution : List (StreamPrefix Plain)) → StandsFor job net → IsRunning net → IsAtRest laws net → Solves job solution → (report_of net).streams ≡ map end_of solution
 unfolding StandsFor
-rests_with_ends job net solution h running rest solves =
-    let some : StandsForSome net = record { job = job; stands = h } in
+rests_with_ends {laws} job net solution h running rest solves =
+    let some : StandsForSome laws net = record { job = job; stands = h } in
     let outputs : List ℕ = flat_map (λ node. node.outputs) net.plan.nodes in
     let count : length solution ≡ length net.plan.streams =
     solution_has_each job.job (job_known job.job solves.is_job) solution solves.solution ∙ ap (λ (p : Plan). length p.streams) (sym h.plan) in

@@ -10,6 +10,7 @@ use Rattle.mg_settled.proofs.Extending.{same_prefix}
 use Rattle.mg_settled.proofs.Lemmas.{extended_by_itself}
 use Rattle.mg_stream.specs.Queue.{Waiting, StandsFor as IsQueueOf}
 use Rattle.mg_stream.specs.Pool.{Backlog, empty_backlog, queue_of}
+use Rattle.mg_calc.specs.Rules.{Laws}
 use Rattle.mg_calc.specs.declared.plan.Plan.{Plan}
 use Rattle.mg_calc.specs.declared.plan_node.PlanNode.{PlanNode}
 use Rattle.mg_calc.specs.declared.plan_stream.PlanStream.{PlanStream}
@@ -63,26 +64,26 @@ at_output engine output number whole stand is within =
     subst (λ (k : ℕ). IsQueueOf (laid_at engine k) (stream_of whole output)) same
     (zip_at (λ (b : Backlog Plain) (s : StreamPrefix Plain). IsQueueOf (queue_of 0 b) s) engine.outputs whole output empty_backlog empty_prefix stand (omega (arith, long, within)))
 
-pub input_stands : (job : LoggedJob) (net : NetView) (solution : List (StreamPrefix Plain)) (i : ℕ) (engine : EngineView) → StandsFor job net → Solves job solution → slice_get net.engines (length net.plan.nodes + i) ≡ Some engine
+pub input_stands : {laws : Laws} (job : LoggedJob laws) (net : NetView) (solution : List (StreamPrefix Plain)) (i : ℕ) (engine : EngineView) → StandsFor job net → Solves job solution → slice_get net.engines (length net.plan.nodes + i) ≡ Some engine
     → IsQueueOf (laid_at engine (i - engine.first)) (stream_of solution i)
 unfolding StandsFor
-input_stands job net solution i engine h solves at =
+input_stands {laws} job net solution i engine h solves at =
     let lawful = h.inputs i engine at in
     let first = (input_known job i engine lawful).first in
     at_output engine 0 i (stream_of solution i ∷ []) (input_has_laid job i engine solution solves lawful) (omega (arith, first)) (omega arith)
 
-by_producer : (job : LoggedJob) (net : NetView) (solution : List (StreamPrefix Plain)) (number : ℕ) (p : Producer) → StandsFor job net → IsRunning net → Solves job solution → WrittenBy net.plan number p → IsLaidBy net solution number p
+by_producer : {laws : Laws} (job : LoggedJob laws) (net : NetView) (solution : List (StreamPrefix Plain)) (number : ℕ) (p : Producer) → StandsFor job net → IsRunning net → Solves job solution → WrittenBy net.plan number p → IsLaidBy net solution number p
 unfolding StandsFor
-by_producer job net solution number (Input i) h running solves w =
-    let some : StandsForSome net = record { job = job; stands = h } in
+by_producer {laws} job net solution number (Input i) h running solves w =
+    let some : StandsForSome laws net = record { job = job; stands = h } in
     let long = (places net some).0 in
     let less = w.1 in
     let g = found net.engines (length net.plan.nodes + i) (omega (arith, long, less)) in
     let stands : (engine : EngineView) → slice_get net.engines (length net.plan.nodes + i) ≡ Some engine → IsQueueOf (laid_at engine (number - engine.first)) (stream_of solution number) = λ engine at.
     subst (λ (k : ℕ). IsQueueOf (laid_at engine (k - engine.first)) (stream_of solution k)) w.0 (input_stands job net solution i engine h solves at) in
     record { laid = stream_of solution number; prefix = (stands g.0 g.1).prefix; stands = stands; extended = extended_by_itself (stream_of solution number) }
-by_producer job net solution number (Node n port) h running solves w =
-    let some : StandsForSome net = record { job = job; stands = h } in
+by_producer {laws} job net solution number (Node n port) h running solves w =
+    let some : StandsForSome laws net = record { job = job; stands = h } in
     let node = w.0 in
     let within = slice_get_within net.plan.nodes n node w.1 in
     let long = (places net some).0 in
@@ -103,8 +104,8 @@ by_producer job net solution number (Node n port) h running solves w =
       extended = subst (IsExtendedBy (stream_of has.laid port)) (stream_there solution node.outputs port number w.2) (stream_extends has.laid (streams_at solution node.outputs) port has.extended);
     }
 
-pub one_laid : (job : LoggedJob) (net : NetView) (solution : List (StreamPrefix Plain)) (number : ℕ) → StandsFor job net → IsRunning net → Solves job solution → number < length net.plan.streams → (s : StreamPrefix Plain) × IsLaid net solution number s
-one_laid job net solution number h running solves within =
+pub one_laid : {laws : Laws} (job : LoggedJob laws) (net : NetView) (solution : List (StreamPrefix Plain)) (number : ℕ) → StandsFor job net → IsRunning net → Solves job solution → number < length net.plan.streams → (s : StreamPrefix Plain) × IsLaid net solution number s
+one_laid {laws} job net solution number h running solves within =
     let it = producer_there net.plan (valid net (record { job = job; stands = h })) number within in
     let by = by_producer job net solution number it.0.producer h running solves it.2 in (
       by.laid,
@@ -132,8 +133,8 @@ in_list P (suc n) each =
     let rest = in_list (λ k. P (suc k)) n (λ k within. each (suc k) (omega (arith, within))) in
     (first.0 ∷ rest.0, ap suc rest.1, at_each P first.0 rest.0 n first.1 rest.2)
 
-pub all_laid : (job : LoggedJob) (net : NetView) (solution : List (StreamPrefix Plain)) → StandsFor job net → IsRunning net → Solves job solution → (streams : List (StreamPrefix Plain)) × AllLaid net solution streams
-all_laid job net solution h running solves =
+pub all_laid : {laws : Laws} (job : LoggedJob laws) (net : NetView) (solution : List (StreamPrefix Plain)) → StandsFor job net → IsRunning net → Solves job solution → (streams : List (StreamPrefix Plain)) × AllLaid net solution streams
+all_laid {laws} job net solution h running solves =
     let all = in_list (IsLaid net solution) (length net.plan.streams) (λ number within. one_laid job net solution number h running solves within) in
     (all.0, record { count = all.1; each = all.2 })
 
@@ -145,11 +146,11 @@ all_stand [] (s ∷ ss) long each = absurd (omega (arith, long))
 all_stand (b ∷ bs) [] long each = absurd (omega (arith, long))
 all_stand (b ∷ bs) (s ∷ ss) long each = (each 0 (omega arith), all_stand bs ss (omega (arith, long)) (λ i within. each (suc i) (omega (arith, within))))
 
-pub outputs_stand : (job : LoggedJob) (net : NetView) (solution streams : List (StreamPrefix Plain)) (n : ℕ) (node : PlanNode) (engine : EngineView) → StandsFor job net → IsRunning net → AllLaid net solution streams → slice_get net.plan.nodes n ≡ Some node
+pub outputs_stand : {laws : Laws} (job : LoggedJob laws) (net : NetView) (solution streams : List (StreamPrefix Plain)) (n : ℕ) (node : PlanNode) (engine : EngineView) → StandsFor job net → IsRunning net → AllLaid net solution streams → slice_get net.plan.nodes n ≡ Some node
     → slice_get net.engines n ≡ Some engine → StandForAll engine.outputs (streams_at streams node.outputs)
 unfolding StandsFor
-outputs_stand job net solution streams n node engine h running all there at =
-    let some : StandsForSome net = record { job = job; stands = h } in
+outputs_stand {laws} job net solution streams n node engine h running all there at =
+    let some : StandsForSome laws net = record { job = job; stands = h } in
     let known = engine_known job n engine node (lawful_at net n engine some running (slice_get_within net.plan.nodes n node there) at) (subst (λ (plan : Plan). slice_get plan.nodes n ≡ Some node) h.plan there) in
     let outputs = known.outputs in
     let many = length-map node.outputs (stream_of streams) in
@@ -175,12 +176,12 @@ same_came o q s t u all h k e f =
     (sym (take-append_seam s.packets e.further) ∙ ap (take (length s.packets)) (sym e.packets) ∙ ap (λ (n : ℕ). take n u.packets) long ∙ ap (take (length t.packets)) f.packets ∙ take-append_seam t.packets f.further)
     (sym h.bound ∙ sym all.bound ∙ k.bound)
 
-port_rests : (job : LoggedJob) (net : NetView) (solution streams : List (StreamPrefix Plain)) (consumer port : ℕ) (intake : IntakeView) → StandsFor job net → IsRunning net → IsAtRest net → AllLaid net solution streams
+port_rests : {laws : Laws} (job : LoggedJob laws) (net : NetView) (solution streams : List (StreamPrefix Plain)) (consumer port : ℕ) (intake : IntakeView) → StandsFor job net → IsRunning net → IsAtRest laws net → AllLaid net solution streams
     → consumer ≤ length net.plan.nodes → slice_get net.intakes consumer ≡ Some intake → HasReached intake (streams_at solution (ports_of net.plan consumer)) → port < length (ports_of net.plan consumer)
     → IsQueueOf (port_queue intake.waits port) (stream_of (streams_at streams (ports_of net.plan consumer)) port)
 unfolding StandsFor
-port_rests job net solution streams consumer port intake h running rest all upto to reached within =
-    let some : StandsForSome net = record { job = job; stands = h } in
+port_rests {laws} job net solution streams consumer port intake h running rest all upto to reached within =
+    let some : StandsForSome laws net = record { job = job; stands = h } in
     let ok = valid net some in
     let ports = ports_of net.plan consumer in
     let edge = edge_number net.plan ok consumer port upto within in
@@ -206,10 +207,10 @@ port_rests job net solution streams consumer port intake h running rest all upto
     same_came (laid_at g.0 (e.stream - g.0.first)) (port_queue intake.waits port) (stream_of streams e.stream) (stream_of reached.came port) (stream_of solution e.stream) came (laid.stands it.0 g.0 it.1 g.1) stands laid.extended further in
     subst (IsQueueOf (port_queue intake.waits port)) (sym same ∙ sym (stream_there streams ports port e.stream read)) stands
 
-pub consumers_come : (job : LoggedJob) (net : NetView) (solution streams : List (StreamPrefix Plain)) (consumer : ℕ) (intake : IntakeView) → StandsFor job net → IsRunning net → IsAtRest net → Solves job solution → AllLaid net solution streams
+pub consumers_come : {laws : Laws} (job : LoggedJob laws) (net : NetView) (solution streams : List (StreamPrefix Plain)) (consumer : ℕ) (intake : IntakeView) → StandsFor job net → IsRunning net → IsAtRest laws net → Solves job solution → AllLaid net solution streams
     → consumer ≤ length net.plan.nodes → slice_get net.intakes consumer ≡ Some intake → HasCome intake (streams_at streams (ports_of net.plan consumer))
 unfolding StandsFor
-consumers_come job net solution streams consumer intake h running rest solves all upto to =
+consumers_come {laws} job net solution streams consumer intake h running rest solves all upto to =
     let lawful = intake_lawful job net consumer intake h running upto to in
     let ports = ports_of net.plan consumer in
     let many = length-map ports (stream_of streams) in
@@ -219,9 +220,9 @@ consumers_come job net solution streams consumer intake h running rest solves al
       stands = λ port within. port_rests job net solution streams consumer port intake h running rest all upto to reached (omega (arith, many, within));
     }
 
-pub inputs_come : (job : LoggedJob) (net : NetView) (solution streams : List (StreamPrefix Plain)) (n : ℕ) (node : PlanNode) (intake : IntakeView) → StandsFor job net → IsRunning net → IsAtRest net → Solves job solution → AllLaid net solution streams
+pub inputs_come : {laws : Laws} (job : LoggedJob laws) (net : NetView) (solution streams : List (StreamPrefix Plain)) (n : ℕ) (node : PlanNode) (intake : IntakeView) → StandsFor job net → IsRunning net → IsAtRest laws net → Solves job solution → AllLaid net solution streams
     → slice_get net.plan.nodes n ≡ Some node → slice_get net.intakes n ≡ Some intake → HasCome intake (inputs_of streams node)
-inputs_come job net solution streams n node intake h running rest solves all there to =
+inputs_come {laws} job net solution streams n node intake h running rest solves all there to =
     let less = slice_get_within net.plan.nodes n node there in
     subst (λ (ns : List ℕ). HasCome intake (streams_at streams ns)) (ports_of_node net.plan n node there)
     (consumers_come job net solution streams n intake h running rest solves all (omega (arith, less)) to)

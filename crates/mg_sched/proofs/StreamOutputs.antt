@@ -5,6 +5,7 @@ use Rattle.std.proofs.lemmas.List.{length-replicate}
 use Rattle.std.proofs.lemmas.Option.{none-some, same_Some, slice_get_within, slice_get_past, get_or_from_slice_get}
 use Rattle.mg_value.specs.Payload.{Plain}
 use Rattle.mg_stream.specs.Pool.{Backlog, empty_backlog}
+use Rattle.mg_calc.specs.Rules.{Laws}
 use Rattle.mg_calc.specs.declared.edge.Edge.{Edge}
 use Rattle.mg_calc.specs.declared.plan.Plan.{Plan}
 use Rattle.mg_calc.specs.declared.plan_node.PlanNode.{PlanNode}
@@ -33,8 +34,8 @@ pub record IsBare (node : PlanNode) (engine : EngineView) : Type 0 where
   pub first : engine.first ≡ get_or node.outputs 0 0
   pub outputs : engine.outputs ≡ replicate (length node.outputs) empty_backlog
 
-pub bare : (job : LoggedJob) (n : ℕ) (node : PlanNode) (engine : EngineView) → slice_get job.job.plan.nodes n ≡ Some node → LawfulUnbegun job n engine → IsBare node engine
-bare job n node engine there h = (let parts = unbegun_parts job n node (sides_of job.job node) engine there refl h in elim parts.unbegun [
+pub bare : {laws : Laws} (job : LoggedJob laws) (n : ℕ) (node : PlanNode) (engine : EngineView) → slice_get job.job.plan.nodes n ≡ Some node → LawfulUnbegun job n engine → IsBare node engine
+bare {laws} job n node engine there h = (let parts = unbegun_parts job n node (sides_of job.job node) engine there refl h in elim parts.unbegun [
   | inl fresh ↦ record { first = ap (λ (v : EngineView). v.first) fresh; outputs = ap (λ (v : EngineView). v.outputs) fresh }
   | inr opened ↦ record { first = ap (λ (v : EngineView). v.first) opened.is; outputs = ap (λ (v : EngineView). v.outputs) opened.is }
 ])
@@ -44,14 +45,14 @@ record HasNodes (node : PlanNode) (engine : EngineView) : Type 0 where
   pub numbers : (port s : ℕ) → slice_get node.outputs port ≡ Some s → s ≡ engine.first + port
   pub count : length engine.outputs ≡ length node.outputs
 
-node_outputs : (job : LoggedJob) (b : Bool) (n : ℕ) (node : PlanNode) (engine : EngineView) → IsValid job.job.plan → slice_get job.job.plan.nodes n ≡ Some node → IsEngine job b n engine → HasNodes node engine
-node_outputs job true n node engine ok there h =
+node_outputs : {laws : Laws} (job : LoggedJob laws) (b : Bool) (n : ℕ) (node : PlanNode) (engine : EngineView) → IsValid job.job.plan → slice_get job.job.plan.nodes n ≡ Some node → IsEngine job b n engine → HasNodes node engine
+node_outputs {laws} job true n node engine ok there h =
     let known = engine_known job n engine node h there in
     record {
       numbers = λ port s at. (number_of engine.first (length node.outputs) port s (ap (λ (ns : List ℕ). slice_get ns port) (sym known.set_up.first) ∙ at)).1;
       count = known.outputs;
     }
-node_outputs job false n node engine ok there h =
+node_outputs {laws} job false n node engine ok there h =
     let b = bare job n node engine there h in
     record {
       numbers = λ port s at.
@@ -83,32 +84,32 @@ laid_written plan s place port ok at =
     let it = producer_there plan ok s (laid_below plan s place port at) in
     subst (WrittenBy plan s) (same_Some it.0.producer at.producer (sym (ap (λ (o : Option PlanStream). option_map (λ x. x.producer) o) it.1) ∙ at.written)) it.2
 
-engine_of_node : (job : LoggedJob) (net : NetView) (n : ℕ) (engine : EngineView) → StandsFor job net → n < length net.plan.nodes → slice_get net.engines n ≡ Some engine → IsEngine job (nat_lt n net.begun) n engine
+engine_of_node : {laws : Laws} (job : LoggedJob laws) (net : NetView) (n : ℕ) (engine : EngineView) → StandsFor job net → n < length net.plan.nodes → slice_get net.engines n ≡ Some engine → IsEngine job (nat_lt n net.begun) n engine
 unfolding StandsFor
-engine_of_node job net n engine h within at =
+engine_of_node {laws} job net n engine h within at =
     let intakes = h.intakes in let work_queues = h.work_queues in
     let i = found net.intakes n (omega (arith, within, intakes)) in
     let d = found net.work_queues n (omega (arith, within, work_queues)) in
     (h.cells n engine i.0 d.0 at i.1 d.1).lawful_engine
 
-outputs_of_node : (job : LoggedJob) (net : NetView) (n : ℕ) (node : PlanNode) (engine : EngineView) → StandsFor job net → slice_get net.plan.nodes n ≡ Some node → slice_get net.engines n ≡ Some engine → HasNodes node engine
+outputs_of_node : {laws : Laws} (job : LoggedJob laws) (net : NetView) (n : ℕ) (node : PlanNode) (engine : EngineView) → StandsFor job net → slice_get net.plan.nodes n ≡ Some node → slice_get net.engines n ≡ Some engine → HasNodes node engine
 unfolding StandsFor
-outputs_of_node job net n node engine h there at =
+outputs_of_node {laws} job net n node engine h there at =
     node_outputs job (nat_lt n net.begun) n node engine h.is_job.plan (subst (λ (plan : Plan). slice_get plan.nodes n ≡ Some node) h.plan there) (engine_of_node job net n engine h (slice_get_within net.plan.nodes n node there) at)
 
-place_within : (job : LoggedJob) (net : NetView) (s : ℕ) (p : Producer) → StandsFor job net → WrittenBy net.plan s p → place_of net.plan p < length net.engines
+place_within : {laws : Laws} (job : LoggedJob laws) (net : NetView) (s : ℕ) (p : Producer) → StandsFor job net → WrittenBy net.plan s p → place_of net.plan p < length net.engines
 unfolding StandsFor
-place_within job net s (Input i) h w = (let long = h.engines in let less = w.1 in omega (arith, long, less))
-place_within job net s (Node n port) h w = (let long = h.engines in let less = slice_get_within net.plan.nodes n w.0 w.1 in omega (arith, long, less))
+place_within {laws} job net s (Input i) h w = (let long = h.engines in let less = w.1 in omega (arith, long, less))
+place_within {laws} job net s (Node n port) h w = (let long = h.engines in let less = slice_get_within net.plan.nodes n w.0 w.1 in omega (arith, long, less))
 
-output_by : (job : LoggedJob) (net : NetView) (s port : ℕ) (p : Producer) (engine : EngineView) → StandsFor job net → WrittenBy net.plan s p → output_of p ≡ port → slice_get net.engines (place_of net.plan p) ≡ Some engine → HasOutput s port engine
+output_by : {laws : Laws} (job : LoggedJob laws) (net : NetView) (s port : ℕ) (p : Producer) (engine : EngineView) → StandsFor job net → WrittenBy net.plan s p → output_of p ≡ port → slice_get net.engines (place_of net.plan p) ≡ Some engine → HasOutput s port engine
 unfolding StandsFor
-output_by job net s port (Input i) engine h w is at =
+output_by {laws} job net s port (Input i) engine h w is at =
     let known = input_known job i engine (h.inputs i engine at) in
     let same = w.0 in let first = known.first in let one = known.one in
     let zeroth : 0 ≡ port = is in
     record { stream_is = omega (arith, same, first, zeroth); within = omega (arith, one, zeroth) }
-output_by job net s port (Node n own) engine h w is at =
+output_by {laws} job net s port (Node n own) engine h w is at =
     let has = outputs_of_node job net n w.0 engine h w.1 at in
     let number = has.numbers own s w.2 in
     let less = slice_get_within w.0.outputs own s w.2 in
@@ -116,9 +117,9 @@ output_by job net s port (Node n own) engine h w is at =
     let same : own ≡ port = is in
     record { stream_is = omega (arith, number, same); within = omega (arith, less, count, same) }
 
-each_output : (job : LoggedJob) (net : NetView) (place port : ℕ) (engine : EngineView) → IsValid net.plan → StandsFor job net → slice_get net.engines place ≡ Some engine → port < length engine.outputs → LaidAt net.plan (engine.first + port) place port
+each_output : {laws : Laws} (job : LoggedJob laws) (net : NetView) (place port : ℕ) (engine : EngineView) → IsValid net.plan → StandsFor job net → slice_get net.engines place ≡ Some engine → port < length engine.outputs → LaidAt net.plan (engine.first + port) place port
 unfolding StandsFor
-each_output job net place port engine ok h at within = elim (cases_lt place (length net.plan.nodes)) [
+each_output {laws} job net place port engine ok h at within = elim (cases_lt place (length net.plan.nodes)) [
   | inl less ↦
       (let node = found net.plan.nodes place less in
       let has = outputs_of_node job net place node.0 engine h node.1 at in
@@ -149,8 +150,8 @@ each_output job net place port engine ok h at within = elim (cases_lt place (len
       })
 ]
 
-pub have_outputs : (job : LoggedJob) (net : NetView) → StandsFor job net → HaveOutputs net.plan net.engines
-have_outputs job net h =
+pub have_outputs : {laws : Laws} (job : LoggedJob laws) (net : NetView) → StandsFor job net → HaveOutputs net.plan net.engines
+have_outputs {laws} job net h =
     let ok = valid net (record { job = job; stands = h }) in
     record {
       place = λ s place port at. subst (λ (k : ℕ). k < length net.engines) at.place_is (place_within job net s at.producer h (laid_written net.plan s place port ok at));
@@ -173,9 +174,9 @@ edge_laid plan number place e ok at from =
     )
 
 -- the intake of a consumer is lawful, whether the nodes are begun or not
-intake_of : (job : LoggedJob) (net : NetView) (consumer : ℕ) (intake : IntakeView) → StandsFor job net → consumer ≤ length net.plan.nodes → slice_get net.intakes consumer ≡ Some intake → LawfulIntake job consumer intake
+intake_of : {laws : Laws} (job : LoggedJob laws) (net : NetView) (consumer : ℕ) (intake : IntakeView) → StandsFor job net → consumer ≤ length net.plan.nodes → slice_get net.intakes consumer ≡ Some intake → LawfulIntake job consumer intake
 unfolding StandsFor
-intake_of job net consumer intake h upto to = elim (cases_lt consumer (length net.plan.nodes)) [
+intake_of {laws} job net consumer intake h upto to = elim (cases_lt consumer (length net.plan.nodes)) [
   | inl less ↦
       (let engines = h.engines in let work_queues = h.work_queues in
       let e = found net.engines consumer (omega (arith, less, engines)) in
@@ -186,8 +187,8 @@ intake_of job net consumer intake h upto to = elim (cases_lt consumer (length ne
       subst (λ (n : ℕ). LawfulIntake job n intake) (sym same) (h.collector intake (subst (λ (n : ℕ). slice_get net.intakes n ≡ Some intake) same to)))
 ]
 
-pub lead_to_ports : (net : NetView) → StandsForSome net → LeadToPorts (length net.plan.streams) net.plan.edges net.intakes
-lead_to_ports net h =
+pub lead_to_ports : {laws : Laws} (net : NetView) → StandsForSome laws net → LeadToPorts (length net.plan.streams) net.plan.edges net.intakes
+lead_to_ports {laws} net h =
     let ok = valid net h in
     record {
       stream = λ number e at. edge_stream net.plan ok number e at;

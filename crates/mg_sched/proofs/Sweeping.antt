@@ -3,6 +3,7 @@ use Rattle.std.proofs.Common.{◌≡◌, ◌≢◌, ℕ, ◌<◌, ◌≤◌, ◌
 use Rattle.std.proofs.lemmas.Bool.{false≢true}
 use Rattle.std.proofs.lemmas.List.Elements.{All-nil, recursion_from_All}
 use Rattle.std.proofs.lemmas.Option.{same_Some}
+use Rattle.mg_calc.specs.Rules.{Laws}
 use Rattle.mg_calc.specs.declared.plan.Plan.{Plan}
 use Rattle.mg_calc.specs.declared.event.Event.{Event}
 use Rattle.mg_calc.specs.declared.event.Event.TheVariants.{Deliver, Advance, Claim, Perform, Commit, Relax}
@@ -41,15 +42,15 @@ goes_true did a b is g = subst (λ (d : Bool). Goes d a b) is g
 pub goes_false : (did : Bool) (a b : NetView) → did ≡ false → Goes did a b → b ≡ a
 goes_false did a b is g = subst (λ (d : Bool). Goes d a b) is g
 
-pub steps_go : (did : Bool) (event : Event) (a b : NetView) → Steps did event a b → Goes did a b
-steps_go true event a b s = s
-steps_go false event a b s = s.0
+pub steps_go : (laws : Laws) (did : Bool) (event : Event) (a b : NetView) → Steps laws did event a b → Goes did a b
+steps_go laws true event a b s = s
+steps_go laws false event a b s = s.0
 
-pub still_idle : (event : Event) (a b : NetView) → a ≡ b → Acts event Idle a a → Acts event Idle b b
-still_idle event a b same acts = subst (λ (v : NetView). Acts event Idle v v) same acts
+pub still_idle : (laws : Laws) (event : Event) (a b : NetView) → a ≡ b → Acts laws event Idle a a → Acts laws event Idle b b
+still_idle laws event a b same acts = subst (λ (v : NetView). Acts laws event Idle v v) same acts
 
-pub steps_none : (event : Event) (a b : NetView) → b ≡ a → Acts event Idle a b → Steps false event a b
-steps_none event a b same acts = (same, subst (λ (v : NetView). Acts event Idle a v) same acts)
+pub steps_none : (laws : Laws) (event : Event) (a b : NetView) → b ≡ a → Acts laws event Idle a b → Steps laws false event a b
+steps_none laws event a b same acts = (same, subst (λ (v : NetView). Acts laws event Idle a v) same acts)
 
 -- how many edges may still be gone along, where they come in the order of their numbers
 abbrev pub edges_left : ℕ → Option ℕ → ℕ
@@ -67,10 +68,10 @@ other_works : (number : ℕ) (works : List WorkView) → IsSomeAnd (slice_get wo
 other_works number [] there none = absurd there
 other_works number (w ∷ works) there none = (recursion_from_All (λ (x : WorkView). x.number ≢ number) (w ∷ works) none).0 there
 
-pub due_works : (number : ℕ) (net : NetView) (node : ℕ) → HasWork net node number → Acts (Perform node number) Idle net net → ⊥
-due_works number net node there p = go p.performed
+pub due_works : (laws : Laws) (number : ℕ) (net : NetView) (node : ℕ) → HasWork net node number → Acts laws (Perform node number) Idle net net → ⊥
+due_works laws number net node there p = go p.performed
   where
-    go : (All (λ (w : WorkView). w.number ≢ number) p.work_queue.works × Rests Idle net net) ⊎ Performs node number Idle p.work_queue net net → ⊥
+    go : (All (λ (w : WorkView). w.number ≢ number) p.work_queue.works × Rests Idle net net) ⊎ Performs laws node number Idle p.work_queue net net → ⊥
     go (inl none) = other_works number p.work_queue.works (there p.work_queue p.on) none.0
     go (inr performs) = performs.performed
 
@@ -79,41 +80,41 @@ due_shelf : (node number : ℕ) (engine : EngineView) (net : NetView) (shelf : O
 due_shelf node number engine net None some c = false≢true some
 due_shelf node number engine net (Some p) some c = c
 
-pub due_shelves : (node number : ℕ) (net : NetView) → HasShelf net node number → Acts (Commit node number) Idle net net → ⊥
-due_shelves node number net there c = due_shelf node number c.engine net (shelf_at c.engine number) (there c.engine c.at) c.committed
+pub due_shelves : (laws : Laws) (node number : ℕ) (net : NetView) → HasShelf net node number → Acts laws (Commit node number) Idle net net → ⊥
+due_shelves laws node number net there c = due_shelf node number c.engine net (shelf_at c.engine number) (there c.engine c.at) c.committed
 
 -- a step that isn't idle leaves less to do
-pub due_less : (did : Bool) (event : Event) (a b : NetView) → ¬ Acts event Idle a a → Steps did event a b → left_in b < left_in a
-due_less true event a b due s = s
-due_less false event a b due s = absurd (due s.1)
+pub due_less : (laws : Laws) (did : Bool) (event : Event) (a b : NetView) → ¬ Acts laws event Idle a a → Steps laws did event a b → left_in b < left_in a
+due_less laws true event a b due s = s
+due_less laws false event a b due s = absurd (due s.1)
 
-pub works_rest : (node : ℕ) (did : Bool) (a b c : NetView) → Steps false (Claim node) a b → Goes did b c → HasNoWork c node → HasNoShelf c node → did ≡ false → WorksRest c node
-works_rest node false a b c claims goes works shelf isnt = record { claims = still_idle (Claim node) a c (sym (goes ∙ claims.0)) claims.1; works = works; shelf = shelf }
-works_rest node true a b c claims goes works shelf isnt = absurd (false≢true (sym isnt))
+pub works_rest : {laws : Laws} (node : ℕ) (did : Bool) (a b c : NetView) → Steps laws false (Claim node) a b → Goes did b c → HasNoWork c node → HasNoShelf c node → did ≡ false → WorksRest laws c node
+works_rest {laws} node false a b c claims goes works shelf isnt = record { claims = still_idle laws (Claim node) a c (sym (goes ∙ claims.0)) claims.1; works = works; shelf = shelf }
+works_rest {laws} node true a b c claims goes works shelf isnt = absurd (false≢true (sym isnt))
 
 -- and where it has none, its outputs are raised
-pub raises_go : (node : ℕ) (worked raised : Bool) (a b c : NetView) → Goes worked a b → worked ≡ false → Steps raised (Advance node) b c → Goes raised a c
-raises_go node worked raised a b c works isnt advances = subst (λ (v : NetView). Goes raised v c) (goes_false worked a b isnt works) (steps_go raised (Advance node) b c advances)
+pub raises_go : (laws : Laws) (node : ℕ) (worked raised : Bool) (a b c : NetView) → Goes worked a b → worked ≡ false → Steps laws raised (Advance node) b c → Goes raised a c
+raises_go laws node worked raised a b c works isnt advances = subst (λ (v : NetView). Goes raised v c) (goes_false worked a b isnt works) (steps_go laws raised (Advance node) b c advances)
 
-pub raises_rest : (node : ℕ) (worked raised : Bool) (a b : NetView) → (worked ≡ false → WorksRest a node) → worked ≡ false → Steps raised (Advance node) a b → raised ≡ false → RestsAt b node
-raises_rest node worked true a b works isnt advances still = absurd (false≢true (sym still))
-raises_rest node worked false a b works isnt advances still =
+pub raises_rest : {laws : Laws} (node : ℕ) (worked raised : Bool) (a b : NetView) → (worked ≡ false → WorksRest laws a node) → worked ≡ false → Steps laws raised (Advance node) a b → raised ≡ false → RestsAt laws b node
+raises_rest {laws} node worked true a b works isnt advances still = absurd (false≢true (sym still))
+raises_rest {laws} node worked false a b works isnt advances still =
     let same = advances.0 in
     let w = works isnt in
     record {
-      claims = still_idle (Claim node) a b (sym same) w.claims;
+      claims = still_idle laws (Claim node) a b (sym same) w.claims;
       works = subst (λ (v : NetView). HasNoWork v node) (sym same) w.works;
       shelf = subst (λ (v : NetView). HasNoShelf v node) (sym same) w.shelf;
-      advances = still_idle (Advance node) a b (sym same) advances.1;
+      advances = still_idle laws (Advance node) a b (sym same) advances.1;
     }
 
 -- Nets that have nothing to do.
 
-pub rests : (net : NetView) → StandsForSome net → EdgesRest net (length net.plan.edges) → NodesRest net (length net.plan.nodes) → Acts Relax Idle net net → IsAtRest net
-rests net some edges nodes relaxes (Deliver edge) of = edges edge of
-rests net some edges nodes relaxes (Advance node) of = (nodes node of).advances
-rests net some edges nodes relaxes (Claim node) of = (nodes node of).claims
-rests net some edges nodes relaxes (Perform node number) of =
+pub rests : {laws : Laws} (net : NetView) → StandsForSome laws net → EdgesRest laws net (length net.plan.edges) → NodesRest laws net (length net.plan.nodes) → Acts laws Relax Idle net net → IsAtRest laws net
+rests {laws} net some edges nodes relaxes (Deliver edge) of = edges edge of
+rests {laws} net some edges nodes relaxes (Advance node) of = (nodes node of).advances
+rests {laws} net some edges nodes relaxes (Claim node) of = (nodes node of).claims
+rests {laws} net some edges nodes relaxes (Perform node number) of =
     let long = (places net some).2 in
     let work_queue = found net.work_queues node (omega (arith, of, long)) in
     record {
@@ -121,7 +122,7 @@ rests net some edges nodes relaxes (Perform node number) of =
       on = work_queue.1;
       performed = inl (subst (λ (ws : List WorkView). All (λ (w : WorkView). w.number ≢ number) ws) (sym ((nodes node of).works work_queue.0 work_queue.1)) (All-nil (λ (w : WorkView). w.number ≢ number)), record { idle = refl; same = refl });
     }
-rests net some edges nodes relaxes (Commit node number) of =
+rests {laws} net some edges nodes relaxes (Commit node number) of =
     let long = (places net some).0 in
     let engine = found net.engines node (omega (arith, of, long)) in
     record {
@@ -129,15 +130,15 @@ rests net some edges nodes relaxes (Commit node number) of =
       at = engine.1;
       committed = subst (λ (p : Option PerformedView). CommittedAt node number p Idle engine.0 net net) (sym ((nodes node of).shelf engine.0 number engine.1)) (record { idle = refl; same = refl });
     }
-rests net some edges nodes relaxes Relax of = relaxes
+rests {laws} net some edges nodes relaxes Relax of = relaxes
 
 -- Nets that a net becomes have its plan.
 
-pub still_there : (node : ℕ) (before now : NetView) → Becomes before now → node < length before.plan.nodes → node < length now.plan.nodes
-still_there node before now b there = subst (λ (p : Plan). node < length p.nodes) (sym (becomes_plan before now b)) there
+pub still_there : {laws : Laws} (node : ℕ) (before now : NetView) → Becomes laws before now → node < length before.plan.nodes → node < length now.plan.nodes
+still_there {laws} node before now b there = subst (λ (p : Plan). node < length p.nodes) (sym (becomes_plan before now b)) there
 
-pub still_edge : (edge : ℕ) (before now : NetView) → Becomes before now → edge < length before.plan.edges → edge < length now.plan.edges
-still_edge edge before now b there = subst (λ (p : Plan). edge < length p.edges) (sym (becomes_plan before now b)) there
+pub still_edge : {laws : Laws} (edge : ℕ) (before now : NetView) → Becomes laws before now → edge < length before.plan.edges → edge < length now.plan.edges
+still_edge {laws} edge before now b there = subst (λ (p : Plan). edge < length p.edges) (sym (becomes_plan before now b)) there
 
 -- What a net's parts tell of it.
 
@@ -161,19 +162,19 @@ shelf_none None net node engine at h = λ other number there. subst (λ (e : Eng
 shelf_none (Some n) net node engine at h = tt
 
 -- a node's engine is lawful
-pub some_engine : (net : NetView) (node : ℕ) (engine : EngineView) → StandsForSome net → IsRunning net → node < length net.plan.nodes → slice_get net.engines node ≡ Some engine → SomeJobHasEngine engine
-some_engine net node engine some running there at =
+pub some_engine : {laws : Laws} (net : NetView) (node : ℕ) (engine : EngineView) → StandsForSome laws net → IsRunning net → node < length net.plan.nodes → slice_get net.engines node ≡ Some engine → SomeJobHasEngine laws engine
+some_engine {laws} net node engine some running there at =
     let work_queue = found net.work_queues node (work_queue_there net node some there) in
     let intake = found net.intakes node (intake_there net node some there) in
     record { job = some.job; number = node; lawful = (cell_at some.job net node engine intake.0 work_queue.0 some.stands running there at intake.1 work_queue.1).lawful_engine }
 
 -- an agenda stays for the plan, and is as it was where nothing was done
 
-pub agenda_on : (a b : NetView) (agenda : AgendaView) → Becomes a b → IsAgendaOf a.plan agenda → IsAgendaOf b.plan agenda
-agenda_on a b agenda h of = subst (λ (p : Plan). IsAgendaOf p agenda) (sym (becomes_plan a b h)) of
+pub agenda_on : {laws : Laws} (a b : NetView) (agenda : AgendaView) → Becomes laws a b → IsAgendaOf a.plan agenda → IsAgendaOf b.plan agenda
+agenda_on {laws} a b agenda h of = subst (λ (p : Plan). IsAgendaOf p agenda) (sym (becomes_plan a b h)) of
 
-pub agenda_back : (a b : NetView) (agenda : AgendaView) → Becomes a b → IsAgendaOf b.plan agenda → IsAgendaOf a.plan agenda
-agenda_back a b agenda h of = subst (λ (p : Plan). IsAgendaOf p agenda) (becomes_plan a b h) of
+pub agenda_back : {laws : Laws} (a b : NetView) (agenda : AgendaView) → Becomes laws a b → IsAgendaOf b.plan agenda → IsAgendaOf a.plan agenda
+agenda_back {laws} a b agenda h of = subst (λ (p : Plan). IsAgendaOf p agenda) (becomes_plan a b h) of
 
 pub both_same : {X : Type 0} (did moved : Bool) (a b c : X) → (did ≡ false → b ≡ a) → (moved ≡ false → c ≡ b) → (did || moved) ≡ false → c ≡ a
 both_same true moved a b c first second isnt = absurd (false≢true (sym isnt))

@@ -6,6 +6,7 @@ use Rattle.std.proofs.lemmas.Option.{none-some, same_Some, slice_get_within}
 use Rattle.mg_value.specs.Payload.{Plain}
 use Rattle.mg_value.specs.Packet.{Stamped}
 use Rattle.mg_settled.specs.Prefix.{StreamPrefix}
+use Rattle.mg_calc.specs.Rules.{Laws}
 use Rattle.mg_calc.specs.declared.edge.Edge.{Edge}
 use Rattle.mg_calc.specs.declared.plan.Plan.{Plan}
 use Rattle.mg_calc.specs.Plan.{IsValid}
@@ -95,19 +96,19 @@ collected_knows net now valid h ports = record {
 }
 
 -- the collector's intake
-pub collector_lawful : (job : LoggedJob) (net : NetView) (intake : IntakeView) → StandsFor job net → slice_get net.intakes (length net.plan.nodes) ≡ Some intake → LawfulIntake job (length net.plan.nodes) intake
+pub collector_lawful : {laws : Laws} (job : LoggedJob laws) (net : NetView) (intake : IntakeView) → StandsFor job net → slice_get net.intakes (length net.plan.nodes) ≡ Some intake → LawfulIntake job (length net.plan.nodes) intake
 unfolding StandsFor
-collector_lawful job net intake h at = h.collector intake at
+collector_lawful {laws} job net intake h at = h.collector intake at
 
-collector_ports : (job : LoggedJob) (net : NetView) (intake : IntakeView) → StandsFor job net → LawfulIntake job (length net.plan.nodes) intake → ports_in intake.waits ≡ length net.plan.outputs
+collector_ports : {laws : Laws} (job : LoggedJob laws) (net : NetView) (intake : IntakeView) → StandsFor job net → LawfulIntake job (length net.plan.nodes) intake → ports_in intake.waits ≡ length net.plan.outputs
 unfolding StandsFor
-collector_ports job net intake h lawful =
+collector_ports {laws} job net intake h lawful =
     intake_ports job (length net.plan.nodes) intake lawful ∙ ap (λ (p : Plan). length (ports_of p (length net.plan.nodes))) (sym h.plan) ∙ ap (λ (xs : List ℕ). length xs) (ports_of_collector net.plan)
 
-net_stands : (job : LoggedJob) (net : NetView) (intake now : IntakeView) (set_now : List (Option (Stamped Plain))) → StandsFor job net → slice_get net.intakes (length net.plan.nodes) ≡ Some intake → Takes intake now set_now
+net_stands : {laws : Laws} (job : LoggedJob laws) (net : NetView) (intake now : IntakeView) (set_now : List (Option (Stamped Plain))) → StandsFor job net → slice_get net.intakes (length net.plan.nodes) ≡ Some intake → Takes intake now set_now
     → StandsFor job (with_noted (with_intake net (length net.plan.nodes) now) (first_edge net.plan (length net.plan.nodes)) (lengths_of now.waits))
 unfolding StandsFor
-net_stands job net intake now set_now h there takes =
+net_stands {laws} job net intake now set_now h there takes =
     let last = length net.plan.nodes in
     let work_queues = h.work_queues in
     let lawful = takes.stays_lawful job last (h.collector intake there) in
@@ -144,41 +145,41 @@ net_stands job net intake now set_now h there takes =
       not_wound = h.not_wound;
     }
 
-pub take_stands : (job : LoggedJob) (before now : NetView) (set_now : List (Option (Stamped Plain))) → TakesNext before now set_now → StandsFor job before → StandsFor job now
-take_stands job before now set_now t h = subst (StandsFor job) (sym t.now_is) (net_stands job before t.intake t.intake_now set_now h t.there t.takes)
+pub take_stands : {laws : Laws} (job : LoggedJob laws) (before now : NetView) (set_now : List (Option (Stamped Plain))) → TakesNext before now set_now → StandsFor job before → StandsFor job now
+take_stands {laws} job before now set_now t h = subst (StandsFor job) (sym t.now_is) (net_stands job before t.intake t.intake_now set_now h t.there t.takes)
 
 -- What the calls ask for.
 
-pub last_there : (net : NetView) → StandsForSome net → length net.plan.nodes < length net.intakes
-last_there net h = (let long = (places net h).1 in omega (arith, long))
+pub last_there : {laws : Laws} (net : NetView) → StandsForSome laws net → length net.plan.nodes < length net.intakes
+last_there {laws} net h = (let long = (places net h).1 in omega (arith, long))
 
-pub has_intake : (net : NetView) (intake : IntakeView) → StandsForSome net → slice_get net.intakes (length net.plan.nodes) ≡ Some intake → SomeJobHasIntake intake
-has_intake net intake h at = record { job = h.job; consumer = length net.plan.nodes; lawful = collector_lawful h.job net intake h.stands at }
+pub has_intake : {laws : Laws} (net : NetView) (intake : IntakeView) → StandsForSome laws net → slice_get net.intakes (length net.plan.nodes) ≡ Some intake → SomeJobHasIntake intake
+has_intake {laws} net intake h at = record { laws = laws; job = h.job; consumer = length net.plan.nodes; lawful = collector_lawful h.job net intake h.stands at }
 
-pub ports_known : (net : NetView) (intake : IntakeView) → StandsForSome net → slice_get net.intakes (length net.plan.nodes) ≡ Some intake → ports_in intake.waits ≡ length net.plan.outputs
-ports_known net intake h at = collector_ports h.job net intake h.stands (collector_lawful h.job net intake h.stands at)
+pub ports_known : {laws : Laws} (net : NetView) (intake : IntakeView) → StandsForSome laws net → slice_get net.intakes (length net.plan.nodes) ≡ Some intake → ports_in intake.waits ≡ length net.plan.outputs
+ports_known {laws} net intake h at = collector_ports h.job net intake h.stands (collector_lawful h.job net intake h.stands at)
 
-queues_count : (net : NetView) → StandsForSome net → length net.limits.queues ≡ length net.plan.edges
-queues_count net h =
+queues_count : {laws : Laws} (net : NetView) → StandsForSome laws net → length net.limits.queues ≡ length net.plan.edges
+queues_count {laws} net h =
     (let same = ap (λ (ns : List ℕ). length ns) (of_plan net h).queues in
     let qs = length-map net.limits.queues (λ (q : Queue). q.node) in
     let es = length-map net.plan.edges (λ (e : Edge). e.node) in
     omega (arith, same, qs, es))
 
-pub queues_short : (net : NetView) → StandsForSome net → length net.limits.queues < 2 ^ 32
-queues_short net h = (let count = queues_count net h in let few = (valid net h).ranges.edges in omega (arith, count, few))
+pub queues_short : {laws : Laws} (net : NetView) → StandsForSome laws net → length net.limits.queues < 2 ^ 32
+queues_short {laws} net h = (let count = queues_count net h in let few = (valid net h).ranges.edges in omega (arith, count, few))
 
-pub queues_there : (net : NetView) (intake now : IntakeView) → StandsForSome net → slice_get net.intakes (length net.plan.nodes) ≡ Some intake → ports_in now.waits ≡ ports_in intake.waits
+pub queues_there : {laws : Laws} (net : NetView) (intake now : IntakeView) → StandsForSome laws net → slice_get net.intakes (length net.plan.nodes) ≡ Some intake → ports_in now.waits ≡ ports_in intake.waits
     → first_edge net.plan (length net.plan.nodes) + ports_in now.waits ≤ length net.limits.queues
-queues_there net intake now h at same =
+queues_there {laws} net intake now h at same =
     (let count = queues_count net h in
     let edges = edges_count net.plan (valid net h) in
     let ports = ports_known net intake h at in
     omega (arith, count, edges, ports, same))
 
-pub few_left : (net : NetView) (intake now : IntakeView) (port : ℕ) → StandsForSome net → slice_get net.intakes (length net.plan.nodes) ≡ Some intake
-    → ((job : LoggedJob) (consumer : ℕ) → LawfulIntake job consumer intake → LawfulIntake job consumer now) → length (port_queue now.waits port).packets + 1 < 2 ^ 64
-few_left net intake now port h at stays = few_packets h.job (length net.plan.nodes) port now (stays h.job (length net.plan.nodes) (collector_lawful h.job net intake h.stands at))
+pub few_left : {laws : Laws} (net : NetView) (intake now : IntakeView) (port : ℕ) → StandsForSome laws net → slice_get net.intakes (length net.plan.nodes) ≡ Some intake
+    → ((job : LoggedJob laws) (consumer : ℕ) → LawfulIntake job consumer intake → LawfulIntake job consumer now) → length (port_queue now.waits port).packets + 1 < 2 ^ 64
+few_left {laws} net intake now port h at stays = few_packets h.job (length net.plan.nodes) port now (stays h.job (length net.plan.nodes) (collector_lawful h.job net intake h.stands at))
 
 -- The same of a net as it is kept, whose collector's place was read.
 
@@ -188,27 +189,27 @@ IsLast shown place = place ≡ length shown.plan.nodes
 last_is : (shown net : NetView) (place : ℕ) → shown ≡ net → IsLast shown place → place ≡ length net.plan.nodes
 last_is shown net place is last = last ∙ ap (λ (v : NetView). length v.plan.nodes) is
 
-pub last_fits : (shown net : NetView) (place n : ℕ) → shown ≡ net → StandsForSome net → IsLast shown place → n ≡ length shown.intakes → place < n
-last_fits shown net place n is h last long =
+pub last_fits : {laws : Laws} (shown net : NetView) (place n : ℕ) → shown ≡ net → StandsForSome laws net → IsLast shown place → n ≡ length shown.intakes → place < n
+last_fits {laws} shown net place n is h last long =
     (let there = last_there net h in
     let at = last_is shown net place is last in
     let same = ap (λ (v : NetView). length v.intakes) is in
     omega (arith, there, at, same, long))
 
-pub last_at : (shown net : NetView) (place : ℕ) (intake : IntakeView) → shown ≡ net → StandsForSome net → IsLast shown place → intake ≡ get_or shown.intakes place intake → slice_get net.intakes (length net.plan.nodes) ≡ Some intake
-last_at shown net place intake is h last value =
+pub last_at : {laws : Laws} (shown net : NetView) (place : ℕ) (intake : IntakeView) → shown ≡ net → StandsForSome laws net → IsLast shown place → intake ≡ get_or shown.intakes place intake → slice_get net.intakes (length net.plan.nodes) ≡ Some intake
+last_at {laws} shown net place intake is h last value =
     ap (slice_get net.intakes) (sym (last_is shown net place is last))
     ∙ ap (λ (v : NetView). slice_get v.intakes place) (sym is) ∙ read_at shown.intakes place intake (last_fits shown net place (length shown.intakes) is h last refl) value
 
-pub set_fits : (shown net : NetView) (place : ℕ) (now : IntakeView) → shown ≡ net → StandsForSome net → IsLast shown place → place < length (set shown.intakes place now)
-set_fits shown net place now is h last = (let within = last_fits shown net place (length shown.intakes) is h last refl in let long = length-set shown.intakes place now in omega (arith, within, long))
+pub set_fits : {laws : Laws} (shown net : NetView) (place : ℕ) (now : IntakeView) → shown ≡ net → StandsForSome laws net → IsLast shown place → place < length (set shown.intakes place now)
+set_fits {laws} shown net place now is h last = (let within = last_fits shown net place (length shown.intakes) is h last refl in let long = length-set shown.intakes place now in omega (arith, within, long))
 
-pub short_kept : (shown net : NetView) → shown ≡ net → StandsForSome net → length shown.limits.queues < 2 ^ 32
-short_kept shown net is h = (let short = queues_short net h in let same = ap (λ (v : NetView). length v.limits.queues) is in omega (arith, short, same))
+pub short_kept : {laws : Laws} (shown net : NetView) → shown ≡ net → StandsForSome laws net → length shown.limits.queues < 2 ^ 32
+short_kept {laws} shown net is h = (let short = queues_short net h in let same = ap (λ (v : NetView). length v.limits.queues) is in omega (arith, short, same))
 
-pub queues_kept : (shown net : NetView) (place : ℕ) (old now intake : IntakeView) → shown ≡ net → StandsForSome net → IsLast shown place → old ≡ get_or shown.intakes place old → ports_in now.waits ≡ ports_in old.waits
+pub queues_kept : {laws : Laws} (shown net : NetView) (place : ℕ) (old now intake : IntakeView) → shown ≡ net → StandsForSome laws net → IsLast shown place → old ≡ get_or shown.intakes place old → ports_in now.waits ≡ ports_in old.waits
     → slice_get (set shown.intakes place now) place ≡ Some intake → first_edge shown.plan place + ports_in intake.waits ≤ length shown.limits.queues
-queues_kept shown net place old now intake is h last value same at =
+queues_kept {laws} shown net place old now intake is h last value same at =
     (let room = queues_there net old now h (last_at shown net place old is h last value) same in
     let there = put_there shown.intakes place now intake at in
     let ports = ap (λ (v : IntakeView). ports_in v.waits) there in
@@ -216,9 +217,9 @@ queues_kept shown net place old now intake is h last value same at =
     let long = ap (λ (v : NetView). length v.limits.queues) is in
     omega (arith, room, ports, first, long))
 
-pub few_kept : (shown net : NetView) (place : ℕ) (old now intake : IntakeView) (port : ℕ) → shown ≡ net → StandsForSome net → IsLast shown place → old ≡ get_or shown.intakes place old
-    → ((job : LoggedJob) (consumer : ℕ) → LawfulIntake job consumer old → LawfulIntake job consumer now) → slice_get (set shown.intakes place now) place ≡ Some intake → length (port_queue intake.waits port).packets + 1 < 2 ^ 64
-few_kept shown net place old now intake port is h last value stays at =
+pub few_kept : {laws : Laws} (shown net : NetView) (place : ℕ) (old now intake : IntakeView) (port : ℕ) → shown ≡ net → StandsForSome laws net → IsLast shown place → old ≡ get_or shown.intakes place old
+    → ((job : LoggedJob laws) (consumer : ℕ) → LawfulIntake job consumer old → LawfulIntake job consumer now) → slice_get (set shown.intakes place now) place ≡ Some intake → length (port_queue intake.waits port).packets + 1 < 2 ^ 64
+few_kept {laws} shown net place old now intake port is h last value stays at =
     subst (λ (v : IntakeView). length (port_queue v.waits port).packets + 1 < 2 ^ 64) (sym (put_there shown.intakes place now intake at))
     (few_left net old now port h (last_at shown net place old is h last value) stays)
 
@@ -226,9 +227,9 @@ few_kept shown net place old now intake port is h last value stays at =
 abbrev pub Hears : NetView → ℕ → IntakeView → NetView → Type 0
 Hears shown place now new = (intake : IntakeView) → slice_get (set shown.intakes place now) place ≡ Some intake → new ≡ with_noted (with_intake shown place now) (first_edge shown.plan place) (lengths_of intake.waits)
 
-pub next_taken : (shown net : NetView) (place : ℕ) (old now : IntakeView) (set_now : List (Option (Stamped Plain))) (new : NetView) → shown ≡ net → StandsForSome net → IsLast shown place → old ≡ get_or shown.intakes place old → Takes old now set_now
+pub next_taken : {laws : Laws} (shown net : NetView) (place : ℕ) (old now : IntakeView) (set_now : List (Option (Stamped Plain))) (new : NetView) → shown ≡ net → StandsForSome laws net → IsLast shown place → old ≡ get_or shown.intakes place old → Takes old now set_now
     → Hears shown place now new → TakesNext net new set_now
-next_taken shown net place old now set_now new is h last value takes hears =
+next_taken {laws} shown net place old now set_now new is h last value takes hears =
     let there = last_there net h in
     let long = length-set net.intakes (length net.plan.nodes) now in
     let it = found (set net.intakes (length net.plan.nodes) now) (length net.plan.nodes) (omega (arith, there, long)) in
@@ -241,9 +242,9 @@ next_taken shown net place old now set_now new is h last value takes hears =
       now_is = heard now (it.1 ∙ ap Some (put_there net.intakes (length net.plan.nodes) now it.0 it.1));
     }
 
-pub in_order : (job : LoggedJob) (streams : List (StreamPrefix Plain)) (before now : NetView) (set_now : List (Option (Stamped Plain))) → TakesNext before now set_now → Solves job streams → StandsFor job before
+pub in_order : {laws : Laws} (job : LoggedJob laws) (streams : List (StreamPrefix Plain)) (before now : NetView) (set_now : List (Option (Stamped Plain))) → TakesNext before now set_now → Solves job streams → StandsFor job before
     → HasSet job streams (length before.plan.nodes) (taken_out before) set_now
-in_order job streams before now set_now t solves h =
+in_order {laws} job streams before now set_now t solves h =
     let number : t.intake.claimed ≡ taken_out before = sym (ap (λ (o : Option IntakeView). unwrap_or (option_map (λ (i : IntakeView). i.claimed) o) 0) t.there) in
     subst (λ (n : ℕ). HasSet job streams (length before.plan.nodes) n set_now) number
     (t.takes.in_solution job (length before.plan.nodes) streams solves (collector_lawful job before t.intake h t.there))
@@ -257,9 +258,9 @@ none_next None h = refl
 none_next (Some x) h = absurd (let e : false ≡ true = h refl in cc)
 
 -- nothing was taken
-pub nothing_taken : (shown net : NetView) (place : ℕ) (old now : IntakeView) (set_old set_now : List (Option (Stamped Plain))) → shown ≡ net → StandsForSome net → IsLast shown place → old ≡ get_or shown.intakes place old → next_set_of old.waits ≡ None
+pub nothing_taken : {laws : Laws} (shown net : NetView) (place : ℕ) (old now : IntakeView) (set_old set_now : List (Option (Stamped Plain))) → shown ≡ net → StandsForSome laws net → IsLast shown place → old ≡ get_or shown.intakes place old → next_set_of old.waits ≡ None
     → now ≡ old → set_now ≡ set_old → TakesNothing net (with_intake shown place now) set_old set_now
-nothing_taken shown net place old now set_old set_now is h last value none same same_set =
+nothing_taken {laws} shown net place old now set_old set_now is h last value none same same_set =
     let at = last_at shown net place old is h last value in
     record {
       intake = old;
@@ -270,5 +271,5 @@ nothing_taken shown net place old now set_old set_now is h last value none same 
       same_set = same_set;
     }
 
-pub nothing_stands : (job : LoggedJob) (before now : NetView) (set_old set_now : List (Option (Stamped Plain))) → TakesNothing before now set_old set_now → StandsFor job before → StandsFor job now
-nothing_stands job before now set_old set_now t h = subst (StandsFor job) (sym t.same) h
+pub nothing_stands : {laws : Laws} (job : LoggedJob laws) (before now : NetView) (set_old set_now : List (Option (Stamped Plain))) → TakesNothing before now set_old set_now → StandsFor job before → StandsFor job now
+nothing_stands {laws} job before now set_old set_now t h = subst (StandsFor job) (sym t.same) h

@@ -2,6 +2,7 @@
 use Rattle.std.proofs.Common.{◌≡◌, ℕ, ◌+◌, ◌-◌, ◌<◌, ◌≤◌, List, length, Option, Some, None, IfSome, get_or, slice_get, slice_set, inl, inr, ap, refl, sym, subst, ◌∙◌, arith}
 use Rattle.mg_value.specs.Payload.{Plain}
 use Rattle.mg_settled.specs.Prefix.{StreamPrefix}
+use Rattle.mg_calc.specs.Rules.{Laws}
 use Rattle.mg_calc.specs.declared.inputs.Inputs.{Inputs}
 use Rattle.mg_calc.specs.declared.plan.Plan.{Plan}
 use Rattle.mg_node.specs.Views.{IntakeView, EngineView}
@@ -55,24 +56,24 @@ wakes_rests plan engines engines_now intakes work_queues from count pieces (Some
     rest_moves plan engines engines_now intakes intakes work_queues a.touched b.touched w.grows (longer_same engines engines_now from count pieces a b w longer all) (λ place out. refl) h)
 
 -- there is a place for each engine
-pub last_fit : (shown net : NetView) (slot : Option AgendaView) (count : ℕ) → shown ≡ net → StandsForSome net → IsKeptBy shown.plan slot → count ≤ length net.engines → IfSome slot (λ a. count ≤ length a.heads)
-last_fit shown net None count is some kept few = tt
-last_fit shown net (Some a) count is some kept few =
+pub last_fit : {laws : Laws} (shown net : NetView) (slot : Option AgendaView) (count : ℕ) → shown ≡ net → StandsForSome laws net → IsKeptBy shown.plan slot → count ≤ length net.engines → IfSome slot (λ a. count ≤ length a.heads)
+last_fit {laws} shown net None count is some kept few = tt
+last_fit {laws} shown net (Some a) count is some kept few =
     (let long = (places net some).0 in let heads = (subst (λ (v : NetView). IsAgendaOf v.plan a) is kept).places in omega (arith, long, heads, few))
 
 -- a net that may go on stands for a job
-pub may_stands : (more : Inputs) (net : NetView) → MayGoOnWith more net → StandsForSome net
-may_stands more net may = record { job = may.first; stands = may.stands }
+pub may_stands : {laws : Laws} (more : Inputs) (net : NetView) → MayGoOnWith laws more net → StandsForSome laws net
+may_stands {laws} more net may = record { job = may.first; stands = may.stands }
 
 pub fit_all : (shown net : NetView) (engines : List EngineView) (pieces : List (StreamPrefix Plain)) (count : ℕ) → shown ≡ net → engines ≡ shown.engines → length pieces ≤ length engines → count ≡ length pieces → count ≤ length net.engines
 fit_all shown net engines pieces count is are fit count_is =
     let long : length engines ≡ length net.engines = ap (λ (es : List EngineView). length es) are ∙ ap (λ (v : NetView). length v.engines) is in omega (arith, long, fit, count_is)
 
 -- the last graph inputs of a net go on, and are touched
-pub extend_rests : (shown net : NetView) (engines now items : List EngineView) (pieces : List (StreamPrefix Plain)) (count : ℕ) (slot slot_now : Option AgendaView) → shown ≡ net → StandsForSome net → engines ≡ shown.engines → items ≡ now
+pub extend_rests : {laws : Laws} (shown net : NetView) (engines now items : List EngineView) (pieces : List (StreamPrefix Plain)) (count : ℕ) (slot slot_now : Option AgendaView) → shown ≡ net → StandsForSome laws net → engines ≡ shown.engines → items ≡ now
     → count ≡ length pieces → length pieces ≤ length engines → OfKept (WakesLast count) slot slot_now → AreLonger (length engines - length pieces) pieces (length pieces) engines now → IsKeptBy shown.plan slot
     → RestsButKept shown.plan shown.engines shown.intakes shown.work_queues slot → RestsButKept shown.plan items shown.intakes shown.work_queues slot_now
-extend_rests shown net engines now items pieces count slot slot_now is some are same count_is fit wakes longer kept h =
+extend_rests {laws} shown net engines now items pieces count slot slot_now is some are same count_is fit wakes longer kept h =
     let long : length engines ≡ length net.engines = ap (λ (es : List EngineView). length es) are ∙ ap (λ (v : NetView). length v.engines) is in
     let all = (places net some).0 in
     let own : length shown.plan.nodes + length shown.plan.inputs ≡ length net.plan.nodes + length net.plan.inputs = ap (λ (v : NetView). length v.plan.nodes + length v.plan.inputs) is in

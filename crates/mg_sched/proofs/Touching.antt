@@ -3,6 +3,7 @@ use Rattle.std.proofs.Common.{◌≡◌, ◌≢◌, ℕ, ◌<◌, ◌≤◌, ◌
 use Rattle.std.proofs.lemmas.Bool.{false≢true, cases_eq}
 use Rattle.std.proofs.lemmas.Bool.Decides.{nat_tests}
 use Rattle.std.proofs.lemmas.Option.{same_Some}
+use Rattle.mg_calc.specs.Rules.{Laws}
 use Rattle.mg_calc.specs.declared.edge.Edge.{Edge}
 use Rattle.mg_calc.specs.declared.plan.Plan.{Plan}
 use Rattle.mg_calc.specs.declared.event.Event.{Event}
@@ -78,12 +79,12 @@ only_limits place before now engines intakes work_queues = only_by place before 
 
 -- Steps.
 
-performed_only : (node number : ℕ) (effect : Effect) (work_queue : WorkQueueView) (before now : NetView) → Performs node number effect work_queue before now → OnlyAt node before now
-performed_only node number Did work_queue before now p =
+performed_only : {laws : Laws} (node number : ℕ) (effect : Effect) (work_queue : WorkQueueView) (before now : NetView) → Performs laws node number effect work_queue before now → OnlyAt node before now
+performed_only {laws} node number Did work_queue before now p =
     let is = p.performed.2 in
     only_cell node before now _ _ (ap (λ (v : NetView). v.engines) is) (ap (λ (v : NetView). v.intakes) is) (ap (λ (v : NetView). v.work_queues) is)
-performed_only node number Idle work_queue before now p = absurd p.performed
-performed_only node number OutOfMemory work_queue before now p = only_none node before now p.performed
+performed_only {laws} node number Idle work_queue before now p = absurd p.performed
+performed_only {laws} node number OutOfMemory work_queue before now p = only_none node before now p.performed
 
 committed_only : (node number : ℕ) (shelf : Option PerformedView) (effect : Effect) (engine : EngineView) (before now : NetView) → CommittedAt node number shelf effect engine before now → OnlyAt node before now
 committed_only node number None effect engine before now c = only_none node before now c.same
@@ -95,53 +96,53 @@ committed_only node number (Some p) OutOfMemory engine before now c = only_none 
 at_node : (node : ℕ) (place : ℕ) (before now : NetView) → node ≡ place → OnlyAt node before now → OnlyAt place before now
 at_node node place before now is h = subst (λ (k : ℕ). OnlyAt k before now) is h
 
-pub acts_only : (event : Event) (effect : Effect) (before now : NetView) (place : ℕ) → IsAt before.plan event place → Acts event effect before now → OnlyAt place before now
-acts_only (Deliver edge) effect before now place is a = elim a.delivered [
+pub acts_only : (laws : Laws) (event : Event) (effect : Effect) (before now : NetView) (place : ℕ) → IsAt before.plan event place → Acts laws event effect before now → OnlyAt place before now
+acts_only laws (Deliver edge) effect before now place is a = elim a.delivered [
   | inl held ↦ only_none place before now held.1.same
   | inr brings ↦ at_node a.edge.node place before now (is a.edge a.there)
       (let b = brings.1 in only_intake a.edge.node before now b.intake_now (ap (λ (v : NetView). v.engines) b.now_is) (ap (λ (v : NetView). v.intakes) b.now_is) (ap (λ (v : NetView). v.work_queues) b.now_is))
 ]
-acts_only (Advance node) effect before now place is a =
+acts_only laws (Advance node) effect before now place is a =
     at_node node place before now is (only_engine node before now _ (ap (λ (v : NetView). v.engines) a.now_is) (ap (λ (v : NetView). v.intakes) a.now_is) (ap (λ (v : NetView). v.work_queues) a.now_is))
-acts_only (Claim node) effect before now place is a = elim a [
+acts_only laws (Claim node) effect before now place is a = elim a [
   | inl held ↦ only_none place before now held.1.same
   | inr claims ↦ at_node node place before now is
       (let c = claims.1 in only_set node before now c.engine_now c.intake_now c.work_queue_now (ap (λ (v : NetView). v.engines) c.now_is) (ap (λ (v : NetView). v.intakes) c.now_is) (ap (λ (v : NetView). v.work_queues) c.now_is))
 ]
-acts_only (Perform node number) effect before now place is a = elim a.performed [
+acts_only laws (Perform node number) effect before now place is a = elim a.performed [
   | inl none ↦ only_none place before now none.1.same
   | inr performs ↦ at_node node place before now is (performed_only node number effect a.work_queue before now performs)
 ]
-acts_only (Commit node number) effect before now place is a = at_node node place before now is (committed_only node number (shelf_at a.engine number) effect a.engine before now a.committed)
-acts_only Relax effect before now place is a = elim a [
+acts_only laws (Commit node number) effect before now place is a = at_node node place before now is (committed_only node number (shelf_at a.engine number) effect a.engine before now a.committed)
+acts_only laws Relax effect before now place is a = elim a [
   | inl none ↦ only_none place before now none.1.same
   | inr full ↦ only_limits place before now (ap (λ (v : NetView). v.engines) full.2) (ap (λ (v : NetView). v.intakes) full.2) (ap (λ (v : NetView). v.work_queues) full.2)
 ]
 
-pub acts_only_all : (event : Event) (effect : Effect) (before now : NetView) → Acts event effect before now → (place : ℕ) → IsAt before.plan event place → OnlyAt place before now
-acts_only_all event effect before now acts = λ place is. acts_only event effect before now place is acts
+pub acts_only_all : (laws : Laws) (event : Event) (effect : Effect) (before now : NetView) → Acts laws event effect before now → (place : ℕ) → IsAt before.plan event place → OnlyAt place before now
+acts_only_all laws event effect before now acts = λ place is. acts_only laws event effect before now place is acts
 
 -- What comes of a node's next work.
 
-run_more_only : (event : Event) (events : List Event) (node : ℕ) (before now : NetView) → ((plan : Plan) → IsAt plan event node) → ((mid : NetView) → IsRun events mid now → OnlyAt node mid now)
-    → IsRun (event ∷ events) before now → OnlyAt node before now
-run_more_only event events node before now is rest r = only_then node before r.0 now (acts_only event Did before r.0 node (is before.plan) r.2) (rest r.0 r.3)
+run_more_only : (laws : Laws) (event : Event) (events : List Event) (node : ℕ) (before now : NetView) → ((plan : Plan) → IsAt plan event node) → ((mid : NetView) → IsRun laws events mid now → OnlyAt node mid now)
+    → IsRun laws (event ∷ events) before now → OnlyAt node before now
+run_more_only laws event events node before now is rest r = only_then node before r.0 now (acts_only laws event Did before r.0 node (is before.plan) r.2) (rest r.0 r.3)
 
-claim_only : (node : ℕ) (before now : NetView) → IsRun (Claim node ∷ []) before now → OnlyAt node before now
-claim_only node before now r = run_more_only (Claim node) [] node before now (λ plan. refl) (λ mid r. only_none node mid now r) r
+claim_only : (laws : Laws) (node : ℕ) (before now : NetView) → IsRun laws (Claim node ∷ []) before now → OnlyAt node before now
+claim_only laws node before now r = run_more_only laws (Claim node) [] node before now (λ plan. refl) (λ mid r. only_none node mid now r) r
 
-pub comes_only : (node : ℕ) (reached : Reached) (before now : NetView) → Comes node reached before now → OnlyAt node before now
-comes_only node Nothing before now c = only_none node before now c.0
-comes_only node NotClaimed before now c = acts_only (Claim node) OutOfMemory before now node refl c
-comes_only node OnlyAnswered before now c = claim_only node before now c
-comes_only node OnlyClaimed before now c = claim_only node before now c
-comes_only node (OnlyPerformed number) before now c =
-    run_more_only (Claim node) (Perform node number ∷ []) node before now (λ plan. refl)
-    (λ mid r. run_more_only (Perform node number) [] node mid now (λ plan. refl) (λ last r. only_none node last now r) r) c
-comes_only node (OnlyCommitted number) before now c =
-    run_more_only (Claim node) (Perform node number ∷ Commit node number ∷ []) node before now (λ plan. refl)
-    (λ mid r. run_more_only (Perform node number) (Commit node number ∷ []) node mid now (λ plan. refl)
-    (λ late r. run_more_only (Commit node number) [] node late now (λ plan. refl) (λ last r. only_none node last now r) r) r) c
+pub comes_only : (laws : Laws) (node : ℕ) (reached : Reached) (before now : NetView) → Comes laws node reached before now → OnlyAt node before now
+comes_only laws node Nothing before now c = only_none node before now c.0
+comes_only laws node NotClaimed before now c = acts_only laws (Claim node) OutOfMemory before now node refl c
+comes_only laws node OnlyAnswered before now c = claim_only laws node before now c
+comes_only laws node OnlyClaimed before now c = claim_only laws node before now c
+comes_only laws node (OnlyPerformed number) before now c =
+    run_more_only laws (Claim node) (Perform node number ∷ []) node before now (λ plan. refl)
+    (λ mid r. run_more_only laws (Perform node number) [] node mid now (λ plan. refl) (λ last r. only_none node last now r) r) c
+comes_only laws node (OnlyCommitted number) before now c =
+    run_more_only laws (Claim node) (Perform node number ∷ Commit node number ∷ []) node before now (λ plan. refl)
+    (λ mid r. run_more_only laws (Perform node number) (Commit node number ∷ []) node mid now (λ plan. refl)
+    (λ late r. run_more_only laws (Commit node number) [] node late now (λ plan. refl) (λ last r. only_none node last now r) r) r) c
 
 -- What an agenda notes.
 
@@ -204,27 +205,27 @@ pub notes_idle : (did : Bool) (before now : NetView) (agenda agenda_now : Agenda
 notes_idle did before now agenda agenda_now isnt goes touched = notes_same before now agenda agenda_now (goes_false did before now isnt goes) touched
 
 -- the consumer of an edge along which something came
-pub notes_brought : (edge : ℕ) (before now : NetView) (agenda agenda_now : AgendaView) → Becomes before now → edge < length before.plan.edges
+pub notes_brought : {laws : Laws} (edge : ℕ) (before now : NetView) (agenda agenda_now : AgendaView) → Becomes laws before now → edge < length before.plan.edges
     → ((place : ℕ) → IsAt before.plan (Deliver edge) place → OnlyAt place before now)
     → ((e : Edge) → slice_get now.plan.edges edge ≡ Some e → IsIn agenda_now.touched e.node × ChangesOnly agenda.touched agenda_now.touched e.node) → Notes before agenda now agenda_now
-notes_brought edge before now agenda agenda_now becomes there only touched =
+notes_brought {laws} edge before now agenda agenda_now becomes there only touched =
     let e = found before.plan.edges edge there in
     let is = touched e.0 (ap (λ (p : Plan). slice_get p.edges edge) (becomes_plan before now becomes) ∙ e.1) in
     notes_one e.0.node before agenda now agenda_now (only e.0.node (λ other at. ap (λ (x : Edge). x.node) (same_Some other e.0 (sym at ∙ e.1)))) is.0 is.1
 
-pub idle_rests : (did : Bool) (event : Event) (a b : NetView) → did ≡ false → Steps did event a b → Acts event Idle b b
-idle_rests true event a b isnt s = absurd (false≢true (sym isnt))
-idle_rests false event a b isnt s = still_idle event a b (sym s.0) s.1
+pub idle_rests : (laws : Laws) (did : Bool) (event : Event) (a b : NetView) → did ≡ false → Steps laws did event a b → Acts laws event Idle b b
+idle_rests laws true event a b isnt s = absurd (false≢true (sym isnt))
+idle_rests laws false event a b isnt s = still_idle laws event a b (sym s.0) s.1
 
 -- The edges from a place, one behind the other.
 
 -- those before one rest, from a number on
-abbrev pub RestUpto : Plan → Option ℕ → Option ℕ → NetView → Type 0
-RestUpto plan first cursor net = (place low : ℕ) → IsFirstFrom plan low place first
-    → (reached : ℕ) × IsFirstFrom plan reached place cursor × ((number : ℕ) → low ≤ number → number < reached → LeadsFrom plan place number → Acts (Deliver number) Idle net net)
+abbrev pub RestUpto : Laws → Plan → Option ℕ → Option ℕ → NetView → Type 0
+RestUpto laws plan first cursor net = (place low : ℕ) → IsFirstFrom plan low place first
+    → (reached : ℕ) × IsFirstFrom plan reached place cursor × ((number : ℕ) → low ≤ number → number < reached → LeadsFrom plan place number → Acts laws (Deliver number) Idle net net)
 
-pub upto_first : (plan : Plan) (first : Option ℕ) (net : NetView) → RestUpto plan first first net
-upto_first plan first net = λ place low is. (low, is, λ number from less leads. absurd (omega (arith, from, less)))
+pub upto_first : (laws : Laws) (plan : Plan) (first : Option ℕ) (net : NetView) → RestUpto laws plan first first net
+upto_first laws plan first net = λ place low is. (low, is, λ number from less leads. absurd (omega (arith, from, less)))
 
 pub below_or : (n m : ℕ) → (n < m) ⊎ (m ≤ n)
 below_or n m = by (nat_lt n m) refl
@@ -233,32 +234,32 @@ below_or n m = by (nat_lt n m) refl
     by true is = inl (grind (arith, nat_tests, is))
     by false is = inr (grind (arith, nat_tests, is))
 
-upto_next : (plan : Plan) (first next : Option ℕ) (edge : ℕ) (net now : NetView) → RestUpto plan first (Some edge) net → ((place : ℕ) → LeadsFrom plan place edge → IsFirstFrom plan (edge + 1) place next) → now ≡ net
-    → Acts (Deliver edge) Idle now now → RestUpto plan first next now
-upto_next plan first next edge net now upto follows same rests = λ place low is.
+upto_next : (laws : Laws) (plan : Plan) (first next : Option ℕ) (edge : ℕ) (net now : NetView) → RestUpto laws plan first (Some edge) net → ((place : ℕ) → LeadsFrom plan place edge → IsFirstFrom plan (edge + 1) place next) → now ≡ net
+    → Acts laws (Deliver edge) Idle now now → RestUpto laws plan first next now
+upto_next laws plan first next edge net now upto follows same rests = λ place low is.
     (let so_far = upto place low is in
     let here = so_far.1 in (
       edge + 1,
       follows place here.1,
       λ number from less leads. elim (cases_eq number edge) [
-        | inl last ↦ subst (λ (k : ℕ). Acts (Deliver k) Idle now now) (sym last) rests
+        | inl last ↦ subst (λ (k : ℕ). Acts laws (Deliver k) Idle now now) (sym last) rests
         | inr other ↦ elim (below_or number so_far.0) [
-          | inl before ↦ still_idle (Deliver number) net now (sym same) (so_far.2 number from before leads)
+          | inl before ↦ still_idle laws (Deliver number) net now (sym same) (so_far.2 number from before leads)
           | inr past ↦ absurd (here.2 number past (omega (arith, less, other)) leads)
         ]
       ],
     ))
 
 -- one more, along which nothing went
-pub upto_more : (did moved : Bool) (plan : Plan) (first next : Option ℕ) (edge : ℕ) (net now : NetView) → (did ≡ false → RestUpto plan first (Some edge) net) → ((place : ℕ) → LeadsFrom plan place edge → IsFirstFrom plan (edge + 1) place next)
-    → Goes moved net now → (moved ≡ false → Acts (Deliver edge) Idle now now) → (did || moved) ≡ false → RestUpto plan first next now
-upto_more true moved plan first next edge net now upto follows goes rests isnt = absurd (false≢true (sym isnt))
-upto_more false true plan first next edge net now upto follows goes rests isnt = absurd (false≢true (sym isnt))
-upto_more false false plan first next edge net now upto follows goes rests isnt = upto_next plan first next edge net now (upto refl) follows goes (rests refl)
+pub upto_more : (laws : Laws) (did moved : Bool) (plan : Plan) (first next : Option ℕ) (edge : ℕ) (net now : NetView) → (did ≡ false → RestUpto laws plan first (Some edge) net) → ((place : ℕ) → LeadsFrom plan place edge → IsFirstFrom plan (edge + 1) place next)
+    → Goes moved net now → (moved ≡ false → Acts laws (Deliver edge) Idle now now) → (did || moved) ≡ false → RestUpto laws plan first next now
+upto_more laws true moved plan first next edge net now upto follows goes rests isnt = absurd (false≢true (sym isnt))
+upto_more laws false true plan first next edge net now upto follows goes rests isnt = absurd (false≢true (sym isnt))
+upto_more laws false false plan first next edge net now upto follows goes rests isnt = upto_next laws plan first next edge net now (upto refl) follows goes (rests refl)
 
 -- and there is none behind the last one
-pub upto_last : (plan : Plan) (first : Option ℕ) (net : NetView) → RestUpto plan first None net → EdgesRestFrom plan first net
-upto_last plan first net upto = λ place low number is from leads.
+pub upto_last : (laws : Laws) (plan : Plan) (first : Option ℕ) (net : NetView) → RestUpto laws plan first None net → EdgesRestFrom laws plan first net
+upto_last laws plan first net upto = λ place low number is from leads.
     (let so_far = upto place low is in
     elim (below_or number so_far.0) [
       | inl before ↦ so_far.2 number from before leads

@@ -5,6 +5,7 @@ use Rattle.std.proofs.lemmas.Option.{same_Some, none-some, slice_get_within, get
 use Rattle.mg_value.specs.Payload.{Plain}
 use Rattle.mg_stream.specs.Queue.{count_of}
 use Rattle.mg_stream.specs.Pool.{Backlog, empty_backlog}
+use Rattle.mg_calc.specs.Rules.{Laws}
 use Rattle.mg_calc.specs.declared.edge.Edge.{Edge}
 use Rattle.mg_calc.specs.declared.plan.Plan.{Plan}
 use Rattle.mg_calc.specs.declared.plan_node.PlanNode.{PlanNode}
@@ -47,9 +48,9 @@ lowered_within net laid got have are lowered place port engine at within =
     omega (arith, own, low, is)
 
 -- so each engine gives up what all have got
-pub trims : (before now : NetView) (laid got : List ℕ) → now ≡ record before { engines = now.engines } → HaveOutputs before.plan before.engines → AreLaid before.engines (length before.plan.streams) laid
-    → AreGot before laid got → AllGiven got (length before.plan.streams) before.engines now.engines → Trims before now
-trims before now laid got parts have are lowered all = record {
+pub trims : {laws : Laws} (before now : NetView) (laid got : List ℕ) → now ≡ record before { engines = now.engines } → HaveOutputs before.plan before.engines → AreLaid before.engines (length before.plan.streams) laid
+    → AreGot before laid got → AllGiven laws got (length before.plan.streams) before.engines now.engines → Trims before now
+trims {laws} before now laid got parts have are lowered all = record {
   parts = parts;
   places = all.count;
   engines = λ place e e_now at at_now.
@@ -91,13 +92,13 @@ bare_stays net node e e_now b t =
     t.rest ∙ ap (λ (bs : List (Backlog Plain)). (let v : EngineView = record e { outputs = bs } in v)) same
 
 -- it stays lawful, begun or not
-engine_stays : (job : LoggedJob) (net : NetView) (b : Bool) (n : ℕ) (node : PlanNode) (e e_now : EngineView) → slice_get job.job.plan.nodes n ≡ Some node → TrimsEngine net e e_now
+engine_stays : {laws : Laws} (job : LoggedJob laws) (net : NetView) (b : Bool) (n : ℕ) (node : PlanNode) (e e_now : EngineView) → slice_get job.job.plan.nodes n ≡ Some node → TrimsEngine net e e_now
     → (LawfulEngine job (of_node n) e → LawfulEngine job (of_node n) e_now) → IsEngine job b n e → IsEngine job b n e_now
-engine_stays job net true n node e e_now there t lawful h = lawful h
-engine_stays job net false n node e e_now there t lawful h = subst (LawfulUnbegun job n) (sym (bare_stays net node e e_now (bare job n node e there h) t)) h
+engine_stays {laws} job net true n node e e_now there t lawful h = lawful h
+engine_stays {laws} job net false n node e e_now there t lawful h = subst (LawfulUnbegun job n) (sym (bare_stays net node e e_now (bare job n node e there h) t)) h
 
-cell_stays : (job : LoggedJob) (net : NetView) (b : Bool) (n : ℕ) (e e_now : EngineView) (i : IntakeView) (d : WorkQueueView) → TrimsEngine net e e_now → IsEngine job b n e_now → IsCell job b n e i d → IsCell job b n e_now i d
-cell_stays job net b n e e_now i d t lawful cell = record {
+cell_stays : {laws : Laws} (job : LoggedJob laws) (net : NetView) (b : Bool) (n : ℕ) (e e_now : EngineView) (i : IntakeView) (d : WorkQueueView) → TrimsEngine net e e_now → IsEngine job b n e_now → IsCell job b n e i d → IsCell job b n e_now i d
+cell_stays {laws} job net b n e e_now i d t lawful cell = record {
   lawful_engine = lawful;
   lawful_intake = cell.lawful_intake;
   agree = subst (λ (v : EngineView). Agree v i) (sym t.rest) cell.agree;
@@ -142,10 +143,10 @@ joined_stays net number port edge e e_now i at has to t joined =
       kept = omega (arith, kept, was_gone, now_gone, came);
     }
 
-pub trim_stands : (job : LoggedJob) (before now : NetView) → StandsFor job before → Trims before now
+pub trim_stands : {laws : Laws} (job : LoggedJob laws) (before now : NetView) → StandsFor job before → Trims before now
     → ((place : ℕ) (e e_now : EngineView) (owner : Owner) → slice_get before.engines place ≡ Some e → slice_get now.engines place ≡ Some e_now → LawfulEngine job owner e → LawfulEngine job owner e_now) → StandsFor job now
 unfolding StandsFor
-trim_stands job before now h t lawful =
+trim_stands {laws} job before now h t lawful =
     let old : (place : ℕ) (e_now : EngineView) → slice_get now.engines place ≡ Some e_now → (e : EngineView) × (slice_get before.engines place ≡ Some e) =
     λ place e_now at. found before.engines place (let less = slice_get_within now.engines place e_now at in let count = t.places in omega (arith, less, count)) in
     let ok = valid before (record { job = job; stands = h }) in
@@ -193,14 +194,14 @@ trim_stands job before now h t lawful =
 
 -- The same of a net as it is kept.
 
-pub net_within : (shown net : NetView) (laid got : List ℕ) → shown ≡ net → StandsForSome net → AreLaid shown.engines (length shown.plan.streams) laid → AreGot shown laid got → AreWithin shown.engines got
-net_within shown net laid got is h are lowered = lowered_within shown laid got (subst (λ (v : NetView). HaveOutputs v.plan v.engines) (sym is) (have_outputs h.job net h.stands)) are lowered
+pub net_within : {laws : Laws} (shown net : NetView) (laid got : List ℕ) → shown ≡ net → StandsForSome laws net → AreLaid shown.engines (length shown.plan.streams) laid → AreGot shown laid got → AreWithin shown.engines got
+net_within {laws} shown net laid got is h are lowered = lowered_within shown laid got (subst (λ (v : NetView). HaveOutputs v.plan v.engines) (sym is) (have_outputs h.job net h.stands)) are lowered
 
-pub net_trims : (shown before now : NetView) (laid got : List ℕ) → shown ≡ before → StandsForSome before → now ≡ record shown { engines = now.engines } → AreLaid shown.engines (length shown.plan.streams) laid
-    → AreGot shown laid got → AllGiven got (length shown.plan.streams) shown.engines now.engines → Trims before now
-net_trims shown before now laid got is h parts are lowered all = subst (λ (v : NetView). Trims v now) is (trims shown now laid got parts (subst (λ (v : NetView). HaveOutputs v.plan v.engines) (sym is) (have_outputs h.job before h.stands)) are lowered all)
+pub net_trims : {laws : Laws} (shown before now : NetView) (laid got : List ℕ) → shown ≡ before → StandsForSome laws before → now ≡ record shown { engines = now.engines } → AreLaid shown.engines (length shown.plan.streams) laid
+    → AreGot shown laid got → AllGiven laws got (length shown.plan.streams) shown.engines now.engines → Trims before now
+net_trims {laws} shown before now laid got is h parts are lowered all = subst (λ (v : NetView). Trims v now) is (trims shown now laid got parts (subst (λ (v : NetView). HaveOutputs v.plan v.engines) (sym is) (have_outputs h.job before h.stands)) are lowered all)
 
-pub net_stands : (shown before now : NetView) (got : List ℕ) → shown ≡ before → Trims before now → AllGiven got (length shown.plan.streams) shown.engines now.engines → (job : LoggedJob) → StandsFor job before → StandsFor job now
-net_stands shown before now got is t all job h =
-    let own = subst (λ (v : NetView). AllGiven got (length v.plan.streams) v.engines now.engines) is all in
+pub net_stands : {laws : Laws} (shown before now : NetView) (got : List ℕ) → shown ≡ before → Trims before now → AllGiven laws got (length shown.plan.streams) shown.engines now.engines → (job : LoggedJob laws) → StandsFor job before → StandsFor job now
+net_stands {laws} shown before now got is t all job h =
+    let own = subst (λ (v : NetView). AllGiven laws got (length v.plan.streams) v.engines now.engines) is all in
     trim_stands job before now h t (λ place e e_now owner at at_now lawful. (own.engines place e e_now at at_now).lawful job owner lawful)

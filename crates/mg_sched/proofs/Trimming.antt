@@ -7,6 +7,7 @@ use Rattle.std.proofs.lemmas.Option.{same_Some, none-some, slice_get_within, get
 use Rattle.mg_value.specs.Payload.{Plain}
 use Rattle.mg_stream.specs.Queue.{count_of}
 use Rattle.mg_stream.specs.Pool.{Backlog, empty_backlog}
+use Rattle.mg_calc.specs.Rules.{Laws}
 use Rattle.mg_calc.specs.declared.edge.Edge.{Edge}
 use Rattle.mg_calc.specs.declared.plan.Plan.{Plan}
 use Rattle.mg_node.specs.Views.{IntakeView, EngineView}
@@ -113,16 +114,16 @@ abbrev pub giving : EngineView → ℕ → ℕ → EngineView
 giving engine port number = record engine { outputs = set engine.outputs port (without_first number (get_or engine.outputs port empty_backlog)) }
 
 -- what stands at an output that hasn't given up yet
-not_yet : (got : List ℕ) (stream port : ℕ) (e e_now : EngineView) → HasOutput stream port e → GivenBelow got stream e e_now → get_or e_now.outputs port empty_backlog ≡ get_or e.outputs port empty_backlog
-not_yet got stream port e e_now has g =
+not_yet : {laws : Laws} (got : List ℕ) (stream port : ℕ) (e e_now : EngineView) → HasOutput stream port e → GivenBelow laws got stream e e_now → get_or e_now.outputs port empty_backlog ≡ get_or e.outputs port empty_backlog
+not_yet {laws} got stream port e e_now has g =
     let count = g.count in let less = has.within in let is = has.stream_is in
     let o = found e.outputs port less in
     let o_now = found e_now.outputs port (omega (arith, less, count)) in
     get_or_from_slice_get e_now.outputs port o_now.0 empty_backlog o_now.1 ∙ g.outputs port o.0 o_now.0 o.1 o_now.1 ∙ given_no got stream (e.first + port) o.0 (omega (arith, is)) ∙ sym (get_or_from_slice_get e.outputs port o.0 empty_backlog o.1)
 
-one_given : (got : List ℕ) (stream port number : ℕ) (e e_now : EngineView) → HasOutput stream port e → number ≡ get_or got stream 0 → ((job : LoggedJob) (owner : Owner) → LawfulEngine job owner e_now → LawfulEngine job owner (giving e_now port number)) → GivenBelow got stream e e_now
-    → GivenBelow got (stream + 1) e (giving e_now port number)
-one_given got stream port number e e_now has is lawful g = record {
+one_given : {laws : Laws} (got : List ℕ) (stream port number : ℕ) (e e_now : EngineView) → HasOutput stream port e → number ≡ get_or got stream 0 → ((job : LoggedJob laws) (owner : Owner) → LawfulEngine job owner e_now → LawfulEngine job owner (giving e_now port number)) → GivenBelow laws got stream e e_now
+    → GivenBelow laws got (stream + 1) e (giving e_now port number)
+one_given {laws} got stream port number e e_now has is lawful g = record {
   rest = ap (λ (v : EngineView). (let w : EngineView = record v { outputs = set e_now.outputs port (without_first number (get_or e_now.outputs port empty_backlog)) } in w)) g.rest;
   count = length-set e_now.outputs port (without_first number (get_or e_now.outputs port empty_backlog)) ∙ g.count;
   outputs = λ k o o_now at at_now. elim (cases_eq k port) [
@@ -139,16 +140,16 @@ one_given got stream port number e e_now has is lawful g = record {
   lawful = λ job owner h. lawful job owner (g.lawful job owner h);
 }
 
-pub given_next : (plan : Plan) (got : List ℕ) (before now : List EngineView) (stream place port number : ℕ) (e_now e_new : EngineView) → HaveOutputs plan before → LaidAt plan stream place port → slice_get now place ≡ Some e_now → number ≡ get_or got stream 0
-    → e_new ≡ giving e_now port number → ((job : LoggedJob) (owner : Owner) → LawfulEngine job owner e_now → LawfulEngine job owner e_new) → AllGiven got stream before now → AllGiven got (stream + 1) before (set now place e_new)
-given_next plan got before now stream place port number e_now e_new have laid there is new_is lawful all = record {
+pub given_next : {laws : Laws} (plan : Plan) (got : List ℕ) (before now : List EngineView) (stream place port number : ℕ) (e_now e_new : EngineView) → HaveOutputs plan before → LaidAt plan stream place port → slice_get now place ≡ Some e_now → number ≡ get_or got stream 0
+    → e_new ≡ giving e_now port number → ((job : LoggedJob laws) (owner : Owner) → LawfulEngine job owner e_now → LawfulEngine job owner e_new) → AllGiven laws got stream before now → AllGiven laws got (stream + 1) before (set now place e_new)
+given_next {laws} plan got before now stream place port number e_now e_new have laid there is new_is lawful all = record {
   count = length-set now place e_new ∙ all.count;
   engines = λ k e e_then at at_then. elim (cases_eq k place) [
     | inl here ↦
         (let then_is : e_then ≡ e_new = put_there now place e_new e_then (ap (slice_get (set now place e_new)) (sym here) ∙ at_then) in
         let g = all.engines k e e_now at (ap (slice_get now) here ∙ there) in
         let has = have.output stream place port e laid (ap (slice_get before) (sym here) ∙ at) in
-        subst (λ (v : EngineView). GivenBelow got (stream + 1) e v) (sym (then_is ∙ new_is))
+        subst (λ (v : EngineView). GivenBelow laws got (stream + 1) e v) (sym (then_is ∙ new_is))
         (one_given got stream port number e e_now has is (λ job owner h. subst (λ (v : EngineView). LawfulEngine job owner v) new_is (lawful job owner h)) g))
     | inr other ↦
         (let g = all.engines k e e_then at (sym (get_other now place k e_new other) ∙ at_then) in
@@ -163,19 +164,19 @@ given_next plan got before now stream place port number e_now e_new have laid th
 }
 
 -- what a call that gives up needs
-pub place_there : (plan : Plan) (got : List ℕ) (before now : List EngineView) (stream place port : ℕ) → HaveOutputs plan before → LaidAt plan stream place port → AllGiven got stream before now → place < length now
-place_there plan got before now stream place port have laid all = (let less = have.place stream place port laid in let count = all.count in omega (arith, less, count))
+pub place_there : {laws : Laws} (plan : Plan) (got : List ℕ) (before now : List EngineView) (stream place port : ℕ) → HaveOutputs plan before → LaidAt plan stream place port → AllGiven laws got stream before now → place < length now
+place_there {laws} plan got before now stream place port have laid all = (let less = have.place stream place port laid in let count = all.count in omega (arith, less, count))
 
-pub output_there : (plan : Plan) (got : List ℕ) (before now : List EngineView) (stream place port : ℕ) (e_now : EngineView) → HaveOutputs plan before → LaidAt plan stream place port → slice_get now place ≡ Some e_now → AllGiven got stream before now → port < length e_now.outputs
-output_there plan got before now stream place port e_now have laid there all =
+pub output_there : {laws : Laws} (plan : Plan) (got : List ℕ) (before now : List EngineView) (stream place port : ℕ) (e_now : EngineView) → HaveOutputs plan before → LaidAt plan stream place port → slice_get now place ≡ Some e_now → AllGiven laws got stream before now → port < length e_now.outputs
+output_there {laws} plan got before now stream place port e_now have laid there all =
     let e = found before place (have.place stream place port laid) in
     let less = (have.output stream place port e.0 laid e.1).within in
     let count = (all.engines place e.0 e_now e.1 there).count in
     omega (arith, less, count)
 
-pub laid_enough : (plan : Plan) (got : List ℕ) (before now : List EngineView) (stream place port number : ℕ) (e_now : EngineView) → HaveOutputs plan before → AreWithin before got → LaidAt plan stream place port → slice_get now place ≡ Some e_now → number ≡ get_or got stream 0
-    → AllGiven got stream before now → number ≤ count_at e_now port
-laid_enough plan got before now stream place port number e_now have within laid there is all =
+pub laid_enough : {laws : Laws} (plan : Plan) (got : List ℕ) (before now : List EngineView) (stream place port number : ℕ) (e_now : EngineView) → HaveOutputs plan before → AreWithin before got → LaidAt plan stream place port → slice_get now place ≡ Some e_now → number ≡ get_or got stream 0
+    → AllGiven laws got stream before now → number ≤ count_at e_now port
+laid_enough {laws} plan got before now stream place port number e_now have within laid there is all =
     let e = found before place (have.place stream place port laid) in
     let has = have.output stream place port e.0 laid e.1 in
     let same = ap (λ (b : Backlog Plain). b.gone + length b.packets) (not_yet got stream port e.0 e_now has (all.engines place e.0 e_now e.1 there)) in

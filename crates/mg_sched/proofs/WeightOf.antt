@@ -5,6 +5,7 @@ use Rattle.std.proofs.lemmas.List.Sums.{sum_by-cons}
 use Rattle.std.proofs.lemmas.Option.{slice_get_within}
 use Rattle.mg_value.specs.Payload.{Plain}
 use Rattle.mg_settled.specs.Prefix.{StreamPrefix}
+use Rattle.mg_calc.specs.Rules.{Laws}
 use Rattle.mg_calc.specs.declared.plan.Plan.{Plan}
 use Rattle.mg_calc.specs.declared.plan_node.PlanNode.{PlanNode}
 use Rattle.mg_calc.specs.Meaning.{count_of, weight}
@@ -26,13 +27,13 @@ sums_within f g (x ∷ xs) (y ∷ ys) each =
     omega (arith, first, rest, sum_by-cons f x (take (length ys) xs), sum_by-cons g y ys)
 
 -- what a node adds to the weight of its job
-abbrev weight_of : LoggedJob → List (StreamPrefix Plain) → PlanNode → ℕ
-weight_of job solution node = count_of job.job solution node + node.in_flight + 1
+abbrev weight_of : {laws : Laws} → LoggedJob laws → List (StreamPrefix Plain) → PlanNode → ℕ
+weight_of {laws} job solution node = count_of job.job solution node + node.in_flight + 1
 
-pub claims_within : (job : LoggedJob) (net : NetView) (solution : List (StreamPrefix Plain)) → StandsFor job net → IsRunning net → Solves job solution → claimed_in net ≤ weight job.job solution
+pub claims_within : {laws : Laws} (job : LoggedJob laws) (net : NetView) (solution : List (StreamPrefix Plain)) → StandsFor job net → IsRunning net → Solves job solution → claimed_in net ≤ weight job.job solution
 unfolding StandsFor
-claims_within job net solution h running solves =
-    let some : StandsForSome net = record { job = job; stands = h } in
+claims_within {laws} job net solution h running solves =
+    let some : StandsForSome laws net = record { job = job; stands = h } in
     subst (λ (p : Plan). claimed_in net ≤ sum_by (weight_of job solution) p.nodes) h.plan
     (sums_within (λ (e : EngineView). e.claimed) (weight_of job solution) net.engines net.plan.nodes (λ i engine node at there.
     let few = claims_counted job i node engine solution solves (subst (λ (p : Plan). slice_get p.nodes i ≡ Some node) h.plan there) (lawful_at net i engine some running (slice_get_within net.plan.nodes i node there) at) in

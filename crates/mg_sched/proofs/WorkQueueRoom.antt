@@ -1,4 +1,5 @@
 -- No more works lie in a work queue than its window has entries.
+use Rattle.mg_calc.specs.Rules.{Laws}
 use Rattle.std.proofs.Common.{◌≡◌, ◌≢◌, ℕ, ◌-◌, ◌<◌, ◌≤◌, Bool, true, false, List, [], ◌∷◌, length, map, AllPairs, ⊎_elim, refl, inl, inr, arith, ◌||◌, ◌⊎◌, eqb, Decides}
 use Rattle.std.specs.List.{AllByRecursion, list_any}
 use Rattle.std.proofs.lemmas.Bool.Decides.{nat_tests}
@@ -36,8 +37,8 @@ below engine (w ∷ ws) out q has =
     either true b h = inl refl
     either false b h = inr h
 
-pub works_fit : (job : LoggedJob) (engine : EngineView) (work_queue : WorkQueueView) → HasWorks job engine work_queue → length work_queue.works ≤ length engine.window
-works_fit job engine work_queue h =
+pub works_fit : {laws : Laws} (job : LoggedJob laws) (engine : EngineView) (work_queue : WorkQueueView) → HasWorks job engine work_queue → length work_queue.works ≤ length engine.window
+works_fit {laws} job engine work_queue h =
     let f = place_in engine in
     let long = length-map work_queue.works f in
     let apart : AllPairs (λ x y. x ≢ y) (map f work_queue.works) = λ i j d less within same.
@@ -52,8 +53,8 @@ works_fit job engine work_queue h =
     omega (arith, few, long)
 
 -- and no more than may be in flight
-pub window_fits : (job : LoggedJob) (node : ℕ) (engine : EngineView) → LawfulEngine job (of_node node) engine → length engine.window ≤ engine.in_flight
-window_fits job node engine h =
+pub window_fits : {laws : Laws} (job : LoggedJob laws) (node : ℕ) (engine : EngineView) → LawfulEngine job (of_node node) engine → length engine.window ≤ engine.in_flight
+window_fits {laws} job node engine h =
     let at = found job.job.plan.nodes node (engine_there job node engine h) in
     let contexts = (engine_known job node engine at.0 h at.1).contexts in
     omega (arith, contexts)

@@ -1,6 +1,7 @@
 -- How works are performed and committed: what the parts of a net tell of a work, and what the net has come to then.
 use Rattle.std.proofs.Common.{◌≡◌, ◌≢◌, ℕ, ◌+◌, ◌<◌, ◌≤◌, Bool, true, false, List, [], ◌∷◌, ◌++◌, length, length-append, map, take, drop, set, get_or, All, Option, Some, None, slice_get, inl, inr, ap, sym, refl, subst, ◌∙◌, arith, if◌then◌else◌}
 use Rattle.std.proofs.lemmas.List.{length-set, set-set}
+use Rattle.mg_calc.specs.Rules.{Laws}
 use Rattle.mg_calc.specs.declared.event.Effect.TheVariants.{Did, Idle, OutOfMemory}
 use Rattle.mg_node.specs.Views.{WorkView, PerformedView, OutcomeView, EngineView}
 use Rattle.mg_node.specs.Job.{LoggedJob}
@@ -22,25 +23,25 @@ use Rattle.mg_sched.proofs.WorkQueueRoom.{works_fit, window_fits}
 
 -- What a net that stands for a job tells of its parts.
 
-pub lawful_at : (net : NetView) (node : ℕ) (engine : EngineView) (h : StandsForSome net) → IsRunning net → node < length net.plan.nodes → slice_get net.engines node ≡ Some engine → LawfulEngine h.job (of_node node) engine
-lawful_at net node engine h running there at =
+pub lawful_at : {laws : Laws} (net : NetView) (node : ℕ) (engine : EngineView) (h : StandsForSome laws net) → IsRunning net → node < length net.plan.nodes → slice_get net.engines node ≡ Some engine → LawfulEngine h.job (of_node node) engine
+lawful_at {laws} net node engine h running there at =
     let intake = found net.intakes node (intake_there net node h there) in
     let work_queue = found net.work_queues node (work_queue_there net node h there) in
     (cell_at h.job net node engine intake.0 work_queue.0 h.stands running there at intake.1 work_queue.1).lawful_engine
 
-pub works_at : (net : NetView) (node : ℕ) (engine : EngineView) (work_queue : WorkQueueView) (h : StandsForSome net) → IsRunning net → node < length net.plan.nodes → slice_get net.engines node ≡ Some engine → slice_get net.work_queues node ≡ Some work_queue → HasWorks h.job engine work_queue
-works_at net node engine work_queue h running there at on =
+pub works_at : {laws : Laws} (net : NetView) (node : ℕ) (engine : EngineView) (work_queue : WorkQueueView) (h : StandsForSome laws net) → IsRunning net → node < length net.plan.nodes → slice_get net.engines node ≡ Some engine → slice_get net.work_queues node ≡ Some work_queue → HasWorks h.job engine work_queue
+works_at {laws} net node engine work_queue h running there at on =
     let intake = found net.intakes node (intake_there net node h there) in
     (cell_at h.job net node engine intake.0 work_queue h.stands running there at intake.1 on).works
 
 -- limits have a mark for each node
-pub marked : (shown net : NetView) (node : ℕ) → shown ≡ net → StandsForSome net → node < length net.plan.nodes → node < length shown.limits.reached
-marked shown net node is h there =
+pub marked : {laws : Laws} (shown net : NetView) (node : ℕ) → shown ≡ net → StandsForSome laws net → node < length net.plan.nodes → node < length shown.limits.reached
+marked {laws} shown net node is h there =
     let marks = (of_plan net h).marked_nodes in
     subst (λ (v : NetView). node < length v.limits.reached) (sym is) (let within : node < length net.limits.reached = omega (arith, there, marks) in within)
 
-pub still_there : (shown net : NetView) (node : ℕ) (engine : EngineView) → shown ≡ net → StandsForSome net → node < length net.plan.nodes → node < length (set shown.engines node engine)
-still_there shown net node engine is h there =
+pub still_there : {laws : Laws} (shown net : NetView) (node : ℕ) (engine : EngineView) → shown ≡ net → StandsForSome laws net → node < length net.plan.nodes → node < length (set shown.engines node engine)
+still_there {laws} shown net node engine is h there =
     let within = subst (λ (v : NetView). node < length v.engines) (sym is) (engine_there net node h there) in
     let long = length-set shown.engines node engine in
     omega (arith, within, long)
@@ -84,14 +85,14 @@ goes_on shown net node read engine is there value at tells =
 -- How commits end.
 
 -- what is taken out of a window is out
-pub taken_out : (shown net : NetView) (node : ℕ) (read taken : EngineView) (p : PerformedView) (outcome : OutcomeView) → shown ≡ net → StandsForSome net → IsRunning net → node < length net.plan.nodes → read ≡ get_or shown.engines node read
-    → ((job : LoggedJob) (owner : ℕ) → LawfulEngine job (of_node owner) read → IsOut taken p.work) → outcome ≡ outcome_of p → IsOut taken outcome.work
-taken_out shown net node read taken p outcome is h running there value out outcome_is =
+pub taken_out : {laws : Laws} (shown net : NetView) (node : ℕ) (read taken : EngineView) (p : PerformedView) (outcome : OutcomeView) → shown ≡ net → StandsForSome laws net → IsRunning net → node < length net.plan.nodes → read ≡ get_or shown.engines node read
+    → ((job : LoggedJob laws) (owner : ℕ) → LawfulEngine job (of_node owner) read → IsOut taken p.work) → outcome ≡ outcome_of p → IsOut taken outcome.work
+taken_out {laws} shown net node read taken p outcome is h running there value out outcome_is =
     subst (λ (o : OutcomeView). IsOut taken o.work) (sym outcome_is) (out h.job node (lawful_at net node read h running there (engine_read shown net node read is h there value)))
 
-pub commits_none : (shown net : NetView) (node number : ℕ) (read now : EngineView) → shown ≡ net → StandsForSome net → node < length net.plan.nodes → read ≡ get_or shown.engines node read → None ≡ shelf_at read number → now ≡ read
+pub commits_none : {laws : Laws} (shown net : NetView) (node number : ℕ) (read now : EngineView) → shown ≡ net → StandsForSome laws net → node < length net.plan.nodes → read ≡ get_or shown.engines node read → None ≡ shelf_at read number → now ≡ read
     → NodeCommits node number Idle net (with_engine shown node now)
-commits_none shown net node number read now is h there value none same =
+commits_none {laws} shown net node number read now is h there value none same =
     let at = engine_read shown net node read is h there value in
     record {
       engine = read;
@@ -100,10 +101,10 @@ commits_none shown net node number read now is h there value none same =
           (record { idle = refl; same = ap (λ (v : NetView). with_engine v node now) is ∙ ap (with_engine net node) same ∙ same_engine net node read at });
     }
 
-pub commits_did : (shown net : NetView) (node number : ℕ) (read taken now : EngineView) (p : PerformedView) (outcome : OutcomeView) (laid : ℕ) (after : NetView) → shown ≡ net → StandsForSome net → node < length net.plan.nodes
+pub commits_did : {laws : Laws} (shown net : NetView) (node number : ℕ) (read taken now : EngineView) (p : PerformedView) (outcome : OutcomeView) (laid : ℕ) (after : NetView) → shown ≡ net → StandsForSome laws net → node < length net.plan.nodes
     → read ≡ get_or shown.engines node read → Some p ≡ shelf_at read number → Unshelves (Some p) read taken number → outcome ≡ outcome_of p → Commits outcome laid taken now
     → ((engine : EngineView) → slice_get (set shown.engines node now) node ≡ Some engine → after ≡ with_limits (with_engine shown node now) (stopped_by node engine shown.limits)) → NodeCommits node number Did net after
-commits_did shown net node number read taken now p outcome laid after is h there value finds takes outcome_is commits ends =
+commits_did {laws} shown net node number read taken now p outcome laid after is h there value finds takes outcome_is commits ends =
     let at = engine_read shown net node read is h there value in
     let stands : slice_get shown.engines node ≡ Some read = subst (λ (v : NetView). slice_get v.engines node ≡ Some read) (sym is) at in
     let to : CommitsTo node number read p net after = record {
@@ -116,9 +117,9 @@ commits_did shown net node number read taken now p outcome laid after is h there
     } in
     record { engine = read; at = at; committed = subst (λ (o : Option PerformedView). CommittedAt node number o Did read net after) finds to }
 
-pub commits_not : (shown net : NetView) (node number : ℕ) (read taken now : EngineView) (p : PerformedView) (outcome : OutcomeView) → shown ≡ net → StandsForSome net → IsRunning net → node < length net.plan.nodes
+pub commits_not : {laws : Laws} (shown net : NetView) (node number : ℕ) (read taken now : EngineView) (p : PerformedView) (outcome : OutcomeView) → shown ≡ net → StandsForSome laws net → IsRunning net → node < length net.plan.nodes
     → read ≡ get_or shown.engines node read → Some p ≡ shelf_at read number → Unshelves (Some p) read taken number → outcome ≡ outcome_of p → now ≡ shelved taken outcome → NodeCommits node number OutOfMemory net (with_engine shown node now)
-commits_not shown net node number read taken now p outcome is h running there value finds takes outcome_is now_is =
+commits_not {laws} shown net node number read taken now p outcome is h running there value finds takes outcome_is now_is =
     let at = engine_read shown net node read is h there value in
     let same : now ≡ read = now_is ∙ ap (shelved taken) outcome_is ∙ back_in_place h.job node read taken number p (lawful_at net node read h running there at) (sym finds) takes in
     record {
@@ -130,23 +131,23 @@ commits_not shown net node number read taken now p outcome is h running there va
 
 -- What leaves a work queue.
 
-pub work_lawful : (net : NetView) (node number place : ℕ) (work_queue left : WorkQueueView) (work : WorkView) → StandsForSome net → IsRunning net → node < length net.plan.nodes → slice_get net.work_queues node ≡ Some work_queue → TakesFrom number place work work_queue left → SomeJobHas work
-work_lawful net node number place work_queue left work h running there on t =
+pub work_lawful : {laws : Laws} (net : NetView) (node number place : ℕ) (work_queue left : WorkQueueView) (work : WorkView) → StandsForSome laws net → IsRunning net → node < length net.plan.nodes → slice_get net.work_queues node ≡ Some work_queue → TakesFrom number place work work_queue left → SomeJobHas laws work
+work_lawful {laws} net node number place work_queue left work h running there on t =
     let engine = found net.engines node (engine_there net node h there) in
     let works = works_at net node engine.0 work_queue h running there engine.1 on in
     record { job = h.job; lawful = (all_middle (LawfulWork h.job) t.front t.back work (subst (All (LawfulWork h.job)) t.works works.lawful)).1 }
 
-work_out : (job : LoggedJob) (engine : EngineView) (number place : ℕ) (work_queue left : WorkQueueView) (work : WorkView) → HasWorks job engine work_queue → TakesFrom number place work work_queue left → IsOut engine work
-work_out job engine number place work_queue left work works t = (all_middle (IsOut engine) t.front t.back work (subst (All (IsOut engine)) t.works works.out)).1
+work_out : {laws : Laws} (job : LoggedJob laws) (engine : EngineView) (number place : ℕ) (work_queue left : WorkQueueView) (work : WorkView) → HasWorks job engine work_queue → TakesFrom number place work work_queue left → IsOut engine work
+work_out {laws} job engine number place work_queue left work works t = (all_middle (IsOut engine) t.front t.back work (subst (All (IsOut engine)) t.works works.out)).1
 
 -- a work is out in whatever state its context is
-done_out : (engine : EngineView) (work : WorkView) (p : PerformedView) → IsPerformed work p → IsOut engine work → IsOut engine p.work
-done_out engine work p performed o =
+done_out : {laws : Laws} (engine : EngineView) (work : WorkView) (p : PerformedView) → IsPerformed laws work p → IsOut engine work → IsOut engine p.work
+done_out {laws} engine work p performed o =
     subst (IsOut engine) (sym performed.same) (record { node_is = o.node_is; laid = o.laid; entry = o.entry; there = o.there; out = o.out; phase_is = o.phase_is })
 
-pub performed_out : (net : NetView) (node number place : ℕ) (engine : EngineView) (work_queue left : WorkQueueView) (work : WorkView) (p : PerformedView) (outcome : OutcomeView) → StandsForSome net → IsRunning net → node < length net.plan.nodes
-    → slice_get net.engines node ≡ Some engine → slice_get net.work_queues node ≡ Some work_queue → TakesFrom number place work work_queue left → IsPerformed work p → outcome ≡ outcome_of p → IsOut engine outcome.work
-performed_out net node number place engine work_queue left work p outcome h running there at on t performed outcome_is =
+pub performed_out : {laws : Laws} (net : NetView) (node number place : ℕ) (engine : EngineView) (work_queue left : WorkQueueView) (work : WorkView) (p : PerformedView) (outcome : OutcomeView) → StandsForSome laws net → IsRunning net → node < length net.plan.nodes
+    → slice_get net.engines node ≡ Some engine → slice_get net.work_queues node ≡ Some work_queue → TakesFrom number place work work_queue left → IsPerformed laws work p → outcome ≡ outcome_of p → IsOut engine outcome.work
+performed_out {laws} net node number place engine work_queue left work p outcome h running there at on t performed outcome_is =
     subst (λ (o : OutcomeView). IsOut engine o.work) (sym outcome_is)
     (done_out engine work p performed (work_out h.job engine number place work_queue left work (works_at net node engine work_queue h running there at on) t))
 
@@ -158,15 +159,15 @@ length_middle front back work =
 
 -- The work queue, as it is once a work has left it.
 
-pub left_is : (shown net : NetView) (node : ℕ) (left again : WorkQueueView) → shown ≡ net → StandsForSome net → node < length net.plan.nodes → again ≡ get_or (set shown.work_queues node left) node again → again ≡ left
-left_is shown net node left again is h there value =
+pub left_is : {laws : Laws} (shown net : NetView) (node : ℕ) (left again : WorkQueueView) → shown ≡ net → StandsForSome laws net → node < length net.plan.nodes → again ≡ get_or (set shown.work_queues node left) node again → again ≡ left
+left_is {laws} shown net node left again is h there value =
     let less = subst (λ (v : NetView). node < length v.work_queues) (sym is) (work_queue_there net node h there) in
     let long = length-set shown.work_queues node left in
     put_there shown.work_queues node left again (read_at (set shown.work_queues node left) node again (omega (arith, less, long)) value)
 
-pub has_room : (net : NetView) (node number place : ℕ) (work_queue left again : WorkQueueView) (work : WorkView) → StandsForSome net → IsRunning net → node < length net.plan.nodes → slice_get net.work_queues node ≡ Some work_queue → TakesFrom number place work work_queue left
+pub has_room : {laws : Laws} (net : NetView) (node number place : ℕ) (work_queue left again : WorkQueueView) (work : WorkView) → StandsForSome laws net → IsRunning net → node < length net.plan.nodes → slice_get net.work_queues node ≡ Some work_queue → TakesFrom number place work work_queue left
     → again ≡ left → length again.works < again.room
-has_room net node number place work_queue left again work h running there on t same =
+has_room {laws} net node number place work_queue left again work h running there on t same =
     let engine = found net.engines node (engine_there net node h there) in
     let works = works_at net node engine.0 work_queue h running there engine.1 on in
     let few = works_fit h.job engine.0 work_queue works in
@@ -198,18 +199,18 @@ lies_again number place work_queue left again now work back_work t same unchange
 
 -- How works are performed.
 
-pub performs_none : (shown net : NetView) (node number : ℕ) (work_queue now : WorkQueueView) → shown ≡ net → slice_get net.work_queues node ≡ Some work_queue → All (λ w. w.number ≢ number) work_queue.works → now ≡ work_queue → NodePerforms node number Idle net (with_work_queue shown node now)
-performs_none shown net node number work_queue now is on none same = record {
+pub performs_none : {laws : Laws} (shown net : NetView) (node number : ℕ) (work_queue now : WorkQueueView) → shown ≡ net → slice_get net.work_queues node ≡ Some work_queue → All (λ w. w.number ≢ number) work_queue.works → now ≡ work_queue → NodePerforms laws node number Idle net (with_work_queue shown node now)
+performs_none {laws} shown net node number work_queue now is on none same = record {
   work_queue = work_queue;
   on = on;
   performed = inl (none, record { idle = refl; same = ap (λ (v : NetView). with_work_queue v node now) is ∙ ap (with_work_queue net node) same ∙ same_work_queue net node work_queue on });
 }
 
-pub performs_did : (shown net : NetView) (node number place : ℕ) (engine engine_now : EngineView) (work_queue left : WorkQueueView) (work : WorkView) (p : PerformedView) (outcome : OutcomeView) → shown ≡ net
-    → slice_get net.engines node ≡ Some engine → slice_get net.work_queues node ≡ Some work_queue → TakesFrom number place work work_queue left → IsPerformed work p → outcome ≡ outcome_of p → engine_now ≡ shelved engine outcome
-    → NodePerforms node number Did net (with_work_queue (with_engine shown node engine_now) node left)
-performs_did shown net node number place engine engine_now work_queue left work p outcome is at on t performed outcome_is now_is =
-    let performs : Performs node number Did work_queue net (with_work_queue (with_engine shown node engine_now) node left) = record {
+pub performs_did : {laws : Laws} (shown net : NetView) (node number place : ℕ) (engine engine_now : EngineView) (work_queue left : WorkQueueView) (work : WorkView) (p : PerformedView) (outcome : OutcomeView) → shown ≡ net
+    → slice_get net.engines node ≡ Some engine → slice_get net.work_queues node ≡ Some work_queue → TakesFrom number place work work_queue left → IsPerformed laws work p → outcome ≡ outcome_of p → engine_now ≡ shelved engine outcome
+    → NodePerforms laws node number Did net (with_work_queue (with_engine shown node engine_now) node left)
+performs_did {laws} shown net node number place engine engine_now work_queue left work p outcome is at on t performed outcome_is now_is =
+    let performs : Performs laws node number Did work_queue net (with_work_queue (with_engine shown node engine_now) node left) = record {
       engine = engine;
       at = at;
       work = work;
@@ -227,14 +228,14 @@ performs_did shown net node number place engine engine_now work_queue left work 
     } in
     record { work_queue = work_queue; on = on; performed = inr performs }
 
-pub performs_not : (shown net : NetView) (node number place : ℕ) (work_queue left again now : WorkQueueView) (work back_work : WorkView) → shown ≡ net → StandsForSome net → node < length net.plan.nodes
+pub performs_not : {laws : Laws} (shown net : NetView) (node number place : ℕ) (work_queue left again now : WorkQueueView) (work back_work : WorkView) → shown ≡ net → StandsForSome laws net → node < length net.plan.nodes
     → slice_get net.work_queues node ≡ Some work_queue → TakesFrom number place work work_queue left → again ≡ left → back_work ≡ work → now ≡ put_at place back_work again
-    → NodePerforms node number OutOfMemory net (with_work_queue (with_work_queue shown node left) node now)
-performs_not shown net node number place work_queue left again now work back_work is h there on t same unchanged now_is =
+    → NodePerforms laws node number OutOfMemory net (with_work_queue (with_work_queue shown node left) node now)
+performs_not {laws} shown net node number place work_queue left again now work back_work is h there on t same unchanged now_is =
     let engine = found net.engines node (engine_there net node h there) in
     let work_queues : (let v : NetView = record net { work_queues = set (set net.work_queues node left) node now } in v) ≡ with_work_queue net node now =
     ap (λ (ds : List WorkQueueView). (let v : NetView = record net { work_queues = ds } in v)) (set-set net.work_queues node left now) in
-    let performs : Performs node number OutOfMemory work_queue net (with_work_queue (with_work_queue shown node left) node now) = record {
+    let performs : Performs laws node number OutOfMemory work_queue net (with_work_queue (with_work_queue shown node left) node now) = record {
       engine = engine.0;
       at = engine.1;
       work = work;

@@ -2,6 +2,7 @@
 use Rattle.std.proofs.Common.{◌≡◌, ℕ, zero, suc, ◌-◌, ◌<◌, Bool, true, false, List, [], ◌∷◌, ◌++◌, length, set, Option, Some, None, slice_get, inl, inr, ap, sym, refl, subst, ◌∙◌, append-nil, arith}
 use Rattle.std.proofs.lemmas.List.{length-set, set-set}
 use Rattle.std.proofs.lemmas.Option.{same_Some}
+use Rattle.mg_calc.specs.Rules.{Laws}
 use Rattle.mg_calc.specs.declared.event.Event.{Event}
 use Rattle.mg_calc.specs.declared.event.Event.TheVariants.{Claim, Perform, Commit}
 use Rattle.mg_calc.specs.declared.event.Effect.{Effect}
@@ -41,11 +42,11 @@ use Rattle.mg_sched.proofs.Sweeping.{steps_none}
 use Rattle.mg_sched.proofs.RunsOn.{run_becomes, run_less}
 
 -- an intake from which a work was claimed is lawful
-pub intake_claimed : {C : Type 0} (net : NetView) (node : ℕ) (engine engine_now : EngineView) (intake intake_now : IntakeView) (claimed : Claimed C) (some : StandsForSome net) → IsRunning net → node < length net.plan.nodes
+pub intake_claimed : {laws : Laws} {C : Type 0} (net : NetView) (node : ℕ) (engine engine_now : EngineView) (intake intake_now : IntakeView) (claimed : Claimed C) (some : StandsForSome laws net) → IsRunning net → node < length net.plan.nodes
     → slice_get net.engines node ≡ Some engine → slice_get net.intakes node ≡ Some intake
-    → ((job : LoggedJob) (number : ℕ) → LawfulEngine job (of_node number) engine → LawfulIntake job number intake → Agree engine intake → LawfulClaim {C = C} job number claimed engine_now intake_now)
+    → ((job : LoggedJob laws) (number : ℕ) → LawfulEngine job (of_node number) engine → LawfulIntake job number intake → Agree engine intake → LawfulClaim {C = C} job number claimed engine_now intake_now)
     → LawfulIntake some.job node intake_now
-intake_claimed {C} net node engine engine_now intake intake_now claimed some running there at to keeps =
+intake_claimed {laws} {C} net node engine engine_now intake intake_now claimed some running there at to keeps =
     let parts = parts_lawful net node engine intake some running there at to in
     (keeps some.job node parts.0 parts.1 parts.2).lawful_intake
 
@@ -77,9 +78,9 @@ pub on_kept : {C : Type 0} (node : ℕ) (claimed : Claimed C) (before now : NetV
 on_kept {C} node claimed before now work_queue h on = ap (λ (ds : List WorkQueueView). slice_get ds node) (work_queues_kept node claimed before now h) ∙ on
 
 -- and there is room on them for the work
-pub work_queue_room : {C : Type 0} (node : ℕ) (work : WorkView) (before now : NetView) (work_queue : WorkQueueView) (some : StandsForSome before) → IsRunning before → node < length before.plan.nodes → NodeHandsOut {C = C} node (Work work) before now
+pub work_queue_room : {laws : Laws} {C : Type 0} (node : ℕ) (work : WorkView) (before now : NetView) (work_queue : WorkQueueView) (some : StandsForSome laws before) → IsRunning before → node < length before.plan.nodes → NodeHandsOut {C = C} node (Work work) before now
     → slice_get now.work_queues node ≡ Some work_queue → length work_queue.works < work_queue.room
-work_queue_room {C} node work before now work_queue some running there h on =
+work_queue_room {laws} {C} node work before now work_queue some running there h on =
     let was : slice_get before.work_queues node ≡ Some work_queue = ap (λ (ds : List WorkQueueView). slice_get ds node) (sym (work_queues_kept node (let w : Claimed C = Work work in w) before now h)) ∙ on in
     room_left some.job node work h.engine h.engine_now h.intake h.intake_now work_queue (cell_at some.job before node h.engine h.intake work_queue some.stands running there h.at h.to was) h.claims
 
@@ -113,10 +114,10 @@ idle_claims {C} Draining engine engine_now intake intake_now work_queue none cla
 idle_claims {C} Ended engine engine_now intake intake_now work_queue none claims = ((inr (inr (inr claims)), refl), claims.1)
 idle_claims {C} NoMemory engine engine_now intake intake_now work_queue none claims = absurd cc
 
-pub took_nothing : {C : Type 0} (claimed : Claimed C) (node : ℕ) (net : NetView) (some : StandsForSome net) → IsRunning net → node < length net.plan.nodes → (engine engine_now : EngineView) (intake intake_now : IntakeView)
+pub took_nothing : {laws : Laws} {C : Type 0} (claimed : Claimed C) (node : ℕ) (net : NetView) (some : StandsForSome laws net) → IsRunning net → node < length net.plan.nodes → (engine engine_now : EngineView) (intake intake_now : IntakeView)
     → slice_get net.engines node ≡ Some engine → slice_get net.intakes node ≡ Some intake → took_none claimed ≡ true → Claims {C = C} claimed engine engine_now intake intake_now
     → with_intake (with_engine net node engine_now) node intake_now ≡ with_noted (with_intake (with_engine net node engine_now) node intake_now) (first_edge net.plan node) (lengths_of intake_now.waits)
-took_nothing {C} claimed node net some running there engine engine_now intake intake_now at to none claims =
+took_nothing {laws} {C} claimed node net some running there engine engine_now intake intake_now at to none claims =
     let work_queue = found net.work_queues node (work_queue_there net node some there) in
     let idle = idle_claims claimed engine engine_now intake intake_now work_queue.0 none claims in
     let taken : NetView = with_intake (with_engine net node engine_now) node intake_now in
@@ -130,32 +131,32 @@ took_nothing {C} claimed node net some running there engine engine_now intake in
     same ∙ sym again
 
 -- With the work in its work queue the net stands for a job, as it does after a claim.
-abbrev pub handed_out : {C : Type 0} (node : ℕ) (work : WorkView) (before now : NetView) (work_queue : WorkQueueView) (some : StandsForSome before) → IsRunning before → node < length before.plan.nodes → ¬ IsHeldSource before node
-    → NodeHandsOut {C = C} node (Work work) before now → slice_get before.work_queues node ≡ Some work_queue → IsHandedOut now node work
-handed_out {C} node work before now work_queue some running there free h on =
-    let claims : Acts (Claim node) Did before (with_work now node work_queue work) = inr (free, hands_work node work before now work_queue h on) in
+abbrev pub handed_out : (laws : Laws) {C : Type 0} (node : ℕ) (work : WorkView) (before now : NetView) (work_queue : WorkQueueView) (some : StandsForSome laws before) → IsRunning before → node < length before.plan.nodes → ¬ IsHeldSource before node
+    → NodeHandsOut {C = C} node (Work work) before now → slice_get before.work_queues node ≡ Some work_queue → IsHandedOut laws now node work
+handed_out laws {C} node work before now work_queue some running there free h on =
+    let claims : Acts laws (Claim node) Did before (with_work now node work_queue work) = inr (free, hands_work node work before now work_queue h on) in
     record {
       work_queue = work_queue;
       on = on_kept node (let w : Claimed C = Work work in w) before now work_queue h on;
       stands = record { job = some.job; stands = acts_stand some.job (Claim node) Did before (with_work now node work_queue work) there running some.stands claims };
-      running = acts_run (Claim node) Did before (with_work now node work_queue work) running claims;
+      running = acts_run laws (Claim node) Did before (with_work now node work_queue work) running claims;
       there = subst (λ (v : NetView). node < length v.plan.nodes) (sym h.now_is) there;
     }
 
 -- nothing was done
-pub nothing_came : (node : ℕ) (before now : NetView) → StandsForSome before → IsRunning before → node < length before.plan.nodes → Acts (Claim node) Idle before now → Comes node Nothing before now
-nothing_came node before now some running there is =
+pub nothing_came : {laws : Laws} (node : ℕ) (before now : NetView) → StandsForSome laws before → IsRunning before → node < length before.plan.nodes → Acts laws (Claim node) Idle before now → Comes laws node Nothing before now
+nothing_came {laws} node before now some running there is =
     let same = idle_same some.job (Claim node) before now there running some.stands is in
-    (same, (steps_none (Claim node) before now same is).1)
+    (same, (steps_none laws (Claim node) before now same is).1)
 
 -- a work is claimed, and comes on
-pub comes : (node : ℕ) (reached : Reached) (before between now : NetView) → node < length before.plan.nodes → Acts (Claim node) Did before between → ComesOn node reached between now → Comes node reached before now
-comes node Nothing before between now there claims on = absurd on
-comes node NotClaimed before between now there claims on = absurd on
-comes node OnlyAnswered before between now there claims on = (between, there, claims, on)
-comes node OnlyClaimed before between now there claims on = (between, there, claims, on)
-comes node (Performed number) before between now there claims on = (between, there, claims, on)
-comes node (Committed number) before between now there claims on = (between, there, claims, on)
+pub comes : (laws : Laws) (node : ℕ) (reached : Reached) (before between now : NetView) → node < length before.plan.nodes → Acts laws (Claim node) Did before between → ComesOn laws node reached between now → Comes laws node reached before now
+comes laws node Nothing before between now there claims on = absurd on
+comes laws node NotClaimed before between now there claims on = absurd on
+comes laws node OnlyAnswered before between now there claims on = (between, there, claims, on)
+comes laws node OnlyClaimed before between now there claims on = (between, there, claims, on)
+comes laws node (Performed number) before between now there claims on = (between, there, claims, on)
+comes laws node (Committed number) before between now there claims on = (between, there, claims, on)
 
 -- A commit is the same where the work came back before, and was taken out again.
 commits_again : (engine : EngineView) (outcome : OutcomeView) (number count : ℕ) (now : EngineView) → number ≡ outcome.work.number → Commits outcome count engine now
@@ -191,7 +192,7 @@ with_engine_within shown net node engine is there =
     let long = length-set shown.engines node engine in
     omega (arith, within, long)
 
-module _ (net : NetView) (node number : ℕ) (work_queue : WorkQueueView) (work : WorkView) (on : slice_get net.work_queues node ≡ Some work_queue) (some : StandsForSome (with_work net node work_queue work)) (running : IsRunning (with_work net node work_queue work))
+module _ {laws : Laws} (net : NetView) (node number : ℕ) (work_queue : WorkQueueView) (work : WorkView) (on : slice_get net.work_queues node ≡ Some work_queue) (some : StandsForSome laws (with_work net node work_queue work)) (running : IsRunning (with_work net node work_queue work))
     (there : node < length net.plan.nodes) (number_is : number ≡ work.number) where
   abbrev laid : NetView
   laid = with_work net node work_queue work
@@ -218,14 +219,14 @@ module _ (net : NetView) (node number : ℕ) (work_queue : WorkQueueView) (work 
   pub marks : (shown : NetView) → shown ≡ net → node < length shown.limits.reached
   marks shown is = subst (λ (v : NetView). node < length v.limits.reached) (sym is) (marked laid laid node refl some there)
 
-  pub lawful_work : SomeJobHas work
+  pub lawful_work : SomeJobHas laws work
   lawful_work = work_lawful laid node number (length work_queue.works) full left work some running there full_on takes
 
   module _ (engine : EngineView) (at : slice_get net.engines node ≡ Some engine) where
-    pub some_engine : SomeJobHasEngine engine
+    pub some_engine : SomeJobHasEngine laws engine
     some_engine = record { job = some.job; number = node; lawful = lawful_at laid node engine some running there at }
 
-    pub is_out : (p : PerformedView) (outcome : OutcomeView) → IsPerformed work p → outcome ≡ outcome_of p → IsOut engine outcome.work
+    pub is_out : (p : PerformedView) (outcome : OutcomeView) → IsPerformed laws work p → outcome ≡ outcome_of p → IsOut engine outcome.work
     is_out p outcome performed is = performed_out laid node number (length work_queue.works) engine full left work p outcome some running there at full_on takes performed is
 
     -- without it the work queue is as it was
@@ -234,13 +235,13 @@ module _ (net : NetView) (node number : ℕ) (work_queue : WorkQueueView) (work 
         (set-set net.work_queues node full left ∙ ap (set net.work_queues node) left_is ∙ same_put net.work_queues node work_queue on)
 
     -- it is performed
-    pub performs : (p : PerformedView) (outcome : OutcomeView) (engine_now : EngineView) → IsPerformed work p → outcome ≡ outcome_of p → engine_now ≡ shelved engine outcome → acts.NodePerforms node number Did laid (with_engine net node engine_now)
+    pub performs : (p : PerformedView) (outcome : OutcomeView) (engine_now : EngineView) → IsPerformed laws work p → outcome ≡ outcome_of p → engine_now ≡ shelved engine outcome → acts.NodePerforms laws node number Did laid (with_engine net node engine_now)
     performs p outcome engine_now performed is now_is =
-        subst (acts.NodePerforms node number Did laid) (off_again engine_now)
+        subst (acts.NodePerforms laws node number Did laid) (off_again engine_now)
         (performs_did laid laid node number (length work_queue.works) engine engine_now full left work p outcome refl at full_on takes performed is now_is)
 
     -- and committed
-    pub commits : (p : PerformedView) (engine_now : EngineView) (count : ℕ) (now : NetView) → IsPerformed work p → Commits (outcome_of p) count engine engine_now
+    pub commits : (p : PerformedView) (engine_now : EngineView) (count : ℕ) (now : NetView) → IsPerformed laws work p → Commits (outcome_of p) count engine engine_now
         → now ≡ with_limits (with_engine net node engine_now) (stopped_by node engine_now net.limits) → acts.NodeCommits node number Did (with_engine net node (shelved engine (outcome_of p))) now
     commits p engine_now count now performed commit now_is =
         let shelf = shelved engine (outcome_of p) in
@@ -259,8 +260,8 @@ module _ (net : NetView) (node number : ℕ) (work_queue : WorkQueueView) (work 
         } in
         record { engine = shelf; at = get_set net.engines node engine shelf at; committed = subst (λ (r : Option PerformedView). acts.CommittedAt node number r Did shelf between now) (sym finds) to }
 
-    pub finishes : (p : PerformedView) (outcome : OutcomeView) (engine_now : EngineView) (count : ℕ) (now : NetView) → IsPerformed work p → outcome ≡ outcome_of p → Commits outcome count engine engine_now
-        → now ≡ with_limits (with_engine net node engine_now) (stopped_by node engine_now net.limits) → IsRun (Perform node number ∷ Commit node number ∷ []) laid now
+    pub finishes : (p : PerformedView) (outcome : OutcomeView) (engine_now : EngineView) (count : ℕ) (now : NetView) → IsPerformed laws work p → outcome ≡ outcome_of p → Commits outcome count engine engine_now
+        → now ≡ with_limits (with_engine net node engine_now) (stopped_by node engine_now net.limits) → IsRun laws (Perform node number ∷ Commit node number ∷ []) laid now
     finishes p outcome engine_now count now performed is commit now_is =
         let between = with_engine net node (shelved engine (outcome_of p)) in (
           between,
@@ -271,42 +272,42 @@ module _ (net : NetView) (node number : ℕ) (work_queue : WorkQueueView) (work 
 
 -- What hears the steps.
 
-pub heard_run : {H : Type 0} (has_heard : H → H → List Event → Type 0) (a b : H) (events : List Event) (net there : NetView) → IsRun events net there → HearsMore has_heard a b events → Heard has_heard a b net there
-heard_run {H} has_heard a b events net there run hears = λ began es heard. (events, run, hears began es heard)
+pub heard_run : (laws : Laws) {H : Type 0} (has_heard : H → H → List Event → Type 0) (a b : H) (events : List Event) (net there : NetView) → IsRun laws events net there → HearsMore has_heard a b events → Heard laws has_heard a b net there
+heard_run laws {H} has_heard a b events net there run hears = λ began es heard. (events, run, hears began es heard)
 
 -- What becomes of a net.
 
-pub comes_becomes : (node : ℕ) (reached : Reached) (before now : NetView) → node < length before.plan.nodes → Comes node reached before now → Becomes before now
-comes_becomes node Nothing before now there c = subst (λ (v : NetView). Becomes before v) (sym c.0) itself
-comes_becomes node NotClaimed before now there c = becomes_one (Claim node) OutOfMemory before now there c
-comes_becomes node OnlyAnswered before now there c = run_becomes (steps_of node OnlyAnswered) before now c
-comes_becomes node OnlyClaimed before now there c = run_becomes (steps_of node OnlyClaimed) before now c
-comes_becomes node (Performed number) before now there c = run_becomes (steps_of node (Performed number)) before now c
-comes_becomes node (Committed number) before now there c = run_becomes (steps_of node (Committed number)) before now c
+pub comes_becomes : {laws : Laws} (node : ℕ) (reached : Reached) (before now : NetView) → node < length before.plan.nodes → Comes laws node reached before now → Becomes laws before now
+comes_becomes {laws} node Nothing before now there c = subst (λ (v : NetView). Becomes laws before v) (sym c.0) itself
+comes_becomes {laws} node NotClaimed before now there c = becomes_one (Claim node) OutOfMemory before now there c
+comes_becomes {laws} node OnlyAnswered before now there c = run_becomes (steps_of node OnlyAnswered) before now c
+comes_becomes {laws} node OnlyClaimed before now there c = run_becomes (steps_of node OnlyClaimed) before now c
+comes_becomes {laws} node (Performed number) before now there c = run_becomes (steps_of node (Performed number)) before now c
+comes_becomes {laws} node (Committed number) before now there c = run_becomes (steps_of node (Committed number)) before now c
 
-pub comes_heard : {H : Type 0} (has_heard : H → H → List Event → Type 0) (a b : H) (node : ℕ) (reached : Reached) (did : Bool) (before now : NetView) → Comes node reached before now → did_of reached ≡ Some did
-    → HearsMore has_heard a b (steps_of node reached) → Heard has_heard a b before now
-comes_heard {H} has_heard a b node Nothing did before now c is hears = heard_run has_heard a b [] before now c.0 hears
-comes_heard {H} has_heard a b node NotClaimed did before now c is hears = absurd cc
-comes_heard {H} has_heard a b node OnlyAnswered did before now c is hears = heard_run has_heard a b (steps_of node OnlyAnswered) before now c hears
-comes_heard {H} has_heard a b node OnlyClaimed did before now c is hears = absurd cc
-comes_heard {H} has_heard a b node (Performed number) did before now c is hears = absurd cc
-comes_heard {H} has_heard a b node (Committed number) did before now c is hears = heard_run has_heard a b (steps_of node (Committed number)) before now c hears
+pub comes_heard : (laws : Laws) {H : Type 0} (has_heard : H → H → List Event → Type 0) (a b : H) (node : ℕ) (reached : Reached) (did : Bool) (before now : NetView) → Comes laws node reached before now → did_of reached ≡ Some did
+    → HearsMore has_heard a b (steps_of node reached) → Heard laws has_heard a b before now
+comes_heard laws {H} has_heard a b node Nothing did before now c is hears = heard_run laws has_heard a b [] before now c.0 hears
+comes_heard laws {H} has_heard a b node NotClaimed did before now c is hears = absurd cc
+comes_heard laws {H} has_heard a b node OnlyAnswered did before now c is hears = heard_run laws has_heard a b (steps_of node OnlyAnswered) before now c hears
+comes_heard laws {H} has_heard a b node OnlyClaimed did before now c is hears = absurd cc
+comes_heard laws {H} has_heard a b node (Performed number) did before now c is hears = absurd cc
+comes_heard laws {H} has_heard a b node (Committed number) did before now c is hears = heard_run laws has_heard a b (steps_of node (Committed number)) before now c hears
 
-pub comes_heard_some : {H : Type 0} (has_heard : H → H → List Event → Type 0) (a b : H) (node : ℕ) (reached : Reached) (before now : NetView) → Comes node reached before now → did_of reached ≡ None
-    → HearsMore has_heard a b (steps_of node reached) → HeardSome has_heard a b before
-comes_heard_some {H} has_heard a b node Nothing before now c is hears = absurd cc
-comes_heard_some {H} has_heard a b node NotClaimed before now c is hears = (before, heard_run has_heard a b [] before before refl hears)
-comes_heard_some {H} has_heard a b node OnlyAnswered before now c is hears = absurd cc
-comes_heard_some {H} has_heard a b node OnlyClaimed before now c is hears = (now, heard_run has_heard a b (steps_of node OnlyClaimed) before now c hears)
-comes_heard_some {H} has_heard a b node (Performed number) before now c is hears = (now, heard_run has_heard a b (steps_of node (Performed number)) before now c hears)
-comes_heard_some {H} has_heard a b node (Committed number) before now c is hears = absurd cc
+pub comes_heard_some : (laws : Laws) {H : Type 0} (has_heard : H → H → List Event → Type 0) (a b : H) (node : ℕ) (reached : Reached) (before now : NetView) → Comes laws node reached before now → did_of reached ≡ None
+    → HearsMore has_heard a b (steps_of node reached) → HeardSome laws has_heard a b before
+comes_heard_some laws {H} has_heard a b node Nothing before now c is hears = absurd cc
+comes_heard_some laws {H} has_heard a b node NotClaimed before now c is hears = (before, heard_run laws has_heard a b [] before before refl hears)
+comes_heard_some laws {H} has_heard a b node OnlyAnswered before now c is hears = absurd cc
+comes_heard_some laws {H} has_heard a b node OnlyClaimed before now c is hears = (now, heard_run laws has_heard a b (steps_of node OnlyClaimed) before now c hears)
+comes_heard_some laws {H} has_heard a b node (Performed number) before now c is hears = (now, heard_run laws has_heard a b (steps_of node (Performed number)) before now c hears)
+comes_heard_some laws {H} has_heard a b node (Committed number) before now c is hears = absurd cc
 
-pub comes_steps : (node : ℕ) (reached : Reached) (did : Bool) (before now : NetView) (some : StandsForSome before) → IsRunning before → Comes node reached before now → did_of reached ≡ Some did → Steps did (Claim node) before now
-comes_steps node Nothing did before now some running c is = subst (λ (d : Bool). Steps d (Claim node) before now) (same_Some false did is) c
-comes_steps node NotClaimed did before now some running c is = absurd cc
-comes_steps node OnlyAnswered did before now some running c is = subst (λ (d : Bool). Steps d (Claim node) before now) (same_Some true did is) (run_less some.job (Claim node) [] before now c running some.stands)
-comes_steps node OnlyClaimed did before now some running c is = absurd cc
-comes_steps node (Performed number) did before now some running c is = absurd cc
-comes_steps node (Committed number) did before now some running c is =
-    subst (λ (d : Bool). Steps d (Claim node) before now) (same_Some true did is) (run_less some.job (Claim node) (Perform node number ∷ Commit node number ∷ []) before now c running some.stands)
+pub comes_steps : {laws : Laws} (node : ℕ) (reached : Reached) (did : Bool) (before now : NetView) (some : StandsForSome laws before) → IsRunning before → Comes laws node reached before now → did_of reached ≡ Some did → Steps laws did (Claim node) before now
+comes_steps {laws} node Nothing did before now some running c is = subst (λ (d : Bool). Steps laws d (Claim node) before now) (same_Some false did is) c
+comes_steps {laws} node NotClaimed did before now some running c is = absurd cc
+comes_steps {laws} node OnlyAnswered did before now some running c is = subst (λ (d : Bool). Steps laws d (Claim node) before now) (same_Some true did is) (run_less some.job (Claim node) [] before now c running some.stands)
+comes_steps {laws} node OnlyClaimed did before now some running c is = absurd cc
+comes_steps {laws} node (Performed number) did before now some running c is = absurd cc
+comes_steps {laws} node (Committed number) did before now some running c is =
+    subst (λ (d : Bool). Steps laws d (Claim node) before now) (same_Some true did is) (run_less some.job (Claim node) (Perform node number ∷ Commit node number ∷ []) before now c running some.stands)

@@ -2,6 +2,7 @@
 -- alone.
 use Rattle.std.specs.Prelude.{◌≡◌, ◌≢◌, ℕ, ◌+◌, ◌<◌, ◌⊎◌, ◌||◌, ◌==◌, not, true, false, List, [], ◌∷◌, ◌++◌, map, length, All, Contains, Option, Some, None, slice_get, if◌then◌else◌, ⊤}
 use Rattle.std.specs.List.{list_any}
+use Rattle.mg_calc.specs.Rules.{Laws}
 use Rattle.mg_calc.specs.declared.edge.Edge.{Edge}
 use Rattle.mg_calc.specs.declared.event.Event.{Event}
 use Rattle.mg_calc.specs.declared.event.Event.TheVariants.{Deliver, Advance, Claim, Perform, Commit, Relax}
@@ -148,14 +149,14 @@ NodeClaims node effect before now = (IsHeldSource before node × Rests effect be
 
 -- a work leaves the work queue, is done, and stands in its window as performed and not committed; where there is no memory it lies where it
 -- lay
-abbrev pub PerformedBy : Effect → ℕ → EngineView → WorkQueueView → List WorkView → WorkView → NetView → NetView → Type 0
-PerformedBy Did node engine work_queue left work before now =
-    (p : PerformedView) × IsPerformed work p × (now ≡ with_work_queue (with_engine before node (shelved engine (outcome_of p))) node (record work_queue { works = left }))
-PerformedBy Idle node engine work_queue left work before now = ⊥
-PerformedBy OutOfMemory node engine work_queue left work before now = now ≡ before
+abbrev pub PerformedBy : Laws → Effect → ℕ → EngineView → WorkQueueView → List WorkView → WorkView → NetView → NetView → Type 0
+PerformedBy laws Did node engine work_queue left work before now =
+    (p : PerformedView) × IsPerformed laws work p × (now ≡ with_work_queue (with_engine before node (shelved engine (outcome_of p))) node (record work_queue { works = left }))
+PerformedBy laws Idle node engine work_queue left work before now = ⊥
+PerformedBy laws OutOfMemory node engine work_queue left work before now = now ≡ before
 
 -- a node's work of this number lies in the node's work queue, and is performed
-pub record Performs (node number : ℕ) (effect : Effect) (work_queue : WorkQueueView) (before now : NetView) : Type 0 where
+pub record Performs (laws : Laws) (node number : ℕ) (effect : Effect) (work_queue : WorkQueueView) (before now : NetView) : Type 0 where
   pub engine : EngineView
   pub at : slice_get before.engines node ≡ Some engine
   pub work : WorkView
@@ -163,13 +164,13 @@ pub record Performs (node number : ℕ) (effect : Effect) (work_queue : WorkQueu
   pub back : List WorkView
   pub works : work_queue.works ≡ front ++ work ∷ back
   pub number_is : work.number ≡ number
-  pub performed : PerformedBy effect node engine work_queue (front ++ back) work before now
+  pub performed : PerformedBy laws effect node engine work_queue (front ++ back) work before now
 
 -- a node's work of this number is performed, or no such work lies in the node's work queue
-pub record NodePerforms (node number : ℕ) (effect : Effect) (before now : NetView) : Type 0 where
+pub record NodePerforms (laws : Laws) (node number : ℕ) (effect : Effect) (before now : NetView) : Type 0 where
   pub work_queue : WorkQueueView
   pub on : slice_get before.work_queues node ≡ Some work_queue
-  pub performed : (All (λ w. w.number ≢ number) work_queue.works × Rests effect before now) ⊎ Performs node number effect work_queue before now
+  pub performed : (All (λ w. w.number ≢ number) work_queue.works × Rests effect before now) ⊎ Performs laws node number effect work_queue before now
 
 -- Commits.
 
@@ -214,10 +215,10 @@ LimitsRelax effect before now =
     ⊎ (IsAnyFull before.limits × (effect ≡ Did) × (now ≡ with_limits before (record before.limits { queues = map relaxed before.limits.queues })))
 
 -- A step: what an event does to a net, by its effect.
-abbrev pub Acts : Event → Effect → NetView → NetView → Type 0
-Acts (Deliver edge) effect before now = DeliversAlong edge effect before now
-Acts (Advance node) effect before now = NodeAdvances node effect before now
-Acts (Claim node) effect before now = NodeClaims node effect before now
-Acts (Perform node number) effect before now = NodePerforms node number effect before now
-Acts (Commit node number) effect before now = NodeCommits node number effect before now
-Acts Relax effect before now = LimitsRelax effect before now
+abbrev pub Acts : Laws → Event → Effect → NetView → NetView → Type 0
+Acts laws (Deliver edge) effect before now = DeliversAlong edge effect before now
+Acts laws (Advance node) effect before now = NodeAdvances node effect before now
+Acts laws (Claim node) effect before now = NodeClaims node effect before now
+Acts laws (Perform node number) effect before now = NodePerforms laws node number effect before now
+Acts laws (Commit node number) effect before now = NodeCommits node number effect before now
+Acts laws Relax effect before now = LimitsRelax effect before now

@@ -4,7 +4,7 @@ use Rattle.std.specs.Coded.{Coded, code_by, coded×, coded_ℕ, coded_bool, code
 use Rattle.mg_value.specs.Payload.{Plain}
 use Rattle.mg_value.specs.Codes.{plain_code}
 use Rattle.mg_calc.specs.declared.plan.Plan.{Plan}
-use Rattle.mg_calc.specs.Told.{CalculatorTold}
+use Rattle.mg_calc.specs.Told.{BoxTold}
 use Rattle.mg_calc.specs.ToldCodes.{told_code, plan_code}
 use Rattle.mg_node.specs.Views.{IntakeView, WorkView, EngineView}
 use Rattle.mg_node.specs.Codes.{work_code, intake_code, engine_code}
@@ -35,13 +35,13 @@ limits_code =
 
 abbrev pub rest_code : Coded RestView
 rest_code =
-    code_by (List (Option Plain) × (List WorkQueueView × (QueueLimits × (List (Option CalculatorTold) × List Bool))))
+    code_by (List (Option Plain) × (List WorkQueueView × (QueueLimits × (List (Option BoxTold) × List Bool))))
     (coded× (coded_list (coded_option plain_code)) (coded× (coded_list work_queue_code) (coded× limits_code (coded× (coded_list (coded_option told_code)) (coded_list coded_bool)))))
     (λ r. (r.given, (r.work_queues, (r.limits, (r.spare, r.kept))))) (λ p. record { given = p.0; work_queues = p.1.0; limits = p.1.1.0; spare = p.1.1.1.0; kept = p.1.1.1.1 }) (λ _. refl)
 
 abbrev pub net_code : Coded NetView
 net_code =
-    code_by ((Plan × List (Option Plain)) × ((List EngineView × (List IntakeView × List WorkQueueView)) × (QueueLimits × ((List (Option CalculatorTold) × List Bool) × (ℕ × ℕ)))))
+    code_by ((Plan × List (Option Plain)) × ((List EngineView × (List IntakeView × List WorkQueueView)) × (QueueLimits × ((List (Option BoxTold) × List Bool) × (ℕ × ℕ)))))
     (coded× (coded× plan_code (coded_list (coded_option plain_code)))
     (coded× (coded× (coded_list engine_code) (coded× (coded_list intake_code) (coded_list work_queue_code)))
     (coded× limits_code (coded× (coded× (coded_list (coded_option told_code)) (coded_list coded_bool)) (coded× coded_ℕ coded_ℕ)))))

@@ -1,10 +1,11 @@
 -- A net comes apart, into its engines and intakes by their places, its plan, and what stays of it; and it is put together of them again.
 use Rattle.std.specs.Prelude.{◌≡◌, ℕ, ◌+◌, ◌<◌, ◌≤◌, Bool, true, false, List, [], ◌∷◌, length, Option, Some, None, slice_get}
 use Rattle.mg_value.specs.Payload.{Plain}
+use Rattle.mg_calc.specs.Rules.{Laws}
 use Rattle.mg_calc.specs.declared.edge.Edge.{Edge}
 use Rattle.mg_calc.specs.declared.plan.Plan.{Plan}
 use Rattle.mg_calc.specs.declared.plan_node.PlanNode.{PlanNode}
-use Rattle.mg_calc.specs.Told.{CalculatorTold}
+use Rattle.mg_calc.specs.Told.{BoxTold}
 use Rattle.mg_calc.specs.Equations.{IsJob}
 use Rattle.mg_node.specs.Views.{IntakeView, WorkView, OutcomeView, EngineView}
 use Rattle.mg_node.specs.Job.{LoggedJob, ports_of}
@@ -25,7 +26,7 @@ pub record RestView : Type 0 where
   pub given : List (Option Plain)
   pub work_queues : List WorkQueueView
   pub limits : QueueLimits
-  pub spare : List (Option CalculatorTold)
+  pub spare : List (Option BoxTold)
   pub kept : List Bool
 
 -- what a net comes apart into
@@ -79,7 +80,7 @@ pub record HasComeApart (net : NetView) (parts : PartsView) : Type 0 where
 
 -- what stays of a net fits a job, its plan and these engines: there is an empty work queue for each node, with room for its works; the
 -- limits are those of the plan; and the queues of a node that goes on count
-pub record IsRestOf (job : LoggedJob) (plan : Plan) (engines : List EngineView) (rest : RestView) : Type 0 where
+pub record IsRestOf {laws : Laws} (job : LoggedJob laws) (plan : Plan) (engines : List EngineView) (rest : RestView) : Type 0 where
   pub given : rest.given ≡ job.job.inputs.sides
   pub work_queues : length rest.work_queues ≡ length plan.nodes
   pub empty : (node : ℕ) (work_queue : WorkQueueView) (planned : PlanNode) → slice_get rest.work_queues node ≡ Some work_queue → slice_get plan.nodes node ≡ Some planned
@@ -92,7 +93,7 @@ pub record IsRestOf (job : LoggedJob) (plan : Plan) (engines : List EngineView) 
 
 -- parts are those of one net for a job: there is one at each place, each is lawful, the engine and the intake of a node agree, no work
 -- is out, and at each edge no more came to the port than was laid at the output, which keeps what hasn't come
-pub record ArePartsOf (job : LoggedJob) (parts : PartsView) : Type 0 where
+pub record ArePartsOf {laws : Laws} (job : LoggedJob laws) (parts : PartsView) : Type 0 where
   pub is_job : IsJob job.job
   pub plan : parts.plan ≡ job.job.plan
   pub engine_count : length parts.engines ≡ length parts.plan.nodes + length parts.plan.inputs
@@ -108,8 +109,8 @@ pub record ArePartsOf (job : LoggedJob) (parts : PartsView) : Type 0 where
   pub rest : IsRestOf job parts.plan parts.engines parts.rest
 
 -- there is a job for which parts are those of one net
-pub record AreParts (parts : PartsView) : Type 0 where
-  pub job : LoggedJob
+pub record AreParts (laws : Laws) (parts : PartsView) : Type 0 where
+  pub job : LoggedJob laws
   pub parts_of : ArePartsOf job parts
 
 -- an edge is in its place: it leads from an engine that has its stream to the port of that stream, and no other edge leads there

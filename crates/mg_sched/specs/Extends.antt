@@ -2,6 +2,7 @@
 use Rattle.std.specs.Prelude.{◌≡◌, ℕ, ◌+◌, ◌-◌, ◌<◌, List, [], ◌++◌, false, length, replicate, Some, slice_get, slice_index_or}
 use Rattle.mg_value.specs.Payload.{Plain}
 use Rattle.mg_settled.specs.Prefix.{StreamPrefix, empty_prefix}
+use Rattle.mg_calc.specs.Rules.{Laws}
 use Rattle.mg_calc.specs.declared.inputs.Inputs.{Inputs}
 use Rattle.mg_node.specs.Views.{EngineView}
 use Rattle.mg_node.specs.Job.{LoggedJob}
@@ -11,7 +12,7 @@ use Rattle.mg_sched.specs.Views.{NetView}
 use Rattle.mg_sched.specs.StandsFor.{StandsFor}
 
 -- a job, and the same to which further input came: each graph input has its piece behind what it had
-pub record GoesOnWith (more : Inputs) (first later : LoggedJob) : Type 0 where
+pub record GoesOnWith {laws : Laws} (more : Inputs) (first later : LoggedJob laws) : Type 0 where
   pub grows : Grows first later
   pub pieces : length more.streams ≡ length first.job.inputs.streams
   pub streams : (input : ℕ) → input < length more.streams → slice_index_or later.job.inputs.streams input empty_prefix
@@ -22,9 +23,9 @@ abbrev pub for_last : ℕ → List (StreamPrefix Plain) → Inputs
 for_last inputs pieces = record { streams = replicate (inputs - length pieces) empty_prefix ++ pieces; sides = []; ended = false }
 
 -- a net may go on with further input: it stands for a job that does
-pub record MayGoOnWith (more : Inputs) (net : NetView) : Type 0 where
-  pub first : LoggedJob
-  pub later : LoggedJob
+pub record MayGoOnWith (laws : Laws) (more : Inputs) (net : NetView) : Type 0 where
+  pub first : LoggedJob laws
+  pub later : LoggedJob laws
   pub stands : StandsFor first net
   pub goes_on : GoesOnWith more first later
 

@@ -1,8 +1,9 @@
 -- What a net stands for: each of its parts is lawful for the job, what two parts have to agree on holds, and its limits know what
 -- waits. A net that stands for a job is somewhere on the way to the job's solution, in whatever order its steps were made.
 use Rattle.std.specs.Prelude.{◌≡◌, ◌≢◌, ℕ, ◌+◌, ◌<◌, ◌≤◌, not, nat_lt, Bool, true, false, List, length, All, AllPairs, Any, Option, Some, None, IfSome, slice_get}
+use Rattle.mg_calc.specs.Rules.{Laws}
 use Rattle.mg_calc.specs.declared.edge.Edge.{Edge}
-use Rattle.mg_calc.specs.Told.{CalculatorTold}
+use Rattle.mg_calc.specs.Told.{BoxTold}
 use Rattle.mg_calc.specs.Equations.{IsJob}
 use Rattle.mg_stream.specs.Queue.{count_of}
 use Rattle.mg_node.specs.Views.{IntakeView, EntryView, EngineView}
@@ -22,7 +23,7 @@ use Rattle.mg_sched.specs.Places.{source_of}
 -- Cells.
 
 -- the works of a work queue are those of its engine that are out: each is out and lawful, no two have one number, and none is missing
-pub record HasWorks (job : LoggedJob) (engine : EngineView) (work_queue : WorkQueueView) : Type 0 where
+pub record HasWorks {laws : Laws} (job : LoggedJob laws) (engine : EngineView) (work_queue : WorkQueueView) : Type 0 where
   pub room : work_queue.room ≡ engine.in_flight
   pub out : All (IsOut engine) work_queue.works
   pub lawful : All (LawfulWork job) work_queue.works
@@ -31,12 +32,12 @@ pub record HasWorks (job : LoggedJob) (engine : EngineView) (work_queue : WorkQu
       → Any (λ w. w.number ≡ engine.laid + place) work_queue.works
 
 -- an engine is lawful, begun or not
-abbrev pub IsEngine : LoggedJob → Bool → ℕ → EngineView → Type 0
-IsEngine job true node engine = LawfulEngine job (of_node node) engine
-IsEngine job false node engine = LawfulUnbegun job node engine
+abbrev pub IsEngine : {laws : Laws} → LoggedJob laws → Bool → ℕ → EngineView → Type 0
+IsEngine {laws} job true node engine = LawfulEngine job (of_node node) engine
+IsEngine {laws} job false node engine = LawfulUnbegun job node engine
 
 -- the parts of a node are one cell
-pub record IsCell (job : LoggedJob) (begun : Bool) (node : ℕ) (engine : EngineView) (intake : IntakeView) (work_queue : WorkQueueView) : Type 0 where
+pub record IsCell {laws : Laws} (job : LoggedJob laws) (begun : Bool) (node : ℕ) (engine : EngineView) (intake : IntakeView) (work_queue : WorkQueueView) : Type 0 where
   pub lawful_engine : IsEngine job begun node engine
   pub lawful_intake : LawfulIntake job node intake
   pub agree : Agree engine intake
@@ -64,17 +65,17 @@ pub record KnowsLimits (net : NetView) : Type 0 where
 
 -- the places of the calculators that were handed in: each that a node uses is gone from its place, and each other one lies there, as it
 -- was at the start
-pub record HasSpare (job : LoggedJob) (spare : List (Option CalculatorTold)) : Type 0 where
+pub record HasSpare {laws : Laws} (job : LoggedJob laws) (spare : List (Option BoxTold)) : Type 0 where
   pub count : length spare ≡ length job.boxes
   pub numbers : All (λ n. IfSome n.box_number (λ place. place < length spare)) job.job.plan.nodes
   pub used : (place : ℕ) → slice_get spare place ≡ Some None → Any (λ n. n.box_number ≡ Some place) job.job.plan.nodes
-  pub unused : (place : ℕ) (told : CalculatorTold) → slice_get spare place ≡ Some (Some told)
+  pub unused : (place : ℕ) (told : BoxTold) → slice_get spare place ≡ Some (Some told)
       → All (λ n. ¬ (n.box_number ≡ Some place)) job.job.plan.nodes × (slice_get job.boxes place ≡ Some told)
 
 -- Nets.
 
 -- a net is one of a job: it has a part at each place, each part is lawful, and what two parts have to agree on holds
-pub record IsNetOf (job : LoggedJob) (net : NetView) : Type 0 where
+pub record IsNetOf {laws : Laws} (job : LoggedJob laws) (net : NetView) : Type 0 where
   pub is_job : IsJob job.job
   pub plan : net.plan ≡ job.job.plan
   pub given : net.given ≡ job.job.inputs.sides
@@ -97,12 +98,12 @@ pub record IsNetOf (job : LoggedJob) (net : NetView) : Type 0 where
   pub not_wound : net.wound ≡ 0
 
 -- a net stands for a job
-unfoldable pub StandsFor : LoggedJob → NetView → Type 0
-StandsFor job net = IsNetOf job net
+unfoldable pub StandsFor : {laws : Laws} → LoggedJob laws → NetView → Type 0
+StandsFor {laws} job net = IsNetOf job net
 
 -- there is a job for which a net stands
-pub record StandsForSome (net : NetView) : Type 0 where
-  pub job : LoggedJob
+pub record StandsForSome (laws : Laws) (net : NetView) : Type 0 where
+  pub job : LoggedJob laws
   pub stands : StandsFor job net
 
 -- every node is begun

@@ -2,7 +2,7 @@
 use Rattle.std.specs.Prelude.{ℕ, Bool, List, Option}
 use Rattle.mg_value.specs.Payload.{Plain}
 use Rattle.mg_calc.specs.declared.plan.Plan.{Plan}
-use Rattle.mg_calc.specs.Told.{CalculatorTold}
+use Rattle.mg_calc.specs.Told.{BoxTold}
 use Rattle.mg_node.specs.Views.{IntakeView, WorkView, EngineView}
 use Rattle.mg_throttle.specs.Throttle.{QueueLimits}
 
@@ -24,7 +24,7 @@ pub record NetView : Type 0 where
   -- the limits of its queues, and what waits in them as the limits were told
   pub limits : QueueLimits
   -- the places of the calculators that were handed in: those that no node uses lie here
-  pub spare : List (Option CalculatorTold)
+  pub spare : List (Option BoxTold)
   -- of each stream whether all that is laid of it is kept, also what has come along all its edges
   pub kept : List Bool
   -- how many of the nodes are begun, from the first on, and how many are wound up

@@ -4,12 +4,12 @@ ghost use Rattle.mg_value.specs.Payload.{Plain};
 ghost use Rattle.mg_settled.specs.Prefix.{StreamPrefix};
 ghost use Rattle.mg_calc.specs.declared.plan_node.PlanNode.{PlanNode};
 ghost use Rattle.mg_calc.specs.Plan.{IsValid};
-ghost use Rattle.mg_calc.specs.Told.{CalculatorTold};
+ghost use Rattle.mg_calc.specs.Told.{BoxTold};
 ghost use Rattle.mg_route.specs.HolderView.{HolderView, holder_view};
 ghost use Rattle.mg_node.specs.Fresh.{own_told, fresh_engine};
 ghost use Rattle.mg_sched.specs.Code.Made.{AtPlaces, IsEngineAt, IsLeftOver, FindEach, first_holder};
 
-use mg_calc::{Calculator, Plan};
+use mg_calc::{NodeCalculator, Plan};
 use mg_node::Engine;
 
 /// Moves the calculators that were handed in to places, in their order, behind what lies there.
@@ -27,10 +27,10 @@ pub(crate) fn lay_out<C>(boxes: &mut Vec<C>, places: &mut Vec<Option<C>>)
 }
 
 // Hands the calculator of a place to an engine.
-fn hand_over<C: Calculator>(places: &mut [Option<C>], number: u32, engine: &mut Engine<C>)
+fn hand_over<C: NodeCalculator>(places: &mut [Option<C>], number: u32, engine: &mut Engine<C>)
     requires number { number < length places.old }
     requires there { IsSomeAnd (slice_get places.old number) (λ p. IsSome p) }
-    ensures engine { (node : PlanNode) (place : ℕ) (told : HolderView) (calculator : CalculatorTold) → engine.old ≡ fresh_engine node place told
+    ensures engine { (node : PlanNode) (place : ℕ) (told : HolderView) (calculator : BoxTold) → engine.old ≡ fresh_engine node place told
         → slice_get (map (option_map C.told) places.old) number ≡ Some (Some calculator) → engine.new ≡ fresh_engine node place (holder_view true calculator) }
     ensures taken { map (option_map C.told) places.new ≡ slice_set (map (option_map C.told) places.old) number None }
 {
@@ -41,7 +41,7 @@ fn hand_over<C: Calculator>(places: &mut [Option<C>], number: u32, engine: &mut 
 }
 
 /// Hands each node that has a box number the calculator of that number.
-pub(crate) fn hand_out<C: Calculator>(
+pub(crate) fn hand_out<C: NodeCalculator>(
     plan: &Plan,
     places: &mut [Option<C>],
     engines: &mut [Engine<C>],

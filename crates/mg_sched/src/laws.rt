@@ -8,10 +8,11 @@ ghost use Rattle.mg_settled.specs.Ends.{end_of};
 ghost use Rattle.mg_settled.specs.Extension.{IsExtendedBy};
 ghost use Rattle.mg_settled.specs.Settled.{settled_sets, inputs_of};
 ghost use Rattle.mg_stream.specs.Queue.{StandsFor as IsQueueOf};
+ghost use Rattle.mg_calc.specs.Rules.{Laws};
 ghost use Rattle.mg_calc.specs.declared.plan_node.PlanNode.{PlanNode};
 ghost use Rattle.mg_calc.specs.declared.plan_stream.PlanStream.{PlanStream};
 ghost use Rattle.mg_calc.specs.Equations.{stream_of};
-ghost use Rattle.mg_calc.specs.Told.{CalculatorTold};
+ghost use Rattle.mg_calc.specs.Told.{BoxTold};
 ghost use Rattle.mg_calc.specs.Shape.{IsOuter};
 ghost use Rattle.mg_calc.specs.Meaning.{count_of, fault_of, counts, faults, weight};
 ghost use Rattle.mg_calc.specs.declared.inputs.Inputs.{Inputs};
@@ -44,60 +45,60 @@ ghost use Rattle.mg_calc.specs.declared.edge.Edge.{Edge};
 /// stream in whole, and so is what came at each port of a node or of the collector; of each node as many sets, calls or answers are
 /// laid as the solution counts; and its fault is the solution's.
 pub fn what_rests_is_the_solution()
-    ensures streams { (job : LoggedJob) (net : NetView) (solution : List (StreamPrefix Plain)) (number : ℕ) (stream : PlanStream) (engine : EngineView)
-        → StandsFor job net → IsRunning net → IsAtRest net → Solves job solution
+    ensures streams { (laws : Laws) (job : LoggedJob laws) (net : NetView) (solution : List (StreamPrefix Plain)) (number : ℕ) (stream : PlanStream) (engine : EngineView)
+        → StandsFor job net → IsRunning net → IsAtRest laws net → Solves job solution
         → slice_get net.plan.streams number ≡ Some stream → slice_get net.engines (place_of net.plan stream.producer) ≡ Some engine
         → IsQueueOf (laid_at engine (number - engine.first)) (stream_of solution number) }
-    ensures inputs { (job : LoggedJob) (net : NetView) (solution : List (StreamPrefix Plain)) (consumer : ℕ) (intake : IntakeView)
-        → StandsFor job net → IsRunning net → IsAtRest net → Solves job solution
+    ensures inputs { (laws : Laws) (job : LoggedJob laws) (net : NetView) (solution : List (StreamPrefix Plain)) (consumer : ℕ) (intake : IntakeView)
+        → StandsFor job net → IsRunning net → IsAtRest laws net → Solves job solution
         → consumer ≤ length net.plan.nodes → slice_get net.intakes consumer ≡ Some intake → HasCome intake (streams_at solution (ports_of net.plan consumer)) }
-    ensures counts { (job : LoggedJob) (net : NetView) (solution : List (StreamPrefix Plain)) (number : ℕ) (node : PlanNode) (engine : EngineView)
-        → StandsFor job net → IsRunning net → IsAtRest net → Solves job solution
+    ensures counts { (laws : Laws) (job : LoggedJob laws) (net : NetView) (solution : List (StreamPrefix Plain)) (number : ℕ) (node : PlanNode) (engine : EngineView)
+        → StandsFor job net → IsRunning net → IsAtRest laws net → Solves job solution
         → slice_get net.plan.nodes number ≡ Some node → slice_get net.engines number ≡ Some engine → engine.laid ≡ count_of job.job solution node }
-    ensures faults { (job : LoggedJob) (net : NetView) (solution : List (StreamPrefix Plain)) (number : ℕ) (node : PlanNode) (engine : EngineView)
-        → StandsFor job net → IsRunning net → IsAtRest net → Solves job solution
+    ensures faults { (laws : Laws) (job : LoggedJob laws) (net : NetView) (solution : List (StreamPrefix Plain)) (number : ℕ) (node : PlanNode) (engine : EngineView)
+        → StandsFor job net → IsRunning net → IsAtRest laws net → Solves job solution
         → slice_get net.plan.nodes number ≡ Some node → slice_get net.engines number ≡ Some engine → engine.fault ≡ fault_of job.job solution (number, node) }
 {}
 
 /// The nodes of a net have claimed at most as many sets, calls and answers, all together, as the weight of its job is.
 pub fn claims_are_within_the_weight()
-    ensures { (job : LoggedJob) (net : NetView) (solution : List (StreamPrefix Plain))
+    ensures { (laws : Laws) (job : LoggedJob laws) (net : NetView) (solution : List (StreamPrefix Plain))
         → StandsFor job net → IsRunning net → Solves job solution → claimed_in net ≤ weight job.job solution }
 {}
 
 /// What the collector of a net at rest gives next is the solution's set of its number, and nothing where there is none: so repeated
 /// `take_out` gives the settled sets of the graph's outputs, from the first that wasn't taken.
 pub fn what_is_left_to_take()
-    ensures next { (job : LoggedJob) (net : NetView) (solution : List (StreamPrefix Plain)) (intake : IntakeView)
-        → StandsFor job net → IsRunning net → IsAtRest net → Solves job solution
+    ensures next { (laws : Laws) (job : LoggedJob laws) (net : NetView) (solution : List (StreamPrefix Plain)) (intake : IntakeView)
+        → StandsFor job net → IsRunning net → IsAtRest laws net → Solves job solution
         → collector_of net ≡ Some intake → next_set_of intake.waits ≡ slice_get (settled_outputs net.plan solution) intake.claimed }
-    ensures all { (job : LoggedJob) (net : NetView) (solution : List (StreamPrefix Plain)) (intake : IntakeView)
-        → StandsFor job net → IsRunning net → IsAtRest net → Solves job solution
+    ensures all { (laws : Laws) (job : LoggedJob laws) (net : NetView) (solution : List (StreamPrefix Plain)) (intake : IntakeView)
+        → StandsFor job net → IsRunning net → IsAtRest laws net → Solves job solution
         → collector_of net ≡ Some intake → next_set_of intake.waits ≡ None → intake.claimed ≡ length (settled_outputs net.plan solution) }
 {}
 
 /// The report of a net at rest is that of the solution.
 pub fn what_rests_reports_the_solution()
-    ensures sets { (job : LoggedJob) (net : NetView) (solution : List (StreamPrefix Plain))
-        → StandsFor job net → IsRunning net → IsAtRest net → Solves job solution → (report_of net).sets ≡ counts job.job solution }
-    ensures faults { (job : LoggedJob) (net : NetView) (solution : List (StreamPrefix Plain))
-        → StandsFor job net → IsRunning net → IsAtRest net → Solves job solution → (report_of net).faults ≡ faults job.job solution }
-    ensures streams { (job : LoggedJob) (net : NetView) (solution : List (StreamPrefix Plain))
-        → StandsFor job net → IsRunning net → IsAtRest net → Solves job solution → (report_of net).streams ≡ map end_of solution }
+    ensures sets { (laws : Laws) (job : LoggedJob laws) (net : NetView) (solution : List (StreamPrefix Plain))
+        → StandsFor job net → IsRunning net → IsAtRest laws net → Solves job solution → (report_of net).sets ≡ counts job.job solution }
+    ensures faults { (laws : Laws) (job : LoggedJob laws) (net : NetView) (solution : List (StreamPrefix Plain))
+        → StandsFor job net → IsRunning net → IsAtRest laws net → Solves job solution → (report_of net).faults ≡ faults job.job solution }
+    ensures streams { (laws : Laws) (job : LoggedJob laws) (net : NetView) (solution : List (StreamPrefix Plain))
+        → StandsFor job net → IsRunning net → IsAtRest laws net → Solves job solution → (report_of net).streams ≡ map end_of solution }
 {}
 
 /// Each edge of the parts of one net leads from an engine that has its stream to the port of that stream, and no other leads there.
 pub fn edges_of_parts_are_in_place()
-    ensures { (job : LoggedJob) (parts : PartsView) (number : ℕ) (e : Edge) → ArePartsOf job parts → slice_get parts.plan.edges number ≡ Some e
+    ensures { (laws : Laws) (job : LoggedJob laws) (parts : PartsView) (number : ℕ) (e : Edge) → ArePartsOf job parts → slice_get parts.plan.edges number ≡ Some e
         → IsInPlace parts number e }
 {}
 
 /// No step changes the plan or the calculators that no node uses, begins a node, or takes a set from the collector.
 pub fn steps_leave_what_no_node_uses()
-    ensures plan { (before now : NetView) → Becomes before now → now.plan ≡ before.plan }
-    ensures spare { (before now : NetView) → Becomes before now → now.spare ≡ before.spare }
-    ensures begun { (before now : NetView) → Becomes before now → now.begun ≡ before.begun }
-    ensures taken { (before now : NetView) → Becomes before now → taken_out now ≡ taken_out before }
+    ensures plan { (laws : Laws) (before now : NetView) → Becomes laws before now → now.plan ≡ before.plan }
+    ensures spare { (laws : Laws) (before now : NetView) → Becomes laws before now → now.spare ≡ before.spare }
+    ensures begun { (laws : Laws) (before now : NetView) → Becomes laws before now → now.begun ≡ before.begun }
+    ensures taken { (laws : Laws) (before now : NetView) → Becomes laws before now → taken_out now ≡ taken_out before }
 {}
 
 /// A set that is taken from the collector is counted, and leaves the nodes as they are; where none is taken nothing changes. At no time
@@ -106,20 +107,20 @@ pub fn takings_are_counted()
     ensures takes { (set set_now : List (Option (Stamped Plain))) (before now : NetView) → TakesOut true set set_now before now → taken_out now ≡ taken_out before + 1 }
     ensures nothing { (set set_now : List (Option (Stamped Plain))) (before now : NetView) → TakesOut false set set_now before now → (now ≡ before) × (set_now ≡ set) }
     ensures left { (taken : Bool) (set set_now : List (Option (Stamped Plain))) (before now : NetView) → TakesOut taken set set_now before now → LeavesNodes before now }
-    ensures few { (job : LoggedJob) (solution : List (StreamPrefix Plain)) (net : NetView) → StandsFor job net → Solves job solution
+    ensures few { (laws : Laws) (job : LoggedJob laws) (solution : List (StreamPrefix Plain)) (net : NetView) → StandsFor job net → Solves job solution
         → taken_out net ≤ length (settled_outputs net.plan solution) }
-    ensures outputs { (job : LoggedJob) (solution : List (StreamPrefix Plain)) → Solves job solution
+    ensures outputs { (laws : Laws) (job : LoggedJob laws) (solution : List (StreamPrefix Plain)) → Solves job solution
         → settled_outputs job.job.plan solution ≡ settled_sets Default (inputs_of solution job.job.plan.outputs) }
 {}
 
 /// All sets that the solution has at the graph's outputs can be taken from a net at rest: all has come to the collector, that stays so when
 /// a set is taken, and once there is none to take, as many were taken as the solution has.
 pub fn all_outputs_are_taken()
-    ensures rest { (job : LoggedJob) (solution : List (StreamPrefix Plain)) (net : NetView) → StandsFor job net → IsRunning net → IsAtRest net → Solves job solution
+    ensures rest { (laws : Laws) (job : LoggedJob laws) (solution : List (StreamPrefix Plain)) (net : NetView) → StandsFor job net → IsRunning net → IsAtRest laws net → Solves job solution
         → HasAllOutputs solution net }
-    ensures kept { (job : LoggedJob) (solution : List (StreamPrefix Plain)) (taken : Bool) (set set_now : List (Option (Stamped Plain))) (before now : NetView)
+    ensures kept { (laws : Laws) (job : LoggedJob laws) (solution : List (StreamPrefix Plain)) (taken : Bool) (set set_now : List (Option (Stamped Plain))) (before now : NetView)
         → StandsFor job before → Solves job solution → HasAllOutputs solution before → TakesOut taken set set_now before now → HasAllOutputs solution now }
-    ensures all { (job : LoggedJob) (solution : List (StreamPrefix Plain)) (set set_now : List (Option (Stamped Plain))) (net now : NetView)
+    ensures all { (laws : Laws) (job : LoggedJob laws) (solution : List (StreamPrefix Plain)) (set set_now : List (Option (Stamped Plain))) (net now : NetView)
         → StandsFor job net → Solves job solution → HasAllOutputs solution net → TakesOut false set set_now net now → taken_out net ≡ length (settled_outputs net.plan solution) }
 {}
 
@@ -134,40 +135,40 @@ pub fn what_leaves_nodes_leaves_the_report()
 /// A net that came to rest, perhaps had sets taken, and was wound up gives back each calculator in its place: the calculator of a node with
 /// all its calls, and one that no node uses as it lay.
 pub fn what_comes_back_had_its_calls()
-    ensures used { (job : LoggedJob) (rested net wound : NetView) (solution : List (StreamPrefix Plain)) (number place : ℕ) (node : PlanNode)
-        → StandsFor job rested → IsRunning rested → IsAtRest rested → Solves job solution
-        → LeavesNodes rested net → WindsUpNet net wound → wound.wound ≡ length net.plan.nodes
+    ensures used { (laws : Laws) (job : LoggedJob laws) (rested net wound : NetView) (solution : List (StreamPrefix Plain)) (number place : ℕ) (node : PlanNode)
+        → StandsFor job rested → IsRunning rested → IsAtRest laws rested → Solves job solution
+        → LeavesNodes rested net → WindsUpNet laws net wound → wound.wound ≡ length net.plan.nodes
         → slice_get net.plan.nodes number ≡ Some node → node.box_number ≡ Some place → IsOuter node.law
-        → (told : CalculatorTold) × (slice_get (given_back wound) place ≡ Some told) × HadCalls job solution node told }
-    ensures count { (job : LoggedJob) (net : NetView) → StoodFor job net → length (given_back net) ≡ length job.boxes }
-    ensures unused { (job : LoggedJob) (net : NetView) (place : ℕ) (told : CalculatorTold) → StoodFor job net
+        → (told : BoxTold) × (slice_get (given_back wound) place ≡ Some told) × HadCalls job solution node told }
+    ensures count { (laws : Laws) (job : LoggedJob laws) (net : NetView) → StoodFor job net → length (given_back net) ≡ length job.boxes }
+    ensures unused { (laws : Laws) (job : LoggedJob laws) (net : NetView) (place : ℕ) (told : BoxTold) → StoodFor job net
         → slice_get net.spare place ≡ Some (Some told) → slice_get (given_back net) place ≡ Some told }
-    ensures unused_there { (job : LoggedJob) (net : NetView) (place : ℕ) → StandsFor job net → place < length job.boxes
-        → All (λ n. ¬ (n.box_number ≡ Some place)) net.plan.nodes → (told : CalculatorTold) × (slice_get net.spare place ≡ Some (Some told)) }
+    ensures unused_there { (laws : Laws) (job : LoggedJob laws) (net : NetView) (place : ℕ) → StandsFor job net → place < length job.boxes
+        → All (λ n. ¬ (n.box_number ≡ Some place)) net.plan.nodes → (told : BoxTold) × (slice_get net.spare place ≡ Some (Some told)) }
 {}
 
 /// Whenever a run ends, the calculator of a node comes back with a front of the calls that it has in the solution: that of the net's job,
 /// and that of every job with more lines.
 pub fn what_comes_back_had_a_front()
-    ensures { (job later : LoggedJob) (net : NetView) (solution : List (StreamPrefix Plain)) (number place : ℕ) (node : PlanNode)
+    ensures { (laws : Laws) (job later : LoggedJob laws) (net : NetView) (solution : List (StreamPrefix Plain)) (number place : ℕ) (node : PlanNode)
         → StoodFor job net → (later ≡ job) ⊎ Grows job later → Solves later solution
         → slice_get net.plan.nodes number ≡ Some node → node.box_number ≡ Some place → IsOuter node.law
-        → (told : CalculatorTold) × (slice_get (given_back net) place ≡ Some told) × HadFront later solution node told }
+        → (told : BoxTold) × (slice_get (given_back net) place ≡ Some told) × HadFront later solution node told }
 {}
 
 /// Wherever a run ends, once no work lies in a work queue and all nodes are wound up, no calculator is left open: the calculator of a node
 /// comes back with Close behind Open and some of its sets, or its Open failed.
 pub fn what_comes_back_had_close()
-    ensures { (job : LoggedJob) (net wound : NetView) (solution : List (StreamPrefix Plain)) (number place : ℕ) (node : PlanNode)
-        → StandsFor job net → IsRunning net → NoneOnWorkQueues net → WindsUpNet net wound → wound.wound ≡ length net.plan.nodes → Solves job solution
+    ensures { (laws : Laws) (job : LoggedJob laws) (net wound : NetView) (solution : List (StreamPrefix Plain)) (number place : ℕ) (node : PlanNode)
+        → StandsFor job net → IsRunning net → NoneOnWorkQueues net → WindsUpNet laws net wound → wound.wound ≡ length net.plan.nodes → Solves job solution
         → slice_get net.plan.nodes number ≡ Some node → node.box_number ≡ Some place → IsOuter node.law
-        → (told : CalculatorTold) × (slice_get (given_back wound) place ≡ Some told) × HadClose job solution node told }
+        → (told : BoxTold) × (slice_get (given_back wound) place ≡ Some told) × HadClose job solution node told }
 {}
 
 /// What is laid of each stream of a net that stands for a job, with the packets that were given up, is a prefix that the solution's stream
 /// extends, wherever the net is on its way.
 pub fn streams_are_extended_by_the_solution()
-    ensures { (job : LoggedJob) (net : NetView) (solution : List (StreamPrefix Plain)) (number : ℕ) (stream : PlanStream) (engine : EngineView)
+    ensures { (laws : Laws) (job : LoggedJob laws) (net : NetView) (solution : List (StreamPrefix Plain)) (number : ℕ) (stream : PlanStream) (engine : EngineView)
         → StandsFor job net → IsRunning net → Solves job solution
         → slice_get net.plan.streams number ≡ Some stream → slice_get net.engines (place_of net.plan stream.producer) ≡ Some engine
         → (laid : StreamPrefix Plain) × IsQueueOf (laid_at engine (number - engine.first)) laid × IsExtendedBy laid (stream_of solution number) }
@@ -177,15 +178,15 @@ pub fn streams_are_extended_by_the_solution()
 /// counts and faults and how far each stream came; what is laid of each stream is one stream; and where as many sets were taken of the
 /// graph's outputs, the next one is the same.
 pub fn nets_at_rest_for_one_job_are_alike()
-    ensures report { (job : LoggedJob) (net other : NetView) → StandsFor job net → IsRunning net → IsAtRest net
-        → StandsFor job other → IsRunning other → IsAtRest other → report_of net ≡ report_of other }
-    ensures streams { (job : LoggedJob) (net other : NetView) (number : ℕ) (stream : PlanStream) (engine twin : EngineView)
-        → StandsFor job net → IsRunning net → IsAtRest net → StandsFor job other → IsRunning other → IsAtRest other
+    ensures report { (laws : Laws) (job : LoggedJob laws) (net other : NetView) → StandsFor job net → IsRunning net → IsAtRest laws net
+        → StandsFor job other → IsRunning other → IsAtRest laws other → report_of net ≡ report_of other }
+    ensures streams { (laws : Laws) (job : LoggedJob laws) (net other : NetView) (number : ℕ) (stream : PlanStream) (engine twin : EngineView)
+        → StandsFor job net → IsRunning net → IsAtRest laws net → StandsFor job other → IsRunning other → IsAtRest laws other
         → slice_get net.plan.streams number ≡ Some stream
         → slice_get net.engines (place_of net.plan stream.producer) ≡ Some engine → slice_get other.engines (place_of other.plan stream.producer) ≡ Some twin
         → (laid : StreamPrefix Plain) × IsQueueOf (laid_at engine (number - engine.first)) laid × IsQueueOf (laid_at twin (number - twin.first)) laid }
-    ensures outputs { (job : LoggedJob) (net other : NetView) (intake twin : IntakeView)
-        → StandsFor job net → IsRunning net → IsAtRest net → StandsFor job other → IsRunning other → IsAtRest other
+    ensures outputs { (laws : Laws) (job : LoggedJob laws) (net other : NetView) (intake twin : IntakeView)
+        → StandsFor job net → IsRunning net → IsAtRest laws net → StandsFor job other → IsRunning other → IsAtRest laws other
         → collector_of net ≡ Some intake → collector_of other ≡ Some twin → intake.claimed ≡ twin.claimed
         → next_set_of intake.waits ≡ next_set_of twin.waits }
 {}
@@ -194,16 +195,16 @@ pub fn nets_at_rest_for_one_job_are_alike()
 /// where the stream is kept, nor what leaves the nodes as they are.
 pub fn what_is_kept_stays()
     ensures begins { (before now : NetView) (stream number : ℕ) → BeginsNet before now → HasFrom before stream number → HasFrom now stream number }
-    ensures steps { (before now : NetView) (stream number : ℕ) → Becomes before now → HasFrom before stream number → HasFrom now stream number }
-    ensures further { (more : Inputs) (before now : NetView) (stream number : ℕ) → MayGoOnWith more before → Extends more before now → HasFrom before stream number → HasFrom now stream number }
-    ensures trims { (before now : NetView) (stream number : ℕ) → StandsForSome before → Trims before now → is_kept before stream ≡ true → HasFrom before stream number → HasFrom now stream number }
+    ensures steps { (laws : Laws) (before now : NetView) (stream number : ℕ) → Becomes laws before now → HasFrom before stream number → HasFrom now stream number }
+    ensures further { (laws : Laws) (more : Inputs) (before now : NetView) (stream number : ℕ) → MayGoOnWith laws more before → Extends more before now → HasFrom before stream number → HasFrom now stream number }
+    ensures trims { (laws : Laws) (before now : NetView) (stream number : ℕ) → StandsForSome laws before → Trims before now → is_kept before stream ≡ true → HasFrom before stream number → HasFrom now stream number }
     ensures leaves { (before now : NetView) (stream number : ℕ) → LeavesNodes before now → HasFrom before stream number → HasFrom now stream number }
 {}
 
 /// What is read of a stream of a net at rest is the solution's: a packet that isn't given up, and the bound.
 pub fn what_is_read_at_rest_is_the_solution()
-    ensures packet { (job : LoggedJob) (net : NetView) (solution : List (StreamPrefix Plain)) (stream number : ℕ) (output : Backlog Plain) → StandsFor job net → IsRunning net → IsAtRest net → Solves job solution
+    ensures packet { (laws : Laws) (job : LoggedJob laws) (net : NetView) (solution : List (StreamPrefix Plain)) (stream number : ℕ) (output : Backlog Plain) → StandsFor job net → IsRunning net → IsAtRest laws net → Solves job solution
         → IsOutputOf net stream output → HasFrom net stream number → kept_packet output number ≡ slice_get (stream_of solution stream).packets number }
-    ensures bound { (job : LoggedJob) (net : NetView) (solution : List (StreamPrefix Plain)) (stream : ℕ) (output : Backlog Plain) → StandsFor job net → IsRunning net → IsAtRest net → Solves job solution
+    ensures bound { (laws : Laws) (job : LoggedJob laws) (net : NetView) (solution : List (StreamPrefix Plain)) (stream : ℕ) (output : Backlog Plain) → StandsFor job net → IsRunning net → IsAtRest laws net → Solves job solution
         → IsOutputOf net stream output → output.bound ≡ (stream_of solution stream).bound }
 {}

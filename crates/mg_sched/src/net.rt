@@ -23,7 +23,7 @@ mod working_long;
 
 use crate::agenda::Agenda;
 use crate::work_queue::WorkQueue;
-use mg_calc::{Calculator, GivenList, Plan};
+use mg_calc::{GivenList, NodeCalculator, Plan};
 use mg_node::{Engine, Intake};
 use mg_throttle::Limits;
 use std::alloc::Global;
@@ -32,7 +32,7 @@ use std::marker::Model;
 /// The cells of a graph, joined by its edges. Each engine and each intake lies at a place of its own: those of the nodes by the nodes'
 /// numbers, and behind them the engines of the graph inputs, and the intake of the collector of the graph's outputs.
 #[derive(Drop)]
-pub struct Net<C: Calculator> {
+pub struct Net<C: NodeCalculator> {
     alloc: Global,
     plan: Plan,
     given: GivenList,
@@ -98,7 +98,7 @@ impl IndexedPlan {
 
 /// What stays of a net when its plan, its engines and its intakes are away.
 #[derive(Drop)]
-pub struct NetRest<C: Calculator> {
+pub struct NetRest<C: NodeCalculator> {
     alloc: Global,
     given: GivenList,
     work_queues: Vec<WorkQueue<C>>,
@@ -108,7 +108,7 @@ pub struct NetRest<C: Calculator> {
     kept: Vec<bool>,
 }
 
-impl<C: Calculator> Model for NetRest<C> {
+impl<C: NodeCalculator> Model for NetRest<C> {
     ghost use Rattle.std.specs.Prelude.{◌≡◌, ◌≤◌, map, option_map, vec_len, vec_capacity};
     ghost use Rattle.mg_sched.specs.ComesApart.{RestView};
     ghost use Rattle.mg_sched.specs.Codes.{rest_code};
@@ -128,7 +128,7 @@ impl<C: Calculator> Model for NetRest<C> {
     ghost invariant = { λ r. (vec_len r.boxes ≡ 0) × (vec_len r.spare ≤ vec_capacity r.boxes) };
 }
 
-impl<C: Calculator> Model for Net<C> {
+impl<C: NodeCalculator> Model for Net<C> {
     ghost use Rattle.std.specs.Prelude.{◌≡◌, ◌≤◌, map, option_map, length, vec_len, vec_capacity};
     ghost use Rattle.mg_sched.specs.Views.{NetView};
     ghost use Rattle.mg_sched.specs.Codes.{net_code};

@@ -1,10 +1,10 @@
 use crate::net::{IndexedPlan, NetRest};
-use mg_calc::Calculator;
+use mg_calc::NodeCalculator;
 use mg_node::{Engine, Intake};
 
 /// The parts into which a net comes apart, and of which it is put together again. Each engine and each intake may go elsewhere meanwhile.
 #[derive(Drop)]
-pub struct NetParts<C: Calculator> {
+pub struct NetParts<C: NodeCalculator> {
     /// The plan, with its tables.
     pub plan: IndexedPlan,
     /// The engines of the nodes, and after them those of the graph inputs.

@@ -10,7 +10,7 @@ ghost use Rattle.mg_sched.specs.Code.Tables.{AreTables};
 
 use crate::tables::{first_edges, none_kept, own_feeders, stream_numbers};
 use crate::work_queue::WorkQueue;
-use mg_calc::{Calculator, GivenList, Plan, TryClone};
+use mg_calc::{GivenList, NodeCalculator, Plan, TryClone};
 use mg_node::{Engine, Intake};
 use mg_route::{Builtin, Holder};
 use mg_settled::PrefixList;
@@ -19,7 +19,7 @@ use std::alloc::{AllocError, Global};
 
 /// The plan and the side packets that a net keeps, and places for the calculators that are handed in.
 #[derive(Drop)]
-pub(crate) struct Kept<C: Calculator> {
+pub(crate) struct Kept<C: NodeCalculator> {
     pub(crate) plan: Plan,
     pub(crate) given: GivenList,
     pub(crate) places: Vec<Option<C>>,
@@ -27,7 +27,7 @@ pub(crate) struct Kept<C: Calculator> {
 
 /// The engines, intakes and work queues of a net.
 #[derive(Drop)]
-pub(crate) struct Cells<C: Calculator> {
+pub(crate) struct Cells<C: NodeCalculator> {
     pub(crate) engines: Vec<Engine<C>>,
     pub(crate) intakes: Vec<Intake>,
     pub(crate) work_queues: Vec<WorkQueue<C>>,
@@ -44,7 +44,11 @@ pub(crate) struct Rules {
 }
 
 // The engine of a node, with a calculator of the node's own kind.
-fn engine_of<C: Calculator>(alloc: Global, plan: &Plan, node: u32) -> Result<Engine<C>, AllocError>
+fn engine_of<C: NodeCalculator>(
+    alloc: Global,
+    plan: &Plan,
+    node: u32,
+) -> Result<Engine<C>, AllocError>
     requires valid { IsValid plan.now }
     requires node { node < length plan.now.nodes }
     ensures { IfOk result (λ e. (planned : PlanNode) → slice_get plan.now.nodes node ≡ Some planned → e ≡ fresh_engine planned node (own_told planned)) }
@@ -58,7 +62,7 @@ fn engine_of<C: Calculator>(alloc: Global, plan: &Plan, node: u32) -> Result<Eng
 }
 
 // The engines of the nodes.
-fn node_engines<C: Calculator>(
+fn node_engines<C: NodeCalculator>(
     alloc: Global,
     plan: &Plan,
     streams: &PrefixList,
@@ -76,7 +80,7 @@ fn node_engines<C: Calculator>(
 }
 
 /// The engines of the nodes, each with a calculator of the node's own kind, and behind them those of the graph inputs.
-pub(crate) fn engines_of<C: Calculator>(
+pub(crate) fn engines_of<C: NodeCalculator>(
     alloc: Global,
     plan: &Plan,
     streams: &PrefixList,
@@ -109,7 +113,7 @@ pub(crate) fn intakes_of(alloc: Global, plan: &Plan) -> Result<Vec<Intake>, Allo
 }
 
 /// Returns the work queues of the nodes, in which nothing lies.
-pub(crate) fn work_queues_of<C: Calculator>(
+pub(crate) fn work_queues_of<C: NodeCalculator>(
     alloc: Global,
     plan: &Plan,
 ) -> Result<Vec<WorkQueue<C>>, AllocError>
@@ -125,7 +129,7 @@ pub(crate) fn work_queues_of<C: Calculator>(
 }
 
 /// Returns copies of a plan and of side packets, and room for `count` calculators.
-pub(crate) fn kept_of<C: Calculator>(
+pub(crate) fn kept_of<C: NodeCalculator>(
     alloc: Global,
     plan: &Plan,
     sides: &GivenList,
@@ -148,7 +152,7 @@ pub(crate) fn kept_of<C: Calculator>(
 }
 
 /// The cells of the nodes, the engines of the graph inputs, and the collector's intake.
-pub(crate) fn cells_of<C: Calculator>(
+pub(crate) fn cells_of<C: NodeCalculator>(
     alloc: Global,
     plan: &Plan,
     streams: &PrefixList,

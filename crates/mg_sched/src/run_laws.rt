@@ -3,11 +3,12 @@ ghost use Rattle.std.specs.Prelude.{◌≡◌, ◌≢◌, List, [], ◌∷◌, �
 ghost use Rattle.mg_value.specs.Payload.{Plain};
 ghost use Rattle.mg_settled.specs.Prefix.{StreamPrefix};
 ghost use Rattle.mg_settled.specs.Ends.{end_of};
+ghost use Rattle.mg_calc.specs.Rules.{Laws};
 ghost use Rattle.mg_calc.specs.declared.event.Event.{Event};
 ghost use Rattle.mg_calc.specs.declared.event.Effect.TheVariants.{Did};
 ghost use Rattle.mg_calc.specs.declared.inputs.Inputs.{Inputs};
 ghost use Rattle.mg_calc.specs.declared.plan.Plan.{Plan};
-ghost use Rattle.mg_calc.specs.Told.{CalculatorTold};
+ghost use Rattle.mg_calc.specs.Told.{BoxTold};
 ghost use Rattle.mg_calc.specs.Meaning.{counts, faults};
 ghost use Rattle.mg_node.specs.Job.{LoggedJob, Solves};
 ghost use Rattle.mg_sched.specs.Views.{NetView};
@@ -21,37 +22,37 @@ ghost use Rattle.mg_sched.specs.Sweeps.{Becomes};
 /// The empty list is a run from a net to itself, an event that does something is a run, and two runs of which the second begins where the
 /// first ended are one run.
 pub fn runs_go_on()
-    ensures none { (net : NetView) → IsRun [] net net }
-    ensures one { (event : Event) (before now : NetView) → IsEventOf before event → Acts event Did before now → IsRun (event ∷ []) before now }
-    ensures further { (events more : List Event) (before between now : NetView) → IsRun events before between → IsRun more between now
-        → IsRun (events ++ more) before now }
+    ensures none { (laws : Laws) (net : NetView) → IsRun laws [] net net }
+    ensures one { (laws : Laws) (event : Event) (before now : NetView) → IsEventOf before event → Acts laws event Did before now → IsRun laws (event ∷ []) before now }
+    ensures further { (laws : Laws) (events more : List Event) (before between now : NetView) → IsRun laws events before between → IsRun laws more between now
+        → IsRun laws (events ++ more) before now }
 {}
 
 /// Whatever the events of a run are, at its end every node is begun and the net stands for its job, as at its begin; and a run that has an
 /// event leaves no net as it was.
 pub fn runs_stand_for_their_job()
-    ensures running { (events : List Event) (before now : NetView) → IsRun events before now → IsRunning before → IsRunning now }
-    ensures stands { (job : LoggedJob) (events : List Event) (before now : NetView) → IsRun events before now → IsRunning before → StandsFor job before
+    ensures running { (laws : Laws) (events : List Event) (before now : NetView) → IsRun laws events before now → IsRunning before → IsRunning now }
+    ensures stands { (laws : Laws) (job : LoggedJob laws) (events : List Event) (before now : NetView) → IsRun laws events before now → IsRunning before → StandsFor job before
         → StandsFor job now }
-    ensures moves { (job : LoggedJob) (events : List Event) (before now : NetView) → IsRun events before now → IsRunning before → StandsFor job before
+    ensures moves { (laws : Laws) (job : LoggedJob laws) (events : List Event) (before now : NetView) → IsRun laws events before now → IsRunning before → StandsFor job before
         → events ≢ [] → now ≢ before }
 {}
 
 /// Whatever steps a net makes, whether they do something or find nothing to do or no memory, every node is begun and the net stands for its
 /// job at the end as at the begin. A run is a way to make steps.
 pub fn steps_keep_what_a_net_stands_for()
-    ensures running { (before now : NetView) → Becomes before now → IsRunning before → IsRunning now }
-    ensures stands { (job : LoggedJob) (before now : NetView) → Becomes before now → IsRunning before → StandsFor job before → StandsFor job now }
-    ensures run { (events : List Event) (before now : NetView) → IsRun events before now → Becomes before now }
+    ensures running { (laws : Laws) (before now : NetView) → Becomes laws before now → IsRunning before → IsRunning now }
+    ensures stands { (laws : Laws) (job : LoggedJob laws) (before now : NetView) → Becomes laws before now → IsRunning before → StandsFor job before → StandsFor job now }
+    ensures run { (laws : Laws) (events : List Event) (before now : NetView) → IsRun laws events before now → Becomes laws before now }
 {}
 
 /// Whatever its events are, a run of a job to rest has come to the job's solution: the net reports how many sets each node has there, its
 /// faults, and how far each stream comes.
 pub fn runs_at_rest_have_the_solution()
-    ensures sets { (plan : Plan) (inputs : Inputs) (boxes : List CalculatorTold) (events : List Event) (solution : List (StreamPrefix Plain))
-        (run : IsRunAtRest plan inputs boxes events) → Solves (job_of plan inputs boxes) solution → (report_of run.rested).sets ≡ counts (job_of plan inputs boxes).job solution }
-    ensures faults { (plan : Plan) (inputs : Inputs) (boxes : List CalculatorTold) (events : List Event) (solution : List (StreamPrefix Plain))
-        (run : IsRunAtRest plan inputs boxes events) → Solves (job_of plan inputs boxes) solution → (report_of run.rested).faults ≡ faults (job_of plan inputs boxes).job solution }
-    ensures streams { (plan : Plan) (inputs : Inputs) (boxes : List CalculatorTold) (events : List Event) (solution : List (StreamPrefix Plain))
-        (run : IsRunAtRest plan inputs boxes events) → Solves (job_of plan inputs boxes) solution → (report_of run.rested).streams ≡ map end_of solution }
+    ensures sets { (laws : Laws) (plan : Plan) (inputs : Inputs) (boxes : List BoxTold) (events : List Event) (solution : List (StreamPrefix Plain))
+        (run : IsRunAtRest laws plan inputs boxes events) → Solves (job_of laws plan inputs boxes) solution → (report_of run.rested).sets ≡ counts (job_of laws plan inputs boxes).job solution }
+    ensures faults { (laws : Laws) (plan : Plan) (inputs : Inputs) (boxes : List BoxTold) (events : List Event) (solution : List (StreamPrefix Plain))
+        (run : IsRunAtRest laws plan inputs boxes events) → Solves (job_of laws plan inputs boxes) solution → (report_of run.rested).faults ≡ faults (job_of laws plan inputs boxes).job solution }
+    ensures streams { (laws : Laws) (plan : Plan) (inputs : Inputs) (boxes : List BoxTold) (events : List Event) (solution : List (StreamPrefix Plain))
+        (run : IsRunAtRest laws plan inputs boxes events) → Solves (job_of laws plan inputs boxes) solution → (report_of run.rested).streams ≡ map end_of solution }
 {}

@@ -5,19 +5,19 @@ ghost use Rattle.mg_node.specs.Leaving.{handed_told};
 ghost use Rattle.mg_sched.specs.GivesBack.{on_work_queue};
 ghost use Rattle.mg_sched.specs.Code.WorkQueues.{TakesFrom};
 
-use mg_calc::Calculator;
+use mg_calc::NodeCalculator;
 use mg_node::Work;
 use std::alloc::{AllocError, Global};
 use std::marker::Model;
 
 /// The works of a node that are claimed and not performed, of which at most `room` may lie here.
 #[derive(Drop)]
-pub struct WorkQueue<C: Calculator> {
+pub struct WorkQueue<C: NodeCalculator> {
     room: u32,
     works: Vec<Work<C>>,
 }
 
-impl<C: Calculator> Model for WorkQueue<C> {
+impl<C: NodeCalculator> Model for WorkQueue<C> {
     ghost use Rattle.std.specs.Prelude.{◌≤◌, vec_capacity};
     ghost use Rattle.mg_sched.specs.Views.{WorkQueueView};
     ghost use Rattle.mg_sched.specs.Codes.{work_queue_code};
@@ -32,7 +32,7 @@ impl<C: Calculator> Model for WorkQueue<C> {
 }
 
 /// Returns the place of the work that has this number.
-fn place_of<C: Calculator>(works: &[Work<C>], number: u64) -> Option<usize>
+fn place_of<C: NodeCalculator>(works: &[Work<C>], number: u64) -> Option<usize>
     ensures found { IfSome result (λ place. IsSomeAnd (slice_get works.now place) (λ w. w.number ≡ number)) }
     ensures none { IfNone result (All (λ w. w.number ≢ number) works.now) }
 {
@@ -45,14 +45,14 @@ fn place_of<C: Calculator>(works: &[Work<C>], number: u64) -> Option<usize>
 }
 
 // The calculator of a work, if it was handed in.
-fn handed_of<C: Calculator>(work: Work<C>) -> Option<C>
+fn handed_of<C: NodeCalculator>(work: Work<C>) -> Option<C>
     ensures { option_map C.told result ≡ handed_told work.context.told }
 {
     work.into_calculator()
 }
 
 // Returns the first calculator that was handed in, among those of the works.
-fn first_of<C: Calculator>(works: Vec<Work<C>>) -> Option<C>
+fn first_of<C: NodeCalculator>(works: Vec<Work<C>>) -> Option<C>
     ensures { option_map C.told result ≡ slice_get (filter_map handed_told (map (λ (w : WorkView). w.context.told) works.items)) 0 }
 {
     for work in works {
@@ -63,7 +63,7 @@ fn first_of<C: Calculator>(works: Vec<Work<C>>) -> Option<C>
     None
 }
 
-impl<C: Calculator> WorkQueue<C> {
+impl<C: NodeCalculator> WorkQueue<C> {
     /// Returns an empty work queue with room for `room` works.
     pub(crate) fn new(alloc: Global, room: u32) -> Result<WorkQueue<C>, AllocError>
         ensures { IfOk result (λ d. d ≡ record { room = room; works = [] }) }

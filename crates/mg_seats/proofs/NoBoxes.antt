@@ -3,7 +3,7 @@ use Rattle.std.proofs.Common.{◌≡◌, ℕ, zero, suc, List, [], Option, Some,
 use Rattle.mg_calc.specs.declared.plan.Plan.{Plan}
 use Rattle.mg_calc.specs.declared.shape.OuterShape.{OuterShape}
 use Rattle.mg_calc.specs.Plan.{FitsNode, OutersFit}
-use Rattle.mg_calc.specs.Told.{CalculatorTold}
+use Rattle.mg_calc.specs.Told.{BoxTold}
 use Rattle.mg_sched.specs.Made.{FitsNew, BoxesFit}
 
 abbrev FromNone : {X : Type 0} → (X → Type 0) → Option ℕ → Type 0
@@ -14,7 +14,7 @@ none_wanted {X} {Y} F G None h = tt
 none_wanted {X} {Y} F G (Some zero) h = absurd h
 none_wanted {X} {Y} F G (Some (suc n)) h = absurd h
 
-pub none_fit : {X : Type 0} (told : X → CalculatorTold) (plan : Plan) (boxes : List X) → boxes ≡ [] → OutersFit plan [] → BoxesFit plan (map told boxes)
+pub none_fit : {X : Type 0} (told : X → BoxTold) (plan : Plan) (boxes : List X) → boxes ≡ [] → OutersFit plan [] → BoxesFit plan (map told boxes)
 none_fit {X} told plan boxes none fit = subst (λ (bs : List X). BoxesFit plan (map told bs)) (sym none) fits
   where
     fits : BoxesFit plan []

@@ -1,7 +1,8 @@
 -- What the calls on a shared net leave of a seat: it is still one of the net, and has a work or none.
-use Rattle.std.proofs.Common.{◌≡◌, ℕ, ◌<◌, ◌∙◌, Option, length, ap, refl, subst}
+use Rattle.std.proofs.Common.{◌≡◌, ℕ, ◌<◌, ◌∙◌, length, ap, refl, subst}
 use Rattle.std.proofs.lemmas.Option.{slice_get_within}
-use Rattle.mg_calc.specs.declared.calculator.Calculator.{Ghosts}
+use Rattle.mg_calc.specs.Rules.{Laws}
+use Rattle.mg_calc.specs.declared.node_calculator.NodeCalculator.{Ghosts}
 use Rattle.mg_calc.specs.declared.plan.Plan.{Plan}
 use Rattle.mg_node.specs.Views.{WorkView}
 use Rattle.mg_node.specs.Job.{LoggedJob}
@@ -19,33 +20,33 @@ use Rattle.mg_turns.specs.declared.seat.NetSeat.{NetSeat}
 use Rattle.mg_workers.specs.Shared.{IsShared, StaysShared, IsSharedWith}
 
 -- a seat that has no work before a call, and none after it
-pub stays_free : {X : Type 0} {g : Ghosts X} (net : SharedNet X) (before now : NetSeat X g) → IsShared net before → IsSeatOf net now → (view_of now).work ≡ (view_of before).work → IsShared net now
-stays_free net before now h of same = record { of = of; some = h.some; edges = h.edges; free = same ∙ h.free }
+pub stays_free : {laws : Laws} {X : Type 0} {g : Ghosts X} (net : SharedNet X) (before now : NetSeat X g) → IsShared laws net before → IsSeatOf net now → (view_of now).work ≡ (view_of before).work → IsShared laws net now
+stays_free {laws} net before now h of same = record { of = of; some = h.some; edges = h.edges; free = same ∙ h.free }
 
-pub stays_shared : {X : Type 0} {g : Ghosts X} (net : SharedNet X) (before now : NetSeat X g) → IsShared net before → IsSeatOf net now → (view_of now).work ≡ (view_of before).work
-    → Keeps (view_of before) (view_of now) → StaysShared net before now
-stays_shared net before now h of same keeps = record { shared = stays_free net before now h of same; portion = keeps.portion }
+pub stays_shared : {laws : Laws} {X : Type 0} {g : Ghosts X} (net : SharedNet X) (before now : NetSeat X g) → IsShared laws net before → IsSeatOf net now → (view_of now).work ≡ (view_of before).work
+    → Keeps (view_of before) (view_of now) → StaysShared laws net before now
+stays_shared {laws} net before now h of same keeps = record { shared = stays_free net before now h of same; portion = keeps.portion }
 
-pub stays_itself : {X : Type 0} {g : Ghosts X} (net : SharedNet X) (seat : NetSeat X g) → IsShared net seat → StaysShared net seat seat
-stays_itself net seat h = record { shared = h; portion = refl }
+pub stays_itself : {laws : Laws} {X : Type 0} {g : Ghosts X} (net : SharedNet X) (seat : NetSeat X g) → IsShared laws net seat → StaysShared laws net seat seat
+stays_itself {laws} net seat h = record { shared = h; portion = refl }
 
 -- a work that was handed out
 
-node_there : (job : LoggedJob) (work : WorkView) → LawfulWork job work → work.node < length job.job.plan.nodes
+node_there : {laws : Laws} (job : LoggedJob laws) (work : WorkView) → LawfulWork job work → work.node < length job.job.plan.nodes
 unfolding LawfulWork
-node_there job work lawful = slice_get_within job.job.plan.nodes work.node lawful.node lawful.there
+node_there {laws} job work lawful = slice_get_within job.job.plan.nodes work.node lawful.node lawful.there
 
-node_within : (key : LayoutView) (work : WorkView) → FitsSome key → ((job : LoggedJob) → Fits job key → LawfulWork job work) → work.node < nodes_in key
-node_within key work some lawful = subst (λ (p : Plan). work.node < length p.nodes) some.fits.plan (node_there some.job work (lawful some.job some.fits))
+node_within : {laws : Laws} (key : LayoutView) (work : WorkView) → FitsSome laws key → ((job : LoggedJob laws) → Fits job key → LawfulWork job work) → work.node < nodes_in key
+node_within {laws} key work some lawful = subst (λ (p : Plan). work.node < length p.nodes) some.fits.plan (node_there some.job work (lawful some.job some.fits))
 
-pub is_lawful : {X : Type 0} (key : LayoutView) (answer : Claimed X) (work : WorkView) → answer ≡ Work work → ((job : LoggedJob) → Fits job key → IsLawfulWork job answer)
-    → (job : LoggedJob) → Fits job key → LawfulWork job work
-is_lawful {X} key result work is lawful job fits = subst (λ (a : Claimed X). IsLawfulWork job a) is (lawful job fits)
+pub is_lawful : {laws : Laws} {X : Type 0} (key : LayoutView) (answer : Claimed X) (work : WorkView) → answer ≡ Work work → ((job : LoggedJob laws) → Fits job key → IsLawfulWork job answer)
+    → (job : LoggedJob laws) → Fits job key → LawfulWork job work
+is_lawful {laws} {X} key result work is lawful job fits = subst (λ (a : Claimed X). IsLawfulWork job a) is (lawful job fits)
 
 -- a seat that claimed it has it
-pub has_claimed : {X : Type 0} {g : Ghosts X} (net : SharedNet X) (before now : NetSeat X g) (answer : Claimed X) (work : WorkView) (node : ℕ) → IsShared net before → IsSeatOf net now
-    → answer ≡ Work work → HasClaimed answer node (view_of before) (view_of now) → ((job : LoggedJob) → Fits job (key_of net) → IsLawfulWork job answer) → IsSharedWith net now work
-has_claimed {X} net before now result work node h of is tried lawful = record {
+pub has_claimed : {laws : Laws} {X : Type 0} {g : Ghosts X} (net : SharedNet X) (before now : NetSeat X g) (answer : Claimed X) (work : WorkView) (node : ℕ) → IsShared laws net before → IsSeatOf net now
+    → answer ≡ Work work → HasClaimed laws answer node (view_of before) (view_of now) → ((job : LoggedJob laws) → Fits job (key_of net) → IsLawfulWork job answer) → IsSharedWith laws net now work
+has_claimed {laws} {X} net before now result work node h of is tried lawful = record {
   of = of;
   some = h.some;
   edges = h.edges;
@@ -60,6 +61,6 @@ has_claimed {X} net before now result work node h of is tried lawful = record {
 }
 
 -- a seat whose claim gave no work has none
-pub has_none : {X : Type 0} {g : Ghosts X} (net : SharedNet X) (before now : NetSeat X g) (answer : Claimed X) (node : ℕ) → IsShared net before → IsSeatOf net now
-    → has_after answer (view_of before).work ≡ (view_of before).work → HasClaimed answer node (view_of before) (view_of now) → IsShared net now
-has_none net before now result node h of same tried = stays_free net before now h of (ap (λ (v : View). v.work) tried.left ∙ same)
+pub has_none : {laws : Laws} {X : Type 0} {g : Ghosts X} (net : SharedNet X) (before now : NetSeat X g) (answer : Claimed X) (node : ℕ) → IsShared laws net before → IsSeatOf net now
+    → has_after answer (view_of before).work ≡ (view_of before).work → HasClaimed laws answer node (view_of before) (view_of now) → IsShared laws net now
+has_none {laws} net before now result node h of same tried = stays_free net before now h of (ap (λ (v : View). v.work) tried.left ∙ same)

@@ -1,4 +1,5 @@
 -- What is kept of a net that is shared, and of a work.
+use Rattle.mg_calc.specs.Rules.{Laws}
 use Rattle.std.specs.Prelude.{◌≡◌, ℕ, length}
 use Rattle.mg_node.specs.Views.{WorkView}
 use Rattle.mg_sched.specs.Views.{NetView}
@@ -7,15 +8,15 @@ use Rattle.mg_turns.specs.Parts.{LayoutView}
 use Rattle.mg_workers.specs.Shared.{KeptView, IsSharedOf}
 
 -- a net stands for some job, and its graph has `count` outputs
-pub record HasOutputs (count : ℕ) (net : NetView) : Type 0 where
-  pub stands : StandsForSome net
+pub record HasOutputs (laws : Laws) (count : ℕ) (net : NetView) : Type 0 where
+  pub stands : StandsForSome laws net
   pub outputs : length net.plan.outputs ≡ count
 
 -- a net that stands for some job and has this many outputs came apart into what is shared and what is kept aside
-pub record CameOf (count : ℕ) (key : LayoutView) (kept : KeptView) : Type 0 where
+pub record CameOf (laws : Laws) (count : ℕ) (key : LayoutView) (kept : KeptView) : Type 0 where
   pub before : NetView
-  pub has : HasOutputs count before
-  pub of : IsSharedOf before key kept
+  pub has : HasOutputs laws count before
+  pub of : IsSharedOf laws before key kept
 
 -- two works are the same one, whatever its calculator has done in between
 pub record IsSameWork (work now : WorkView) : Type 0 where

@@ -1,5 +1,6 @@
 //! The calls on a shared net, each by one seat. A seat has a work only from a claim to the commit or the shelving of what the claim gave.
 ghost use Rattle.std.specs.Prelude.{◌≡◌, ◌<◌, true, Option, IfOk, OnErr, IfSome, OnSome};
+ghost use Rattle.mg_route.specs.TableLaws.{table_laws};
 ghost use Rattle.mg_node.specs.declared.claimed.Claimed.TheVariants as Claimed;
 ghost use Rattle.mg_node.specs.Views.{WorkView};
 ghost use Rattle.mg_node.specs.Job.{LoggedJob};
@@ -21,8 +22,8 @@ use std::alloc::Global;
 /// another seat has a turn, or where there is no memory.
 #[tactic(auto, using(crate::proofs::Sharing::stays_shared, crate::proofs::Sharing::stays_itself))]
 pub fn append(net: &SharedNet<LawBox>, seat: &mut NetSeat<LawBox>, edge: u32) -> Option<(u32, bool)>
-    requires shared { IsShared net.now seat.old }
-    ensures shared { StaysShared net.now seat.old seat.new }
+    requires shared { IsShared table_laws net.now seat.old }
+    ensures shared { StaysShared table_laws net.now seat.old seat.new }
 {
     if edge as usize >= net.edges() {
         return None;
@@ -38,9 +39,9 @@ pub fn append(net: &SharedNet<LawBox>, seat: &mut NetSeat<LawBox>, edge: u32) ->
 /// Raises the bounds of a node's outputs, and returns whether one moved, or `None` where another seat has a turn.
 #[tactic(auto, using(crate::proofs::Sharing::stays_shared))]
 pub fn raise(net: &SharedNet<LawBox>, seat: &mut NetSeat<LawBox>, node: u32) -> Option<bool>
-    requires shared { IsShared net.now seat.old }
+    requires shared { IsShared table_laws net.now seat.old }
     requires node { node < nodes_in (key_of net.now) }
-    ensures shared { StaysShared net.now seat.old seat.new }
+    ensures shared { StaysShared table_laws net.now seat.old seat.new }
 {
     let tried = net.try_raise(seat, node);
     match tried {
@@ -58,9 +59,9 @@ pub fn run(
     node: u32,
     most: u32,
 ) -> u32
-    requires shared { IsShared net.now seat.old }
+    requires shared { IsShared table_laws net.now seat.old }
     requires node { node < nodes_in (key_of net.now) }
-    ensures shared { StaysShared net.now seat.old seat.new }
+    ensures shared { StaysShared table_laws net.now seat.old seat.new }
 {
     let tried = net.try_run(alloc, seat, node, most, &StillGate);
     match tried {
@@ -100,12 +101,12 @@ pub fn claim(
     seat: &mut NetSeat<LawBox>,
     node: u32,
 ) -> Result<Work<LawBox>, Idle>
-    requires shared { IsShared net.now seat.old }
+    requires shared { IsShared table_laws net.now seat.old }
     requires node { node < nodes_in (key_of net.now) }
     ensures portion { (view_of seat.new).portion ≡ (view_of seat.old).portion }
-    ensures work { IfOk result (λ w. IsSharedWith net.now seat.new w) }
-    ensures free { OnErr result (IsShared net.now seat.new) }
-    ensures lawful { IfOk result (λ w. (job : LoggedJob) → Fits job (key_of net.now) → LawfulWork job w) }
+    ensures work { IfOk result (λ w. IsSharedWith table_laws net.now seat.new w) }
+    ensures free { OnErr result (IsShared table_laws net.now seat.new) }
+    ensures lawful { IfOk result (λ w. (job : LoggedJob table_laws) → Fits job (key_of net.now) → LawfulWork job w) }
 {
     match net.try_claim(seat, node) {
         Tried::Done(claimed) => work_of(claimed),
@@ -115,8 +116,8 @@ pub fn claim(
 
 /// Performs a work, and returns its outcome, or `None` where there is no memory.
 pub fn performed(alloc: Global, work: Work<LawBox>) -> Option<Outcome<LawBox>>
-    requires { SomeJobHas work }
-    ensures lawful { IfSome result (λ o. (job : LoggedJob) → LawfulWork job work → LawfulOutcome job o) }
+    requires { SomeJobHas table_laws work }
+    ensures lawful { IfSome result (λ o. (job : LoggedJob table_laws) → LawfulWork job work → LawfulOutcome job o) }
     ensures same { IfSome result (λ o. IsSameWork work o.work) }
 {
     match perform(alloc, work, &StillGate) {
@@ -132,10 +133,10 @@ pub fn commit(
     seat: &mut NetSeat<LawBox>,
     outcome: Outcome<LawBox>,
 ) -> Option<u32>
-    requires has { IsSharedWith net.now seat.old outcome.work }
-    requires lawful { (job : LoggedJob) → Fits job (key_of net.now) → LawfulOutcome job outcome }
+    requires has { IsSharedWith table_laws net.now seat.old outcome.work }
+    requires lawful { (job : LoggedJob table_laws) → Fits job (key_of net.now) → LawfulOutcome job outcome }
     ensures portion { (view_of seat.new).portion ≡ (view_of seat.old).portion }
-    ensures free { OnSome result (IsShared net.now seat.new) }
+    ensures free { OnSome result (IsShared table_laws net.now seat.new) }
 {
     match net.try_commit(seat, outcome) {
         TriedCommit::Laid(laid) => Some(laid),
@@ -147,10 +148,10 @@ pub fn commit(
 /// Puts the work that a seat has back into its window, and returns whether it did. Where another seat has the turn, the work is lost, and
 /// the seat still counts as having it.
 pub fn shelve(net: &SharedNet<LawBox>, seat: &mut NetSeat<LawBox>, outcome: Outcome<LawBox>) -> bool
-    requires has { IsSharedWith net.now seat.old outcome.work }
-    requires lawful { (job : LoggedJob) → Fits job (key_of net.now) → LawfulOutcome job outcome }
+    requires has { IsSharedWith table_laws net.now seat.old outcome.work }
+    requires lawful { (job : LoggedJob table_laws) → Fits job (key_of net.now) → LawfulOutcome job outcome }
     ensures portion { (view_of seat.new).portion ≡ (view_of seat.old).portion }
-    ensures free { result ≡ true → IsShared net.now seat.new }
+    ensures free { result ≡ true → IsShared table_laws net.now seat.new }
 {
     match net.try_shelve(seat, outcome) {
         TriedShelf::Shelved => true,

@@ -1,5 +1,6 @@
 -- Each call on a cell leaves it one.
 use Rattle.std.proofs.Common.{◌≡◌, ℕ, sym, refl, subst, ap}
+use Rattle.mg_calc.specs.Rules.{Laws}
 use Rattle.mg_calc.specs.declared.plan.Plan.{Plan}
 use Rattle.mg_calc.specs.declared.inputs.Inputs.{Inputs}
 use Rattle.mg_node.specs.declared.role.Role.{Role}
@@ -17,9 +18,9 @@ agree_still engine engine_now intake intake_now role claimed counted agree =
     (subst (λ (n : ℕ). AgreeBy engine.role n intake_now.claimed) (sym claimed) (subst (λ (n : ℕ). AgreeBy engine.role engine.claimed n) (sym counted) agree))
 
 -- A commit.
-pub committed_cell : (plan : Plan) (inputs : Inputs) (sink : IntakeView) (n : ℕ) (engine engine_now : EngineView) (intake : IntakeView) (outcome : OutcomeView) → IsCell plan inputs engine intake sink → LawfulEngine (job_of plan inputs) (of_node 0) engine_now
-    → Commits outcome n engine engine_now → IsCell plan inputs engine_now intake sink
-committed_cell plan inputs sink n engine engine_now intake outcome c lawful commits = record {
+pub committed_cell : {laws : Laws} (plan : Plan) (inputs : Inputs) (sink : IntakeView) (n : ℕ) (engine engine_now : EngineView) (intake : IntakeView) (outcome : OutcomeView) → IsCell laws plan inputs engine intake sink → LawfulEngine (job_of laws plan inputs) (of_node 0) engine_now
+    → Commits outcome n engine engine_now → IsCell laws plan inputs engine_now intake sink
+committed_cell {laws} plan inputs sink n engine engine_now intake outcome c lawful commits = record {
   is_job = c.is_job;
   lawful_engine = lawful;
   lawful_intake = c.lawful_intake;
@@ -29,9 +30,9 @@ committed_cell plan inputs sink n engine engine_now intake outcome c lawful comm
 }
 
 -- An advance.
-pub advanced_cell : (plan : Plan) (inputs : Inputs) (engine engine_now : EngineView) (intake sink : IntakeView) → IsCell plan inputs engine intake sink → engine_now ≡ advanced engine intake.waits → LawfulEngine (job_of plan inputs) (of_node 0) engine_now
-    → IsCell plan inputs engine_now intake sink
-advanced_cell plan inputs engine engine_now intake sink c is lawful = record {
+pub advanced_cell : {laws : Laws} (plan : Plan) (inputs : Inputs) (engine engine_now : EngineView) (intake sink : IntakeView) → IsCell laws plan inputs engine intake sink → engine_now ≡ advanced engine intake.waits → LawfulEngine (job_of laws plan inputs) (of_node 0) engine_now
+    → IsCell laws plan inputs engine_now intake sink
+advanced_cell {laws} plan inputs engine engine_now intake sink c is lawful = record {
   is_job = c.is_job;
   lawful_engine = lawful;
   lawful_intake = c.lawful_intake;

@@ -2,6 +2,7 @@
 use Rattle.std.proofs.Common.{◌≡◌, ℕ, zero, suc, ◌-◌, ◌<◌, ◌≤◌, false, List, length, Option, Some, unwrap_or, option_map, slice_get, sym, ap, ◌∙◌, arith}
 use Rattle.std.specs.List.{range_with_len}
 use Rattle.std.proofs.lemmas.Option.{slice_get_past}
+use Rattle.mg_calc.specs.Rules.{Laws}
 use Rattle.mg_calc.specs.declared.edge.Edge.{Edge}
 use Rattle.mg_calc.specs.declared.plan.Plan.{Plan}
 use Rattle.mg_calc.specs.declared.plan_node.PlanNode.{PlanNode}
@@ -29,17 +30,17 @@ first_of_row a zero first e = absurd cc
 first_of_row a (suc n) first e = cc
 
 -- the first output's stream
-pub first_is : (job : LoggedJob) (engine : EngineView) (node : PlanNode) (first : ℕ) → LawfulEngine job (of_node 0) engine → slice_get job.job.plan.nodes 0 ≡ Some node → slice_get node.outputs 0 ≡ Some first → engine.first ≡ first
-first_is job engine node first h there at =
+pub first_is : {laws : Laws} (job : LoggedJob laws) (engine : EngineView) (node : PlanNode) (first : ℕ) → LawfulEngine job (of_node 0) engine → slice_get job.job.plan.nodes 0 ≡ Some node → slice_get node.outputs 0 ≡ Some first → engine.first ≡ first
+first_is {laws} job engine node first h there at =
     let known = engine_known job 0 engine node h there in
     first_of_row engine.first (length node.outputs) first (ap (λ (ns : List ℕ). slice_get ns 0) (sym known.set_up.first) ∙ at)
 
-pub feed_leads : (plan : Plan) (inputs : Inputs) (engine feed : EngineView) (intake sink : IntakeView) (node : PlanNode) (port stream : ℕ) → IsCell plan inputs engine intake sink → slice_get plan.nodes 0 ≡ Some node → slice_get node.inputs port ≡ Some stream
-    → LawfulEngine (job_of plan inputs) (of_input stream) feed → feed.first ≡ stream → length feed.outputs ≡ 1 → KeepsAll feed → Leads feed (edge_of stream 0 port) intake
-feed_leads plan inputs engine feed intake sink node port stream c there at lawful first one keeps =
+pub feed_leads : {laws : Laws} (plan : Plan) (inputs : Inputs) (engine feed : EngineView) (intake sink : IntakeView) (node : PlanNode) (port stream : ℕ) → IsCell laws plan inputs engine intake sink → slice_get plan.nodes 0 ≡ Some node → slice_get node.inputs port ≡ Some stream
+    → LawfulEngine (job_of laws plan inputs) (of_input stream) feed → feed.first ≡ stream → length feed.outputs ≡ 1 → KeepsAll feed → Leads laws feed (edge_of stream 0 port) intake
+feed_leads {laws} plan inputs engine feed intake sink node port stream c there at lawful first one keeps =
     let none = none_gone feed (stream - feed.first) keeps in
     record {
-      job = job_of plan inputs;
+      job = job_of laws plan inputs;
       owner = of_input stream;
       lawful_engine = lawful;
       lawful_intake = c.lawful_intake;
@@ -48,13 +49,13 @@ feed_leads plan inputs engine feed intake sink node port stream c there at lawfu
       held = omega (arith, none);
     }
 
-pub out_leads : (plan : Plan) (inputs : Inputs) (engine : EngineView) (intake sink : IntakeView) (node : PlanNode) (first port stream : ℕ) → IsCell plan inputs engine intake sink → slice_get plan.nodes 0 ≡ Some node → slice_get node.outputs 0 ≡ Some first
-    → slice_get plan.outputs port ≡ Some stream → first ≤ stream → stream - first < length engine.outputs → Leads engine (edge_of stream (length plan.nodes) port) sink
-out_leads plan inputs engine intake sink node first port stream c there at out from below =
+pub out_leads : {laws : Laws} (plan : Plan) (inputs : Inputs) (engine : EngineView) (intake sink : IntakeView) (node : PlanNode) (first port stream : ℕ) → IsCell laws plan inputs engine intake sink → slice_get plan.nodes 0 ≡ Some node → slice_get node.outputs 0 ≡ Some first
+    → slice_get plan.outputs port ≡ Some stream → first ≤ stream → stream - first < length engine.outputs → Leads laws engine (edge_of stream (length plan.nodes) port) sink
+out_leads {laws} plan inputs engine intake sink node first port stream c there at out from below =
     let none = none_gone engine (stream - engine.first) c.keeps in
-    let same : engine.first ≡ first = first_is (job_of plan inputs) engine node first c.lawful_engine there at in
+    let same : engine.first ≡ first = first_is (job_of laws plan inputs) engine node first c.lawful_engine there at in
     record {
-      job = job_of plan inputs;
+      job = job_of laws plan inputs;
       owner = of_node 0;
       lawful_engine = c.lawful_engine;
       lawful_intake = c.lawful_sink;
@@ -63,5 +64,5 @@ out_leads plan inputs engine intake sink node first port stream c there at out f
       held = omega (arith, none);
     }
 
-pub sunk_cell : (plan : Plan) (inputs : Inputs) (engine : EngineView) (intake sink sink_now : IntakeView) → IsCell plan inputs engine intake sink → LawfulIntake (job_of plan inputs) (length plan.nodes) sink_now → IsCell plan inputs engine intake sink_now
-sunk_cell plan inputs engine intake sink sink_now c lawful = record { is_job = c.is_job; lawful_engine = c.lawful_engine; lawful_intake = c.lawful_intake; agree = c.agree; lawful_sink = lawful; keeps = c.keeps }
+pub sunk_cell : {laws : Laws} (plan : Plan) (inputs : Inputs) (engine : EngineView) (intake sink sink_now : IntakeView) → IsCell laws plan inputs engine intake sink → LawfulIntake (job_of laws plan inputs) (length plan.nodes) sink_now → IsCell laws plan inputs engine intake sink_now
+sunk_cell {laws} plan inputs engine intake sink sink_now c lawful = record { is_job = c.is_job; lawful_engine = c.lawful_engine; lawful_intake = c.lawful_intake; agree = c.agree; lawful_sink = lawful; keeps = c.keeps }

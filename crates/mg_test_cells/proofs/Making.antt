@@ -4,11 +4,12 @@ use Rattle.std.proofs.lemmas.Option.{get_or_from_slice_get}
 use Rattle.std.specs.Option.{option_and_then}
 use Rattle.mg_value.specs.Payload.{Plain}
 use Rattle.mg_settled.specs.Prefix.{StreamPrefix, empty_prefix}
+use Rattle.mg_calc.specs.Rules.{Laws}
 use Rattle.mg_calc.specs.declared.call.Call.{Call}
 use Rattle.mg_calc.specs.declared.plan.Plan.{Plan}
 use Rattle.mg_calc.specs.declared.plan_node.PlanNode.{PlanNode}
 use Rattle.mg_calc.specs.declared.inputs.Inputs.{Inputs}
-use Rattle.mg_calc.specs.Told.{CalculatorTold}
+use Rattle.mg_calc.specs.Told.{BoxTold}
 use Rattle.mg_calc.specs.Plan.{side_packet}
 use Rattle.mg_calc.specs.Equations.{IsJob, Job, sides_of}
 use Rattle.mg_route.specs.HolderView.{HolderView}
@@ -23,39 +24,38 @@ use Rattle.mg_test_cells.specs.Cell.{job_of, held_of, KeepsAll}
 use Rattle.mg_test_cells.proofs.Keeping.{whole_keeps}
 
 -- the solution of its job
-pub solved : (plan : Plan) (inputs : Inputs) → IsJob (record { plan = plan; inputs = inputs }) → (streams : List (StreamPrefix Plain)) × Solves (job_of plan inputs) streams
-solved plan inputs is =
-    let job : Job = record { plan = plan; inputs = inputs } in
+pub solved : {laws : Laws} (plan : Plan) (inputs : Inputs) → IsJob (record { plan = plan; inputs = inputs; laws = laws }) → (streams : List (StreamPrefix Plain)) × Solves (job_of laws plan inputs) streams
+solved {laws} plan inputs is =
+    let job : Job = record { plan = plan; inputs = inputs; laws = laws } in
     let found = a_solution job (job_known job is) is.plan is.inputs.streams in
     (found.0, record { is_job = is; solution = found.1 })
 
-no_log : (o : Option ℕ) → (let r : Option (List Call) = None in r) ≡ option_and_then (λ number. option_and_then (λ box. box.log) (slice_get (let boxes : List CalculatorTold = [] in boxes) number)) o
+no_log : (o : Option ℕ) → (let r : Option (List Call) = None in r) ≡ option_and_then (λ number. option_and_then (λ box. box.log) (slice_get (let boxes : List BoxTold = [] in boxes) number)) o
 no_log None = refl
 no_log (Some n) = refl
 
 -- its first node's calculator
-pub handed : (plan : Plan) (inputs : Inputs) (node : PlanNode) (told : HolderView) → slice_get plan.nodes 0 ≡ Some node → told ≡ held_of node → IsHanded (job_of plan inputs) 0 node told
-handed plan inputs node told there is = subst (IsHanded (job_of plan inputs) 0 node) (sym is) (record {
+pub handed : {laws : Laws} (plan : Plan) (inputs : Inputs) (node : PlanNode) (told : HolderView) → slice_get plan.nodes 0 ≡ Some node → told ≡ held_of node → IsHanded (job_of laws plan inputs) 0 node told
+handed {laws} plan inputs node told there is = subst (IsHanded (job_of laws plan inputs) 0 node) (sym is) (record {
   there = there;
   fits = record { same_law = refl; same_shape = refl; same_handed = refl };
-  state = inl refl;
   log = no_log node.box_number;
   kept = λ number box takes there. absurd (let clash : None ≡ Some box = there in cc);
 })
 
 pub is_new : (node : PlanNode) (told : HolderView) → told ≡ held_of node → IsNew node told
-is_new node told is = subst (IsNew node) (sym is) (record { fits = record { same_law = refl; same_shape = refl }; state = inl refl })
+is_new node told is = subst (IsNew node) (sym is) (record { fits = record { same_law = refl; same_shape = refl } })
 
 -- it is unbegun, as it is made
-pub unbegun : (plan : Plan) (inputs : Inputs) (node : PlanNode) (told : HolderView) (engine : EngineView) → engine ≡ fresh_engine node 0 told → IsUnbegun node 0 told (sides_of (job_of plan inputs).job node) engine
-unbegun plan inputs node told engine is = inl is
+pub unbegun : {laws : Laws} (plan : Plan) (inputs : Inputs) (node : PlanNode) (told : HolderView) (engine : EngineView) → engine ≡ fresh_engine node 0 told → IsUnbegun laws node 0 told (sides_of (job_of laws plan inputs).job node) engine
+unbegun {laws} plan inputs node told engine is = inl is
 
 -- it is begun: nothing is claimed, and nothing was given up
-pub begun_none : (node : PlanNode) (told : HolderView) (sides : List (Option Plain)) (engine : EngineView) → HasBegun node 0 told sides engine → engine.claimed ≡ 0
-begun_none node told sides engine b = ap (λ (v : EngineView). v.claimed) b.is
+pub begun_none : {laws : Laws} (node : PlanNode) (told : HolderView) (sides : List (Option Plain)) (engine : EngineView) → HasBegun laws node 0 told sides engine → engine.claimed ≡ 0
+begun_none {laws} node told sides engine b = ap (λ (v : EngineView). v.claimed) b.is
 
-pub begun_keeps : (node : PlanNode) (told : HolderView) (sides : List (Option Plain)) (engine : EngineView) → HasBegun node 0 told sides engine → KeepsAll engine
-begun_keeps node told sides engine b = whole_keeps engine _ (ap (λ (v : EngineView). v.outputs) b.is)
+pub begun_keeps : {laws : Laws} (node : PlanNode) (told : HolderView) (sides : List (Option Plain)) (engine : EngineView) → HasBegun laws node 0 told sides engine → KeepsAll engine
+begun_keeps {laws} node told sides engine b = whole_keeps engine _ (ap (λ (v : EngineView). v.outputs) b.is)
 
 -- Graph inputs.
 
@@ -65,8 +65,8 @@ append_get (z ∷ xs) ys zero x h = h
 append_get (z ∷ xs) ys (suc i) x h = append_get xs ys i x h
 
 -- the solution has what was handed in
-pub input_stream : (plan : Plan) (inputs : Inputs) (streams : List (StreamPrefix Plain)) (input : ℕ) (s : StreamPrefix Plain) → Solves (job_of plan inputs) streams → slice_get inputs.streams input ≡ Some s → get_or streams input empty_prefix ≡ s
-input_stream plan inputs streams input s solves at =
+pub input_stream : {laws : Laws} (plan : Plan) (inputs : Inputs) (streams : List (StreamPrefix Plain)) (input : ℕ) (s : StreamPrefix Plain) → Solves (job_of laws plan inputs) streams → slice_get inputs.streams input ≡ Some s → get_or streams input empty_prefix ≡ s
+input_stream {laws} plan inputs streams input s solves at =
     get_or_from_slice_get streams input s empty_prefix (ap (λ (ss : List (StreamPrefix Plain)). slice_get ss input) (sym solves.solution.meets) ∙ append_get inputs.streams _ input s at)
 
 -- A first node that is there, and has no side packets.
@@ -92,8 +92,8 @@ made plan engine some fresh =
     let is = fresh first.0 first.1 in
     record { node = first.0; there = first.1; sides = is.0; fresh = is.1 }
 
-pub made_unbegun : (plan : Plan) (engine : EngineView) (sides : List (Option Plain)) → IsMade plan engine → SomeUnbegun sides engine
-made_unbegun plan engine sides m = record { node = m.node; number = 0; told = held_of m.node; unbegun = inl m.fresh }
+pub made_unbegun : {laws : Laws} (plan : Plan) (engine : EngineView) (sides : List (Option Plain)) → IsMade plan engine → SomeUnbegun laws sides engine
+made_unbegun {laws} plan engine sides m = record { node = m.node; number = 0; told = held_of m.node; unbegun = inl m.fresh }
 
-pub made_lawful : (plan : Plan) (inputs : Inputs) (engine : EngineView) → IsMade plan engine → LawfulUnbegun (job_of plan inputs) 0 engine
-made_lawful plan inputs engine m = fresh_unbegun (job_of plan inputs) 0 m.node (held_of m.node) engine (handed plan inputs m.node (held_of m.node) m.there refl) m.fresh
+pub made_lawful : (laws : Laws) (plan : Plan) (inputs : Inputs) (engine : EngineView) → IsMade plan engine → LawfulUnbegun (job_of laws plan inputs) 0 engine
+made_lawful laws plan inputs engine m = fresh_unbegun (job_of laws plan inputs) 0 m.node (held_of m.node) engine (handed plan inputs m.node (held_of m.node) m.there refl) m.fresh

@@ -13,7 +13,7 @@ use Rattle.mg_calc.specs.contracts.inputs.Inputs as Inputs
 use Rattle.mg_batch.proofs.Sent.{law, packet}
 use Rattle.mg_route.proofs.Sent.{law_box}
 use Rattle.mg_route.specs.contracts.law_box.LawBox as LawBox
-use Rattle.mg_route.specs.contracts.law_box.LawBoxCalculator.TheImpl as boxes
+use Rattle.mg_route.specs.contracts.law_box.LawBoxNodeCalculator.TheImpl as boxes
 use Rattle.mg_node.proofs.Sent.{engine_field}
 use Rattle.mg_node.specs.contracts.engine.Engine as Engine
 

@@ -5,6 +5,7 @@ ghost use Rattle.mg_calc.specs.Plan.{IsValid};
 ghost use Rattle.mg_calc.specs.Equations.{IsJob};
 ghost use Rattle.mg_calc.specs.declared.plan_node.PlanNode.{PlanNode};
 ghost use Rattle.mg_check.specs.Check.{IsOuterShape};
+ghost use Rattle.mg_route.specs.TableLaws.{table_laws};
 ghost use Rattle.mg_node.specs.Fresh.{fresh_engine};
 ghost use Rattle.mg_node.specs.Lawful.{LawfulEngine, LawfulIntake, of_node};
 ghost use Rattle.mg_test_cells.specs.Cell.{IsCell, KeepsAll, job_of, held_of};
@@ -105,8 +106,8 @@ fn no_sides(alloc: Global) -> Result<GivenList, Fail>
 
 // Returns the engine of a plan's first node, begun.
 fn engine_of(alloc: Global, plan: &Plan, inputs: &Inputs) -> Result<Engine<LawBox>, Fail>
-    requires { IsJob (record { plan = plan.now; inputs = inputs.now }) }
-    ensures lawful { IfOk result (λ e. LawfulEngine (job_of plan.now inputs.now) (of_node 0) e) }
+    requires { IsJob (record { plan = plan.now; inputs = inputs.now; laws = table_laws }) }
+    ensures lawful { IfOk result (λ e. LawfulEngine (job_of table_laws plan.now inputs.now) (of_node 0) e) }
     ensures none { IfOk result (λ e. e.claimed ≡ 0) }
     ensures keeps { IfOk result (λ e. KeepsAll e) }
 {
@@ -123,9 +124,9 @@ fn engine_of(alloc: Global, plan: &Plan, inputs: &Inputs) -> Result<Engine<LawBo
 
 // Returns the intake of a consumer, to which nothing came.
 fn intake_of(alloc: Global, plan: &Plan, inputs: &Inputs, consumer: u32) -> Result<Intake, Fail>
-    requires job { IsJob (record { plan = plan.now; inputs = inputs.now }) }
+    requires job { IsJob (record { plan = plan.now; inputs = inputs.now; laws = table_laws }) }
     requires consumer { consumer ≤ length plan.now.nodes }
-    ensures lawful { IfOk result (λ i. LawfulIntake (job_of plan.now inputs.now) consumer i) }
+    ensures lawful { IfOk result (λ i. LawfulIntake (job_of table_laws plan.now inputs.now) consumer i) }
     ensures none { IfOk result (λ i. i.claimed ≡ 0) }
 {
     Ok(Intake::new(alloc, plan, consumer)?)
@@ -133,10 +134,10 @@ fn intake_of(alloc: Global, plan: &Plan, inputs: &Inputs, consumer: u32) -> Resu
 
 // Returns the intakes of a plan's first node and of the collector, to which nothing came.
 fn intakes_of(alloc: Global, plan: &Plan, inputs: &Inputs) -> Result<(Intake, Intake), Fail>
-    requires { IsJob (record { plan = plan.now; inputs = inputs.now }) }
-    ensures lawful { IfOk result (λ i. LawfulIntake (job_of plan.now inputs.now) 0 i.0) }
+    requires { IsJob (record { plan = plan.now; inputs = inputs.now; laws = table_laws }) }
+    ensures lawful { IfOk result (λ i. LawfulIntake (job_of table_laws plan.now inputs.now) 0 i.0) }
     ensures none { IfOk result (λ i. i.0.claimed ≡ 0) }
-    ensures sink { IfOk result (λ i. LawfulIntake (job_of plan.now inputs.now) (length plan.now.nodes) i.1) }
+    ensures sink { IfOk result (λ i. LawfulIntake (job_of table_laws plan.now inputs.now) (length plan.now.nodes) i.1) }
 {
     let intake = intake_of(alloc, plan, inputs, 0)?;
     match intake_of(alloc, plan, inputs, plan.nodes.len()) {
@@ -155,7 +156,7 @@ fn parts_of(
     inputs: &Inputs,
 ) -> Result<(Engine<LawBox>, Intake, Intake), Fail>
     requires { IsValid plan.now }
-    ensures { IfOk result (λ p. IsCell plan.now inputs.now p.0 p.1 p.2) }
+    ensures { IfOk result (λ p. IsCell table_laws plan.now inputs.now p.0 p.1 p.2) }
 {
     if !do_fit(plan, inputs) {
         return Err(Fail::from("inputs don't fit"));
@@ -173,7 +174,7 @@ fn parts_of(
 // Returns the cell of a plan's first node, which is begun, and to which nothing came.
 fn cell_over(alloc: Global, plan: Plan, inputs: Inputs) -> Result<Cell, Fail>
     requires { IsValid plan }
-    ensures { IfOk result (λ c. IsCell c.plan c.inputs c.engine c.intake c.sink) }
+    ensures { IfOk result (λ c. IsCell table_laws c.plan c.inputs c.engine c.intake c.sink) }
 {
     match parts_of(alloc, &plan, &inputs) {
         Ok((engine, intake, sink)) => Ok(Cell {
@@ -202,7 +203,7 @@ pub(crate) struct Given {
 /// Returns the cell of a graph's first node, with the calculators that are handed in.
 pub(crate) fn cell_of(alloc: Global, given: Given, outers: &[OuterShape]) -> Result<Cell, Fail>
     requires { All IsOuterShape outers.now }
-    ensures { IfOk result (λ c. IsCell c.plan c.inputs c.engine c.intake c.sink) }
+    ensures { IfOk result (λ c. IsCell table_laws c.plan c.inputs c.engine c.intake c.sink) }
 {
     let plan = plan_of(alloc, given.graph, outers)?;
     match inputs_of(alloc, &plan, given.lines, given.ended) {
@@ -216,7 +217,7 @@ pub(crate) fn cell_of(alloc: Global, given: Given, outers: &[OuterShape]) -> Res
 
 /// Returns the cell of a graph's first node, for which no calculator is handed in.
 pub(crate) fn own_cell(alloc: Global, given: Given) -> Result<Cell, Fail>
-    ensures { IfOk result (λ c. IsCell c.plan c.inputs c.engine c.intake c.sink) }
+    ensures { IfOk result (λ c. IsCell table_laws c.plan c.inputs c.engine c.intake c.sink) }
 {
     let outers: &[OuterShape] = &[];
     let cell = cell_of(alloc, given, outers)?;

@@ -9,6 +9,7 @@
 //! - `take` takes a set of the collector: each packet as its number, `@` and its timestamp.
 //! - `laid` tells how many sets or calls were laid; `output NUMBER` how many packets an output has, and its bound; `held` how many wait at
 //!   all ports and all outputs; `fault` the node's fault.
+ghost use Rattle.mg_route.specs.TableLaws.{table_laws};
 ghost use Rattle.std.specs.Prelude.{IfOk, OnOk};
 ghost use Rattle.mg_test_cells.specs.Cell.{IsCell};
 
@@ -44,8 +45,8 @@ fn asked(alloc: Global, cell: &Cell, name: &str, words: &str) -> Result<String, 
 
 // Makes a call of `deliver`, or of `out`, and returns its answer.
 fn delivered(alloc: Global, cell: &mut Cell, out: bool, words: &str) -> Result<String, Fail>
-    requires { IsCell cell.old.plan cell.old.inputs cell.old.engine cell.old.intake cell.old.sink }
-    ensures { OnOk result (IsCell cell.new.plan cell.new.inputs cell.new.engine cell.new.intake cell.new.sink) }
+    requires { IsCell table_laws cell.old.plan cell.old.inputs cell.old.engine cell.old.intake cell.old.sink }
+    ensures { OnOk result (IsCell table_laws cell.new.plan cell.new.inputs cell.new.engine cell.new.intake cell.new.sink) }
 {
     let (port, most) = words.split_once(' ').ok_or("no number of packets")?;
     let port = port.parse::<u32>()?;
@@ -60,8 +61,8 @@ fn delivered(alloc: Global, cell: &mut Cell, out: bool, words: &str) -> Result<S
 
 // Makes a call of `commit`, and returns its answer.
 fn committed(alloc: Global, cell: &mut Cell, words: &str) -> Result<String, Fail>
-    requires { IsCell cell.old.plan cell.old.inputs cell.old.engine cell.old.intake cell.old.sink }
-    ensures { OnOk result (IsCell cell.new.plan cell.new.inputs cell.new.engine cell.new.intake cell.new.sink) }
+    requires { IsCell table_laws cell.old.plan cell.old.inputs cell.old.engine cell.old.intake cell.old.sink }
+    ensures { OnOk result (IsCell table_laws cell.new.plan cell.new.inputs cell.new.engine cell.new.intake cell.new.sink) }
 {
     match commit(cell, words.parse::<u64>()?)? {
         Some(laid) => Ok(format!(in alloc; "{laid}")?),
@@ -71,8 +72,8 @@ fn committed(alloc: Global, cell: &mut Cell, words: &str) -> Result<String, Fail
 
 // Makes a call of `take`, and returns its answer.
 fn taken(alloc: Global, cell: &mut Cell) -> Result<String, Fail>
-    requires { IsCell cell.old.plan cell.old.inputs cell.old.engine cell.old.intake cell.old.sink }
-    ensures { OnOk result (IsCell cell.new.plan cell.new.inputs cell.new.engine cell.new.intake cell.new.sink) }
+    requires { IsCell table_laws cell.old.plan cell.old.inputs cell.old.engine cell.old.intake cell.old.sink }
+    ensures { OnOk result (IsCell table_laws cell.new.plan cell.new.inputs cell.new.engine cell.new.intake cell.new.sink) }
 {
     match take_out(alloc, cell)? {
         Some(set) => show_set_at(alloc, &set),
@@ -82,8 +83,8 @@ fn taken(alloc: Global, cell: &mut Cell) -> Result<String, Fail>
 
 // Makes the call of a row, and returns its answer.
 fn answer(alloc: Global, cell: &mut Cell, call: &str) -> Result<String, Fail>
-    requires { IsCell cell.old.plan cell.old.inputs cell.old.engine cell.old.intake cell.old.sink }
-    ensures { OnOk result (IsCell cell.new.plan cell.new.inputs cell.new.engine cell.new.intake cell.new.sink) }
+    requires { IsCell table_laws cell.old.plan cell.old.inputs cell.old.engine cell.old.intake cell.old.sink }
+    ensures { OnOk result (IsCell table_laws cell.new.plan cell.new.inputs cell.new.engine cell.new.intake cell.new.sink) }
 {
     let (name, words) = call.split_once(' ').unwrap_or((call, ""));
     match name {
@@ -101,8 +102,8 @@ fn answer(alloc: Global, cell: &mut Cell, call: &str) -> Result<String, Fail>
 
 // Makes the call of each row, and compares what it answers with what the row wants.
 fn answered(alloc: Global, cell: &mut Cell, rows: &str) -> Result<(), Fail>
-    requires { IsCell cell.old.plan cell.old.inputs cell.old.engine cell.old.intake cell.old.sink }
-    ensures { OnOk result (IsCell cell.new.plan cell.new.inputs cell.new.engine cell.new.intake cell.new.sink) }
+    requires { IsCell table_laws cell.old.plan cell.old.inputs cell.old.engine cell.old.intake cell.old.sink }
+    ensures { OnOk result (IsCell table_laws cell.new.plan cell.new.inputs cell.new.engine cell.new.intake cell.new.sink) }
 {
     for row in rows.split('\n') {
         let (call, wanted) = row.split_once('=').ok_or("no `=`")?;
@@ -116,8 +117,8 @@ fn answered(alloc: Global, cell: &mut Cell, rows: &str) -> Result<(), Fail>
 
 /// Makes the call of each row, and returns the cell if each answered what the row wants. It takes no handle, so that any thread may run it.
 pub(crate) fn called(alloc: Global, cell: Cell, rows: &str) -> Result<Cell, Fail>
-    requires { IsCell cell.plan cell.inputs cell.engine cell.intake cell.sink }
-    ensures { IfOk result (λ c. IsCell c.plan c.inputs c.engine c.intake c.sink) }
+    requires { IsCell table_laws cell.plan cell.inputs cell.engine cell.intake cell.sink }
+    ensures { IfOk result (λ c. IsCell table_laws c.plan c.inputs c.engine c.intake c.sink) }
 {
     let mut cell = cell;
     match answered(alloc, &mut cell, rows) {
@@ -136,7 +137,7 @@ pub(crate) fn expect_rows(
     rows: &str,
     gives_one: bool,
 ) -> Result<(), Fail>
-    requires { IsCell cell.plan cell.inputs cell.engine cell.intake cell.sink }
+    requires { IsCell table_laws cell.plan cell.inputs cell.engine cell.intake cell.sink }
 {
     let cell = called(alloc, cell, rows)?;
     if gives_back(cell) == gives_one {

@@ -1,4 +1,5 @@
 //! Cells that go to other threads and come back: what was begun here goes on there, and what was begun there goes on here.
+ghost use Rattle.mg_route.specs.TableLaws.{table_laws};
 ghost use Rattle.std.specs.Prelude.{IfOk};
 ghost use Rattle.mg_test_cells.specs.Cell.{IsCell};
 
@@ -27,14 +28,14 @@ fn called_there<R: Threads>(
     cell: Cell,
     rows: &'static str,
 ) -> Result<Cell, Fail>
-    requires { IsCell cell.plan cell.inputs cell.engine cell.intake cell.sink }
-    ensures { IfOk result (λ c. IsCell c.plan c.inputs c.engine c.intake c.sink) }
+    requires { IsCell table_laws cell.plan cell.inputs cell.engine cell.intake cell.sink }
+    ensures { IfOk result (λ c. IsCell table_laws c.plan c.inputs c.engine c.intake c.sink) }
 {
     let (cell, ()) = join(
         rt,
         move || -> Result<Cell, Fail>
-            requires { IsCell cell.plan cell.inputs cell.engine cell.intake cell.sink }
-            ensures { IfOk result (λ c. IsCell c.plan c.inputs c.engine c.intake c.sink) }
+            requires { IsCell table_laws cell.plan cell.inputs cell.engine cell.intake cell.sink }
+            ensures { IfOk result (λ c. IsCell table_laws c.plan c.inputs c.engine c.intake c.sink) }
         { called(alloc, cell, rows) },
         || (),
     );

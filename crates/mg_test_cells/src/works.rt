@@ -1,5 +1,6 @@
 //! Works of a cell. What is claimed is performed and stands in the window until it is committed, or goes back unrun.
 ghost use Rattle.std.specs.Prelude.{IfOk, IfSome, OnOk};
+ghost use Rattle.mg_route.specs.TableLaws.{table_laws};
 ghost use Rattle.mg_node.specs.Views.{EngineView};
 ghost use Rattle.mg_node.specs.Job.{LoggedJob};
 ghost use Rattle.mg_node.specs.Lawful.{LawfulWork, LawfulOutcome};
@@ -17,9 +18,9 @@ use std::test::Fail;
 
 // Claims the next work, or returns why there is none.
 fn claim_work(cell: &mut Cell) -> Result<Work<LawBox>, &'static str>
-    requires { IsCell cell.old.plan cell.old.inputs cell.old.engine cell.old.intake cell.old.sink }
-    ensures cell { IsCell cell.new.plan cell.new.inputs cell.new.engine cell.new.intake cell.new.sink }
-    ensures lawful { IfOk result (λ w. LawfulWork (job_of cell.new.plan cell.new.inputs) w) }
+    requires { IsCell table_laws cell.old.plan cell.old.inputs cell.old.engine cell.old.intake cell.old.sink }
+    ensures cell { IsCell table_laws cell.new.plan cell.new.inputs cell.new.engine cell.new.intake cell.new.sink }
+    ensures lawful { IfOk result (λ w. LawfulWork (job_of table_laws cell.new.plan cell.new.inputs) w) }
     ensures out { IfOk result (λ w. IsOut cell.new.engine w) }
 {
     match cell.engine.claim(&mut cell.intake) {
@@ -35,8 +36,8 @@ fn claim_work(cell: &mut Cell) -> Result<Work<LawBox>, &'static str>
 
 // Performs a work, or returns `None` where there is no memory.
 fn performed(alloc: Global, work: Work<LawBox>) -> Option<Outcome<LawBox>>
-    requires { SomeJobHas work }
-    ensures lawful { IfSome result (λ o. (job : LoggedJob) → LawfulWork job work → LawfulOutcome job o) }
+    requires { SomeJobHas table_laws work }
+    ensures lawful { IfSome result (λ o. (job : LoggedJob table_laws) → LawfulWork job work → LawfulOutcome job o) }
     ensures out { IfSome result (λ o. (engine : EngineView) → IsOut engine work → IsOut engine o.work) }
 {
     match perform(alloc, work, &StillGate) {
@@ -47,7 +48,7 @@ fn performed(alloc: Global, work: Work<LawBox>) -> Option<Outcome<LawBox>>
 
 // Returns a work, with its number and its phase as a text.
 fn told(alloc: Global, work: Work<LawBox>) -> Result<(String, Work<LawBox>), Fail>
-    ensures lawful { IfOk result (λ t. (job : LoggedJob) → LawfulWork job work → LawfulWork job t.1) }
+    ensures lawful { IfOk result (λ t. (job : LoggedJob table_laws) → LawfulWork job work → LawfulWork job t.1) }
     ensures out { IfOk result (λ t. (engine : EngineView) → IsOut engine work → IsOut engine t.1) }
 {
     match show_work(alloc, work.number(), work.phase()) {
@@ -61,20 +62,20 @@ fn told(alloc: Global, work: Work<LawBox>) -> Result<(String, Work<LawBox>), Fai
 
 // Puts a work that is out back into its window, not committed.
 fn put_back(cell: &mut Cell, outcome: Outcome<LawBox>)
-    requires cell { IsCell cell.old.plan cell.old.inputs cell.old.engine cell.old.intake cell.old.sink }
+    requires cell { IsCell table_laws cell.old.plan cell.old.inputs cell.old.engine cell.old.intake cell.old.sink }
     requires out { IsOut cell.old.engine outcome.work }
-    requires lawful { LawfulOutcome (job_of cell.old.plan cell.old.inputs) outcome }
-    ensures { IsCell cell.new.plan cell.new.inputs cell.new.engine cell.new.intake cell.new.sink }
+    requires lawful { LawfulOutcome (job_of table_laws cell.old.plan cell.old.inputs) outcome }
+    ensures { IsCell table_laws cell.new.plan cell.new.inputs cell.new.engine cell.new.intake cell.new.sink }
 {
     cell.engine.shelve(outcome);
 }
 
 // Commits a work that is out, and returns how many sets or calls were laid.
 fn commit_outcome(cell: &mut Cell, outcome: Outcome<LawBox>) -> Result<u32, Fail>
-    requires cell { IsCell cell.old.plan cell.old.inputs cell.old.engine cell.old.intake cell.old.sink }
+    requires cell { IsCell table_laws cell.old.plan cell.old.inputs cell.old.engine cell.old.intake cell.old.sink }
     requires out { IsOut cell.old.engine outcome.work }
-    requires lawful { LawfulOutcome (job_of cell.old.plan cell.old.inputs) outcome }
-    ensures { OnOk result (IsCell cell.new.plan cell.new.inputs cell.new.engine cell.new.intake cell.new.sink) }
+    requires lawful { LawfulOutcome (job_of table_laws cell.old.plan cell.old.inputs) outcome }
+    ensures { OnOk result (IsCell table_laws cell.new.plan cell.new.inputs cell.new.engine cell.new.intake cell.new.sink) }
 {
     let Ok(laid) = cell.engine.commit(outcome) else {
         return Err(Fail::from("no memory"));
@@ -84,7 +85,7 @@ fn commit_outcome(cell: &mut Cell, outcome: Outcome<LawBox>) -> Result<u32, Fail
 
 // Returns the outcome of a work that wasn't run.
 fn unrun(work: Work<LawBox>) -> Outcome<LawBox>
-    ensures lawful { (job : LoggedJob) → LawfulWork job work → LawfulOutcome job result }
+    ensures lawful { (job : LoggedJob table_laws) → LawfulWork job work → LawfulOutcome job result }
     ensures out { (engine : EngineView) → IsOut engine work → IsOut engine result.work }
 {
     Outcome::unrun(work)
@@ -93,8 +94,8 @@ fn unrun(work: Work<LawBox>) -> Outcome<LawBox>
 /// Claims the next work, performs it, and puts it back into its window, not committed. Returns its number and its phase, or why there is
 /// none.
 pub(crate) fn work(alloc: Global, cell: &mut Cell) -> Result<String, Fail>
-    requires { IsCell cell.old.plan cell.old.inputs cell.old.engine cell.old.intake cell.old.sink }
-    ensures { OnOk result (IsCell cell.new.plan cell.new.inputs cell.new.engine cell.new.intake cell.new.sink) }
+    requires { IsCell table_laws cell.old.plan cell.old.inputs cell.old.engine cell.old.intake cell.old.sink }
+    ensures { OnOk result (IsCell table_laws cell.new.plan cell.new.inputs cell.new.engine cell.new.intake cell.new.sink) }
 {
     let work = match claim_work(cell) {
         Ok(work) => work,
@@ -112,8 +113,8 @@ pub(crate) fn work(alloc: Global, cell: &mut Cell) -> Result<String, Fail>
 
 /// Claims the next work, and puts it back into its window, unrun. Returns its number and its phase, or why there is none.
 pub(crate) fn shelve_unrun(alloc: Global, cell: &mut Cell) -> Result<String, Fail>
-    requires { IsCell cell.old.plan cell.old.inputs cell.old.engine cell.old.intake cell.old.sink }
-    ensures { OnOk result (IsCell cell.new.plan cell.new.inputs cell.new.engine cell.new.intake cell.new.sink) }
+    requires { IsCell table_laws cell.old.plan cell.old.inputs cell.old.engine cell.old.intake cell.old.sink }
+    ensures { OnOk result (IsCell table_laws cell.new.plan cell.new.inputs cell.new.engine cell.new.intake cell.new.sink) }
 {
     let work = match claim_work(cell) {
         Ok(work) => work,
@@ -126,8 +127,8 @@ pub(crate) fn shelve_unrun(alloc: Global, cell: &mut Cell) -> Result<String, Fai
 
 /// Claims the next work, and commits it as unrun, by which nothing is laid. Returns its number and its phase, or why there is none.
 pub(crate) fn commit_unrun(alloc: Global, cell: &mut Cell) -> Result<String, Fail>
-    requires { IsCell cell.old.plan cell.old.inputs cell.old.engine cell.old.intake cell.old.sink }
-    ensures { OnOk result (IsCell cell.new.plan cell.new.inputs cell.new.engine cell.new.intake cell.new.sink) }
+    requires { IsCell table_laws cell.old.plan cell.old.inputs cell.old.engine cell.old.intake cell.old.sink }
+    ensures { OnOk result (IsCell table_laws cell.new.plan cell.new.inputs cell.new.engine cell.new.intake cell.new.sink) }
 {
     let work = match claim_work(cell) {
         Ok(work) => work,
@@ -142,9 +143,9 @@ pub(crate) fn commit_unrun(alloc: Global, cell: &mut Cell) -> Result<String, Fai
 
 // Takes the work of a number, which was performed and isn't committed, out of its window, if there is one.
 fn taken(cell: &mut Cell, number: u64) -> Option<Outcome<LawBox>>
-    requires { IsCell cell.old.plan cell.old.inputs cell.old.engine cell.old.intake cell.old.sink }
-    ensures cell { IsCell cell.new.plan cell.new.inputs cell.new.engine cell.new.intake cell.new.sink }
-    ensures lawful { IfSome result (λ o. LawfulOutcome (job_of cell.new.plan cell.new.inputs) o) }
+    requires { IsCell table_laws cell.old.plan cell.old.inputs cell.old.engine cell.old.intake cell.old.sink }
+    ensures cell { IsCell table_laws cell.new.plan cell.new.inputs cell.new.engine cell.new.intake cell.new.sink }
+    ensures lawful { IfSome result (λ o. LawfulOutcome (job_of table_laws cell.new.plan cell.new.inputs) o) }
     ensures out { IfSome result (λ o. IsOut cell.new.engine o.work) }
 {
     match cell.engine.unshelve(number) {
@@ -155,8 +156,8 @@ fn taken(cell: &mut Cell, number: u64) -> Option<Outcome<LawBox>>
 
 /// Commits the work of a number, which was performed, and returns how many sets or calls were laid, or `None` where there is no such work.
 pub(crate) fn commit(cell: &mut Cell, number: u64) -> Result<Option<u32>, Fail>
-    requires { IsCell cell.old.plan cell.old.inputs cell.old.engine cell.old.intake cell.old.sink }
-    ensures { OnOk result (IsCell cell.new.plan cell.new.inputs cell.new.engine cell.new.intake cell.new.sink) }
+    requires { IsCell table_laws cell.old.plan cell.old.inputs cell.old.engine cell.old.intake cell.old.sink }
+    ensures { OnOk result (IsCell table_laws cell.new.plan cell.new.inputs cell.new.engine cell.new.intake cell.new.sink) }
 {
     let Some(outcome) = taken(cell, number) else {
         return Ok(None);
@@ -167,8 +168,8 @@ pub(crate) fn commit(cell: &mut Cell, number: u64) -> Result<Option<u32>, Fail>
 
 /// Raises the outputs as far as what waits tells, and returns whether that moved one of them.
 pub(crate) fn advance(cell: &mut Cell) -> bool
-    requires { IsCell cell.old.plan cell.old.inputs cell.old.engine cell.old.intake cell.old.sink }
-    ensures { IsCell cell.new.plan cell.new.inputs cell.new.engine cell.new.intake cell.new.sink }
+    requires { IsCell table_laws cell.old.plan cell.old.inputs cell.old.engine cell.old.intake cell.old.sink }
+    ensures { IsCell table_laws cell.new.plan cell.new.inputs cell.new.engine cell.new.intake cell.new.sink }
 {
     cell.engine.advance(&cell.intake)
 }

@@ -5,6 +5,7 @@ use Rattle.std.proofs.lemmas.Option.{slice_get_within, slice_get-get_or}
 use Rattle.mg_value.specs.Payload.{Plain}
 use Rattle.mg_value.specs.Packet.{Stamped}
 use Rattle.mg_stream.specs.Queue.{IsLike, count_of}
+use Rattle.mg_calc.specs.Rules.{Laws}
 use Rattle.mg_calc.specs.declared.edge.Edge.{Edge}
 use Rattle.mg_calc.specs.declared.plan.Plan.{Plan}
 use Rattle.mg_calc.specs.Plan.{IsValid}
@@ -29,12 +30,12 @@ parts_by plan engines intakes rest = record { plan = plan; engines = engines; in
 
 -- An engine is lawful at its place.
 
-pub record IsOwned (job : LoggedJob) (engine : EngineView) : Type 0 where
+pub record IsOwned {laws : Laws} (job : LoggedJob laws) (engine : EngineView) : Type 0 where
   pub owner : Owner
   pub lawful : LawfulEngine job owner engine
 
-owned : (job : LoggedJob) (parts : PartsView) (place : ℕ) (engine : EngineView) → ArePartsOf job parts → slice_get parts.engines place ≡ Some engine → IsOwned job engine
-owned job parts place engine h at = elim (cases_lt place (length parts.plan.nodes)) [
+owned : {laws : Laws} (job : LoggedJob laws) (parts : PartsView) (place : ℕ) (engine : EngineView) → ArePartsOf job parts → slice_get parts.engines place ≡ Some engine → IsOwned job engine
+owned {laws} job parts place engine h at = elim (cases_lt place (length parts.plan.nodes)) [
   | inl low ↦ record { owner = of_node place; lawful = h.engines place engine low at }
   | inr high ↦
       (let input = place - length parts.plan.nodes in
@@ -44,34 +45,34 @@ owned job parts place engine h at = elim (cases_lt place (length parts.plan.node
 
 -- What a delivery did to an intake.
 
-pub record IsCarried (engine : EngineView) (e : Edge) (intake intake_now : IntakeView) : Type 0 where
+pub record IsCarried (laws : Laws) (engine : EngineView) (e : Edge) (intake intake_now : IntakeView) : Type 0 where
   pub answer : Delivered
   pub moved : Delivers answer (output_at engine e) e.port 4294967295 intake.waits intake_now.waits
   pub claimed : intake_now.claimed ≡ intake.claimed
   pub grows : IntakeGrows intake intake_now
-  pub lawful : (job : LoggedJob) (owner : Owner) → LawfulEngine job owner engine → LawfulIntake job e.node intake → slice_get (ports_of job.job.plan e.node) e.port ≡ Some e.stream → LawfulIntake job e.node intake_now
+  pub lawful : (job : LoggedJob laws) (owner : Owner) → LawfulEngine job owner engine → LawfulIntake job e.node intake → slice_get (ports_of job.job.plan e.node) e.port ≡ Some e.stream → LawfulIntake job e.node intake_now
 
 -- What parts of one net tell of an edge.
 
-pub valid_parts : (parts : PartsView) → AreParts parts → IsValid parts.plan
-valid_parts parts h = subst IsValid (sym h.parts_of.plan) h.parts_of.is_job.plan
+pub valid_parts : {laws : Laws} (parts : PartsView) → AreParts laws parts → IsValid parts.plan
+valid_parts {laws} parts h = subst IsValid (sym h.parts_of.plan) h.parts_of.is_job.plan
 
-pub source_there : (parts : PartsView) (number place : ℕ) (e : Edge) → AreParts parts → slice_get parts.plan.edges number ≡ Some e → source_of parts.plan e ≡ Some place → place < length parts.engines
-source_there parts number place e h at from =
+pub source_there : {laws : Laws} (parts : PartsView) (number place : ℕ) (e : Edge) → AreParts laws parts → slice_get parts.plan.edges number ≡ Some e → source_of parts.plan e ≡ Some place → place < length parts.engines
+source_there {laws} parts number place e h at from =
     let it = in_place h.job parts number e h.parts_of at in
     let same = some_same (source_of parts.plan e) place it.place from it.from in
     let within = slice_get_within parts.engines it.place it.engine it.at in
     omega (arith, same, within)
 
-pub target_there : (parts : PartsView) (number : ℕ) (e : Edge) → AreParts parts → slice_get parts.plan.edges number ≡ Some e → e.node < length parts.intakes
-target_there parts number e h at = (let it = in_place h.job parts number e h.parts_of at in slice_get_within parts.intakes e.node it.intake it.to)
+pub target_there : {laws : Laws} (parts : PartsView) (number : ℕ) (e : Edge) → AreParts laws parts → slice_get parts.plan.edges number ≡ Some e → e.node < length parts.intakes
+target_there {laws} parts number e h at = (let it = in_place h.job parts number e h.parts_of at in slice_get_within parts.intakes e.node it.intake it.to)
 
-stream_at : (job : LoggedJob) (parts : PartsView) (number : ℕ) (e : Edge) → ArePartsOf job parts → slice_get parts.plan.edges number ≡ Some e → slice_get (ports_of job.job.plan e.node) e.port ≡ Some e.stream
-stream_at job parts number e h at = subst (λ (plan : Plan). slice_get (ports_of plan e.node) e.port ≡ Some e.stream) h.plan (in_place job parts number e h at).port
+stream_at : {laws : Laws} (job : LoggedJob laws) (parts : PartsView) (number : ℕ) (e : Edge) → ArePartsOf job parts → slice_get parts.plan.edges number ≡ Some e → slice_get (ports_of job.job.plan e.node) e.port ≡ Some e.stream
+stream_at {laws} job parts number e h at = subst (λ (plan : Plan). slice_get (ports_of plan e.node) e.port ≡ Some e.stream) h.plan (in_place job parts number e h at).port
 
-leads_of : (job : LoggedJob) (parts : PartsView) (number place : ℕ) (e : Edge) (engine : EngineView) (intake : IntakeView) → ArePartsOf job parts → slice_get parts.plan.edges number ≡ Some e → source_of parts.plan e ≡ Some place
-    → slice_get parts.engines place ≡ Some engine → slice_get parts.intakes e.node ≡ Some intake → Leads engine e intake
-leads_of job parts number place e engine intake h at from at_engine to =
+leads_of : {laws : Laws} (job : LoggedJob laws) (parts : PartsView) (number place : ℕ) (e : Edge) (engine : EngineView) (intake : IntakeView) → ArePartsOf job parts → slice_get parts.plan.edges number ≡ Some e → source_of parts.plan e ≡ Some place
+    → slice_get parts.engines place ≡ Some engine → slice_get parts.intakes e.node ≡ Some intake → Leads laws engine e intake
+leads_of {laws} job parts number place e engine intake h at from at_engine to =
     let it = in_place job parts number e h at in
     let place_is : it.place ≡ place = some_same (source_of parts.plan e) it.place place it.from from in
     let engine_is : it.engine ≡ engine = some_same (slice_get parts.engines place) it.engine engine (ap (slice_get parts.engines) (sym place_is) ∙ it.at) at_engine in
@@ -86,9 +87,9 @@ leads_of job parts number place e engine intake h at from at_engine to =
       held = (h.edges e number place engine intake at from at_engine to).kept;
     }
 
-pub leads : (parts : PartsView) (number place : ℕ) (e : Edge) (engine : EngineView) (intake : IntakeView) → AreParts parts → slice_get parts.plan.edges number ≡ Some e → source_of parts.plan e ≡ Some place
-    → slice_get parts.engines place ≡ Some engine → slice_get parts.intakes e.node ≡ Some intake → Leads engine e intake
-leads parts number place e engine intake h at from at_engine to = leads_of h.job parts number place e engine intake h.parts_of at from at_engine to
+pub leads : {laws : Laws} (parts : PartsView) (number place : ℕ) (e : Edge) (engine : EngineView) (intake : IntakeView) → AreParts laws parts → slice_get parts.plan.edges number ≡ Some e → source_of parts.plan e ≡ Some place
+    → slice_get parts.engines place ≡ Some engine → slice_get parts.intakes e.node ≡ Some intake → Leads laws engine e intake
+leads {laws} parts number place e engine intake h at from at_engine to = leads_of h.job parts number place e engine intake h.parts_of at from at_engine to
 
 -- an edge that is read by its number
 pub edge_there : (edges shown : List Edge) (number : ℕ) → shown ≡ edges → number < length edges → slice_get edges number ≡ Some (get_or shown number no_edge)
@@ -107,8 +108,8 @@ like_joined g x intake now like h =
     record { came = record { count = omega (arith, count, came); bound = omega (arith, bound, low) }; kept = omega (arith, count, kept) }
 
 -- and so does the edge itself
-own_joined : (engine : EngineView) (e : Edge) (intake now : IntakeView) → Leads engine e intake → IsCarried engine e intake now → IsJoined engine e intake → IsJoined engine e now
-own_joined engine e intake now lead c h =
+own_joined : {laws : Laws} (engine : EngineView) (e : Edge) (intake now : IntakeView) → Leads laws engine e intake → IsCarried laws engine e intake now → IsJoined engine e intake → IsJoined engine e now
+own_joined {laws} engine e intake now lead c h =
     let kept = h.kept in
     let more = (c.grows.ports e.port).count in
     record {
@@ -116,10 +117,10 @@ own_joined engine e intake now lead c h =
       kept = omega (arith, kept, more);
     }
 
-edge_joined : (job : LoggedJob) (parts : PartsView) (number place : ℕ) (e : Edge) (engine : EngineView) (intake now : IntakeView) → ArePartsOf job parts → slice_get parts.plan.edges number ≡ Some e → source_of parts.plan e ≡ Some place
-    → slice_get parts.engines place ≡ Some engine → slice_get parts.intakes e.node ≡ Some intake → IsCarried engine e intake now
+edge_joined : {laws : Laws} (job : LoggedJob laws) (parts : PartsView) (number place : ℕ) (e : Edge) (engine : EngineView) (intake now : IntakeView) → ArePartsOf job parts → slice_get parts.plan.edges number ≡ Some e → source_of parts.plan e ≡ Some place
+    → slice_get parts.engines place ≡ Some engine → slice_get parts.intakes e.node ≡ Some intake → IsCarried laws engine e intake now
     → (x : Edge) (k from : ℕ) (g : EngineView) → slice_get parts.plan.edges k ≡ Some x → source_of parts.plan x ≡ Some from → slice_get parts.engines from ≡ Some g → x.node ≡ e.node → IsJoined g x now
-edge_joined job parts number place e engine intake now h at source at_engine to c x k from g at_x from_x at_g here =
+edge_joined {laws} job parts number place e engine intake now h at source at_engine to c x k from g at_x from_x at_g here =
     let lead = leads_of job parts number place e engine intake h at source at_engine to in
     let before : IsJoined g x intake = h.edges x k from g intake at_x from_x at_g (ap (slice_get parts.intakes) here ∙ to) in
     elim (cases_eq x.port e.port) [
@@ -142,10 +143,10 @@ edge_joined job parts number place e engine intake now h at source at_engine to 
 
 -- The parts after it.
 
-pub carried : (job : LoggedJob) (plan : Plan) (engines : List EngineView) (intakes : List IntakeView) (rest : RestView) (number place : ℕ) (e : Edge) (engine : EngineView) (intake now : IntakeView)
-    → ArePartsOf job (parts_by plan engines intakes rest) → slice_get plan.edges number ≡ Some e → source_of plan e ≡ Some place → slice_get engines place ≡ Some engine → slice_get intakes e.node ≡ Some intake → IsCarried engine e intake now
+pub carried : {laws : Laws} (job : LoggedJob laws) (plan : Plan) (engines : List EngineView) (intakes : List IntakeView) (rest : RestView) (number place : ℕ) (e : Edge) (engine : EngineView) (intake now : IntakeView)
+    → ArePartsOf job (parts_by plan engines intakes rest) → slice_get plan.edges number ≡ Some e → source_of plan e ≡ Some place → slice_get engines place ≡ Some engine → slice_get intakes e.node ≡ Some intake → IsCarried laws engine e intake now
     → ArePartsOf job (parts_by plan engines (set intakes e.node now) rest)
-carried job plan engines intakes rest number place e engine intake now h at source at_engine to c =
+carried {laws} job plan engines intakes rest number place e engine intake now h at source at_engine to c =
     let parts = parts_by plan engines intakes rest in
     let owner = owned job parts place engine h at_engine in
     let lawful : LawfulIntake job e.node now = c.lawful job owner.owner owner.lawful (h.intakes e.node intake to) (stream_at job parts number e h at) in
@@ -180,16 +181,16 @@ carried job plan engines intakes rest number place e engine intake now h at sour
 
 -- A net that lies apart, whose plan is seen as it is kept.
 
-pub some_parts : (job : LoggedJob) (plan shown : Plan) (engines : List EngineView) (intakes : List IntakeView) (rest : RestView) → shown ≡ plan → ArePartsOf job (parts_by plan engines intakes rest)
-    → (r : RestView) × AreParts (parts_by shown engines intakes r)
-some_parts job plan shown engines intakes rest is h = (rest, record { job = job; parts_of = subst (λ (p : Plan). ArePartsOf job (parts_by p engines intakes rest)) (sym is) h })
+pub some_parts : {laws : Laws} (job : LoggedJob laws) (plan shown : Plan) (engines : List EngineView) (intakes : List IntakeView) (rest : RestView) → shown ≡ plan → ArePartsOf job (parts_by plan engines intakes rest)
+    → (r : RestView) × AreParts laws (parts_by shown engines intakes r)
+some_parts {laws} job plan shown engines intakes rest is h = (rest, record { job = job; parts_of = subst (λ (p : Plan). ArePartsOf job (parts_by p engines intakes rest)) (sym is) h })
 
-pub still_parts : (job : LoggedJob) (plan shown : Plan) (engines : List EngineView) (intakes now : List IntakeView) (rest : RestView) → shown ≡ plan
-    → ((other : LoggedJob) (r : RestView) → ArePartsOf other (parts_by shown engines intakes r) → ArePartsOf other (parts_by shown engines now r))
+pub still_parts : {laws : Laws} (job : LoggedJob laws) (plan shown : Plan) (engines : List EngineView) (intakes now : List IntakeView) (rest : RestView) → shown ≡ plan
+    → ((other : LoggedJob laws) (r : RestView) → ArePartsOf other (parts_by shown engines intakes r) → ArePartsOf other (parts_by shown engines now r))
     → ArePartsOf job (parts_by plan engines intakes rest) → ArePartsOf job (parts_by plan engines now rest)
-still_parts job plan shown engines intakes now rest is keeps h =
+still_parts {laws} job plan shown engines intakes now rest is keeps h =
     subst (λ (p : Plan). ArePartsOf job (parts_by p engines now rest)) is
     (keeps job rest (subst (λ (p : Plan). ArePartsOf job (parts_by p engines intakes rest)) (sym is) h))
 
-pub still_some : (job : LoggedJob) (plan : Plan) (engines : List EngineView) (intakes : List IntakeView) (rest : RestView) → ArePartsOf job (parts_by plan engines intakes rest) → AreParts (parts_by plan engines intakes rest)
-still_some job plan engines intakes rest h = record { job = job; parts_of = h }
+pub still_some : {laws : Laws} (job : LoggedJob laws) (plan : Plan) (engines : List EngineView) (intakes : List IntakeView) (rest : RestView) → ArePartsOf job (parts_by plan engines intakes rest) → AreParts laws (parts_by plan engines intakes rest)
+still_some {laws} job plan engines intakes rest h = record { job = job; parts_of = h }

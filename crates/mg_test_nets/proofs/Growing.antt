@@ -5,6 +5,7 @@ use Rattle.std.proofs.lemmas.Option.{slice_get-get_or, slice_get_within}
 use Rattle.mg_value.specs.Payload.{Plain}
 use Rattle.mg_settled.specs.Prefix.{StreamPrefix, empty_prefix}
 use Rattle.mg_settled.specs.Extension.{IsExtendedBy, AreExtendedBy}
+use Rattle.mg_calc.specs.Rules.{Laws}
 use Rattle.mg_calc.specs.declared.inputs.Inputs.{Inputs}
 use Rattle.mg_calc.specs.declared.plan.Plan.{Plan}
 use Rattle.mg_calc.specs.Equations.{Job, IsJob}
@@ -49,18 +50,18 @@ joined_at before piece now h input less =
 -- Jobs.
 
 -- the same job over the longer inputs
-abbrev later_job : Plan → Inputs → LoggedJob → LoggedJob
-later_job plan now first = record { job = record { plan = plan; inputs = now }; boxes = first.boxes }
+abbrev later_job : {laws : Laws} → Plan → Inputs → LoggedJob laws → LoggedJob laws
+later_job {laws} plan now first = record { job = record { plan = plan; inputs = now; laws = laws }; boxes = first.boxes; same = refl }
 
-goes_on : (plan : Plan) (before piece now : Inputs) (first : LoggedJob) → first.job ≡ record { plan = plan; inputs = before } → IsJob first.job → HasBehind before piece now
+goes_on : {laws : Laws} (plan : Plan) (before piece now : Inputs) (first : LoggedJob laws) → first.job ≡ record { plan = plan; inputs = before; laws = first.job.laws } → IsJob first.job → HasBehind before piece now
     → GoesOnWith piece first (later_job plan now first)
-goes_on plan before piece now first of is h = subst P (sym of) base is
+goes_on {laws} plan before piece now first of is h = subst P (sym (of ∙ ap (λ (l : Laws). record { plan = plan; inputs = before; laws = l }) first.same)) base first.same is
   where
     P : Job → Type 0
-    P = λ (j : Job). IsJob j → GoesOnWith piece (record { job = j; boxes = first.boxes }) (later_job plan now first)
+    P = λ (j : Job). (same : j.laws ≡ laws) → IsJob j → GoesOnWith piece (record { job = j; boxes = first.boxes; same = same }) (later_job plan now first)
 
-    base : P (record { plan = plan; inputs = before })
-    base = λ job. record {
+    base : P (record { plan = plan; inputs = before; laws = laws })
+    base = λ same job. record {
       grows = record {
         plan = refl;
         sides = sym h.sides;
@@ -72,22 +73,22 @@ goes_on plan before piece now first of is h = subst P (sym of) base is
       streams = joined_at before piece now h;
     }
 
-stands_job : (job : LoggedJob) (net : NetView) → StandsFor job net → IsJob job.job
+stands_job : {laws : Laws} (job : LoggedJob laws) (net : NetView) → StandsFor job net → IsJob job.job
 unfolding StandsFor
-stands_job job net s = s.is_job
+stands_job {laws} job net s = s.is_job
 
-of_plan_of : (job : LoggedJob) (net : NetView) → StandsFor job net → net.plan ≡ job.job.plan
+of_plan_of : {laws : Laws} (job : LoggedJob laws) (net : NetView) → StandsFor job net → net.plan ≡ job.job.plan
 unfolding StandsFor
-of_plan_of job net s = s.plan
+of_plan_of {laws} job net s = s.plan
 
-pub may_go_on : (plan : Plan) (before piece now : Inputs) (net : NetView) → IsDriven plan before net → HasBehind before piece now → MayGoOnWith piece net
-may_go_on plan before piece now net d h =
+pub may_go_on : {laws : Laws} (plan : Plan) (before piece now : Inputs) (net : NetView) → IsDriven laws plan before net → HasBehind before piece now → MayGoOnWith laws piece net
+may_go_on {laws} plan before piece now net d h =
     let s = d.stands in
     record { first = s.job; later = later_job plan now s.job; stands = s.stands; goes_on = goes_on plan before piece now s.job d.of_job (stands_job s.job net s.stands) h }
 
-pub gone_on : (plan : Plan) (before piece now : Inputs) (net longer : NetView) → IsDriven plan before net → HasBehind before piece now → Extends piece net longer
-    → ((first later : LoggedJob) → GoesOnWith piece first later → StandsFor first net → StandsFor later longer) → IsDriven plan now longer
-gone_on plan before piece now net longer d h e keeps =
+pub gone_on : {laws : Laws} (plan : Plan) (before piece now : Inputs) (net longer : NetView) → IsDriven laws plan before net → HasBehind before piece now → Extends piece net longer
+    → ((first later : LoggedJob laws) → GoesOnWith piece first later → StandsFor first net → StandsFor later longer) → IsDriven laws plan now longer
+gone_on {laws} plan before piece now net longer d h e keeps =
     let s = d.stands in
     let later = later_job plan now s.job in
     let stands = keeps s.job later (goes_on plan before piece now s.job d.of_job (stands_job s.job net s.stands) h) s.stands in

@@ -1,3 +1,4 @@
 pub mod Growing
 pub mod PiecesBehind
 pub mod CarriedParts
+pub mod Unstated

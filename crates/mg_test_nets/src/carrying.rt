@@ -1,5 +1,6 @@
 //! What goes along an edge while the parts of a net lie apart.
 ghost use Rattle.std.specs.Prelude.{◌≡◌, ◌<◌, length, Some, slice_get};
+ghost use Rattle.mg_route.specs.TableLaws.{table_laws};
 ghost use Rattle.mg_node.specs.Job.{LoggedJob};
 ghost use Rattle.mg_sched.specs.Places.{source_of};
 ghost use Rattle.mg_sched.specs.ComesApart.{RestView, ArePartsOf, AreParts};
@@ -28,8 +29,8 @@ fn bring(
     edge: Edge,
 )
     requires there { slice_get plan.now.edges number ≡ Some edge }
-    requires parts { (rest : RestView) × AreParts (record { plan = plan.now; engines = engines.now.items; intakes = intakes.old.items; rest = rest }) }
-    ensures { (job : LoggedJob) (rest : RestView) → ArePartsOf job (record { plan = plan.now; engines = engines.now.items; intakes = intakes.old.items; rest = rest })
+    requires parts { (rest : RestView) × AreParts table_laws (record { plan = plan.now; engines = engines.now.items; intakes = intakes.old.items; rest = rest }) }
+    ensures { (job : LoggedJob table_laws) (rest : RestView) → ArePartsOf job (record { plan = plan.now; engines = engines.now.items; intakes = intakes.old.items; rest = rest })
         → ArePartsOf job (record { plan = plan.now; engines = engines.now.items; intakes = intakes.new.items; rest = rest }) }
 {
     let place = source_of(plan, edge);
@@ -45,8 +46,8 @@ pub(crate) fn carry(
     intakes: &mut Vec<Intake>,
     number: u32,
 )
-    requires { (rest : RestView) × AreParts (record { plan = plan.now; engines = engines.now.items; intakes = intakes.old.items; rest = rest }) }
-    ensures { (job : LoggedJob) (rest : RestView) → ArePartsOf job (record { plan = plan.now; engines = engines.now.items; intakes = intakes.old.items; rest = rest })
+    requires { (rest : RestView) × AreParts table_laws (record { plan = plan.now; engines = engines.now.items; intakes = intakes.old.items; rest = rest }) }
+    ensures { (job : LoggedJob table_laws) (rest : RestView) → ArePartsOf job (record { plan = plan.now; engines = engines.now.items; intakes = intakes.old.items; rest = rest })
         → ArePartsOf job (record { plan = plan.now; engines = engines.now.items; intakes = intakes.new.items; rest = rest }) }
 {
     if number >= plan.edges.len() {

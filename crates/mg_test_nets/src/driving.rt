@@ -1,4 +1,5 @@
 //! Nets that go on with further inputs, or are taken apart and put together again; and what a net has of its streams.
+ghost use Rattle.mg_route.specs.TableLaws.{table_laws};
 ghost use Rattle.mg_nets.specs.Driven.{IsDriven};
 
 use crate::carrying::carry;
@@ -12,8 +13,8 @@ use std::test::Fail;
 
 /// Goes on with a further piece of the inputs.
 pub(crate) fn extend(alloc: Global, driver: &mut Driver, piece: &Inputs) -> Result<(), Fail>
-    requires { IsDriven driver.old.plan driver.old.inputs driver.old.net }
-    ensures { IsDriven driver.new.plan driver.new.inputs driver.new.net }
+    requires { IsDriven table_laws driver.old.plan driver.old.inputs driver.old.net }
+    ensures { IsDriven table_laws driver.new.plan driver.new.inputs driver.new.net }
 {
     let inputs = longer(alloc, &driver.inputs, piece)?;
     driver.net.extend(piece)?;
@@ -24,8 +25,8 @@ pub(crate) fn extend(alloc: Global, driver: &mut Driver, piece: &Inputs) -> Resu
 /// Takes the net apart, and puts it together again of its parts. Meanwhile the edge of this number brings what its port hasn't got, if
 /// there is such an edge.
 pub(crate) fn part_and_join(driver: Driver, edge: u32) -> Driver
-    requires { IsDriven driver.plan driver.inputs driver.net }
-    ensures { IsDriven result.plan result.inputs result.net }
+    requires { IsDriven table_laws driver.plan driver.inputs driver.net }
+    ensures { IsDriven table_laws result.plan result.inputs result.net }
 {
     let Driver { plan, inputs, net } = driver;
     let mut parts = net.apart();
@@ -41,7 +42,7 @@ pub(crate) fn show_packet(
     stream: u32,
     number: u64,
 ) -> Result<String, Fail>
-    requires { IsDriven driver.now.plan driver.now.inputs driver.now.net }
+    requires { IsDriven table_laws driver.now.plan driver.now.inputs driver.now.net }
 {
     match driver.net.packet(stream, number) {
         Some(packet) => show_packet_at(alloc, packet),
@@ -51,7 +52,7 @@ pub(crate) fn show_packet(
 
 /// Shows the bound of a stream, or `-` where there is no such stream.
 pub(crate) fn show_bound(alloc: Global, driver: &Driver, stream: u32) -> Result<String, Fail>
-    requires { IsDriven driver.now.plan driver.now.inputs driver.now.net }
+    requires { IsDriven table_laws driver.now.plan driver.now.inputs driver.now.net }
 {
     if stream >= driver.plan.streams.len() {
         return Ok(String::from_str(alloc, "-")?);

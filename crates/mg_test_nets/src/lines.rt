@@ -1,4 +1,5 @@
 //! Nets whose input comes line by line.
+ghost use Rattle.mg_route.specs.TableLaws.{table_laws};
 ghost use Rattle.mg_calc.specs.Plan.{IsValid, OutersFit};
 ghost use Rattle.mg_nets.specs.Driven.{IsDriven};
 ghost use Rattle.mg_nets.specs.Handed.{two_outers};
@@ -28,8 +29,8 @@ fn piece_of(feed: &mut Feed, line: &str) -> Result<Inputs, Fail> {
 
 // Shows the sets that a net gives at rest; and then, once all packets are given up that can be, how many are in it.
 fn given(alloc: Global, driver: &mut Driver) -> Result<String, Fail>
-    requires { IsDriven driver.old.plan driver.old.inputs driver.old.net }
-    ensures { IsDriven driver.new.plan driver.new.inputs driver.new.net }
+    requires { IsDriven table_laws driver.old.plan driver.old.inputs driver.old.net }
+    ensures { IsDriven table_laws driver.new.plan driver.new.inputs driver.new.net }
 {
     settle(driver)?;
     let sets = all_taken(alloc, driver)?;
@@ -39,8 +40,8 @@ fn given(alloc: Global, driver: &mut Driver) -> Result<String, Fail>
 
 // Shows what comes of a line, or of the end of the input.
 fn answer(alloc: Global, feed: &mut Feed, driver: &mut Driver, line: &str) -> Result<String, Fail>
-    requires { IsDriven driver.old.plan driver.old.inputs driver.old.net }
-    ensures { IsDriven driver.new.plan driver.new.inputs driver.new.net }
+    requires { IsDriven table_laws driver.old.plan driver.old.inputs driver.old.net }
+    ensures { IsDriven table_laws driver.new.plan driver.new.inputs driver.new.net }
 {
     let piece = piece_of(feed, line)?;
     extend(alloc, driver, &piece)?;
@@ -63,8 +64,8 @@ impl<'a> Way for Lines<'a> {
 
 // Goes on with each row's line, and expects what the row wants to come of it.
 fn expect_lines(alloc: Global, feed: &mut Feed, driver: &mut Driver, rows: &str) -> Result<(), Fail>
-    requires { IsDriven driver.old.plan driver.old.inputs driver.old.net }
-    ensures { IsDriven driver.new.plan driver.new.inputs driver.new.net }
+    requires { IsDriven table_laws driver.old.plan driver.old.inputs driver.old.net }
+    ensures { IsDriven table_laws driver.new.plan driver.new.inputs driver.new.net }
 {
     for row in rows.split('\n') {
         let (line, wanted) = row.split_once('=').ok_or("no `=`")?;

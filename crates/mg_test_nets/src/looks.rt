@@ -1,4 +1,5 @@
 //! What a net has of its streams: a packet by its number, until it is given up, and the bound.
+ghost use Rattle.mg_route.specs.TableLaws.{table_laws};
 ghost use Rattle.mg_nets.specs.Driven.{IsDriven};
 
 use crate::driving::{show_bound, show_packet};
@@ -12,7 +13,7 @@ use std::test::Fail;
 
 // Shows the first three packets of a stream, and its bound.
 fn show_stream(alloc: Global, driver: &Driver, stream: u32) -> Result<String, Fail>
-    requires { IsDriven driver.now.plan driver.now.inputs driver.now.net }
+    requires { IsDriven table_laws driver.now.plan driver.now.inputs driver.now.net }
 {
     let mut shown = String::new(alloc);
     for number in 0..3 {
@@ -24,7 +25,7 @@ fn show_stream(alloc: Global, driver: &Driver, stream: u32) -> Result<String, Fa
 
 // Expects a net to have this of a stream.
 fn expect_stream(alloc: Global, driver: &Driver, stream: u32, wanted: &str) -> Result<(), Fail>
-    requires { IsDriven driver.now.plan driver.now.inputs driver.now.net }
+    requires { IsDriven table_laws driver.now.plan driver.now.inputs driver.now.net }
 {
     let shown = show_stream(alloc, driver, stream)?;
     if shown.as_str() == wanted {
@@ -35,7 +36,7 @@ fn expect_stream(alloc: Global, driver: &Driver, stream: u32, wanted: &str) -> R
 
 // Expects a net of one node to have this of its input and its output, and nothing of a stream that isn't there.
 fn expect_streams(alloc: Global, driver: &Driver, input: &str, output: &str) -> Result<(), Fail>
-    requires { IsDriven driver.now.plan driver.now.inputs driver.now.net }
+    requires { IsDriven table_laws driver.now.plan driver.now.inputs driver.now.net }
 {
     expect_stream(alloc, driver, 0, input)?;
     expect_stream(alloc, driver, 1, output)?;
@@ -69,8 +70,8 @@ impl Way for Looks {
 }
 
 fn expect_laid(alloc: Global, driver: &mut Driver) -> Result<(), Fail>
-    requires { IsDriven driver.old.plan driver.old.inputs driver.old.net }
-    ensures { IsDriven driver.new.plan driver.new.inputs driver.new.net }
+    requires { IsDriven table_laws driver.old.plan driver.old.inputs driver.old.net }
+    ensures { IsDriven table_laws driver.new.plan driver.new.inputs driver.new.net }
 {
     expect_streams(alloc, driver, "1@10 2@20 - | Done", "- - - | PreStream")?;
     make_each(driver, goes_through(), Effect::Did)?;
@@ -78,8 +79,8 @@ fn expect_laid(alloc: Global, driver: &mut Driver) -> Result<(), Fail>
 }
 
 fn expect_given_up(alloc: Global, driver: &mut Driver) -> Result<(), Fail>
-    requires { IsDriven driver.old.plan driver.old.inputs driver.old.net }
-    ensures { IsDriven driver.new.plan driver.new.inputs driver.new.net }
+    requires { IsDriven table_laws driver.old.plan driver.old.inputs driver.old.net }
+    ensures { IsDriven table_laws driver.new.plan driver.new.inputs driver.new.net }
 {
     trim(driver);
     expect_streams(alloc, driver, "- - - | Done", "- 2@20 - | 21")?;

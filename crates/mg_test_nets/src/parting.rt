@@ -1,5 +1,6 @@
 //! Nets that come apart on their way and are put together again, with works in their work queues and in their windows: they come to the
 //! same as if they hadn't, also where something went along an edge meanwhile.
+ghost use Rattle.mg_route.specs.TableLaws.{table_laws};
 ghost use Rattle.std.specs.Prelude.{IfOk};
 ghost use Rattle.mg_nets.specs.Driven.{IsDriven};
 
@@ -30,8 +31,8 @@ fn parted_behind(
     events: &'static [Event],
     edge: u32,
 ) -> Result<Driver, Fail>
-    requires { IsDriven driver.plan driver.inputs driver.net }
-    ensures { IfOk result (λ d. IsDriven d.plan d.inputs d.net) }
+    requires { IsDriven table_laws driver.plan driver.inputs driver.net }
+    ensures { IfOk result (λ d. IsDriven table_laws d.plan d.inputs d.net) }
 {
     let effect = Effect::Did;
     let driver = driven(alloc, driver, &mut Steps { events, effect })?;
@@ -40,8 +41,8 @@ fn parted_behind(
 
 // Makes steps, each of which does nothing.
 fn idle_at(alloc: Global, driver: Driver, events: &'static [Event]) -> Result<Driver, Fail>
-    requires { IsDriven driver.plan driver.inputs driver.net }
-    ensures { IfOk result (λ d. IsDriven d.plan d.inputs d.net) }
+    requires { IsDriven table_laws driver.plan driver.inputs driver.net }
+    ensures { IfOk result (λ d. IsDriven table_laws d.plan d.inputs d.net) }
 {
     let effect = Effect::Idle;
     driven(alloc, driver, &mut Steps { events, effect })
@@ -84,7 +85,7 @@ fn commits_first() -> &'static [Event] {
 // Takes the net apart with the first set of the sum in its work queue, then with what was performed in its window, and once more behind the
 // commit.
 fn parted_thrice(alloc: Global, case: &Case) -> Result<Driver, Fail>
-    ensures { IfOk result (λ d. IsDriven d.plan d.inputs d.net) }
+    ensures { IfOk result (λ d. IsDriven table_laws d.plan d.inputs d.net) }
 {
     let driver = driver_of(alloc, case.graph, case.lines)?;
     let driver = parted_behind(alloc, driver, claims_first(), NO_EDGE)?;
@@ -116,7 +117,7 @@ fn waits() -> &'static [Event] {
 
 // Brings the packet to the merge while the net is apart, where it fills a queue. So it doesn't go there again, and the source is throttled.
 fn throttled_apart(alloc: Global, case: &Case) -> Result<Driver, Fail>
-    ensures { IfOk result (λ d. IsDriven d.plan d.inputs d.net) }
+    ensures { IfOk result (λ d. IsDriven table_laws d.plan d.inputs d.net) }
 {
     let driver = driver_under(alloc, case, case.limit)?;
     let driver = parted_behind(alloc, driver, lays_first(), 2)?;
@@ -132,8 +133,8 @@ fn limits_know_what_came_while_a_net_was_apart(rt: HostRuntime) -> Result<(), Fa
 
 // Takes a net apart and puts it together, `PARTINGS` times, each time behind `place` further steps.
 fn parted_at(alloc: Global, driver: Driver, place: u32) -> Result<Driver, Fail>
-    requires { IsDriven driver.plan driver.inputs driver.net }
-    ensures { IfOk result (λ d. IsDriven d.plan d.inputs d.net) }
+    requires { IsDriven table_laws driver.plan driver.inputs driver.net }
+    ensures { IfOk result (λ d. IsDriven table_laws d.plan d.inputs d.net) }
 {
     let mut driver = driver;
     let mut wander = Wander {

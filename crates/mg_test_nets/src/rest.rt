@@ -1,4 +1,5 @@
 //! Nets that are driven until nothing is left to do.
+ghost use Rattle.mg_route.specs.TableLaws.{table_laws};
 ghost use Rattle.mg_nets.specs.Driven.{IsDriven};
 
 use crate::events::{event_at, event_count};
@@ -8,8 +9,8 @@ use std::test::Fail;
 
 /// Makes steps, and expects each to have the wanted effect.
 pub(crate) fn make_each(driver: &mut Driver, events: &[Event], wanted: Effect) -> Result<(), Fail>
-    requires { IsDriven driver.old.plan driver.old.inputs driver.old.net }
-    ensures { IsDriven driver.new.plan driver.new.inputs driver.new.net }
+    requires { IsDriven table_laws driver.old.plan driver.old.inputs driver.old.net }
+    ensures { IsDriven table_laws driver.new.plan driver.new.inputs driver.new.net }
 {
     for event in events {
         let effect = act(driver, *event)?;
@@ -22,8 +23,8 @@ pub(crate) fn make_each(driver: &mut Driver, events: &[Event], wanted: Effect) -
 
 /// Makes the step of this number, and tells whether it did something.
 pub(crate) fn step(driver: &mut Driver, number: u32) -> Result<bool, Fail>
-    requires { IsDriven driver.old.plan driver.old.inputs driver.old.net }
-    ensures { IsDriven driver.new.plan driver.new.inputs driver.new.net }
+    requires { IsDriven table_laws driver.old.plan driver.old.inputs driver.old.net }
+    ensures { IsDriven table_laws driver.new.plan driver.new.inputs driver.new.net }
 {
     let event = event_at(&driver.plan, number);
     match act(driver, event)? {
@@ -35,8 +36,8 @@ pub(crate) fn step(driver: &mut Driver, number: u32) -> Result<bool, Fail>
 
 /// Makes `steps` steps at random.
 pub(crate) fn wander(driver: &mut Driver, chance: &mut Chance, steps: u32) -> Result<(), Fail>
-    requires { IsDriven driver.old.plan driver.old.inputs driver.old.net }
-    ensures { IsDriven driver.new.plan driver.new.inputs driver.new.net }
+    requires { IsDriven table_laws driver.old.plan driver.old.inputs driver.old.net }
+    ensures { IsDriven table_laws driver.new.plan driver.new.inputs driver.new.net }
 {
     let count = event_count(&driver.plan);
     for _ in 0..steps {
@@ -47,8 +48,8 @@ pub(crate) fn wander(driver: &mut Driver, chance: &mut Chance, steps: u32) -> Re
 
 // Makes each step once, and tells whether one did something.
 fn pass(driver: &mut Driver, count: u32) -> Result<bool, Fail>
-    requires { IsDriven driver.old.plan driver.old.inputs driver.old.net }
-    ensures { IsDriven driver.new.plan driver.new.inputs driver.new.net }
+    requires { IsDriven table_laws driver.old.plan driver.old.inputs driver.old.net }
+    ensures { IsDriven table_laws driver.new.plan driver.new.inputs driver.new.net }
 {
     let mut did = false;
     for number in 0..count {
@@ -59,8 +60,8 @@ fn pass(driver: &mut Driver, count: u32) -> Result<bool, Fail>
 
 /// Makes steps until none does anything. That there is still something to do after 1,000 rounds of all events is an error.
 pub(crate) fn settle(driver: &mut Driver) -> Result<(), Fail>
-    requires { IsDriven driver.old.plan driver.old.inputs driver.old.net }
-    ensures { IsDriven driver.new.plan driver.new.inputs driver.new.net }
+    requires { IsDriven table_laws driver.old.plan driver.old.inputs driver.old.net }
+    ensures { IsDriven table_laws driver.new.plan driver.new.inputs driver.new.net }
 {
     let count = event_count(&driver.plan);
     for _ in 0..1000u32 {
@@ -73,8 +74,8 @@ pub(crate) fn settle(driver: &mut Driver) -> Result<(), Fail>
 
 /// Makes each step once, and tells whether none did anything.
 pub(crate) fn is_at_rest(driver: &mut Driver) -> Result<bool, Fail>
-    requires { IsDriven driver.old.plan driver.old.inputs driver.old.net }
-    ensures { IsDriven driver.new.plan driver.new.inputs driver.new.net }
+    requires { IsDriven table_laws driver.old.plan driver.old.inputs driver.old.net }
+    ensures { IsDriven table_laws driver.new.plan driver.new.inputs driver.new.net }
 {
     let count = event_count(&driver.plan);
     let did = pass(driver, count)?;

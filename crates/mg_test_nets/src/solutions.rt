@@ -1,5 +1,6 @@
 //! What the plain program computes of a graph, as a net at rest shows it.
-ghost use Rattle.mg_calc.specs.Plan.{IsValid};
+ghost use Rattle.mg_calc.specs.Plan.{IsValid, OutersFit};
+ghost use Rattle.mg_nets.specs.Handed.{two_outers};
 
 use mg_calc::{Inputs, Plan};
 use mg_equations::{Streams, solve};
@@ -13,7 +14,8 @@ use std::test::Fail;
 
 // Returns the solution of a plan over inputs. Inputs that don't fit the plan are an error.
 fn solution_over(alloc: Global, plan: &Plan, inputs: &Inputs) -> Result<Streams, Fail>
-    requires { IsValid plan.now }
+    requires valid { IsValid plan.now }
+    requires fit { OutersFit plan.now two_outers }
 {
     if !do_fit(plan, inputs) {
         return Err(Fail::from("inputs don't fit"));
@@ -23,7 +25,8 @@ fn solution_over(alloc: Global, plan: &Plan, inputs: &Inputs) -> Result<Streams,
 
 // Returns the solution of a plan over packet lines.
 fn solution_of(alloc: Global, plan: &Plan, lines: &str) -> Result<Streams, Fail>
-    requires { IsValid plan.now }
+    requires valid { IsValid plan.now }
+    requires fit { OutersFit plan.now two_outers }
 {
     let inputs = inputs_of(alloc, plan, lines, true)?;
     let streams = solution_over(alloc, plan, &inputs);
@@ -98,7 +101,8 @@ fn show_outcome(alloc: Global, plan: &Plan, solution: Streams) -> Result<String,
 
 // Shows what comes out of the net of a plan over packet lines.
 fn solved_over(alloc: Global, plan: &Plan, lines: &str) -> Result<String, Fail>
-    requires { IsValid plan.now }
+    requires valid { IsValid plan.now }
+    requires fit { OutersFit plan.now two_outers }
 {
     let solution = solution_of(alloc, plan, lines)?;
     show_outcome(alloc, plan, solution)

@@ -2,7 +2,7 @@
 use denote.Param.Send.{IsSend, IsSync}
 use Rattle.mg_route.proofs.Sent.{law_box}
 use Rattle.mg_route.specs.contracts.law_box.LawBox as LawBox
-use Rattle.mg_route.specs.contracts.law_box.LawBoxCalculator.TheImpl as boxes
+use Rattle.mg_route.specs.contracts.law_box.LawBoxNodeCalculator.TheImpl as boxes
 use Rattle.mg_turns.proofs.Sent.{net_seat, net_seat_row, net_row}
 use Rattle.mg_turns.specs.contracts.seat.NetSeat as NetSeat
 use Rattle.mg_turns.specs.contracts.shared.SharedNet as SharedNet

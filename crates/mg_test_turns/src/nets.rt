@@ -1,6 +1,7 @@
 //! Sharing the nets of the tests, and taking what comes out of them at the end.
 ghost use Rattle.std.specs.Prelude.{◌≡◌, ◌^◌, [], IfOk};
 ghost use Rattle.mg_calc.specs.Plan.{IsValid, OutersFit};
+ghost use Rattle.mg_route.specs.TableLaws.{table_laws};
 ghost use Rattle.mg_sched.specs.StandsFor.{IsRunning};
 ghost use Rattle.mg_turns.specs.Calls.{key_of, view_of};
 ghost use Rattle.mg_workers.specs.Shared.{IsShared};
@@ -23,9 +24,9 @@ use std::test::Fail;
 fn shared_over(alloc: Global, plan: &Plan, inputs: &Inputs) -> Result<Shared, Fail>
     requires valid { IsValid plan.now }
     requires none { OutersFit plan.now [] }
-    ensures shared { IfOk result (λ r. IsShared r.net r.seat) }
+    ensures shared { IfOk result (λ r. IsShared table_laws r.net r.seat) }
     ensures whole { IfOk result (λ r. (view_of r.seat).portion ≡ 2 ^ 32) }
-    ensures kept { IfOk result (λ r. CameOf 1 (key_of r.net) r.kept) }
+    ensures kept { IfOk result (λ r. CameOf table_laws 1 (key_of r.net) r.kept) }
 {
     if !do_fit(plan, inputs) {
         return Err(Fail::from("inputs don't fit"));
@@ -42,9 +43,9 @@ fn shared_over(alloc: Global, plan: &Plan, inputs: &Inputs) -> Result<Shared, Fa
 fn shared_by(alloc: Global, plan: &Plan, lines: &str) -> Result<Shared, Fail>
     requires valid { IsValid plan.now }
     requires none { OutersFit plan.now [] }
-    ensures shared { IfOk result (λ r. IsShared r.net r.seat) }
+    ensures shared { IfOk result (λ r. IsShared table_laws r.net r.seat) }
     ensures whole { IfOk result (λ r. (view_of r.seat).portion ≡ 2 ^ 32) }
-    ensures kept { IfOk result (λ r. CameOf 1 (key_of r.net) r.kept) }
+    ensures kept { IfOk result (λ r. CameOf table_laws 1 (key_of r.net) r.kept) }
 {
     let inputs = inputs_of(alloc, plan, lines, true)?;
     let shared = shared_over(alloc, plan, &inputs);
@@ -54,9 +55,9 @@ fn shared_by(alloc: Global, plan: &Plan, lines: &str) -> Result<Shared, Fail>
 
 /// Returns the net of a graph with one output over packet lines, shared before anything came or was laid.
 pub(crate) fn shared_of(alloc: Global, graph: &str, lines: &str) -> Result<Shared, Fail>
-    ensures shared { IfOk result (λ r. IsShared r.net r.seat) }
+    ensures shared { IfOk result (λ r. IsShared table_laws r.net r.seat) }
     ensures whole { IfOk result (λ r. (view_of r.seat).portion ≡ 2 ^ 32) }
-    ensures kept { IfOk result (λ r. CameOf 1 (key_of r.net) r.kept) }
+    ensures kept { IfOk result (λ r. CameOf table_laws 1 (key_of r.net) r.kept) }
 {
     let outers: &[OuterShape] = &[];
     let plan = plan_of(alloc, graph, outers)?;
@@ -67,7 +68,7 @@ pub(crate) fn shared_of(alloc: Global, graph: &str, lines: &str) -> Result<Share
 
 // Takes all sets that come out of a net, of which there have to be `count`, and returns the last one as a text.
 fn last_taken(alloc: Global, net: &mut Net<LawBox>, count: u32) -> Result<String, Fail>
-    requires { HasOutputs 1 net.old }
+    requires { HasOutputs table_laws 1 net.old }
 {
     let mut set = InputSet::new(alloc, 1)?;
     for _ in 0..count {
@@ -84,7 +85,7 @@ fn last_taken(alloc: Global, net: &mut Net<LawBox>, count: u32) -> Result<String
 // Sweeps a net, takes all sets that come out, of which there have to be `count`, and returns the last one as a text.
 fn last_swept(alloc: Global, net: &mut Net<LawBox>, count: u32) -> Result<String, Fail>
     requires running { IsRunning net.old }
-    requires outputs { HasOutputs 1 net.old }
+    requires outputs { HasOutputs table_laws 1 net.old }
 {
     net.sweep(&StillGate, &mut Deaf)?;
     last_taken(alloc, net, count)
@@ -98,7 +99,7 @@ pub(crate) fn expect_last(
     wanted: &str,
 ) -> Result<(), Fail>
     requires running { IsRunning net }
-    requires outputs { HasOutputs 1 net }
+    requires outputs { HasOutputs table_laws 1 net }
 {
     let mut net = net;
     let last = last_swept(alloc, &mut net, count);

@@ -1,5 +1,6 @@
 //! Calls one after the other on two seats of one net.
 ghost use Rattle.std.specs.Prelude.{◌≡◌, ◌^◌, IfOk, OnOk};
+ghost use Rattle.mg_route.specs.TableLaws.{table_laws};
 ghost use Rattle.mg_node.specs.Job.{LoggedJob};
 ghost use Rattle.mg_node.specs.Lawful.{LawfulWork, LawfulOutcome};
 ghost use Rattle.mg_turns.specs.Parts.{nodes_in, Fits};
@@ -25,9 +26,9 @@ node { calculator: "PassThroughCalculator" input_stream: "in" output_stream: "ou
 
 // Returns the shared net of `passing` over one packet at 5. It has one node.
 fn one_node(alloc: Global) -> Result<Shared, Fail>
-    ensures shared { IfOk result (λ r. IsShared r.net r.seat) }
+    ensures shared { IfOk result (λ r. IsShared table_laws r.net r.seat) }
     ensures whole { IfOk result (λ r. (view_of r.seat).portion ≡ 2 ^ 32) }
-    ensures kept { IfOk result (λ r. CameOf 1 (key_of r.net) r.kept) }
+    ensures kept { IfOk result (λ r. CameOf table_laws 1 (key_of r.net) r.kept) }
     ensures one { IfOk result (λ r. nodes_in (key_of r.net) ≡ 1) }
 {
     let shared = shared_of(alloc, passing(), r#"{"stream":"in","ts":5,"value":7}"#)?;
@@ -40,11 +41,11 @@ fn one_node(alloc: Global) -> Result<Shared, Fail>
 
 // Claims the node's one work for a seat: the set at 5.
 fn work_at_five(net: &SharedNet<LawBox>, seat: &mut NetSeat<LawBox>) -> Result<Work<LawBox>, Fail>
-    requires shared { IsShared net.now seat.old }
+    requires shared { IsShared table_laws net.now seat.old }
     requires one { nodes_in (key_of net.now) ≡ 1 }
     ensures portion { (view_of seat.new).portion ≡ (view_of seat.old).portion }
-    ensures work { IfOk result (λ w. IsSharedWith net.now seat.new w) }
-    ensures lawful { IfOk result (λ w. (job : LoggedJob) → Fits job (key_of net.now) → LawfulWork job w) }
+    ensures work { IfOk result (λ w. IsSharedWith table_laws net.now seat.new w) }
+    ensures lawful { IfOk result (λ w. (job : LoggedJob table_laws) → Fits job (key_of net.now) → LawfulWork job w) }
 {
     let Ok(work) = claim(net, seat, 0) else {
         return Err(Fail::from("no work"));
@@ -60,9 +61,9 @@ fn work_at_five(net: &SharedNet<LawBox>, seat: &mut NetSeat<LawBox>) -> Result<W
 
 // Checks that a second seat gets no work meanwhile.
 fn gets_none(net: &SharedNet<LawBox>, seat: &mut NetSeat<LawBox>) -> Result<(), Fail>
-    requires shared { IsShared net.now seat.old }
+    requires shared { IsShared table_laws net.now seat.old }
     requires one { nodes_in (key_of net.now) ≡ 1 }
-    ensures shared { OnOk result (IsShared net.now seat.new) }
+    ensures shared { OnOk result (IsShared table_laws net.now seat.new) }
     ensures portion { (view_of seat.new).portion ≡ (view_of seat.old).portion }
 {
     match claim(net, seat, 0) {
@@ -82,10 +83,10 @@ fn comes_back(
     outcome: Outcome<LawBox>,
     shelves: bool,
 ) -> Result<(), Fail>
-    requires has { IsSharedWith net.now seat.old outcome.work }
-    requires lawful { (job : LoggedJob) → Fits job (key_of net.now) → LawfulOutcome job outcome }
+    requires has { IsSharedWith table_laws net.now seat.old outcome.work }
+    requires lawful { (job : LoggedJob table_laws) → Fits job (key_of net.now) → LawfulOutcome job outcome }
     ensures portion { (view_of seat.new).portion ≡ (view_of seat.old).portion }
-    ensures free { OnOk result (IsShared net.now seat.new) }
+    ensures free { OnOk result (IsShared table_laws net.now seat.new) }
 {
     if shelves {
         if shelve(net, seat, outcome) {
@@ -109,13 +110,13 @@ fn comes_round(
     work: Work<LawBox>,
     shelves: bool,
 ) -> Result<(), Fail>
-    requires has { IsSharedWith net.now seat.old work }
-    requires lawful { (job : LoggedJob) → Fits job (key_of net.now) → LawfulWork job work }
-    requires second { IsShared net.now second.old }
+    requires has { IsSharedWith table_laws net.now seat.old work }
+    requires lawful { (job : LoggedJob table_laws) → Fits job (key_of net.now) → LawfulWork job work }
+    requires second { IsShared table_laws net.now second.old }
     requires one { nodes_in (key_of net.now) ≡ 1 }
     ensures portion { (view_of seat.new).portion ≡ (view_of seat.old).portion }
     ensures portion_too { (view_of second.new).portion ≡ (view_of second.old).portion }
-    ensures free { OnOk result (IsShared net.now seat.new × IsShared net.now second.new) }
+    ensures free { OnOk result (IsShared table_laws net.now seat.new × IsShared table_laws net.now second.new) }
 {
     match gets_none(net, second) {
         Ok(()) => {
@@ -139,10 +140,10 @@ fn goes_round(
     seat: &mut NetSeat<LawBox>,
     shelves: bool,
 ) -> Result<(), Fail>
-    requires shared { IsShared net.now seat.old }
+    requires shared { IsShared table_laws net.now seat.old }
     requires whole { (view_of seat.old).portion ≡ 2 ^ 32 }
     requires one { nodes_in (key_of net.now) ≡ 1 }
-    ensures shared { OnOk result (IsShared net.now seat.new) }
+    ensures shared { OnOk result (IsShared table_laws net.now seat.new) }
     ensures whole { OnOk result ((view_of seat.new).portion ≡ 2 ^ 32) }
 {
     if append(net, seat, 0) != Some((1, true)) {
@@ -185,9 +186,9 @@ fn ends(
     seat: NetSeat<LawBox>,
     kept: Kept<LawBox>,
 ) -> Result<(), Fail>
-    requires shared { IsShared net seat }
+    requires shared { IsShared table_laws net seat }
     requires whole { (view_of seat).portion ≡ 2 ^ 32 }
-    requires kept { CameOf 1 (key_of net) kept }
+    requires kept { CameOf table_laws 1 (key_of net) kept }
 {
     if seat.misses() != 0 {
         let_go(net, seat, kept);

@@ -1,4 +1,5 @@
 //! Threads on one net, whose answers add up.
+ghost use Rattle.mg_route.specs.TableLaws.{table_laws};
 ghost use Rattle.std.specs.Prelude.{◌≡◌, ◌≤◌, ◌+◌, ◌^◌};
 ghost use Rattle.std.specs.Thread.{IsSync};
 ghost use Rattle.mg_turns.specs.Calls.{view_of};
@@ -22,8 +23,8 @@ struct Worked {
 
 // Works at each node once, at most three works under one pair of turns, and returns how many are committed.
 fn run_all(alloc: Global, net: &SharedNet<LawBox>, seat: &mut NetSeat<LawBox>) -> u64
-    requires { IsShared net.now seat.old }
-    ensures { StaysShared net.now seat.old seat.new }
+    requires { IsShared table_laws net.now seat.old }
+    ensures { StaysShared table_laws net.now seat.old seat.new }
 {
     let mut done = 0_u64;
     for node in 0..net.nodes() {
@@ -35,8 +36,8 @@ fn run_all(alloc: Global, net: &SharedNet<LawBox>, seat: &mut NetSeat<LawBox>) -
 
 // Brings packets along each of the two edges once, and returns how many.
 fn bring_all(net: &SharedNet<LawBox>, seat: &mut NetSeat<LawBox>) -> u64
-    requires { IsShared net.now seat.old }
-    ensures { StaysShared net.now seat.old seat.new }
+    requires { IsShared table_laws net.now seat.old }
+    ensures { StaysShared table_laws net.now seat.old seat.new }
 {
     let mut brought = 0_u64;
     for edge in 0..2 {
@@ -49,8 +50,8 @@ fn bring_all(net: &SharedNet<LawBox>, seat: &mut NetSeat<LawBox>) -> u64
 
 // Works at all nodes and brings packets along all edges, `rounds` times over.
 fn work(alloc: Global, net: &SharedNet<LawBox>, seat: NetSeat<LawBox>, rounds: u32) -> Worked
-    requires { IsShared net.now seat }
-    ensures { StaysShared net.now seat result.seat }
+    requires { IsShared table_laws net.now seat }
+    ensures { StaysShared table_laws net.now seat result.seat }
 {
     let mut seat = seat;
     let mut done = 0_u64;
@@ -68,9 +69,9 @@ fn work(alloc: Global, net: &SharedNet<LawBox>, seat: NetSeat<LawBox>, rounds: u
 
 // Joins what two threads give back.
 fn both(net: &SharedNet<LawBox>, one: Worked, other: Worked) -> Worked
-    requires shared { IsShared net.now one.seat × IsShared net.now other.seat }
+    requires shared { IsShared table_laws net.now one.seat × IsShared table_laws net.now other.seat }
     requires portions { (view_of one.seat).portion + (view_of other.seat).portion ≤ 2 ^ 32 }
-    ensures shared { IsShared net.now result.seat }
+    ensures shared { IsShared table_laws net.now result.seat }
     ensures portion { (view_of result.seat).portion ≡ (view_of one.seat).portion + (view_of other.seat).portion }
 {
     let mut seat = one.seat;
@@ -93,9 +94,9 @@ fn many<R: Threads + Sync>(
     rounds: u32,
 ) -> Worked
     requires bounds { IsSync R.row }
-    requires shared { IsShared net.now seat }
+    requires shared { IsShared table_laws net.now seat }
     requires portion { (threads ≤ (view_of seat).portion) × ((view_of seat).portion ≤ 2 ^ 32) }
-    ensures { StaysShared net.now seat result.seat }
+    ensures { StaysShared table_laws net.now seat result.seat }
 {
     if threads <= 1 {
         return work(alloc, net, seat, rounds);
@@ -104,12 +105,12 @@ fn many<R: Threads + Sync>(
     let theirs = mine.split(net, 1);
     let others = threads - 1;
     let most = move || -> Worked
-        requires { IsSync R.row × IsShared net.now mine × (others ≤ (view_of mine).portion) × ((view_of mine).portion ≤ 2 ^ 32) }
-        ensures { StaysShared net.entry.now mine result.seat }
+        requires { IsSync R.row × IsShared table_laws net.now mine × (others ≤ (view_of mine).portion) × ((view_of mine).portion ≤ 2 ^ 32) }
+        ensures { StaysShared table_laws net.entry.now mine result.seat }
     { many(rt, alloc, net, mine, others, rounds) };
     let last = move || -> Worked
-        requires { IsShared net.now theirs }
-        ensures { StaysShared net.entry.now theirs result.seat }
+        requires { IsShared table_laws net.now theirs }
+        ensures { StaysShared table_laws net.entry.now theirs result.seat }
     { work(alloc, net, theirs, rounds) };
     let (all, other) = join(rt, most, last);
     both(net, all, other)
@@ -131,9 +132,9 @@ fn all_work<R: Threads + Sync>(
     seat: NetSeat<LawBox>,
     threads: u32,
 ) -> Worked
-    requires shared { IsShared net.now seat }
+    requires shared { IsShared table_laws net.now seat }
     requires portion { (threads ≤ (view_of seat).portion) × ((view_of seat).portion ≡ 2 ^ 32) }
-    ensures { StaysShared net.now seat result.seat }
+    ensures { StaysShared table_laws net.now seat result.seat }
 {
     let most = many(rt, alloc, net, seat, threads, 40);
     let rest = work(alloc, net, most.seat, 400);

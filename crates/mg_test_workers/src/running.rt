@@ -1,4 +1,5 @@
 //! Nets that workers run: they leave nothing to do, and what comes out is wanted.
+ghost use Rattle.mg_route.specs.TableLaws.{table_laws};
 ghost use Rattle.std.specs.Prelude.{⊤};
 ghost use Rattle.mg_nets.specs.Driven.{IsDriven};
 
@@ -46,8 +47,8 @@ impl Way for Rest {
 
 // Expects a sweep to find nothing to do.
 fn expect_rest(driver: &mut Driver) -> Result<(), Fail>
-    requires { IsDriven driver.old.plan driver.old.inputs driver.old.net }
-    ensures { IsDriven driver.new.plan driver.new.inputs driver.new.net }
+    requires { IsDriven table_laws driver.old.plan driver.old.inputs driver.old.net }
+    ensures { IsDriven table_laws driver.new.plan driver.new.inputs driver.new.net }
 {
     let mut first = First { event: None };
     sweep(driver, &StillGate, &mut first)?;
@@ -65,8 +66,8 @@ fn run<R: Threads + Wait + Sync, G: Gate + Sync>(
     workers: u32,
     gate: &G,
 ) -> (Driver, u64)
-    requires { IsDriven driver.plan driver.inputs driver.net }
-    ensures { IsDriven result.0.plan result.0.inputs result.0.net }
+    requires { IsDriven table_laws driver.plan driver.inputs driver.net }
+    ensures { IsDriven table_laws result.0.plan result.0.inputs result.0.net }
 {
     let Driver { plan, inputs, net } = driver;
     let (net, vain) = run_workers(rt, alloc, net, workers, gate);

@@ -1,4 +1,5 @@
 -- The words of the parts stand eight apart in the table. What holds of a step on the words of the parts alone holds of one there.
+use Rattle.mg_calc.specs.Rules.{Laws}
 use Rattle.std.proofs.Common.{◌≡◌, ℕ, zero, suc, ◌+◌, ◌*◌, ◌/◌, ◌%◌, ◌<◌, ◌≤◌, ◌==◌, Bool, true, false, MatchBool, List, [], ◌∷◌, map, length, drop, replicate, get_or, set, sym, refl, ap, ◌∙◌, subst, arith, Option, Some, None, IfSome, bit_or, length-set, length-drop, get_or-set_other}
 use Rattle.std.proofs.lemmas.Bool.{eqb-true, eqb-false}
 use Rattle.std.proofs.lemmas.List.{get_or-drop, length-replicate}
@@ -50,14 +51,14 @@ zero_at (suc m) (suc i) = zero_at m i
 pub eighth_word : (word : ℕ) → 8 * word / 8 ≡ word
 eighth_word word = omega arith
 
-pub starts_apart : (key : LayoutView) (ws : List ℕ) (xs : List (Option PartView)) → ws ≡ replicate (8 * length key.parts) zero → xs ≡ map Some key.parts → Ready key → RuledApart key (opening ws xs (first_view key))
-starts_apart key ws xs words slots ready =
+pub starts_apart : {laws : Laws} (key : LayoutView) (ws : List ℕ) (xs : List (Option PartView)) → ws ≡ replicate (8 * length key.parts) zero → xs ≡ map Some key.parts → Ready key → RuledApart laws key (opening ws xs (first_view key))
+starts_apart {laws} key ws xs words slots ready =
     let n : ℕ = length key.parts in
     let free : each_eighth n ws ≡ replicate n zero = ap (each_eighth n) words ∙ eighth_zero n (replicate (8 * n) zero) (zero_at (8 * n)) in
     (ap length words ∙ length-replicate (8 * n) zero, starts key (each_eighth n ws) xs (free ∙ no_words key.parts) slots ready)
 
-allows_apart : (key : LayoutView) (n id : ℕ) (m : Sat) (i : ℕ) (f : ℕ → ℕ) (then : ℕ → Sat → Type 0) → i < n → Allows (Ruled key) n id m i f then → Allows (RuledApart key) n id m (8 * i) f then
-allows_apart key n id m i f then inside does s ro long me small =
+allows_apart : {laws : Laws} (key : LayoutView) (n id : ℕ) (m : Sat) (i : ℕ) (f : ℕ → ℕ) (then : ℕ → Sat → Type 0) → i < n → Allows (Ruled laws key) n id m i f then → Allows (RuledApart laws key) n id m (8 * i) f then
+allows_apart {laws} key n id m i f then inside does s ro long me small =
     let k : ℕ = length key.parts in
     let near : i < k = omega (arith, inside, long, ro.1.0.long) in
     let here : get_or (each_eighth k s.words) i 0 ≡ get_or s.words (8 * i) 0 = eighth_at k i s.words near in
@@ -70,40 +71,40 @@ allows_apart key n id m i f then inside does s ro long me small =
       r.2,
       (
         length-set s.words (8 * i) y ∙ ro.0,
-        subst (λ (l : List ℕ). Ruled key (record { words = l; homes = homes_after s.homes m.1 r.1; views = set s.views id r.0 })) words r.3,
+        subst (λ (l : List ℕ). Ruled laws key (record { words = l; homes = homes_after s.homes m.1 r.1; views = set s.views id r.0 })) words r.3,
       ),
       subst (λ (x : ℕ). then x (r.0, carried_after m.1 r.1)) here r.4,
     )
 
-pub tries_apart : (key : LayoutView) (n id : ℕ) (m : Sat) (i : ℕ) → i < n → 0 < m.0.portion → has_turn i m.0 ≡ 0 → Allows (RuledApart key) n id m (8 * i) (λ y. bit_or y 1) (tried (step n (8 * i) 1 0 maybe.none) m)
-tries_apart key n id m i inside alive free =
-    subst (λ (word : ℕ). Allows (RuledApart key) n id m (8 * i) (λ y. bit_or y 1) (tried_at word m)) (sym (eighth_word i))
-    (allows_apart key n id m i (λ y. bit_or y 1) (tried_at i m) inside (tries key n id m i inside alive free))
+pub tries_apart : {laws : Laws} (key : LayoutView) (n id : ℕ) (m : Sat) (i : ℕ) → i < n → 0 < m.0.portion → has_turn i m.0 ≡ 0 → Allows (RuledApart laws key) n id m (8 * i) (λ y. bit_or y 1) (tried laws (step n (8 * i) 1 0 maybe.none) m)
+tries_apart {laws} key n id m i inside alive free =
+    subst (λ (word : ℕ). Allows (RuledApart laws key) n id m (8 * i) (λ y. bit_or y 1) (tried_at laws word m)) (sym (eighth_word i))
+    (allows_apart key n id m i (λ y. bit_or y 1) (tried_at laws i m) inside (tries key n id m i inside alive free))
 
-pub looks_apart : (key : LayoutView) (n id : ℕ) (m : Sat) (i : ℕ) → i < n → 0 < m.0.portion → Allows (RuledApart key) n id m (8 * i) (λ y. y) (looked (step n (8 * i) 0 0 maybe.none) m)
-looks_apart key n id m i inside alive =
-    subst (λ (word : ℕ). Allows (RuledApart key) n id m (8 * i) (λ y. y) (looked_at word m)) (sym (eighth_word i))
+pub looks_apart : {laws : Laws} (key : LayoutView) (n id : ℕ) (m : Sat) (i : ℕ) → i < n → 0 < m.0.portion → Allows (RuledApart laws key) n id m (8 * i) (λ y. y) (looked (step n (8 * i) 0 0 maybe.none) m)
+looks_apart {laws} key n id m i inside alive =
+    subst (λ (word : ℕ). Allows (RuledApart laws key) n id m (8 * i) (λ y. y) (looked_at word m)) (sym (eighth_word i))
     (allows_apart key n id m i (λ y. y) (looked_at i m) inside (looks key n id m i inside alive))
 
-pub gives_apart : (key : LayoutView) (n id : ℕ) (m : Sat) (w : View) (i new : ℕ) (p : PartView) → i < n → new ≡ word_of m.0.key i p → HasTurn m.0 i p → Returns m.0 i p w → GivesTurnBack m.0 i p w → Follows m.0.key i p → m.1 ≡ (i, Some p) ∷ rest m.1
-    → Allows (RuledApart key) n id m (8 * i) (λ _. new) (λ _ m'. m' ≡ (w, rest m.1))
-gives_apart key n id m w i new p inside word has-turn returns kind follows e =
+pub gives_apart : {laws : Laws} (key : LayoutView) (n id : ℕ) (m : Sat) (w : View) (i new : ℕ) (p : PartView) → i < n → new ≡ word_of m.0.key i p → HasTurn m.0 i p → Returns m.0 i p w → GivesTurnBack m.0 i p w → Follows laws m.0.key i p → m.1 ≡ (i, Some p) ∷ rest m.1
+    → Allows (RuledApart laws key) n id m (8 * i) (λ _. new) (λ _ m'. m' ≡ (w, rest m.1))
+gives_apart {laws} key n id m w i new p inside word has-turn returns kind follows e =
     allows_apart key n id m i (λ _. new) (λ _ m'. m' ≡ (w, rest m.1)) inside (gives_at key n id m w i new p inside word has-turn returns kind follows e)
 
-pub splits_apart : (key : LayoutView) (id n : ℕ) (v : View) → 0 < n → n < v.portion → Splits (RuledApart key) id v (kept_after n v) (handed n v)
-splits_apart key id n v some-part less s ro me = (ro.0, splits key id n v some-part less (parts_alone key s) ro.1 me)
+pub splits_apart : {laws : Laws} (key : LayoutView) (id n : ℕ) (v : View) → 0 < n → n < v.portion → Splits (RuledApart laws key) id v (kept_after n v) (handed n v)
+splits_apart {laws} key id n v some-part less s ro me = (ro.0, splits key id n v some-part less (parts_alone key s) ro.1 me)
 
-pub joins_apart : (key : LayoutView) (id other : ℕ) (v w : View) → 0 < v.portion → length w.turns ≡ 0 → IfSome w.work (λ _. v.work ≡ None) → Joins (RuledApart key) id v other w (joined v w) spent_view
-joins_apart key id other v w alive idle one s ro me apart them = (ro.0, joins key id other v w alive idle one (parts_alone key s) ro.1 me apart them)
+pub joins_apart : {laws : Laws} (key : LayoutView) (id other : ℕ) (v w : View) → 0 < v.portion → length w.turns ≡ 0 → IfSome w.work (λ _. v.work ≡ None) → Joins (RuledApart laws key) id v other w (joined v w) spent_view
+joins_apart {laws} key id other v w alive idle one s ro me apart them = (ro.0, joins key id other v w alive idle one (parts_alone key s) ro.1 me apart them)
 
-pub settled_apart : (key : LayoutView) (id : ℕ) (v : View) (ws : List ℕ) (xs : List (Option PartView)) → v.portion ≡ 4294967296 → length v.turns ≡ 0 → v.work ≡ None → Final (Seen (RuledApart key) id v) ws xs → Settled key v xs
-settled_apart key id v ws xs all idle workless end =
+pub settled_apart : {laws : Laws} (key : LayoutView) (id : ℕ) (v : View) (ws : List ℕ) (xs : List (Option PartView)) → v.portion ≡ 4294967296 → length v.turns ≡ 0 → v.work ≡ None → Final (Seen (RuledApart laws key) id v) ws xs → Settled laws key v xs
+settled_apart {laws} key id v ws xs all idle workless end =
     settled key id v (each_eighth (length key.parts) ws) xs all idle workless
     (parts_alone key end.0, (end.1.0.1, end.1.1), ap (each_eighth (length key.parts)) end.2, end.3, end.4)
 
 -- what a step tells, at the word of the part
-pub tried_word : (word : ℕ) (m : Sat) (r : ℕ) (n : Sat) → tried (step 0 (8 * word) 1 0 maybe.none) m r n → tried_at word m r n
-tried_word word m r n = subst (λ (x : ℕ). tried_at x m r n) (eighth_word word)
+pub tried_word : {laws : Laws} (word : ℕ) (m : Sat) (r : ℕ) (n : Sat) → tried laws (step 0 (8 * word) 1 0 maybe.none) m r n → tried_at laws word m r n
+tried_word {laws} word m r n = subst (λ (x : ℕ). tried_at laws x m r n) (eighth_word word)
 
 pub looked_word : (word : ℕ) (m : Sat) (r : ℕ) (n : Sat) → looked (step 0 (8 * word) 0 0 maybe.none) m r n → looked_at word m r n
 looked_word word m r n = subst (λ (x : ℕ). looked_at x m r n) (eighth_word word)

@@ -8,6 +8,7 @@ use Rattle.mg_value.specs.Payload.{Plain}
 use Rattle.mg_value.specs.Packet.{Stamped}
 use Rattle.mg_stream.specs.Queue.{count_of}
 use Rattle.mg_stream.specs.Pool.{Backlog, empty_backlog}
+use Rattle.mg_calc.specs.Rules.{Laws}
 use Rattle.mg_calc.specs.declared.edge.Edge.{Edge}
 use Rattle.mg_calc.specs.declared.plan.Plan.{Plan}
 use Rattle.mg_node.specs.declared.delivered.Delivered.{Delivered}
@@ -30,23 +31,23 @@ use Rattle.mg_turns.proofs.Claims.{gones, engine_of_part, engine_kind, intake_of
 use Rattle.mg_turns.proofs.ArrivesWithin.{arrives_within, others_like}
 
 -- the parts at the ends of an edge
-pub record EdgeParts (key : LayoutView) (k : ℕ) (e : Edge) (p q : PartView) (g : EngineView) (i : IntakeView) : Type 0 where
+pub record EdgeParts (laws : Laws) (key : LayoutView) (k : ℕ) (e : Edge) (p q : PartView) (g : EngineView) (i : IntakeView) : Type 0 where
   pub edges : EdgesFit key
   pub there : slice_get key.plan.edges k ≡ Some e
-  pub engine : Follows key (source_at key.plan e) p
-  pub intake : Follows key (2 * e.node) q
+  pub engine : Follows laws key (source_at key.plan e) p
+  pub intake : Follows laws key (2 * e.node) q
   pub joined : JoinedParts p e q
   pub engine_is : p.engine ≡ Some g
   pub intake_is : q.intake ≡ Some i
 
-pub source_of : (key : LayoutView) (k : ℕ) (e : Edge) (p q : PartView) (g : EngineView) (i : IntakeView) → EdgeParts key k e p q g i → IsEngineWord key (source_at key.plan e)
-source_of key k e p q g i c = c.edges.sources k e c.there
+pub source_of : {laws : Laws} (key : LayoutView) (k : ℕ) (e : Edge) (p q : PartView) (g : EngineView) (i : IntakeView) → EdgeParts laws key k e p q g i → IsEngineWord key (source_at key.plan e)
+source_of {laws} key k e p q g i c = c.edges.sources k e c.there
 
-pub consumer_of : (key : LayoutView) (k : ℕ) (e : Edge) (p q : PartView) (g : EngineView) (i : IntakeView) → EdgeParts key k e p q g i → e.node ≤ nodes_in key
-consumer_of key k e p q g i c = c.edges.consumers k e c.there
+pub consumer_of : {laws : Laws} (key : LayoutView) (k : ℕ) (e : Edge) (p q : PartView) (g : EngineView) (i : IntakeView) → EdgeParts laws key k e p q g i → e.node ≤ nodes_in key
+consumer_of {laws} key k e p q g i c = c.edges.consumers k e c.there
 
-stream_at : (key : LayoutView) (job : LoggedJob) (k : ℕ) (e : Edge) → Fits job key → EdgesFit key → slice_get key.plan.edges k ≡ Some e → slice_get (ports_of job.job.plan e.node) e.port ≡ Some e.stream
-stream_at key job k e fits edges there = subst (λ (x : Plan). slice_get (ports_of x e.node) e.port ≡ Some e.stream) (sym fits.plan) (edges.ports k e there)
+stream_at : {laws : Laws} (key : LayoutView) (job : LoggedJob laws) (k : ℕ) (e : Edge) → Fits job key → EdgesFit key → slice_get key.plan.edges k ≡ Some e → slice_get (ports_of job.job.plan e.node) e.port ≡ Some e.stream
+stream_at {laws} key job k e fits edges there = subst (λ (x : Plan). slice_get (ports_of x e.node) e.port ≡ Some e.stream) (sym fits.plan) (edges.ports k e there)
 
 pub gone_get : (bs : List (Backlog Plain)) (k : ℕ) → (get_or bs k empty_backlog).gone ≡ get_or (map (λ (b : Backlog Plain). b.gone) bs) k 0
 gone_get [] zero = refl
@@ -62,8 +63,8 @@ count_grows (Some x) (Some y) i port g is =
     let c = (g.ports port).count in
     subst (λ (v : IntakeView). count_of (port_queue x.waits port) ≤ count_of (port_queue v.waits port)) same c
 
-pub leads_of : (key : LayoutView) (k : ℕ) (e : Edge) (p q : PartView) (g : EngineView) (i : IntakeView) → EdgeParts key k e p q g i → FitsSome key → Leads g e i
-leads_of key k e p q g i c exists =
+pub leads_of : {laws : Laws} (key : LayoutView) (k : ℕ) (e : Edge) (p q : PartView) (g : EngineView) (i : IntakeView) → EdgeParts laws key k e p q g i → FitsSome laws key → Leads laws g e i
+leads_of {laws} key k e p q g i c exists =
     let o = source_of key k e p q g i c in
     let first : g.first ≡ first_in (at key (source_at key.plan e)) = ap first_by (sym c.engine_is) ∙ c.engine.first in
     let gone : gones g ≡ gone_in (at key (source_at key.plan e)) = ap gone_by (sym c.engine_is) ∙ c.engine.gave_up in
@@ -84,9 +85,9 @@ leads_of key k e p q g i c exists =
     }
 
 -- what a delivery makes of the intake
-pub record BringFacts (key : LayoutView) (k : ℕ) (e : Edge) (p q : PartView) (j : IntakeView) : Type 0 where
+pub record BringFacts (laws : Laws) (key : LayoutView) (k : ℕ) (e : Edge) (p q : PartView) (j : IntakeView) : Type 0 where
   pub grows : PartGrows q (an_intake j)
-  pub follows : Follows key (2 * e.node) (an_intake j)
+  pub follows : Follows laws key (2 * e.node) (an_intake j)
   pub like : Like q (an_intake j)
   pub joined : JoinedParts p e (an_intake j)
   pub others : (l : ℕ) (x : Edge) (r : PartView) → l ≢ k → slice_get key.plan.edges l ≡ Some x → x.node ≡ e.node → JoinedParts r x q → JoinedParts r x (an_intake j)
@@ -99,15 +100,15 @@ bring_like q i j q-is is claimed = record {
   only = λ k m. absurd (none-some m.0 m.1);
 }
 
-pub edge_ports : (key : LayoutView) (k : ℕ) (e : Edge) (p q : PartView) (g : EngineView) (i : IntakeView) → EdgeParts key k e p q g i → FitsSome key → ports_in i.waits ≡ length (ports_of key.plan e.node)
-edge_ports key k e p q g i c exists =
+pub edge_ports : {laws : Laws} (key : LayoutView) (k : ℕ) (e : Edge) (p q : PartView) (g : EngineView) (i : IntakeView) → EdgeParts laws key k e p q g i → FitsSome laws key → ports_in i.waits ≡ length (ports_of key.plan e.node)
+edge_ports {laws} key k e p q g i c exists =
     intake_ports exists.job e.node i (lawful_i key exists.job e.node q i exists.fits c.intake (consumer_of key k e p q g i c) c.intake_is) ∙ ap (λ (x : Plan). length (ports_of x e.node)) exists.fits.plan
 
-pub bring_facts : (key : LayoutView) (k : ℕ) (e : Edge) (p q : PartView) (g : EngineView) (i j : IntakeView) (most : ℕ) (result : Delivered) → EdgeParts key k e p q g i → FitsSome key
+pub bring_facts : {laws : Laws} (key : LayoutView) (k : ℕ) (e : Edge) (p q : PartView) (g : EngineView) (i j : IntakeView) (most : ℕ) (result : Delivered) → EdgeParts laws key k e p q g i → FitsSome laws key
     → Delivers result (output_at g e) e.port most i.waits j.waits → j.claimed ≡ i.claimed → IntakeGrows i j
-    → ((job : LoggedJob) (owner : Owner) → LawfulEngine job owner g → LawfulIntake job e.node i → slice_get (ports_of job.job.plan e.node) e.port ≡ Some e.stream → LawfulIntake job e.node j)
-    → BringFacts key k e p q j
-bring_facts key k e p q g i j most result c exists moved claimed grows keeps =
+    → ((job : LoggedJob laws) (owner : Owner) → LawfulEngine job owner g → LawfulIntake job e.node i → slice_get (ports_of job.job.plan e.node) e.port ≡ Some e.stream → LawfulIntake job e.node j)
+    → BringFacts laws key k e p q j
+bring_facts {laws} key k e p q g i j most result c exists moved claimed grows keeps =
     let within = consumer_of key k e p q g i c in
     let q-is : q ≡ an_intake i = intake_kind key e.node q i c.intake within c.intake_is in
     let lead = leads_of key k e p q g i c exists in
@@ -134,33 +135,33 @@ bring_facts key k e p q g i j most result c exists moved claimed grows keeps =
     }
 
 -- what the seat has at each place of a delivery: it took the turn of the engine, and then that of the intake
-module _ (m n₁ n₂ : Sat) (key : LayoutView) (k source word : ℕ) (e : Edge) (p q : PartView) (key-is : m.0.key ≡ key) (idle : length m.0.turns ≡ 0) (edges : EdgesFit key) (there : slice_get key.plan.edges k ≡ Some e) (source-is : source ≡ source_at key.plan e) (word-is : word ≡ 2 * e.node)
-    (one : HoldsTurn m source p n₁) where
+module _ {laws : Laws} (m n₁ n₂ : Sat) (key : LayoutView) (k source word : ℕ) (e : Edge) (p q : PartView) (key-is : m.0.key ≡ key) (idle : length m.0.turns ≡ 0) (edges : EdgesFit key) (there : slice_get key.plan.edges k ≡ Some e) (source-is : source ≡ source_at key.plan e) (word-is : word ≡ 2 * e.node)
+    (one : HoldsTurn laws m source p n₁) where
   first_key : n₁.0.key ≡ key
   first_key = ap (λ (s : Sat). s.0.key) one.0 ∙ key-is
 
-  pub after_miss : n₂ ≡ (with_miss n₁.0 word, n₁.1) → GivesPlainly n₂ source p
-  after_miss miss = subst (λ (s : Sat). GivesPlainly s source p) (sym (miss ∙ ap (λ (s : Sat). (with_miss s.0 word, s.1)) one.0))
+  pub after_miss : n₂ ≡ (with_miss n₁.0 word, n₁.1) → GivesPlainly laws n₂ source p
+  after_miss miss = subst (λ (s : Sat). GivesPlainly laws s source p) (sym (miss ∙ ap (λ (s : Sat). (with_miss s.0 word, s.1)) one.0))
       (turn_of_word m.0.key source p, m.0.turns, record { slot = refl; turns = refl; word_is = refl; grows = part_same p; follows = one.1.follows }, like_self p, joins_self p)
 
-  module _ (two : HoldsTurn n₁ word q n₂) where
+  module _ (two : HoldsTurn laws n₁ word q n₂) where
     both : n₂ ≡ (turning m.0 (turn_of_word m.0.key word q ∷ turn_of_word m.0.key source p ∷ m.0.turns), (word, None) ∷ (source, None) ∷ m.1)
     both = two.0 ∙ ap (λ (s : Sat). (turning s.0 (turn_of_word s.0.key word q ∷ s.0.turns), (word, None) ∷ s.1)) one.0
 
-    pub ends : (g : EngineView) (i : IntakeView) → p.engine ≡ Some g → q.intake ≡ Some i → EdgeParts key k e p q g i
+    pub ends : (g : EngineView) (i : IntakeView) → p.engine ≡ Some g → q.intake ≡ Some i → EdgeParts laws key k e p q g i
     ends g i is is' = record {
       edges = edges;
       there = there;
-      engine = subst (λ (w : ℕ). Follows key w p) source-is (subst (λ (f : LayoutView). Follows f source p) key-is one.1.follows);
-      intake = subst (λ (w : ℕ). Follows key w q) word-is (subst (λ (f : LayoutView). Follows f word q) first_key two.1.follows);
+      engine = subst (λ (w : ℕ). Follows laws key w p) source-is (subst (λ (f : LayoutView). Follows laws f source p) key-is one.1.follows);
+      intake = subst (λ (w : ℕ). Follows laws key w q) word-is (subst (λ (f : LayoutView). Follows laws f word q) first_key two.1.follows);
       joined = two.1.joined k 0 e (turn_of_word m.0.key source p) (ap (λ (f : LayoutView). slice_get f.plan.edges k) first_key ∙ there) word-is
           (ap (λ (s : Sat). get_elem? s.0.turns 0) one.0) (source-is ∙ ap (λ (f : LayoutView). source_at f.plan e) (sym first_key));
       engine_is = is;
       intake_is = is';
     }
 
-    pub brought_back : (j : IntakeView) → BringFacts key k e p q j → GivesBrought n₂ word (an_intake j)
-    brought_back j f = subst (λ (s : Sat). GivesBrought s word (an_intake j)) (sym both) (record {
+    pub brought_back : (j : IntakeView) → BringFacts laws key k e p q j → GivesBrought laws n₂ word (an_intake j)
+    brought_back j f = subst (λ (s : Sat). GivesBrought laws s word (an_intake j)) (sym both) (record {
       k = k;
       e = e;
       there = ap (λ (x : LayoutView). slice_get x.plan.edges k) key-is ∙ there;
@@ -172,7 +173,7 @@ module _ (m n₁ n₂ : Sat) (key : LayoutView) (k source word : ℕ) (e : Edge)
         turns = ap (λ (l : List Turn). turn_of_word m.0.key word q ∷ turn_of_word m.0.key source p ∷ l) (nil m.0.turns idle);
         word_is = refl;
         grows = f.grows;
-        follows = subst (λ (x : LayoutView). Follows x word (an_intake j)) (sym key-is) (subst (λ (w : ℕ). Follows key w (an_intake j)) (sym word-is) f.follows);
+        follows = subst (λ (x : LayoutView). Follows laws x word (an_intake j)) (sym key-is) (subst (λ (w : ℕ). Follows laws key w (an_intake j)) (sym word-is) f.follows);
       };
       at_u = source-is ∙ ap (λ (x : LayoutView). source_at x.plan e) (sym key-is);
       like = f.like;
@@ -181,10 +182,10 @@ module _ (m n₁ n₂ : Sat) (key : LayoutView) (k source word : ℕ) (e : Edge)
     })
 
     -- the engine is as it was found
-    pub engine_again : (n₃ : Sat) (g : EngineView) (q' : PartView) → p.engine ≡ Some g → n₃ ≡ (gave n₂.0 word q', rest n₂.1) → GivesPlainly n₃ source (an_engine g)
+    pub engine_again : (n₃ : Sat) (g : EngineView) (q' : PartView) → p.engine ≡ Some g → n₃ ≡ (gave n₂.0 word q', rest n₂.1) → GivesPlainly laws n₃ source (an_engine g)
     engine_again n₃ g q' is after =
-        let follows : Follows key source p = subst (λ (f : LayoutView). Follows f source p) key-is one.1.follows in
+        let follows : Follows laws key source p = subst (λ (f : LayoutView). Follows laws f source p) key-is one.1.follows in
         let o = edges.sources k e there in
         let p-is : p ≡ an_engine g = engine_kind key source o.owner p g follows (ap (owner_in key) source-is ∙ o.is) is in
-        subst (λ (x : PartView). GivesPlainly n₃ source x) p-is (subst (λ (s : Sat). GivesPlainly s source p) (sym (after ∙ ap (λ (s : Sat). (gave s.0 word q', rest s.1)) both))
+        subst (λ (x : PartView). GivesPlainly laws n₃ source x) p-is (subst (λ (s : Sat). GivesPlainly laws s source p) (sym (after ∙ ap (λ (s : Sat). (gave s.0 word q', rest s.1)) both))
         (turn_of_word m.0.key source p, m.0.turns, record { slot = refl; turns = refl; word_is = refl; grows = part_same p; follows = one.1.follows }, like_self p, joins_self p))

@@ -4,6 +4,7 @@ use Rattle.std.proofs.lemmas.Bool.{eq-eqb, cases_lt}
 use Rattle.std.proofs.Math.Nat.{le-max_right}
 use Rattle.mg_value.specs.Payload.{Plain}
 use Rattle.mg_stream.specs.Queue.{Waiting, count_of, raised_to}
+use Rattle.mg_calc.specs.Rules.{Laws}
 use Rattle.mg_calc.specs.declared.edge.Edge.{Edge}
 use Rattle.mg_node.specs.declared.delivered.Delivered.{Delivered}
 use Rattle.mg_node.specs.declared.delivered.Delivered.TheVariants.{Moved, OutOfMemory}
@@ -64,24 +65,24 @@ bound_by n raised o port before now there held d all =
 
 -- What the seat knows.
 
-module _ (key : LayoutView) (k : ℕ) (e : Edge) (v : View) (exists : FitsSome key) (edges : EdgesFit key) (there : slice_get key.plan.edges k ≡ Some e) (key-is : v.key ≡ key) where
+module _ {laws : Laws} (key : LayoutView) (k : ℕ) (e : Edge) (v : View) (exists : FitsSome laws key) (edges : EdgesFit key) (there : slice_get key.plan.edges k ≡ Some e) (key-is : v.key ≡ key) where
   source : ℕ
   source = source_at key.plan e
 
-  module _ (result : Delivered) (w : View) (h : HasBrought result (source_at key.plan e) e v w) where
-    parts : EdgeParts key k e (an_engine h.engine) (an_intake h.intake) h.engine h.intake
+  module _ (result : Delivered) (w : View) (h : HasBrought laws result (source_at key.plan e) e v w) where
+    parts : EdgeParts laws key k e (an_engine h.engine) (an_intake h.intake) h.engine h.intake
     parts = record {
       edges = edges;
       there = there;
-      engine = subst (λ (x : LayoutView). Follows x (source_at key.plan e) (an_engine h.engine)) key-is h.engine_found.follows;
-      intake = subst (λ (x : LayoutView). Follows x (2 * e.node) (an_intake h.intake)) key-is h.intake_found.follows;
+      engine = subst (λ (x : LayoutView). Follows laws x (source_at key.plan e) (an_engine h.engine)) key-is h.engine_found.follows;
+      intake = subst (λ (x : LayoutView). Follows laws x (2 * e.node) (an_intake h.intake)) key-is h.intake_found.follows;
       joined = λ x y at-x at-y. subst (λ (g : EngineView). HasGrown (port_queue y.waits e.port) (output_at g e)) (engine_of_part (an_engine h.engine) h.engine x refl at-x)
           (subst (λ (i : IntakeView). HasGrown (port_queue i.waits e.port) (output_at h.engine e)) (intake_of_part (an_intake h.intake) h.intake y refl at-y) h.behind);
       engine_is = refl;
       intake_is = refl;
     }
 
-    lead : Leads h.engine e h.intake
+    lead : Leads laws h.engine e h.intake
     lead = leads_of key k e (an_engine h.engine) (an_intake h.intake) h.engine h.intake parts exists
 
     same_output : output_at h.engine e ≡ laid_at h.engine (output_of key e)
@@ -127,7 +128,7 @@ module _ (key : LayoutView) (k : ℕ) (e : Edge) (v : View) (exists : FitsSome k
     bound_now : (port_queue h.intake_now.waits e.port).bound ≤ known_bound Left e.node e.port
     bound_now = second_counts (λ p. bound_in p e.port) (2 * e.node) (sight (source_at key.plan e) (an_engine h.engine)) (an_intake h.intake_now) v.seen
 
-  moved_tells : (n : ℕ) (raised : Bool) (w : View) → HasBrought (Moved n raised) (source_at key.plan e) e v w → TellsMoved n key e v w
+  moved_tells : (n : ℕ) (raised : Bool) (w : View) → HasBrought laws (Moved n raised) (source_at key.plan e) e v w → TellsMoved n key e v w
   moved_tells n raised w h =
       let r = Moved n raised in
       let port = leads_port h.engine e h.intake (lead r w h) in
@@ -146,7 +147,7 @@ module _ (key : LayoutView) (k : ℕ) (e : Edge) (v : View) (exists : FitsSome k
             omega (arith, low, x, y);
       })
 
-  pub append_tells : (result : Tried Delivered) (w : View) → TriesAppend result key.plan e v w → AppendTells result key e v w
+  pub append_tells : (result : Tried Delivered) (w : View) → TriesAppend laws result key.plan e v w → AppendTells result key e v w
   append_tells (Done (Moved n raised)) w h = moved_tells n raised w h
   append_tells (Done (OutOfMemory n)) w h = subst (λ (x : View). HasCome n e v x) (sym h.left) (has_come (OutOfMemory n) w h)
   append_tells (Busy word) w h = tt

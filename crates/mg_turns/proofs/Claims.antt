@@ -5,6 +5,7 @@ use Rattle.mg_value.specs.Payload.{Plain}
 use Rattle.mg_value.specs.Packet.{Stamped}
 use Rattle.mg_settled.specs.Loopback.{packet_of}
 use Rattle.mg_stream.specs.Pool.{Backlog}
+use Rattle.mg_calc.specs.Rules.{Laws}
 use Rattle.mg_calc.specs.declared.node_fault.Phase.TheVariants.{Call, Process, Close}
 use Rattle.mg_node.specs.Views.{IntakeView, WorkView, EntryView, EngineView}
 use Rattle.mg_node.specs.Job.{LoggedJob}
@@ -62,9 +63,9 @@ claim_gone Ended e f i k c = ap gones c.1.same_engine
 claim_gone OutOfMemory e f i k c = ap gones c.2.same_engine
 
 -- a work is handed out
-pub work_goes : (X : Type 0) (job : LoggedJob) (n : ℕ) (work : WorkView) (e f : EngineView) (i k : IntakeView) → LawfulEngine job (of_node n) e → LawfulEngine job (of_node n) f → IsOut f work
+pub work_goes : {laws : Laws} (X : Type 0) (job : LoggedJob laws) (n : ℕ) (work : WorkView) (e f : EngineView) (i k : IntakeView) → LawfulEngine job (of_node n) e → LawfulEngine job (of_node n) f → IsOut f work
     → Claims {C = X} (Work work) e f i k → GoesOut e f work
-work_goes X job n work e f i k h now out claims = elim claims [
+work_goes {laws} X job n work e f i k h now out claims = elim claims [
   | inl unrun ↦ unrun_goes job n e f work h unrun.1 out
   | inr further ↦ elim further.1 [
     | inl called ↦ (let t = called.0 in further_goes job n e f (Call e.claimed) 1 t.context work h now t.hands (ap (λ (w : WorkView). w.number) t.work_is) out)
@@ -75,9 +76,9 @@ work_goes X job n work e f i k h now out claims = elim claims [
   ]
 ]
 
-engine_numbered : (job : LoggedJob) (n : ℕ) (e : EngineView) → LawfulEngine job (of_node n) e → e.node ≡ n
+engine_numbered : {laws : Laws} (job : LoggedJob laws) (n : ℕ) (e : EngineView) → LawfulEngine job (of_node n) e → e.node ≡ n
 unfolding LawfulEngine
-engine_numbered job n e h = h.set_up.number_is
+engine_numbered {laws} job n e h = h.set_up.number_is
 
 pub engine_of_part : (p : PartView) (e f : EngineView) → p.engine ≡ Some e → p.engine ≡ Some f → e ≡ f
 engine_of_part p e f = some_same p.engine e f
@@ -119,19 +120,19 @@ none_outs n p e f is none none' = inl (
   λ k m. let at = subst (λ (v : EngineView). IsMissingAt v k) (engine_of_part (an_engine f) m.0 f m.1 refl) m.2 in absurd (nothing_at f.window at.place at.entry none' at.there),
 )
 
-pub claim_outs : {X : Type 0} (job : LoggedJob) (n : ℕ) (p : PartView) (r : Claimed X) (e f : EngineView) (i k : IntakeView) → p.engine ≡ Some e → LawfulEngine job (of_node n) e → LawfulIntake job n i → Agree e i → LawfulEngine job (of_node n) f
+pub claim_outs : {laws : Laws} {X : Type 0} (job : LoggedJob laws) (n : ℕ) (p : PartView) (r : Claimed X) (e f : EngineView) (i k : IntakeView) → p.engine ≡ Some e → LawfulEngine job (of_node n) e → LawfulIntake job n i → Agree e i → LawfulEngine job (of_node n) f
     → Claims {C = X} r e f i k → GivesOut {C = X} r f → Outs n p (an_engine f) None (has_after r None)
-claim_outs {X} job n p (Work work) e f i k is h hi agree now c out =
+claim_outs {laws} {X} job n p (Work work) e f i k is h hi agree now c out =
     inr (work, refl, refl, out.node_is ∙ engine_numbered job n f now, goes_in p e f work is (work_goes X job n work e f i k h now out c))
-claim_outs job n p Answered e f i k is h hi agree now c out =
+claim_outs {laws} job n p Answered e f i k is h hi agree now c out =
     let t = c.1 in
     let empty = (loop_cell_by job n e i t.held h hi agree t.role t.waits c.0).laid in
     none_outs n p e f is empty (ap (λ (v : EngineView). v.window) t.now ∙ empty)
-claim_outs job n p NotReady e f i k is h hi agree now c out = same_outs n p e f is c.2.same_engine
-claim_outs job n p InFlightFull e f i k is h hi agree now c out = same_outs n p e f is c.3.same_engine
-claim_outs job n p Draining e f i k is h hi agree now c out = same_outs n p e f is c.3.same_engine
-claim_outs job n p Ended e f i k is h hi agree now c out = same_outs n p e f is c.1.same_engine
-claim_outs job n p OutOfMemory e f i k is h hi agree now c out = same_outs n p e f is c.2.same_engine
+claim_outs {laws} job n p NotReady e f i k is h hi agree now c out = same_outs n p e f is c.2.same_engine
+claim_outs {laws} job n p InFlightFull e f i k is h hi agree now c out = same_outs n p e f is c.3.same_engine
+claim_outs {laws} job n p Draining e f i k is h hi agree now c out = same_outs n p e f is c.3.same_engine
+claim_outs {laws} job n p Ended e f i k is h hi agree now c out = same_outs n p e f is c.1.same_engine
+claim_outs {laws} job n p OutOfMemory e f i k is h hi agree now c out = same_outs n p e f is c.2.same_engine
 
 pub intake_of_part : (p : PartView) (i k : IntakeView) → p.intake ≡ Some i → p.intake ≡ Some k → i ≡ k
 intake_of_part p i k = some_same p.intake i k
@@ -207,28 +208,28 @@ intake_joins q i k is stays = record {
 }
 
 -- the parts of a node, as they lie in a table
-pub record CellParts (key : LayoutView) (n : ℕ) (p q : PartView) (e : EngineView) (i : IntakeView) : Type 0 where
+pub record CellParts (laws : Laws) (key : LayoutView) (n : ℕ) (p q : PartView) (e : EngineView) (i : IntakeView) : Type 0 where
   pub within : n < nodes_in key
-  pub engine : Follows key (2 * n + 1) p
-  pub intake : Follows key (2 * n) q
+  pub engine : Follows laws key (2 * n + 1) p
+  pub intake : Follows laws key (2 * n) q
   pub agree : AgreeParts p q
   pub engine_is : p.engine ≡ Some e
   pub intake_is : q.intake ≡ Some i
 
-pub lawful_at : (key : LayoutView) (job : LoggedJob) (word : ℕ) (o : Owner) (p : PartView) (e : EngineView) → Fits job key → Follows key word p → owner_in key word ≡ engine_of o → p.engine ≡ Some e → LawfulEngine job o e
-lawful_at key job word o p e fits follows of is = (subst (λ (w : Whose). LawfulPart job w p) of (follows.lawful job fits)) e is
+pub lawful_at : {laws : Laws} (key : LayoutView) (job : LoggedJob laws) (word : ℕ) (o : Owner) (p : PartView) (e : EngineView) → Fits job key → Follows laws key word p → owner_in key word ≡ engine_of o → p.engine ≡ Some e → LawfulEngine job o e
+lawful_at {laws} key job word o p e fits follows of is = (subst (λ (w : Whose). LawfulPart job w p) of (follows.lawful job fits)) e is
 
-pub lawful_e : (key : LayoutView) (job : LoggedJob) (n : ℕ) (p : PartView) (e : EngineView) → Fits job key → Follows key (2 * n + 1) p → n < nodes_in key → p.engine ≡ Some e → LawfulEngine job (of_node n) e
-lawful_e key job n p e fits follows within is = lawful_at key job (2 * n + 1) (of_node n) p e fits follows (engine_at (nodes_in key) n within) is
+pub lawful_e : {laws : Laws} (key : LayoutView) (job : LoggedJob laws) (n : ℕ) (p : PartView) (e : EngineView) → Fits job key → Follows laws key (2 * n + 1) p → n < nodes_in key → p.engine ≡ Some e → LawfulEngine job (of_node n) e
+lawful_e {laws} key job n p e fits follows within is = lawful_at key job (2 * n + 1) (of_node n) p e fits follows (engine_at (nodes_in key) n within) is
 
-pub lawful_i : (key : LayoutView) (job : LoggedJob) (n : ℕ) (q : PartView) (i : IntakeView) → Fits job key → Follows key (2 * n) q → n ≤ nodes_in key → q.intake ≡ Some i → LawfulIntake job n i
-lawful_i key job n q i fits follows within is = (subst (λ (w : Whose). LawfulPart job w q) (intake_at (nodes_in key) n within) (follows.lawful job fits)) i is
+pub lawful_i : {laws : Laws} (key : LayoutView) (job : LoggedJob laws) (n : ℕ) (q : PartView) (i : IntakeView) → Fits job key → Follows laws key (2 * n) q → n ≤ nodes_in key → q.intake ≡ Some i → LawfulIntake job n i
+lawful_i {laws} key job n q i fits follows within is = (subst (λ (w : Whose). LawfulPart job w q) (intake_at (nodes_in key) n within) (follows.lawful job fits)) i is
 
 pub before : {a b : ℕ} → a < b → a ≤ b
 before less = omega (arith, less)
 
-pub is_cell : (key : LayoutView) (n : ℕ) (p q : PartView) (e : EngineView) (i : IntakeView) → CellParts key n p q e i → FitsSome key → AreCell e i
-is_cell key n p q e i c exists = record {
+pub is_cell : {laws : Laws} (key : LayoutView) (n : ℕ) (p q : PartView) (e : EngineView) (i : IntakeView) → CellParts laws key n p q e i → FitsSome laws key → AreCell laws e i
+is_cell {laws} key n p q e i c exists = record {
   job = exists.job;
   number = n;
   lawful_engine = lawful_e key exists.job n p e exists.fits c.engine c.within c.engine_is;
@@ -237,26 +238,26 @@ is_cell key n p q e i c exists = record {
 }
 
 -- what a claim makes of them
-pub record ClaimFacts (key : LayoutView) (n : ℕ) (p q p' q' : PartView) (had has : Option WorkView) : Type 0 where
+pub record ClaimFacts (laws : Laws) (key : LayoutView) (n : ℕ) (p q p' q' : PartView) (had has : Option WorkView) : Type 0 where
   pub grew : PartGrows p p'
   pub grows : PartGrows q q'
-  pub follows_e : Follows key (2 * n + 1) p'
-  pub follows_i : Follows key (2 * n) q'
+  pub follows_e : Follows laws key (2 * n + 1) p'
+  pub follows_i : Follows laws key (2 * n) q'
   pub agree : AgreeParts p' q'
   pub outs : Outs n p p' had has
   pub joins : Joins p p'
   pub joins_there : Joins q q'
 
-pub engine_kind : (key : LayoutView) (word : ℕ) (o : Owner) (p : PartView) (e : EngineView) → Follows key word p → owner_in key word ≡ engine_of o → p.engine ≡ Some e → p ≡ an_engine e
-engine_kind key word o p e f of is = let k = subst (λ (w : Whose). IsKind w p) of f.kind in k.1 ∙ ap an_engine (engine_of_part p k.0 e (ap (λ (x : PartView). x.engine) k.1) is)
+pub engine_kind : {laws : Laws} (key : LayoutView) (word : ℕ) (o : Owner) (p : PartView) (e : EngineView) → Follows laws key word p → owner_in key word ≡ engine_of o → p.engine ≡ Some e → p ≡ an_engine e
+engine_kind {laws} key word o p e f of is = let k = subst (λ (w : Whose). IsKind w p) of f.kind in k.1 ∙ ap an_engine (engine_of_part p k.0 e (ap (λ (x : PartView). x.engine) k.1) is)
 
-pub intake_kind : (key : LayoutView) (n : ℕ) (q : PartView) (i : IntakeView) → Follows key (2 * n) q → n ≤ nodes_in key → q.intake ≡ Some i → q ≡ an_intake i
-intake_kind key n q i f within is = let k = subst (λ (w : Whose). IsKind w q) (intake_at (nodes_in key) n within) f.kind in k.1 ∙ ap an_intake (intake_of_part q k.0 i (ap (λ (x : PartView). x.intake) k.1) is)
+pub intake_kind : {laws : Laws} (key : LayoutView) (n : ℕ) (q : PartView) (i : IntakeView) → Follows laws key (2 * n) q → n ≤ nodes_in key → q.intake ≡ Some i → q ≡ an_intake i
+intake_kind {laws} key n q i f within is = let k = subst (λ (w : Whose). IsKind w q) (intake_at (nodes_in key) n within) f.kind in k.1 ∙ ap an_intake (intake_of_part q k.0 i (ap (λ (x : PartView). x.intake) k.1) is)
 
 -- an engine that came of the one at its word
-pub engine_follows_on : (key : LayoutView) (word : ℕ) (o : Owner) (p : PartView) (e f : EngineView) → Follows key word p → owner_in key word ≡ engine_of o → p.engine ≡ Some e → EngineGrows e f → f.first ≡ e.first → gones f ≡ gones e
-    → ((job : LoggedJob) → Fits job key → LawfulEngine job o f) → PartGrows p (an_engine f) × Follows key word (an_engine f)
-engine_follows_on key word o p e f h of is grows first gone lawful =
+pub engine_follows_on : {laws : Laws} (key : LayoutView) (word : ℕ) (o : Owner) (p : PartView) (e f : EngineView) → Follows laws key word p → owner_in key word ≡ engine_of o → p.engine ≡ Some e → EngineGrows e f → f.first ≡ e.first → gones f ≡ gones e
+    → ((job : LoggedJob laws) → Fits job key → LawfulEngine job o f) → PartGrows p (an_engine f) × Follows laws key word (an_engine f)
+engine_follows_on {laws} key word o p e f h of is grows first gone lawful =
     let p-is : p ≡ an_engine e = engine_kind key word o p e h of is in
     let grew : PartGrows p (an_engine f) = subst (λ (x : PartView). PartGrows x (an_engine f)) (sym p-is) (record { engine = grows; intake = tt }) in (
       grew,
@@ -272,9 +273,9 @@ engine_follows_on key word o p e f h of is grows first gone lawful =
     )
 
 -- an intake that has grown and is lawful follows the key, as the one before did
-pub intake_follows_on : (key : LayoutView) (n : ℕ) (q : PartView) (i k : IntakeView) → Follows key (2 * n) q → n ≤ nodes_in key → q.intake ≡ Some i → IntakeGrows i k → (n ≡ nodes_in key → k.claimed ≡ i.claimed)
-    → ((job : LoggedJob) → Fits job key → LawfulIntake job n k) → PartGrows q (an_intake k) × Follows key (2 * n) (an_intake k)
-intake_follows_on key n q i k h within is grows same lawful =
+pub intake_follows_on : {laws : Laws} (key : LayoutView) (n : ℕ) (q : PartView) (i k : IntakeView) → Follows laws key (2 * n) q → n ≤ nodes_in key → q.intake ≡ Some i → IntakeGrows i k → (n ≡ nodes_in key → k.claimed ≡ i.claimed)
+    → ((job : LoggedJob laws) → Fits job key → LawfulIntake job n k) → PartGrows q (an_intake k) × Follows laws key (2 * n) (an_intake k)
+intake_follows_on {laws} key n q i k h within is grows same lawful =
     let of = intake_at (nodes_in key) n within in
     let q-is : q ≡ an_intake i = intake_kind key n q i h within is in
     let more : PartGrows q (an_intake k) = subst (λ (x : PartView). PartGrows x (an_intake k)) (sym q-is) (record { engine = tt; intake = grows }) in (
@@ -291,14 +292,14 @@ intake_follows_on key n q i k h within is grows same lawful =
     )
 
 -- the facts of a claim, from what any steps on a cell leave of its engine and intake
-pub facts_by : (key : LayoutView) (n : ℕ) (p q : PartView) (e f : EngineView) (i k : IntakeView) (had has : Option WorkView) → CellParts key n p q e i → FitsSome key
+pub facts_by : {laws : Laws} (key : LayoutView) (n : ℕ) (p q : PartView) (e f : EngineView) (i k : IntakeView) (had has : Option WorkView) → CellParts laws key n p q e i → FitsSome laws key
     → f.first ≡ e.first → gones f ≡ gones e → EngineGrows e f → IntakeGrows i k → ((port : ℕ) → Stays (port_queue i.waits port) (port_queue k.waits port))
-    → ((job : LoggedJob) → LawfulEngine job (of_node n) e → LawfulIntake job n i → Agree e i → LawfulEngine job (of_node n) f × LawfulIntake job n k × Agree f k)
+    → ((job : LoggedJob laws) → LawfulEngine job (of_node n) e → LawfulIntake job n i → Agree e i → LawfulEngine job (of_node n) f × LawfulIntake job n k × Agree f k)
     → Outs n p (an_engine f) had has
-    → ClaimFacts key n p q (an_engine f) (an_intake k) had has
-facts_by key n p q e f i k had has c exists first gone grows grows_i stays lawful outs =
+    → ClaimFacts laws key n p q (an_engine f) (an_intake k) had has
+facts_by {laws} key n p q e f i k had has c exists first gone grows grows_i stays lawful outs =
     let agree = c.agree e i c.engine_is c.intake_is in
-    let after : (job : LoggedJob) → Fits job key → LawfulEngine job (of_node n) f × LawfulIntake job n k × Agree f k = λ job fits.
+    let after : (job : LoggedJob laws) → Fits job key → LawfulEngine job (of_node n) f × LawfulIntake job n k × Agree f k = λ job fits.
     lawful job (lawful_e key job n p e fits c.engine c.within c.engine_is) (lawful_i key job n q i fits c.intake (before c.within) c.intake_is) agree in
     let now = after exists.job exists.fits in
     let engine = engine_follows_on key (2 * n + 1) (of_node n) p e f c.engine (engine_at (nodes_in key) n c.within) c.engine_is grows first gone (λ job fits. (after job fits).0) in
@@ -314,11 +315,11 @@ facts_by key n p q e f i k had has c exists first gone grows grows_i stays lawfu
       outs = outs;
     }
 
-pub claim_facts : {X : Type 0} (key : LayoutView) (n : ℕ) (p q : PartView) (e f : EngineView) (i k : IntakeView) (r : Claimed X) → CellParts key n p q e i → FitsSome key
+pub claim_facts : {laws : Laws} {X : Type 0} (key : LayoutView) (n : ℕ) (p q : PartView) (e f : EngineView) (i k : IntakeView) (r : Claimed X) → CellParts laws key n p q e i → FitsSome laws key
     → Claims {C = X} r e f i k → GivesOut {C = X} r f → EngineGrows e f → IntakeGrows i k
-    → ((job : LoggedJob) (number : ℕ) → LawfulEngine job (of_node number) e → LawfulIntake job number i → Agree e i → LawfulClaim {C = X} job number r f k)
-    → ClaimFacts key n p q (an_engine f) (an_intake k) None (has_after r None)
-claim_facts {X} key n p q e f i k r c exists claims out grows grows_i lawful =
+    → ((job : LoggedJob laws) (number : ℕ) → LawfulEngine job (of_node number) e → LawfulIntake job number i → Agree e i → LawfulClaim {C = X} job number r f k)
+    → ClaimFacts laws key n p q (an_engine f) (an_intake k) None (has_after r None)
+claim_facts {laws} {X} key n p q e f i k r c exists claims out grows grows_i lawful =
     let job = exists.job in
     let h = lawful_e key job n p e exists.fits c.engine c.within c.engine_is in
     let hi = lawful_i key job n q i exists.fits c.intake (before c.within) c.intake_is in
@@ -327,13 +328,13 @@ claim_facts {X} key n p q e f i k r c exists claims out grows grows_i lawful =
     (λ job h hi agree. let l = lawful job n h hi agree in (l.lawful_engine, l.lawful_intake, l.agree))
     (claim_outs {X = X} job n p r e f i k c.engine_is h hi agree (lawful job n h hi agree).lawful_engine claims out)
 
-pub has_engine : (key : LayoutView) (word : ℕ) (o : Owner) (p : PartView) → Follows key word p → owner_in key word ≡ engine_of o → is_some p.engine ≡ true
-has_engine key word o p f of = ap (λ (x : PartView). is_some x.engine) (subst (λ (w : Whose). IsKind w p) of f.kind).1
+pub has_engine : {laws : Laws} (key : LayoutView) (word : ℕ) (o : Owner) (p : PartView) → Follows laws key word p → owner_in key word ≡ engine_of o → is_some p.engine ≡ true
+has_engine {laws} key word o p f of = ap (λ (x : PartView). is_some x.engine) (subst (λ (w : Whose). IsKind w p) of f.kind).1
 
-pub has_intake : (key : LayoutView) (n : ℕ) (p : PartView) → Follows key (2 * n) p → n ≤ nodes_in key → is_some p.intake ≡ true
-has_intake key n p f within = ap (λ (x : PartView). is_some x.intake) (subst (λ (w : Whose). IsKind w p) (intake_at (nodes_in key) n within) f.kind).1
+pub has_intake : {laws : Laws} (key : LayoutView) (n : ℕ) (p : PartView) → Follows laws key (2 * n) p → n ≤ nodes_in key → is_some p.intake ≡ true
+has_intake {laws} key n p f within = ap (λ (x : PartView). is_some x.intake) (subst (λ (w : Whose). IsKind w p) (intake_at (nodes_in key) n within) f.kind).1
 
-pub lawful_claim : {X : Type 0} (key : LayoutView) (n : ℕ) (p q : PartView) (e f : EngineView) (i k : IntakeView) (r : Claimed X) → CellParts key n p q e i → (job : LoggedJob) → Fits job key
-    → ((job : LoggedJob) (number : ℕ) → LawfulEngine job (of_node number) e → LawfulIntake job number i → Agree e i → LawfulClaim {C = X} job number r f k) → IsLawfulWork {C = X} job r
-lawful_claim key n p q e f i k r c job fits lawful =
+pub lawful_claim : {laws : Laws} {X : Type 0} (key : LayoutView) (n : ℕ) (p q : PartView) (e f : EngineView) (i k : IntakeView) (r : Claimed X) → CellParts laws key n p q e i → (job : LoggedJob laws) → Fits job key
+    → ((job : LoggedJob laws) (number : ℕ) → LawfulEngine job (of_node number) e → LawfulIntake job number i → Agree e i → LawfulClaim {C = X} job number r f k) → IsLawfulWork {C = X} job r
+lawful_claim {laws} key n p q e f i k r c job fits lawful =
     (lawful job n (lawful_e key job n p e fits c.engine c.within c.engine_is) (lawful_i key job n q i fits c.intake (before c.within) c.intake_is) (c.agree e i c.engine_is c.intake_is)).work

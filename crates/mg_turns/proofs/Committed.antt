@@ -6,6 +6,7 @@ use mathlib.Core.Logic.{dite}
 use native.Mathlib.Decide.{ℕ_discrete}
 use Rattle.mg_value.specs.Payload.{Plain}
 use Rattle.mg_settled.specs.Prefix.{StreamPrefix}
+use Rattle.mg_calc.specs.Rules.{Laws}
 use Rattle.mg_calc.specs.declared.cause.Cause.{Cause}
 use Rattle.mg_calc.specs.declared.emission.Laid.{Laid}
 use Rattle.mg_calc.specs.declared.node_fault.Phase.{Phase}
@@ -176,27 +177,27 @@ front_past offset (entry ∷ entries) front k x p works at ready = elim (cases_B
 
 -- Engines.
 
-entries_work : (job : LoggedJob) (n : ℕ) (e : EngineView) → LawfulEngine job (of_node n) e → AreWorks e.window
+entries_work : {laws : Laws} (job : LoggedJob laws) (n : ℕ) (e : EngineView) → LawfulEngine job (of_node n) e → AreWorks e.window
 unfolding LawfulEngine
-entries_work job n e h i x at opens = (let entry = h.entries i x at in subst (λ (p : Phase). IsTask job.job h.streams h.node (e.laid + i) p entry.set) opens entry.task)
+entries_work {laws} job n e h i x at opens = (let entry = h.entries i x at in subst (λ (p : Phase). IsTask job.job h.streams h.node (e.laid + i) p entry.set) opens entry.task)
 
 -- an entry that is out, or that came back unrun, isn't committed
-out_not_committed : (job : LoggedJob) (n : ℕ) (e : EngineView) (i : ℕ) (x : EntryView) → LawfulEngine job (of_node n) e → slice_get e.window i ≡ Some x → x.outcome ≡ None → x.committed ≡ false
+out_not_committed : {laws : Laws} (job : LoggedJob laws) (n : ℕ) (e : EngineView) (i : ℕ) (x : EntryView) → LawfulEngine job (of_node n) e → slice_get e.window i ≡ Some x → x.outcome ≡ None → x.committed ≡ false
 unfolding LawfulEngine
-out_not_committed job n e i x h at out = elim (cases_Bool x.committed) [
+out_not_committed {laws} job n e i x h at out = elim (cases_Bool x.committed) [
   | inl is ↦ absurd (false≢true (subst IsSome out ((h.entries i x at).committed is).0))
   | inr not ↦ not
 ]
 
-unrun_not_committed : (job : LoggedJob) (n : ℕ) (e : EngineView) (i : ℕ) (x : EntryView) (work : WorkView) → LawfulEngine job (of_node n) e → slice_get e.window i ≡ Some x → x.outcome ≡ Some (record { work = work; answer = None }) → x.committed ≡ false
+unrun_not_committed : {laws : Laws} (job : LoggedJob laws) (n : ℕ) (e : EngineView) (i : ℕ) (x : EntryView) (work : WorkView) → LawfulEngine job (of_node n) e → slice_get e.window i ≡ Some x → x.outcome ≡ Some (record { work = work; answer = None }) → x.committed ≡ false
 unfolding LawfulEngine
-unrun_not_committed job n e i x work h at unrun = elim (cases_Bool x.committed) [
+unrun_not_committed {laws} job n e i x work h at unrun = elim (cases_Bool x.committed) [
   | inl is ↦ absurd (false≢true (subst (λ (o : Option OutcomeView). IfSome o (λ r. IsSome r.answer)) unrun ((h.entries i x at).committed is).1))
   | inr not ↦ not
 ]
 
 -- the front that a commit makes
-module _ (job : LoggedJob) (n : ℕ) (outcome : OutcomeView) (laid : ℕ) (e f : EngineView) (h : LawfulEngine job (of_node n) e) (out : IsOut e outcome.work) (commits : Commits outcome laid e f) where
+module _ {laws : Laws} (job : LoggedJob laws) (n : ℕ) (outcome : OutcomeView) (laid : ℕ) (e f : EngineView) (h : LawfulEngine job (of_node n) e) (out : IsOut e outcome.work) (commits : Commits outcome laid e f) where
   abbrev whole : List (StreamPrefix Plain)
   whole = (committed_whole e (record e { window = window_with e outcome }) outcome refl (record { job = job; number = n; lawful = h })).whole
 
@@ -232,8 +233,8 @@ module _ (job : LoggedJob) (n : ℕ) (outcome : OutcomeView) (laid : ℕ) (e f :
       ]
 
 -- a work that comes back as it is
-pub shelve_counts : (job : LoggedJob) (n : ℕ) (outcome : OutcomeView) (e f : EngineView) → LawfulEngine job (of_node n) e → IsOut e outcome.work → f ≡ shelved e outcome → committed_in f ≡ committed_in e
-shelve_counts job n outcome e f h out is =
+pub shelve_counts : {laws : Laws} (job : LoggedJob laws) (n : ℕ) (outcome : OutcomeView) (e f : EngineView) → LawfulEngine job (of_node n) e → IsOut e outcome.work → f ≡ shelved e outcome → committed_in f ≡ committed_in e
+shelve_counts {laws} job n outcome e f h out is =
     let step : committed_in f ≡ committed_in (shelved e outcome) = ap committed_in is in
     let put = put_counts e.window (outcome.work.number - e.laid) out.entry (back outcome) out.there (out_not_committed job n e (outcome.work.number - e.laid) out.entry h out.there out.out) in
     omega (arith, step, put)
@@ -243,8 +244,8 @@ stands_back outcome e f out is = subst StandsBack (sym is) (record { outcome = o
 
 -- Claims.
 
-unrun_counts : (job : LoggedJob) (n : ℕ) (e f : EngineView) (w : WorkView) → LawfulEngine job (of_node n) e → TakesUnrun e f w → committed_in f ≡ committed_in e
-unrun_counts job n e f w h t =
+unrun_counts : {laws : Laws} (job : LoggedJob laws) (n : ℕ) (e f : EngineView) (w : WorkView) → LawfulEngine job (of_node n) e → TakesUnrun e f w → committed_in f ≡ committed_in e
+unrun_counts {laws} job n e f w h t =
     let entry = t.hands.entry in
     let step : committed_in f ≡ committed_in (record e { window = f.window }) = ap committed_in t.now in
     let left = ap count_committed t.hands.left in
@@ -257,8 +258,8 @@ hands_counts e f phase more b t =
     let push = push_counts e.window (record { phase = phase; outcome = None; committed = false }) refl in
     omega (arith, step, push)
 
-pub work_counts : (X : Type 0) (job : LoggedJob) (n : ℕ) (w : WorkView) (e f : EngineView) (i k : IntakeView) → LawfulEngine job (of_node n) e → Claims {C = X} (Work w) e f i k → committed_in f ≡ committed_in e
-work_counts X job n w e f i k h claims = elim claims [
+pub work_counts : {laws : Laws} (X : Type 0) (job : LoggedJob laws) (n : ℕ) (w : WorkView) (e f : EngineView) (i k : IntakeView) → LawfulEngine job (of_node n) e → Claims {C = X} (Work w) e f i k → committed_in f ≡ committed_in e
+work_counts {laws} X job n w e f i k h claims = elim claims [
   | inl unrun ↦ unrun_counts job n e f w h unrun.1
   | inr further ↦ elim further.1 [
     | inl called ↦ (let t = called.0 in hands_counts e f (Call e.claimed) 1 t.context t.hands)
@@ -281,8 +282,8 @@ none_again X r e f i k c same =
 
 -- How rounds end.
 
-pub none_committed : (job : LoggedJob) (n : ℕ) (outcome : OutcomeView) (e f : EngineView) → LawfulEngine job (of_node n) e → IsOut e outcome.work → f ≡ shelved e outcome → NoneCommitted e f
-none_committed job n outcome e f h out is = (shelve_counts job n outcome e f h out is, stands_back outcome e f out is)
+pub none_committed : {laws : Laws} (job : LoggedJob laws) (n : ℕ) (outcome : OutcomeView) (e f : EngineView) → LawfulEngine job (of_node n) e → IsOut e outcome.work → f ≡ shelved e outcome → NoneCommitted e f
+none_committed {laws} job n outcome e f h out is = (shelve_counts job n outcome e f h out is, stands_back outcome e f out is)
 
 abbrev EndsRound : EngineView → EngineView → IntakeView → Type 0
 EndsRound e f k = (committed_in f ≡ committed_in e) × RunEnds f k

@@ -10,6 +10,7 @@ use Rattle.atomic_table.specs.Table.{State, Splits, Joins, Final, Seen}
 use Rattle.atomic_table.proofs.Lists.{at_snoc, at_set, set_else}
 use Rattle.mg_node.specs.Views.{WorkView}
 use Rattle.mg_turns.specs.Parts.{PartView, LayoutView, blank_part, at, nodes_in, Follows, AgreeParts, IsMissingIn, source_at, JoinedParts, EdgesFit}
+use Rattle.mg_calc.specs.Rules.{Laws}
 use Rattle.mg_calc.specs.declared.edge.Edge.{Edge}
 use Rattle.mg_turns.specs.Turns.{Turn}
 use Rattle.mg_turns.specs.Rule.{total, Sights, is_turn_of, has_turn, InSlot, Noted, Shown, WorksApart, Orderly, Linked, Ruled}
@@ -34,13 +35,13 @@ Fine key s v = (0 < v.portion → v.key ≡ key) × (v.portion ≡ 0 → (length
     × ((r : ℕ) (b : PartView) → ((j : ℕ) (u : View) → get_elem? s.views j ≡ some u → Sights r b u.seen) → Sights r b v.seen)
 
 -- other views, with the same turns in all and the same portions and works
-replaced : (key : LayoutView) (s : St) → Ruled key s → (vs : List View)
+replaced : {laws : Laws} (key : LayoutView) (s : St) → Ruled laws key s → (vs : List View)
     → ((i : ℕ) → total (has_turn i) vs ≡ total (has_turn i) s.views)
     → total (λ (v : View). v.portion) vs ≡ 4294967296
     → SameWorks s.views vs
     → ((j : ℕ) (v : View) → get_elem? vs j ≡ some v → Fine key s v)
-    → Ruled key (reseated s vs)
-replaced key s ro vs turns whole works each = let o : Orderly key s = ro.0 in (
+    → Ruled laws key (reseated s vs)
+replaced {laws} key s ro vs turns whole works each = let o : Orderly laws key s = ro.0 in (
   record {
     wide = o.wide;
     long = o.long;
@@ -78,8 +79,8 @@ replaced key s ro vs turns whole works each = let o : Orderly key s = ro.0 in (
 )
 
 -- what the rule says of one view
-fine : (key : LayoutView) (s : St) (ro : Ruled key s) (j : ℕ) (v : View) → get_elem? s.views j ≡ some v → Fine key s v
-fine key s ro j v e = let o : Orderly key s = ro.0 in let l : Linked key s.homes s.views = ro.1 in (o.keyed j v e, (λ z. (o.spent j v e z, l.idle j v e z)), (λ k t at-k. (j, k, v, e, at-k)), λ r b h. h j v e)
+fine : {laws : Laws} (key : LayoutView) (s : St) (ro : Ruled laws key s) (j : ℕ) (v : View) → get_elem? s.views j ≡ some v → Fine key s v
+fine {laws} key s ro j v e = let o : Orderly laws key s = ro.0 in let l : Linked key s.homes s.views = ro.1 in (o.keyed j v e, (λ z. (o.spent j v e z, l.idle j v e z)), (λ k t at-k. (j, k, v, e, at-k)), λ r b h. h j v e)
 
 none_of : (i : ℕ) (l : List Turn) → length l ≡ 0 → total (is_turn_of i) l ≡ 0
 none_of i [] h = refl
@@ -115,9 +116,9 @@ module _ (views : List View) (id : ℕ) (v a b : View) (me : get_elem? views id 
         (λ ne. (h.0, h.1, h.2, at_left (set views id a) b h.0 h.1 (set_past views id h.0 a h.1 ne h.3), h.4, h.5, h.6));
   }
 
-pub splits : (key : LayoutView) (id n : ℕ) (v : View) → 0 < n → n < v.portion → Splits (Ruled key) id v (kept_after n v) (handed n v)
-splits key id n v some-part less s ro me =
-    let o : Orderly key s = ro.0 in let l : Linked key s.homes s.views = ro.1 in
+pub splits : {laws : Laws} (key : LayoutView) (id n : ℕ) (v : View) → 0 < n → n < v.portion → Splits (Ruled laws key) id v (kept_after n v) (handed n v)
+splits {laws} key id n v some-part less s ro me =
+    let o : Orderly laws key s = ro.0 in let l : Linked key s.homes s.views = ro.1 in
     let a : View = kept_after n v in let b : View = handed n v in let vs : List View = set s.views id a in
     let mine = fine key s ro id v me in
     replaced key s ro (vs ++ b ∷ [])
@@ -199,9 +200,9 @@ module _ (views : List View) (id other : ℕ) (v w a : View) (me : get_elem? vie
         (λ not-other. (h.0, h.1, h.2, set_past (set views id a) other h.0 spent_view h.1 not-other (set_past views id h.0 a h.1 not-id h.3), h.4, h.5, h.6)));
   }
 
-pub joins : (key : LayoutView) (id other : ℕ) (v w : View) → 0 < v.portion → length w.turns ≡ 0 → IfSome w.work (λ _. v.work ≡ None) → Joins (Ruled key) id v other w (joined v w) spent_view
-joins key id other v w alive idle one s ro me apart them =
-    let o : Orderly key s = ro.0 in let l : Linked key s.homes s.views = ro.1 in
+pub joins : {laws : Laws} (key : LayoutView) (id other : ℕ) (v w : View) → 0 < v.portion → length w.turns ≡ 0 → IfSome w.work (λ _. v.work ≡ None) → Joins (Ruled laws key) id v other w (joined v w) spent_view
+joins {laws} key id other v w alive idle one s ro me apart them =
+    let o : Orderly laws key s = ro.0 in let l : Linked key s.homes s.views = ro.1 in
     let a : View = joined v w in let vs : List View = set s.views id a in
     let mine = fine key s ro id v me in
     let there : get_elem? s.views other ≡ some w = sym (set_else s.views id other a apart) ∙ them in
@@ -223,16 +224,16 @@ none_held : (f : View → ℕ) (vs : List View) → ((j : ℕ) (v : View) → ge
 none_held f [] h = refl
 none_held f (v ∷ vs) h = omega (arith, h zero v refl, none_held f vs (λ j u e. h (suc j) u e))
 
-abbrev pub Home : LayoutView → List (Option PartView) → ℕ → Type 0
-Home key xs i = (p : PartView) × (get_elem? xs i ≡ some (Some p)) × Follows key i p
+abbrev pub Home : Laws → LayoutView → List (Option PartView) → ℕ → Type 0
+Home laws key xs i = (p : PartView) × (get_elem? xs i ≡ some (Some p)) × Follows laws key i p
 
 abbrev pub Found : List (Option PartView) → ℕ → PartView → Type 0
 Found xs i p = get_elem? xs i ≡ some (Some p)
 
 -- the seat of the whole portion has no turn and no work, so each part is in its slot
-pub record Settled (key : LayoutView) (v : View) (xs : List (Option PartView)) : Type 0 where
+pub record Settled (laws : Laws) (key : LayoutView) (v : View) (xs : List (Option PartView)) : Type 0 where
   pub count : length xs ≡ length key.parts
-  pub homes : (i : ℕ) → i < length key.parts → Home key xs i
+  pub homes : (i : ℕ) → i < length key.parts → Home laws key xs i
   pub sights : (i : ℕ) (p : PartView) → i < length key.parts → Found xs i p → Sights i p v.seen
   pub few : 2 * nodes_in key < length key.parts
   pub edges : EdgesFit key
@@ -240,9 +241,9 @@ pub record Settled (key : LayoutView) (v : View) (xs : List (Option PartView)) :
   pub none : (n number : ℕ) (p : PartView) → n < nodes_in key → Found xs (2 * n + 1) p → IsMissingIn p number → ⊥
   pub joined : (k : ℕ) (e : Edge) (p q : PartView) → slice_get key.plan.edges k ≡ Some e → Found xs (source_at key.plan e) p → Found xs (2 * e.node) q → JoinedParts p e q
 
-pub settled : (key : LayoutView) (id : ℕ) (v : View) (ws : List ℕ) (xs : List (Option PartView)) → v.portion ≡ 4294967296 → length v.turns ≡ 0 → v.work ≡ None → Final (Seen (Ruled key) id v) ws xs → Settled key v xs
-settled key id v ws xs all idle workless end =
-    let s : St = end.0 in let o : Orderly key s = end.1.0.0 in let l : Linked key s.homes s.views = end.1.0.1 in let me : get_elem? s.views id ≡ some v = end.1.1 in
+pub settled : {laws : Laws} (key : LayoutView) (id : ℕ) (v : View) (ws : List ℕ) (xs : List (Option PartView)) → v.portion ≡ 4294967296 → length v.turns ≡ 0 → v.work ≡ None → Final (Seen (Ruled laws key) id v) ws xs → Settled laws key v xs
+settled {laws} key id v ws xs all idle workless end =
+    let s : St = end.0 in let o : Orderly laws key s = end.1.0.0 in let l : Linked key s.homes s.views = end.1.0.1 in let me : get_elem? s.views id ≡ some v = end.1.1 in
     let long = o.long in let same = end.3 in
     let mine : (j : ℕ) (u : View) → get_elem? s.views j ≡ some u → j ≡ id → u ≡ v = λ j u e z. some-injective u v (sym e ∙ (ap (λ (k : ℕ). get_elem? s.views k) z ∙ me)) in
     let spent : (j : ℕ) (u : View) → get_elem? s.views j ≡ some u → j ≢ id → u.portion ≡ 0 = λ j u e ne. omega (arith, terms_le (λ (x : View). x.portion) s.views id j v u ne me e, o.whole) in
@@ -252,7 +253,7 @@ settled key id v ws xs all idle workless end =
     let no-work : (j : ℕ) (u : View) → get_elem? s.views j ≡ some u → u.work ≡ None = λ j u e. dite (ℕ_discrete j id)
     (λ z. ap (λ (x : View). x.work) (mine j u e z) ∙ workless)
     (λ ne. l.idle j u e (spent j u e ne)) in
-    let back : (i : ℕ) → i < length key.parts → (p : PartView) × (get_elem? s.homes i ≡ some (some (Some p))) × Follows key i p = λ i h.
+    let back : (i : ℕ) → i < length key.parts → (p : PartView) × (get_elem? s.homes i ≡ some (some (Some p))) × Follows laws key i p = λ i h.
     let near : i < length s.homes = omega arith in
     let t = o.free i near (omega (arith, o.turns i near, none_held (has_turn i) s.views (empty i))) in (t.0, t.1, t.3) in
     let shown : (i : ℕ) → i < length key.parts → (p : PartView) → get_elem? xs i ≡ some (Some p) → Shown s.homes s.views i p = λ i h p e.
@@ -270,8 +271,8 @@ settled key id v ws xs all idle workless end =
       none = λ n number p less e missing. let w = l.complete n number p less (shown (2 * n + 1) (omega (arith, o.few, less)) p e) missing in none-some w.2 (sym (no-work w.0 w.1 w.3) ∙ w.4);
     }
 
-pub not_none : (key : LayoutView) (xs xs' : List (Option PartView)) (i : ℕ) (r : Option PartView) → Home key xs i → xs' ≡ xs → get_elem? xs' i ≡ some r → r ≡ None → ⊥
-not_none key xs xs' i r home same at-i e =
+pub not_none : {laws : Laws} (key : LayoutView) (xs xs' : List (Option PartView)) (i : ℕ) (r : Option PartView) → Home laws key xs i → xs' ≡ xs → get_elem? xs' i ≡ some r → r ≡ None → ⊥
+not_none {laws} key xs xs' i r home same at-i e =
     let is : Some home.0 ≡ r = some-injective (Some home.0) r (sym home.1 ∙ (ap (λ (l : List (Option PartView)). get_elem? l i) (sym same) ∙ at-i)) in none-some home.0 (sym (is ∙ e))
 
 -- the parts that are out of their slots, with one more of them
@@ -288,11 +289,11 @@ nil [] h = refl
 nil (x ∷ xs) h = absurd (omega arith)
 
 -- the parts that were taken out are those that were shared, with what became of them
-pub came_back : (key : LayoutView) (v : View) (xs : List (Option PartView)) (ps : List PartView) → Settled key v xs → length ps ≡ length key.parts
-    → ((k : ℕ) → k < length key.parts → get_elem? xs k ≡ some (Some (at (with_parts key ps) k))) → Unshared key v ps
-came_back key v xs ps h long each = record {
+pub came_back : {laws : Laws} (key : LayoutView) (v : View) (xs : List (Option PartView)) (ps : List PartView) → Settled laws key v xs → length ps ≡ length key.parts
+    → ((k : ℕ) → k < length key.parts → get_elem? xs k ≡ some (Some (at (with_parts key ps) k))) → Unshared laws key v ps
+came_back {laws} key v xs ps h long each = record {
   count = long;
-  follows = λ i less. let a = h.homes i less in subst (Follows key i) (same_part a.0 (at (with_parts key ps) i) (some-injective (Some a.0) (Some (at (with_parts key ps) i)) (sym a.1 ∙ each i less))) a.2;
+  follows = λ i less. let a = h.homes i less in subst (Follows laws key i) (same_part a.0 (at (with_parts key ps) i) (some-injective (Some a.0) (Some (at (with_parts key ps) i)) (sym a.1 ∙ each i less))) a.2;
   sights = λ i less. h.sights i (at (with_parts key ps) i) less (each i less);
   matched = λ n less. h.matched n (at (with_parts key ps) (2 * n + 1)) (at (with_parts key ps) (2 * n)) less (each (2 * n + 1) (omega (arith, h.few, less))) (each (2 * n) (omega (arith, h.few, less)));
   joined = λ k e at-k. h.joined k e (at (with_parts key ps) (source_at key.plan e)) (at (with_parts key ps) (2 * e.node)) at-k (each (source_at key.plan e) (h.edges.sources k e at-k).within) (each (2 * e.node) (omega (arith, h.few, h.edges.consumers k e at-k)));

@@ -1,4 +1,5 @@
 -- A turn is given back in one of three ways.
+use Rattle.mg_calc.specs.Rules.{Laws}
 use Rattle.std.proofs.Common.{◌≡◌, ◌*◌, ℕ, refl, [], ◌∷◌, List, length, ap, sym, subst, inl, inr, Option}
 use Rattle.mg_node.specs.Views.{WorkView}
 use Rattle.mg_turns.specs.Parts.{PartView, JoinedParts}
@@ -7,23 +8,23 @@ use Rattle.mg_turns.specs.Code.Plays.{Sat, left, Like, Joins, Back, Alike, HasTu
 use Rattle.mg_turns.specs.declared.view.View.{View}
 use Rattle.mg_turns.proofs.Keeps.{alike_same}
 
-pub has_turn_of : (m : Sat) (word : ℕ) (p : PartView) (t : Turn) (ts : List Turn) → MayGiveBack m word p t ts → HasTurn m.0 word p
-has_turn_of m word p t ts g = (t, ts, g.turns, g.word_is, g.grows)
+pub has_turn_of : {laws : Laws} (m : Sat) (word : ℕ) (p : PartView) (t : Turn) (ts : List Turn) → MayGiveBack laws m word p t ts → HasTurn m.0 word p
+has_turn_of {laws} m word p t ts g = (t, ts, g.turns, g.word_is, g.grows)
 
 abbrev Ok : Sat → ℕ → PartView → View → Type 0
 Ok m word p w = Returns m.0 word p w × GivesTurnBack m.0 word p w
 
-note_is : (m : Sat) (word : ℕ) (p : PartView) (t : Turn) (ts : List Turn) → MayGiveBack m word p t ts → note_or p m.0.turns ≡ t.note
-note_is m word p t ts g = ap (note_or p) g.turns
+note_is : {laws : Laws} (m : Sat) (word : ℕ) (p : PartView) (t : Turn) (ts : List Turn) → MayGiveBack laws m word p t ts → note_or p m.0.turns ≡ t.note
+note_is {laws} m word p t ts g = ap (note_or p) g.turns
 
-pub plain_ok : (m : Sat) (word : ℕ) (p : PartView) → GivesPlainly m word p → Ok m word p (gave m.0 word p)
-plain_ok m word p g = (
+pub plain_ok : {laws : Laws} (m : Sat) (word : ℕ) (p : PartView) → GivesPlainly laws m word p → Ok m word p (gave m.0 word p)
+plain_ok {laws} m word p g = (
   (alike_same (left m.0.turns), refl, refl, refl),
   inl (refl, refl, subst (λ (x : PartView). Like x p) (sym (note_is m word p g.0 g.1 g.2)) g.3, subst (λ (x : PartView). Joins x p) (sym (note_is m word p g.0 g.1 g.2)) g.4),
 )
 
-pub claim_ok : (m : Sat) (n : ℕ) (p f : PartView) (has : Option WorkView) → GivesClaim m n p f has → Ok m (2 * n) p (claimed_view m.0 n p f has)
-claim_ok m n p f has g =
+pub claim_ok : {laws : Laws} (m : Sat) (n : ℕ) (p f : PartView) (has : Option WorkView) → GivesClaim laws m n p f has → Ok m (2 * n) p (claimed_view m.0 n p f has)
+claim_ok {laws} m n p f has g =
     let u : Turn = g.u in let v : View = m.0 in
     let less : left v.turns ≡ u ∷ [] = ap left g.gives.turns in
     let fits : Alike (with_note f (u ∷ [])) (u ∷ []) = (refl, refl, g.grew, tt) in (
@@ -45,8 +46,8 @@ claim_ok m n p f has g =
       }))),
     )
 
-pub laid_ok : (m : Sat) (word : ℕ) (p : PartView) → GivesLaid m word p → Ok m word p (laid_view m.0 word p)
-laid_ok m word p g =
+pub laid_ok : {laws : Laws} (m : Sat) (word : ℕ) (p : PartView) → GivesLaid laws m word p → Ok m word p (laid_view m.0 word p)
+laid_ok {laws} m word p g =
     let v : View = m.0 in
     let less : left v.turns ≡ [] = ap left g.gives.turns in (
       (subst (λ (l : List Turn). Alike l l) (sym less) tt, refl, refl, refl),
@@ -62,8 +63,8 @@ laid_ok m word p g =
       })),
     )
 
-pub brought_ok : (m : Sat) (word : ℕ) (p : PartView) → GivesBrought m word p → Ok m word p (gave m.0 word p)
-brought_ok m word p g =
+pub brought_ok : {laws : Laws} (m : Sat) (word : ℕ) (p : PartView) → GivesBrought laws m word p → Ok m word p (gave m.0 word p)
+brought_ok {laws} m word p g =
     let less : left m.0.turns ≡ g.u ∷ [] = ap left g.gives.turns in
     let same = note_is m word p g.t (g.u ∷ []) g.gives in (
       (alike_same (left m.0.turns), refl, refl, refl),

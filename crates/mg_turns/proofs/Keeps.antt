@@ -1,4 +1,5 @@
 -- Each step keeps the rule.
+use Rattle.mg_calc.specs.Rules.{Laws}
 use Rattle.std.proofs.Common.{◌≡◌, ℕ, zero, suc, ◌+◌, ◌*◌, ◌/◌, ◌%◌, ◌<◌, ◌≢◌, eqb, cond, List, [], ◌∷◌, map, length, get_or, set, slice_get, sym, refl, ap, ◌∙◌, subst, inl, inr, ◌⊎◌, ⊎_elim, arith, Option, Some, bit_or, length-set, get_or-set_same, get_or-set_other}
 use Rattle.std.proofs.lemmas.List.{length-map}
 use Rattle.std.proofs.lemmas.Option.{none-some}
@@ -39,8 +40,8 @@ even_word parts i = ap (λ (n : ℕ). n % 2) (no_word parts i)
 first_word : (key : LayoutView) (i : ℕ) → word_of key i (at key i) ≡ 0
 first_word key i = ap doubled (nothing_past (tally_of key i (at key i)))
 
-pub follows_self : (key : LayoutView) (i : ℕ) → IsKind (owner_in key i) (at key i) → i < length key.parts → Follows key i (at key i)
-follows_self key i kind h = record { kind = kind; lawful = λ job fits. fits.parts i h; grows = part_same (at key i); gave_up = refl; first = refl; collector = λ _. refl }
+pub follows_self : {laws : Laws} (key : LayoutView) (i : ℕ) → IsKind (owner_in key i) (at key i) → i < length key.parts → Follows laws key i (at key i)
+follows_self {laws} key i kind h = record { kind = kind; lawful = λ job fits. fits.parts i h; grows = part_same (at key i); gave_up = refl; first = refl; collector = λ _. refl }
 
 abbrev layout_of : LayoutView → List PartView → LayoutView
 layout_of key parts = record { plan = key.plan; parts = parts }
@@ -64,8 +65,8 @@ begins key xs slots i d shown = ⊎_elim
 no_first : (key : LayoutView) (j : ℕ) (v : View) (w : WorkView) → get_elem? (first_view key ∷ []) j ≡ some v → v.work ≡ Some w → ⊥
 no_first key j v w e has = none-some w (ap (λ (x : View). x.work) (only (first_view key) j v e) ∙ has)
 
-pub starts : (key : LayoutView) (ws : List ℕ) (xs : List (Option PartView)) → ws ≡ map no_word_of key.parts → xs ≡ map Some key.parts → Ready key → Ruled key (opening ws xs (first_view key))
-starts key ws xs words slots ready = let long : length xs ≡ length key.parts = ap length slots ∙ length-map key.parts Some in let begin = begins key xs slots in (
+pub starts : {laws : Laws} (key : LayoutView) (ws : List ℕ) (xs : List (Option PartView)) → ws ≡ map no_word_of key.parts → xs ≡ map Some key.parts → Ready key → Ruled laws key (opening ws xs (first_view key))
+starts {laws} key ws xs words slots ready = let long : length xs ≡ length key.parts = ap length slots ∙ length-map key.parts Some in let begin = begins key xs slots in (
   record {
     wide = ap length words ∙ (length-map key.parts no_word_of ∙ (sym long ∙ sym (length-map xs some)));
     long = length-map xs some ∙ long;
@@ -104,7 +105,7 @@ abbrev Less : View → View → ℕ → Type 0
 Less w v r = (p : PartView) → Sights r p v.seen → Sights r p w.seen
 
 -- a step on the word i by the seat j
-changed : (key : LayoutView) (s : State (Option PartView) View) (o : Orderly key s) (i j new : ℕ) (v w : View) (hs : List (maybe.Option (Option PartView))) → get_elem? s.views j ≡ some v → i < length s.homes
+changed : {laws : Laws} (key : LayoutView) (s : State (Option PartView) View) (o : Orderly laws key s) (i j new : ℕ) (v w : View) (hs : List (maybe.Option (Option PartView))) → get_elem? s.views j ≡ some v → i < length s.homes
     → w.key ≡ v.key → w.portion ≡ v.portion → 0 < v.portion
     → has_turn i w + get_or s.words i 0 % 2 ≡ has_turn i v + new % 2
     → ((r : ℕ) → r ≢ i → has_turn r w ≡ has_turn r v)
@@ -113,9 +114,9 @@ changed : (key : LayoutView) (s : State (Option PartView) View) (o : Orderly key
     → ((r : ℕ) → r ≢ i → Less w v r)
     → ((p : PartView) → new % 2 ≡ 0 → get_elem? hs i ≡ some (some (Some p)) → (l : ℕ) (u : View) → get_elem? (set s.views j w) l ≡ some u → Sights i p u.seen)
     → length hs ≡ length s.homes → ((r : ℕ) → r ≢ i → get_elem? hs r ≡ get_elem? s.homes r)
-    → (new % 2 ≡ 0 → Lies key hs i new) → (new % 2 ≡ 1 → get_elem? hs i ≡ some none)
-    → Orderly key (record { words = set s.words i new; homes = hs; views = set s.views j w })
-changed key s o i j new v w hs me near same-key same-portion alive parity others mine theirs sights seen same-length same-homes shelf out =
+    → (new % 2 ≡ 0 → Lies laws key hs i new) → (new % 2 ≡ 1 → get_elem? hs i ≡ some none)
+    → Orderly laws key (record { words = set s.words i new; homes = hs; views = set s.views j w })
+changed {laws} key s o i j new v w hs me near same-key same-portion alive parity others mine theirs sights seen same-length same-homes shelf out =
     let wide = o.wide in
     let ws : List ℕ = set s.words i new in
     let here : get_or ws i 0 ≡ new = get_or-set_same s.words i new 0 (omega arith) in
@@ -145,7 +146,7 @@ changed key s o i j new v w hs me near same-key same-portion alive parity others
           (λ ne. ap (λ (x : ℕ). x / 2) (there t.word ne) ∙ o.tallies k m u t q.1 h))
           (at_set s.views j k w u e);
       free = λ r l even. dite (ℕ_discrete r i)
-          (λ z. subst (λ (x : ℕ). Lies key hs x (get_or ws x 0)) (sym z) (subst (Lies key hs i) (sym here) (shelf (omega (arith, ap (λ (x : ℕ). get_or ws x 0 % 2) z, here)))))
+          (λ z. subst (λ (x : ℕ). Lies laws key hs x (get_or ws x 0)) (sym z) (subst (Lies laws key hs i) (sym here) (shelf (omega (arith, ap (λ (x : ℕ). get_or ws x 0 % 2) z, here)))))
           (λ ne. let t = o.free r (within r l) (omega (arith, there r ne)) in (t.0, same-homes r ne ∙ t.1, there r ne ∙ t.2, t.3));
       taken = λ r l odd. dite (ℕ_discrete r i)
           (λ z. subst (λ (x : ℕ). get_elem? hs x ≡ some none) (sym z) (out (omega (arith, ap (λ (x : ℕ). get_or ws x 0 % 2) z, here))))
@@ -183,18 +184,18 @@ abbrev Mine : State (Option PartView) View → ℕ → ℕ → ℕ → View → 
 Mine s i j new w t = (get_or (set s.words i new) t.word 0 / 2 ≡ t.tally) × ((l : ℕ) (u : View) → get_elem? (set s.views j w) l ≡ some u → Sights t.word t.note u.seen)
 
 -- the turns of a seat that takes one more
-mine : {key : LayoutView} (s : State (Option PartView) View) (o : Orderly key s) (i j new : ℕ) (v w : View) (t : Turn) → get_elem? s.views j ≡ some v → Mine s i j new w t → has_turn i v ≡ 0 → ((r : ℕ) → Less w v r)
+mine : {laws : Laws} {key : LayoutView} (s : State (Option PartView) View) (o : Orderly laws key s) (i j new : ℕ) (v w : View) (t : Turn) → get_elem? s.views j ≡ some v → Mine s i j new w t → has_turn i v ≡ 0 → ((r : ℕ) → Less w v r)
     → (k : ℕ) (u : Turn) → get_elem? (t ∷ v.turns) k ≡ some u → Mine s i j new w u
-mine s o i j new v w t me first free sights zero u at = subst (Mine s i j new w) (some-injective t u at) first
-mine s o i j new v w t me first free sights (suc k) u at = dite (ℕ_discrete u.word i)
+mine {laws} s o i j new v w t me first free sights zero u at = subst (Mine s i j new w) (some-injective t u at) first
+mine {laws} s o i j new v w t me first free sights (suc k) u at = dite (ℕ_discrete u.word i)
     (λ z. absurd (omega (arith, has i k v u at z)))
     (λ ne. (ap (λ (y : ℕ). y / 2) (get_or-set_other s.words i u.word new 0 ne) ∙ o.tallies j k v u me at, kept s j v w u.word u.note me (sights u.word) (o.seen_held j k v u me at)))
 
 -- a step that leaves a word as it was, by a seat that may have counted a miss
-unmoved : (key : LayoutView) (s : State (Option PartView) View) → Ruled key s → (i id misses : ℕ) (missed : Option ℕ) (v : View) → i < length s.homes → 0 < v.portion → get_elem? s.views id ≡ some v
-    → Ruled key (record { words = set s.words i (get_or s.words i 0); homes = s.homes; views = set s.views id (view v.key v.portion misses v.splits missed v.turns v.work v.seen) })
-unmoved key s ro i id misses missed v near alive me =
-    let o : Orderly key s = ro.0 in let l : Linked key s.homes s.views = ro.1 in
+unmoved : {laws : Laws} (key : LayoutView) (s : State (Option PartView) View) → Ruled laws key s → (i id misses : ℕ) (missed : Option ℕ) (v : View) → i < length s.homes → 0 < v.portion → get_elem? s.views id ≡ some v
+    → Ruled laws key (record { words = set s.words i (get_or s.words i 0); homes = s.homes; views = set s.views id (view v.key v.portion misses v.splits missed v.turns v.work v.seen) })
+unmoved {laws} key s ro i id misses missed v near alive me =
+    let o : Orderly laws key s = ro.0 in let l : Linked key s.homes s.views = ro.1 in
     let x : ℕ = get_or s.words i 0 in
     let w : View = view v.key v.portion misses v.splits missed v.turns v.work v.seen in
     let same = set-get_or s.words i 0 in (
@@ -207,16 +208,16 @@ unmoved key s ro i id misses missed v near alive me =
       links_miss key s.homes s.views l id v w me refl refl alive,
     )
 
-pub looks : (key : LayoutView) (n id : ℕ) (m : Sat) (i : ℕ) → i < n → 0 < m.0.portion → Allows (Ruled key) n id m i (λ y. y) (looked_at i m)
-looks key n id m i inside alive s ro long me _ =
+pub looks : {laws : Laws} (key : LayoutView) (n id : ℕ) (m : Sat) (i : ℕ) → i < n → 0 < m.0.portion → Allows (Ruled laws key) n id m i (λ y. y) (looked_at i m)
+looks {laws} key n id m i inside alive s ro long me _ =
     let near : i < length s.homes = omega arith in
     dite (ℕ_discrete (get_or s.words i 0 % 2) 0)
     (λ even. (m.0, keeps, tt, unmoved key s ro i id m.0.misses m.0.missed m.0 near alive me, (λ _. refl, λ odd. absurd (omega arith))))
     (λ ne. (with_miss m.0 i, keeps, tt, unmoved key s ro i id (m.0.misses + 1) (Some i) m.0 near alive me, (λ even. absurd (ne even), λ _. refl)))
 
-pub tries : (key : LayoutView) (n id : ℕ) (m : Sat) (i : ℕ) → i < n → 0 < m.0.portion → has_turn i m.0 ≡ 0 → Allows (Ruled key) n id m i (λ y. bit_or y 1) (tried_at i m)
-tries key n id m i inside alive free s ro long me _ =
-    let o : Orderly key s = ro.0 in let l : Linked key s.homes s.views = ro.1 in
+pub tries : {laws : Laws} (key : LayoutView) (n id : ℕ) (m : Sat) (i : ℕ) → i < n → 0 < m.0.portion → has_turn i m.0 ≡ 0 → Allows (Ruled laws key) n id m i (λ y. bit_or y 1) (tried_at laws i m)
+tries {laws} key n id m i inside alive free s ro long me _ =
+    let o : Orderly laws key s = ro.0 in let l : Linked key s.homes s.views = ro.1 in
     let x : ℕ = get_or s.words i 0 in
     let near : i < length s.homes = omega arith in
     let wide = o.wide in
@@ -237,7 +238,7 @@ tries key n id m i inside alive free s ro long me _ =
       takes i (Some p),
       lies.1,
       (
-        subst (λ (y : ℕ). Orderly key (record { words = set s.words i y; homes = hs; views = set s.views id w })) (sym (or_even x even))
+        subst (λ (y : ℕ). Orderly laws key (record { words = set s.words i y; homes = hs; views = set s.views id w })) (sym (or_even x even))
             (changed key s o i id (x + 1) m.0 w hs me near refl refl alive
             (omega (arith, is_of_yes i t refl))
             (λ r ne. omega (arith, is_of_no r t (λ e. ne (sym e))))
@@ -253,7 +254,7 @@ tries key n id m i inside alive free s ro long me _ =
           p,
           refl,
           record {
-            follows = subst (λ (k : LayoutView). Follows k i p) (sym key-is) lies.3;
+            follows = subst (λ (k : LayoutView). Follows laws k i p) (sym key-is) lies.3;
             sights = old id m.0 me;
             agree = λ r j u e less at-u is.
                 l.matched r u.note p (subst (λ (k : LayoutView). r < nodes_in k) key-is less) (inr (id, j, m.0, u, me, at-u, is, refl))
@@ -273,7 +274,7 @@ tries key n id m i inside alive free s ro long me _ =
       with_miss m.0 i,
       keeps,
       tt,
-      subst (λ (y : ℕ). Ruled key (record { words = set s.words i y; homes = s.homes; views = set s.views id (with_miss m.0 i) })) (sym (or_odd x odd))
+      subst (λ (y : ℕ). Ruled laws key (record { words = set s.words i y; homes = s.homes; views = set s.views id (with_miss m.0 i) })) (sym (or_odd x odd))
           (unmoved key s ro i id (m.0.misses + 1) (Some i) m.0 near alive me),
       (λ even. absurd (ne even), λ _. refl),
     ))
@@ -298,10 +299,10 @@ alike_same (t ∷ ts) = (refl, refl, part_same t.note, alike_same ts)
 less_else : (v w : View) (i : ℕ) (p : PartView) (r : ℕ) → w.seen ≡ record { word = i; part = p } ∷ v.seen → r ≢ i → Less w v r
 less_else v w i p r e ne q h = subst (λ (l : List Sight). Sights r q l) (sym e) ((λ z. absurd (ne (sym z))), h)
 
-pub gives : (key : LayoutView) (n id : ℕ) (v w : View) (i new : ℕ) (p : PartView) (more : List (ℕ × Option PartView)) → i < n → new ≡ word_of v.key i p → HasTurn v i p → Returns v i p w → GivesTurnBack v i p w → Follows v.key i p
-    → Allows (Ruled key) n id (v, (i, Some p) ∷ more) i (λ _. new) (λ _ m. m ≡ (w, more))
-gives key n id v w i new p more inside word has-turn returns kind follows s ro long me _ =
-    let o : Orderly key s = ro.0 in let l : Linked key s.homes s.views = ro.1 in let wide = o.wide in
+pub gives : {laws : Laws} (key : LayoutView) (n id : ℕ) (v w : View) (i new : ℕ) (p : PartView) (more : List (ℕ × Option PartView)) → i < n → new ≡ word_of v.key i p → HasTurn v i p → Returns v i p w → GivesTurnBack v i p w → Follows laws v.key i p
+    → Allows (Ruled laws key) n id (v, (i, Some p) ∷ more) i (λ _. new) (λ _ m. m ≡ (w, more))
+gives {laws} key n id v w i new p more inside word has-turn returns kind follows s ro long me _ =
+    let o : Orderly laws key s = ro.0 in let l : Linked key s.homes s.views = ro.1 in let wide = o.wide in
     let t : Turn = has-turn.0 in let mine = has-turn.2 in let is = has-turn.3 in
     let x : ℕ = get_or s.words i 0 in
     let near : i < length s.homes = omega arith in
@@ -317,7 +318,7 @@ gives key n id v w i new p more inside word has-turn returns kind follows s ro l
     sights_further i t.note p u.seen (subst (λ (r : ℕ). Sights r t.note u.seen) is (o.seen_held id 0 v t me (ap (λ (c : List Turn). get_elem? c 0) mine) k u e)) has-turn.4 in
     let even : new % 2 ≡ 0 = omega arith in
     let same-length = length-set s.homes i (some (Some p)) in
-    let o' : Orderly key (record { words = set s.words i new; homes = hs; views = set s.views id w }) = changed key s o i id new v w hs me near returns.1 returns.2 alive
+    let o' : Orderly laws key (record { words = set s.words i new; homes = hs; views = set s.views id w }) = changed key s o i id new v w hs me near returns.1 returns.2 alive
     (omega (arith, had i))
     (λ r ne. omega (arith, had r, is_of_no r t (λ e. ne (sym e ∙ is))))
     (λ k u at-k. dite (ℕ_discrete u.word i)
@@ -337,7 +338,7 @@ gives key n id v w i new p more inside word has-turn returns kind follows s ro l
     (λ (a : (k ≢ id) × (get_elem? s.views k ≡ some u)). was k u a.1)
     (at_set s.views id k w u e)))
     same-length (λ r ne. set_else s.homes i r (some (Some p)) ne)
-    (λ _. (p, set_here s.homes i (some (Some p)) near, word ∙ ap (λ (k : LayoutView). word_of k i p) key-is, subst (λ (k : LayoutView). Follows k i p) key-is follows))
+    (λ _. (p, set_here s.homes i (some (Some p)) near, word ∙ ap (λ (k : LayoutView). word_of k i p) key-is, subst (λ (k : LayoutView). Follows laws k i p) key-is follows))
     (λ odd. absurd (omega arith)) in
     let alive' : 0 < w.portion = omega (arith, returns.2) in (
       w,
@@ -359,7 +360,7 @@ gives key n id v w i new p more inside word has-turn returns kind follows s ro l
       refl,
     )
 
-pub gives_at : (key : LayoutView) (n id : ℕ) (m : Sat) (w : View) (i new : ℕ) (p : PartView) → i < n → new ≡ word_of m.0.key i p → HasTurn m.0 i p → Returns m.0 i p w → GivesTurnBack m.0 i p w → Follows m.0.key i p → m.1 ≡ (i, Some p) ∷ rest m.1
-    → Allows (Ruled key) n id m i (λ _. new) (λ _ m'. m' ≡ (w, rest m.1))
-gives_at key n id m w i new p inside word has-turn returns kind follows e =
-    subst (λ (l : List (ℕ × Option PartView)). Allows (Ruled key) n id (m.0, l) i (λ _. new) (λ _ m'. m' ≡ (w, rest l))) (sym e) (gives key n id m.0 w i new p (rest m.1) inside word has-turn returns kind follows)
+pub gives_at : {laws : Laws} (key : LayoutView) (n id : ℕ) (m : Sat) (w : View) (i new : ℕ) (p : PartView) → i < n → new ≡ word_of m.0.key i p → HasTurn m.0 i p → Returns m.0 i p w → GivesTurnBack m.0 i p w → Follows laws m.0.key i p → m.1 ≡ (i, Some p) ∷ rest m.1
+    → Allows (Ruled laws key) n id m i (λ _. new) (λ _ m'. m' ≡ (w, rest m.1))
+gives_at {laws} key n id m w i new p inside word has-turn returns kind follows e =
+    subst (λ (l : List (ℕ × Option PartView)). Allows (Ruled laws key) n id (m.0, l) i (λ _. new) (λ _ m'. m' ≡ (w, rest l))) (sym e) (gives key n id m.0 w i new p (rest m.1) inside word has-turn returns kind follows)

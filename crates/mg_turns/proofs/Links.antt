@@ -9,6 +9,7 @@ use Rattle.atomic_table.specs.Table.{State}
 use Rattle.atomic_table.proofs.Lists.{at_set, set_here, set_else}
 use Rattle.mg_node.specs.Views.{WorkView}
 use Rattle.mg_turns.specs.Parts.{PartView, LayoutView, nodes_in, AgreeParts, IsOutIn, IsMissingIn, source_at, JoinedParts}
+use Rattle.mg_calc.specs.Rules.{Laws}
 use Rattle.mg_calc.specs.declared.edge.Edge.{Edge}
 use Rattle.mg_turns.specs.Turns.{Turn}
 use Rattle.mg_turns.specs.Rule.{is_turn_of, has_turn, Homes, InSlot, Noted, Shown, HasWork, Linked, Orderly}
@@ -98,15 +99,15 @@ linked_by key homes homes' views views' l was joins works idle = record {
 }
 
 -- a part in its slot is what is shown
-pub shown_home : (key : LayoutView) (s : St) → Orderly key s → (i : ℕ) (p : PartView) (d : PartView) → i < length s.homes → get_or s.words i 0 % 2 ≡ 0 → get_elem? s.homes i ≡ some (some (Some p)) → Shown s.homes s.views i d → d ≡ p
-shown_home key s o i p d near even at-i shown = ⊎_elim
+pub shown_home : {laws : Laws} (key : LayoutView) (s : St) → Orderly laws key s → (i : ℕ) (p : PartView) (d : PartView) → i < length s.homes → get_or s.words i 0 % 2 ≡ 0 → get_elem? s.homes i ≡ some (some (Some p)) → Shown s.homes s.views i d → d ≡ p
+shown_home {laws} key s o i p d near even at-i shown = ⊎_elim
     (λ (x : InSlot s.homes i d). same_slot d p (sym x ∙ at-i))
     (λ (x : Noted s.views i d). absurd (omega (arith, o.turns i near, has i x.1 x.2 x.3 x.5 x.6, term_le (has_turn i) s.views x.0 x.2 x.4)))
     shown
 
 -- the note of the seat that has a part's turn is what is shown of the part
-pub shown_held : (key : LayoutView) (s : St) → Orderly key s → (i j k : ℕ) (v : View) (t : Turn) (d : PartView) → i < length s.homes → get_elem? s.views j ≡ some v → get_elem? v.turns k ≡ some t → t.word ≡ i → Shown s.homes s.views i d → d ≡ t.note
-shown_held key s o i j k v t d near me at-k is shown =
+pub shown_held : {laws : Laws} (key : LayoutView) (s : St) → Orderly laws key s → (i j k : ℕ) (v : View) (t : Turn) (d : PartView) → i < length s.homes → get_elem? s.views j ≡ some v → get_elem? v.turns k ≡ some t → t.word ≡ i → Shown s.homes s.views i d → d ≡ t.note
+shown_held {laws} key s o i j k v t d near me at-k is shown =
     let one = o.turns i near in let mine = has i k v t at-k is in let part = term_le (has_turn i) s.views j v me in
     ⊎_elim
     (λ (x : InSlot s.homes i d). absurd (some-ne-none (Some d) (some-injective (some (Some d)) none (sym x ∙ o.taken i near (omega arith)))))
@@ -196,7 +197,7 @@ links_miss key homes views l j v w me turns work alive =
     (works_set key homes views l j v w me work)
     (idle_after key homes views l j w alive)
 
-module _ (key : LayoutView) (s : St) (o : Orderly key s) (l : Linked key s.homes s.views) (j i new : ℕ) (v w : View) (t : Turn) (ts : List Turn) (p : PartView) (me : get_elem? s.views j ≡ some v) (near : i < length s.homes)
+module _ {laws : Laws} (key : LayoutView) (s : St) (o : Orderly laws key s) (l : Linked key s.homes s.views) (j i new : ℕ) (v w : View) (t : Turn) (ts : List Turn) (p : PartView) (me : get_elem? s.views j ≡ some v) (near : i < length s.homes)
     (turns : v.turns ≡ t ∷ ts) (is : t.word ≡ i) (key-is : v.key ≡ key) (alive : 0 < w.portion) where
   was_noted : (k : ℕ) (u : Turn) → get_elem? v.turns k ≡ some u → Shown s.homes s.views u.word u.note
   was_noted k u at-k = inr (j, k, v, u, me, at-k, refl, refl)
@@ -232,7 +233,7 @@ module _ (key : LayoutView) (s : St) (o : Orderly key s) (l : Linked key s.homes
   abbrev After : St
   After = record { words = set s.words i new; homes = set s.homes i (some (Some p)); views = set s.views j w }
 
-  module _ (o' : Orderly key After) (even : new % 2 ≡ 0) (within : i < length s.words) (near' : i < length (set s.homes i (some (Some p)))) where
+  module _ (o' : Orderly laws key After) (even : new % 2 ≡ 0) (within : i < length s.words) (near' : i < length (set s.homes i (some (Some p)))) where
     home_now : (d : PartView) → Shown (set s.homes i (some (Some p))) (set s.views j w) i d → d ≡ p
     home_now d = shown_home key After o' i p d near' (ap (λ (x : ℕ). x % 2) (get_or-set_same s.words i new 0 within) ∙ even) (set_here s.homes i (some (Some p)) near)
 

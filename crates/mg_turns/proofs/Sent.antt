@@ -15,7 +15,7 @@ use Rattle.atomic_table.proofs.shared.Seat.TheSendSync as Seat
 use Rattle.atomic_table.proofs.owned.Table.TheSendSync as Table
 use Rattle.mg_turns.proofs.room.Room.TheSendSync as Room
 use Rattle.mg_turns.proofs.way.Way.TheSendSync.{the_sync as way, the_field_sync as way_field}
-use Rattle.mg_calc.specs.declared.calculator.Calculator.{Ghosts}
+use Rattle.mg_calc.specs.declared.node_calculator.NodeCalculator.{Ghosts}
 use Rattle.mg_node.specs.contracts.engine.Engine as Engine
 use Rattle.mg_node.proofs.Sent.{engine_field, intake_field, maybe}
 use Rattle.mg_turns.specs.contracts.part.Part as Part

@@ -1,4 +1,5 @@
 -- The tallies of parts, and their words.
+use Rattle.mg_calc.specs.Rules.{Laws}
 use Rattle.std.proofs.Common.{◌≡◌, ℕ, zero, suc, ◌+◌, ◌-◌, ◌*◌, ◌<◌, ◌≤◌, ◌≢◌, refl, ap, sym, ◌∙◌, subst, arith, Option, Some, None}
 use mathlib.Core.Logic.{dite}
 use native.Mathlib.Decide.{ℕ_discrete}
@@ -41,11 +42,11 @@ engine_base ports None i e g = absurd g
 engine_base ports (Some x) i e g = g.laid
 
 -- the word of an engine that laid more
-pub cell_words : (key : LayoutView) (n : ℕ) (e f : EngineView) (i k : IntakeView) (engine_word laid intake_word : ℕ) → Follows key (2 * n + 1) (an_engine e)
+pub cell_words : {laws : Laws} (key : LayoutView) (n : ℕ) (e f : EngineView) (i k : IntakeView) (engine_word laid intake_word : ℕ) → Follows laws key (2 * n + 1) (an_engine e)
     → engine_word ≡ word_of key (2 * n + 1) (an_engine e) → laid ≡ e.laid → intake_word ≡ word_of key (2 * n) (an_intake i)
     → EngineGrows e f → ((port : ℕ) → Stays (port_queue i.waits port) (port_queue k.waits port))
     → CellWords key n f engine_word laid k intake_word
-cell_words key n e f i k engine_word laid intake_word follows word laid-is intake grows stays =
+cell_words {laws} key n e f i k engine_word laid intake_word follows word laid-is intake grows stays =
     let base = engine_base (ports_by key (owner_in key (2 * n + 1))) (at key (2 * n + 1)).engine (at key (2 * n + 1)).intake e follows.grows.engine in
     let more = grows.laid in
     record {
@@ -62,8 +63,8 @@ intake_base ports None None i g h = absurd h
 intake_base ports None (Some x) i g h = came_less x.waits i.waits ports (λ port. (h.ports port).count)
 
 -- the word of an intake to which so many more came
-pub brought_word : (key : LayoutView) (word : ℕ) (i j : IntakeView) (more : ℕ) → Follows key word (an_intake i) → came_to j.waits (ports_by key (owner_in key word)) ≡ came_to i.waits (ports_by key (owner_in key word)) + more
+pub brought_word : {laws : Laws} (key : LayoutView) (word : ℕ) (i j : IntakeView) (more : ℕ) → Follows laws key word (an_intake i) → came_to j.waits (ports_by key (owner_in key word)) ≡ came_to i.waits (ports_by key (owner_in key word)) + more
     → tally_since key word (an_intake i) + more ≡ tally_since key word (an_intake j)
-brought_word key word i j more follows came =
+brought_word {laws} key word i j more follows came =
     let base = intake_base (ports_by key (owner_in key word)) (at key word).engine (at key word).intake i follows.grows.engine follows.grows.intake in
     omega (arith, came, base)

@@ -1,4 +1,5 @@
 -- What the answers of the calls on a node say of what the seat knows.
+use Rattle.mg_calc.specs.Rules.{Laws}
 use Rattle.std.proofs.Common.{◌≡◌, ℕ, zero, suc, ◌+◌, ◌*◌, ◌<◌, ◌≤◌, Bool, true, List, [], ◌∷◌, length, length-drop, drop, map, All, Option, Some, None, option_map, IfSome, slice_get, slice_index_or, inl, inr, refl, ap, sym, subst, ◌∙◌, arith, if◌then◌else◌, nat_lt}
 use Rattle.std.proofs.lemmas.Bool.{ltb-true, cases_Bool, false≢true}
 use Rattle.std.proofs.lemmas.List.{nil_from_length}
@@ -96,44 +97,44 @@ may_close role claimed i h = end_by i.claimed i.waits h
 
 -- Claims.
 
-full : (job : LoggedJob) (n : ℕ) (e : EngineView) → LawfulEngine job (of_node n) e → e.in_flight ≤ length e.window → claimed_to e ≡ e.laid + e.in_flight
+full : {laws : Laws} (job : LoggedJob laws) (n : ℕ) (e : EngineView) → LawfulEngine job (of_node n) e → e.in_flight ≤ length e.window → claimed_to e ≡ e.laid + e.in_flight
 unfolding LawfulEngine
-full job n e h room = (let contexts = h.contexts in omega (arith, contexts, room))
+full {laws} job n e h room = (let contexts = h.contexts in omega (arith, contexts, room))
 
-claim_says : {X : Type 0} (job : LoggedJob) (n : ℕ) (r : Claimed X) (e f : EngineView) (i k : IntakeView) → LawfulEngine job (of_node n) e → Claims {C = X} r e f i k → ClaimSays r f k
-claim_says job n (Work w) e f i k h c = tt
-claim_says job n Answered e f i k h c = tt
-claim_says job n NotReady e f i k h c =
+claim_says : {laws : Laws} {X : Type 0} (job : LoggedJob laws) (n : ℕ) (r : Claimed X) (e f : EngineView) (i k : IntakeView) → LawfulEngine job (of_node n) e → Claims {C = X} r e f i k → ClaimSays r f k
+claim_says {laws} job n (Work w) e f i k h c = tt
+claim_says {laws} job n Answered e f i k h c = tt
+claim_says {laws} job n NotReady e f i k h c =
     subst (λ (x : EngineView). IsStill x.role k) (sym c.2.same_engine) (subst (λ (x : IntakeView). IsStill e.role x) (sym c.2.same_intake) (is_still e.role i c.1))
-claim_says job n InFlightFull e f i k h c = subst (λ (x : EngineView). claimed_to x ≡ x.laid + x.in_flight) (sym c.3.same_engine) (full job n e h c.2)
-claim_says job n Draining e f i k h c =
+claim_says {laws} job n InFlightFull e f i k h c = subst (λ (x : EngineView). claimed_to x ≡ x.laid + x.in_flight) (sym c.3.same_engine) (full job n e h c.2)
+claim_says {laws} job n Draining e f i k h c =
     let some = c.2 in
     subst (λ (x : EngineView). (x.laid < claimed_to x) × MayClose x.role x.claimed k) (sym c.3.same_engine)
     (subst (λ (x : IntakeView). (e.laid < claimed_to e) × MayClose e.role e.claimed x) (sym c.3.same_intake) (omega (arith, some), may_close e.role e.claimed i c.1))
-claim_says job n Ended e f i k h c = subst (λ (x : EngineView). has_ended x ≡ true) (sym c.1.same_engine) c.0
-claim_says job n OutOfMemory e f i k h c = tt
+claim_says {laws} job n Ended e f i k h c = subst (λ (x : EngineView). has_ended x ≡ true) (sym c.1.same_engine) c.0
+claim_says {laws} job n OutOfMemory e f i k h c = tt
 
-answer_tells : {X : Type 0} (r : Claimed X) (n : ℕ) (v w : View) → HasClaimed r n v w → AnswerTells r n v w
-answer_tells (Work x) n v w h = tt
-answer_tells Answered n v w h =
+answer_tells : {laws : Laws} {X : Type 0} (r : Claimed X) (n : ℕ) (v w : View) → HasClaimed laws r n v w → AnswerTells r n v w
+answer_tells {laws} (Work x) n v w h = tt
+answer_tells {laws} Answered n v w h =
     let before = most_below sets_in sets_rise (2 * n + 1) (an_engine h.engine) v.seen h.found.engine_found.sights in
     let laid = ap (λ (x : EngineView). x.laid) h.claims.1.now in
     let now : h.engine_now.laid ≤ known_sets w n = subst (λ (x : View). h.engine_now.laid ≤ known_sets x n) (sym h.left) (last_counts sets_in (2 * n + 1) (an_engine h.engine_now) (sight (2 * n) (an_intake h.intake_now) ∷ v.seen)) in
     omega (arith, before, laid, now)
-answer_tells NotReady n v w h = tt
-answer_tells InFlightFull n v w h = tt
-answer_tells Draining n v w h = tt
-answer_tells Ended n v w h = tt
-answer_tells OutOfMemory n v w h = tt
+answer_tells {laws} NotReady n v w h = tt
+answer_tells {laws} InFlightFull n v w h = tt
+answer_tells {laws} Draining n v w h = tt
+answer_tells {laws} Ended n v w h = tt
+answer_tells {laws} OutOfMemory n v w h = tt
 
-pub claim_tells : {X : Type 0} (result : Tried (Claimed X)) (key : LayoutView) (n : ℕ) (v w : View) → v.key ≡ key → n < nodes_in key → FitsSome key → TriesClaim result n v w → ClaimTells result n v w
-claim_tells (Done r) key n v w key-is within exists h =
-    let fits = subst FitsSome (sym key-is) exists in
+pub claim_tells : {laws : Laws} {X : Type 0} (result : Tried (Claimed X)) (key : LayoutView) (n : ℕ) (v w : View) → v.key ≡ key → n < nodes_in key → FitsSome laws key → TriesClaim laws result n v w → ClaimTells result n v w
+claim_tells {laws} (Done r) key n v w key-is within exists h =
+    let fits = subst (FitsSome laws) (sym key-is) exists in
     let lawful = lawful_e v.key fits.job n (an_engine h.engine) h.engine fits.fits h.found.engine_found.follows (subst (λ (x : LayoutView). n < nodes_in x) (sym key-is) within) refl in (
       record { engine = h.engine_now; intake = h.intake_now; seen = ap (λ (x : View). x.seen) h.left; says = claim_says fits.job n r h.engine h.engine_now h.intake h.intake_now lawful h.claims },
       answer_tells r n v w h,
     )
-claim_tells (Busy word) key n v w key-is within exists h = tt
+claim_tells {laws} (Busy word) key n v w key-is within exists h = tt
 
 -- Raises.
 
@@ -161,8 +162,8 @@ rose : (o : Option ℕ) (outputs : List (Backlog Plain)) → any_moved_by o outp
 rose None outputs moved = absurd (false≢true moved)
 rose (Some b) outputs moved = rose_by b outputs moved
 
-pub raise_tells : (result : Tried Bool) (n : ℕ) (v w : View) → TriesRaise result n v w → RaiseTells result n v w
-raise_tells (Done moved) n v w h =
+pub raise_tells : (laws : Laws) (result : Tried Bool) (n : ℕ) (v w : View) → TriesRaise laws result n v w → RaiseTells result n v w
+raise_tells laws (Done moved) n v w h =
     let e = h.engine in let i = h.intake in
     let f : EngineView = advanced e i.waits in
     let later = sight (2 * n) (an_intake i) ∷ v.seen in
@@ -182,12 +183,12 @@ raise_tells (Done moved) n v w h =
           let rises = at.1 in
           record { output = at.0; rose = omega (arith, before, higher, rises) }),
     )
-raise_tells (Busy word) n v w h = tt
+raise_tells laws (Busy word) n v w h = tt
 
 -- Runs.
 
-pub run_tells : (result : Tried ℕ) (most n : ℕ) (v w : View) → TriesRun result most n v w → RunTells result most n v w
-run_tells (Done done) most n v w h =
+pub run_tells : (laws : Laws) (result : Tried ℕ) (most n : ℕ) (v w : View) → TriesRun laws result most n v w → RunTells result most n v w
+run_tells laws (Done done) most n v w h =
     let before = most_below sets_in sets_rise (2 * n + 1) (an_engine h.engine) v.seen h.found.engine_found.sights in
     let all = h.committed in
     record {
@@ -196,14 +197,14 @@ run_tells (Done done) most n v w h =
       seen = ap (λ (x : View). x.seen) h.left;
       says = record { committed = omega (arith, before, all); ends = h.ends };
     }
-run_tells (Busy word) most n v w h = tt
+run_tells laws (Busy word) most n v w h = tt
 
 -- Commits.
 
-pub commit_tells : {X : Type 0} (result : TriedCommit X) (key : LayoutView) (outcome : OutcomeView) (v w : View) → v.key ≡ key → outcome.work.node < nodes_in key → FitsSome key → TriesCommit result outcome v w → CommitTells result outcome v w
-commit_tells (Laid n) key outcome v w key-is within exists h =
+pub commit_tells : {laws : Laws} {X : Type 0} (result : TriedCommit X) (key : LayoutView) (outcome : OutcomeView) (v w : View) → v.key ≡ key → outcome.work.node < nodes_in key → FitsSome laws key → TriesCommit laws result outcome v w → CommitTells result outcome v w
+commit_tells {laws} (Laid n) key outcome v w key-is within exists h =
     let node = outcome.work.node in
-    let fits = subst FitsSome (sym key-is) exists in
+    let fits = subst (FitsSome laws) (sym key-is) exists in
     let lawful = lawful_e v.key fits.job node (an_engine h.engine) h.engine fits.fits h.found.follows (subst (λ (x : LayoutView). node < nodes_in x) (sym key-is) within) refl in
     let before = most_below sets_in sets_rise (2 * node + 1) (an_engine h.engine) v.seen h.found.sights in
     let laid = h.commits.counted in
@@ -214,5 +215,5 @@ commit_tells (Laid n) key outcome v w key-is within exists h =
       more = omega (arith, before, laid, now);
       past = commit_past fits.job node outcome n h.engine h.engine_now lawful h.out h.commits;
     }
-commit_tells (CommitBusy word o) key outcome v w key-is within exists h = tt
-commit_tells (CommitNone o) key outcome v w key-is within exists h = tt
+commit_tells {laws} (CommitBusy word o) key outcome v w key-is within exists h = tt
+commit_tells {laws} (CommitNone o) key outcome v w key-is within exists h = tt

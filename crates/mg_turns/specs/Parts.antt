@@ -4,6 +4,7 @@ use Rattle.std.specs.Coded.{Coded, code_by, coded×, coded_list, coded_option}
 use Rattle.mg_value.specs.Payload.{Plain}
 use Rattle.mg_stream.specs.Pool.{Backlog}
 use Rattle.mg_stream.specs.Queue.{count_of}
+use Rattle.mg_calc.specs.Rules.{Laws}
 use Rattle.mg_calc.specs.declared.plan.Plan.{Plan}
 use Rattle.mg_calc.specs.declared.edge.Edge.{Edge}
 use Rattle.mg_calc.specs.declared.plan_stream.Producer.{Producer}
@@ -94,18 +95,18 @@ pub record PartGrows (p q : PartView) : Type 0 where
   pub intake : Grown IntakeGrows p.intake q.intake
 
 -- a part is lawful for a job, as the intake or the engine of its owner
-abbrev pub LawfulPart : LoggedJob → Whose → PartView → Type 0
-LawfulPart job (intake_of consumer) p = (i : IntakeView) → p.intake ≡ Some i → LawfulIntake job consumer i
-LawfulPart job (engine_of owner) p = (e : EngineView) → p.engine ≡ Some e → LawfulEngine job owner e
+abbrev pub LawfulPart : {laws : Laws} → LoggedJob laws → Whose → PartView → Type 0
+LawfulPart {laws} job (intake_of consumer) p = (i : IntakeView) → p.intake ≡ Some i → LawfulIntake job consumer i
+LawfulPart {laws} job (engine_of owner) p = (e : EngineView) → p.engine ≡ Some e → LawfulEngine job owner e
 
 -- the parts of a layout are lawful for a job
-pub record Fits (job : LoggedJob) (key : LayoutView) : Type 0 where
+pub record Fits {laws : Laws} (job : LoggedJob laws) (key : LayoutView) : Type 0 where
   pub plan : job.job.plan ≡ key.plan
   pub parts : (word : ℕ) → word < length key.parts → LawfulPart job (owner_in key word) (at key word)
 
 -- there is a job for which the parts of a layout are lawful
-pub record FitsSome (key : LayoutView) : Type 0 where
-  pub job : LoggedJob
+pub record FitsSome (laws : Laws) (key : LayoutView) : Type 0 where
+  pub job : LoggedJob laws
   pub fits : Fits job key
 
 -- how many packets an engine has given up at each output
@@ -155,9 +156,9 @@ claimed_by (Some i) = i.claimed
 
 -- a part is what became of the one that was shared at this word: it is of its kind and lawful for each job for which all that was shared
 -- is, its standing grew, and it gave up no packet. Of the collector's intake, whose word is behind those of the nodes, nothing was claimed.
-pub record Follows (key : LayoutView) (word : ℕ) (p : PartView) : Type 0 where
+pub record Follows (laws : Laws) (key : LayoutView) (word : ℕ) (p : PartView) : Type 0 where
   pub kind : IsKind (owner_in key word) p
-  pub lawful : (job : LoggedJob) → Fits job key → LawfulPart job (owner_in key word) p
+  pub lawful : (job : LoggedJob laws) → Fits job key → LawfulPart job (owner_in key word) p
   pub grows : PartGrows (at key word) p
   pub gave_up : gone_in p ≡ gone_in (at key word)
   pub first : first_in p ≡ first_in (at key word)

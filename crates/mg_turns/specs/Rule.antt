@@ -7,6 +7,7 @@ use Rattle.atomic_table.specs.Table.{State}
 use Rattle.mg_node.specs.Views.{WorkView}
 pub use Rattle.mg_turns.specs.Sums.{total}
 use Rattle.mg_turns.specs.Parts.{PartView, LayoutView, at, nodes_in, tally_since, owner_in, IsKind, PartGrows, Follows, AgreeParts, IsOutIn, IsMissingIn, source_at, JoinedParts, EdgesFit}
+use Rattle.mg_calc.specs.Rules.{Laws}
 use Rattle.mg_calc.specs.declared.edge.Edge.{Edge}
 use Rattle.mg_turns.specs.Turns.{Turn, Sight}
 use Rattle.mg_turns.specs.declared.view.View.{View}
@@ -25,8 +26,8 @@ abbrev pub word_of : LayoutView → ℕ → PartView → ℕ
 word_of key word p = doubled (tally_since key word p)
 
 -- the part of a free word is in its slot, the word has its tally, and it is what became of the part that was shared there
-abbrev pub Lies : LayoutView → List (maybe.Option (Option PartView)) → ℕ → ℕ → Type 0
-Lies key homes i w = (p : PartView) × (get_elem? homes i ≡ some (some (Some p))) × (w ≡ word_of key i p) × Follows key i p
+abbrev pub Lies : Laws → LayoutView → List (maybe.Option (Option PartView)) → ℕ → ℕ → Type 0
+Lies laws key homes i w = (p : PartView) × (get_elem? homes i ≡ some (some (Some p))) × (w ≡ word_of key i p) × Follows laws key i p
 
 -- a part is no less than what each of some sights of its word saw
 abbrev pub Sights : ℕ → PartView → List Sight → Type 0
@@ -84,7 +85,7 @@ pub record Linked (key : LayoutView) (homes : Homes) (views : List View) : Type 
   pub idle : (j : ℕ) (v : View) → get_elem? views j ≡ some v → v.portion ≡ 0 → v.work ≡ None
 
 -- what holds of the words, the slots and the views of a table
-pub record Orderly (key : LayoutView) (s : State (Option PartView) View) : Type 0 where
+pub record Orderly (laws : Laws) (key : LayoutView) (s : State (Option PartView) View) : Type 0 where
   pub wide : length s.words ≡ length s.homes
   pub long : length s.homes ≡ length key.parts
   pub few : 2 * nodes_in key < length key.parts
@@ -99,7 +100,7 @@ pub record Orderly (key : LayoutView) (s : State (Option PartView) View) : Type 
   -- half of a held word is the tally that its holder found
   pub tallies : (j k : ℕ) (v : View) (t : Turn) → get_elem? s.views j ≡ some v → get_elem? v.turns k ≡ some t → slice_index s.words t.word / 2 ≡ t.tally
   -- a free word is twice the tally of the part in its slot, which is what became of the one that was shared
-  pub free : (i : ℕ) → i < length s.homes → slice_index s.words i % 2 ≡ 0 → Lies key s.homes i (slice_index s.words i)
+  pub free : (i : ℕ) → i < length s.homes → slice_index s.words i % 2 ≡ 0 → Lies laws key s.homes i (slice_index s.words i)
   -- a slot is empty where its word is held
   pub taken : (i : ℕ) → i < length s.homes → slice_index s.words i % 2 ≡ 1 → get_elem? s.homes i ≡ some none
   -- no view saw more of a part than what stands in its slot
@@ -117,8 +118,8 @@ pub record Ready (key : LayoutView) : Type 0 where
   pub none : (n number : ℕ) → n < nodes_in key → IsMissingIn (at key (2 * n + 1)) number → ⊥
 
 -- the rule of a table that has the words of its parts alone
-abbrev pub Ruled : LayoutView → State (Option PartView) View → Type 0
-Ruled key s = Orderly key s × Linked key s.homes s.views
+abbrev pub Ruled : Laws → LayoutView → State (Option PartView) View → Type 0
+Ruled laws key s = Orderly laws key s × Linked key s.homes s.views
 
 -- every eighth word, from the first on, a number of them: the words of the parts stand eight apart in the table, so that those of two parts
 -- are never in one line of a cache, and the words between them are not used
@@ -131,5 +132,5 @@ abbrev pub parts_alone : LayoutView → State (Option PartView) View → State (
 parts_alone key s = record { words = each_eighth (length key.parts) s.words; homes = s.homes; views = s.views }
 
 -- the rule of a table
-abbrev pub RuledApart : LayoutView → State (Option PartView) View → Type 0
-RuledApart key s = (length s.words ≡ 8 * length key.parts) × Ruled key (parts_alone key s)
+abbrev pub RuledApart : Laws → LayoutView → State (Option PartView) View → Type 0
+RuledApart laws key s = (length s.words ≡ 8 * length key.parts) × Ruled laws key (parts_alone key s)

@@ -1,4 +1,5 @@
 -- What a seat knows of the words before a call and after it.
+use Rattle.mg_calc.specs.Rules.{Laws}
 use Rattle.std.specs.Prelude.{◌≡◌, ℕ, ◌+◌, ◌-◌, ◌*◌, ◌⊎◌, [], ◌∷◌, ◌++◌, Option, None, Some}
 use Rattle.mg_node.specs.Views.{IntakeView, WorkView, EngineView}
 use Rattle.mg_node.specs.Lawful.{Agree}
@@ -11,8 +12,8 @@ use Rattle.mg_turns.specs.declared.view.View.{View}
 
 -- a part that a call found at a word: it is what became of the part that was shared there, and no less than any sight that the seat had of
 -- it
-pub record Finds (v : View) (word : ℕ) (p : PartView) : Type 0 where
-  pub follows : Follows v.key word p
+pub record Finds (laws : Laws) (v : View) (word : ℕ) (p : PartView) : Type 0 where
+  pub follows : Follows laws v.key word p
   pub sights : Sights word p v.seen
 
 -- a sight of a word
@@ -21,10 +22,10 @@ sight word p = record { word = word; part = p }
 
 -- Of the two words that a call uses one was found held: the seat counts one more miss, and names the word. Where the call had taken the
 -- first turn by then, that part is back as it was found, and the seat has a sight of it.
-abbrev pub Missed : ℕ → ℕ → ℕ → View → View → Type 0
-Missed first second word v w =
+abbrev pub Missed : Laws → ℕ → ℕ → ℕ → View → View → Type 0
+Missed laws first second word v w =
     (((word ≡ first) ⊎ (word ≡ second)) × (w ≡ view v.key v.portion (v.misses + 1) v.splits (Some word) v.turns v.work v.seen))
-    ⊎ ((word ≡ second) × (p : PartView) × Finds v first p × (w ≡ view v.key v.portion (v.misses + 1) v.splits (Some second) v.turns v.work (sight first p ∷ v.seen)))
+    ⊎ ((word ≡ second) × (p : PartView) × Finds laws v first p × (w ≡ view v.key v.portion (v.misses + 1) v.splits (Some second) v.turns v.work (sight first p ∷ v.seen)))
 
 -- the view of a seat after a call that left this part at a word, and this work with the seat
 abbrev pub left_one : View → ℕ → PartView → Option WorkView → View
@@ -35,9 +36,9 @@ abbrev pub left_two : View → ℕ → PartView → ℕ → PartView → Option 
 left_two v word p other q work = view v.key v.portion v.misses v.splits v.missed v.turns work (sight word p ∷ sight other q ∷ v.seen)
 
 -- the engine and the intake of a node, as a call found them
-pub record FindsCell (v : View) (node : ℕ) (engine : EngineView) (intake : IntakeView) : Type 0 where
-  pub engine_found : Finds v (2 * node + 1) (an_engine engine)
-  pub intake_found : Finds v (2 * node) (an_intake intake)
+pub record FindsCell (laws : Laws) (v : View) (node : ℕ) (engine : EngineView) (intake : IntakeView) : Type 0 where
+  pub engine_found : Finds laws v (2 * node + 1) (an_engine engine)
+  pub intake_found : Finds laws v (2 * node) (an_intake intake)
   pub agree : Agree engine intake
 
 -- the view of a seat after a call that left the engine and the intake of a node like this

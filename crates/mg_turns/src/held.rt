@@ -3,19 +3,19 @@ ghost use Rattle.std.specs.Prelude.{◌≡◌, ◌+◌, ℕ, is_some, true, Some
 ghost use Rattle.mg_turns.specs.Rule.{doubled};
 
 use crate::Part;
-use mg_calc::Calculator;
+use mg_calc::NodeCalculator;
 use mg_node::{Engine, Intake};
 
 /// A part that is out of its slot, and its word as it is once the part is free again.
 #[derive(Drop)]
-pub(crate) struct Held<C: Calculator> {
+pub(crate) struct Held<C: NodeCalculator> {
     pub part: Part<C>,
     pub word: u64,
 }
 
 /// An engine and an intake that are out of their slots.
 #[derive(Drop)]
-pub(crate) struct Pair<C: Calculator> {
+pub(crate) struct Pair<C: NodeCalculator> {
     pub engine: Held<C>,
     pub intake: Held<C>,
 }
@@ -29,7 +29,7 @@ pub(crate) fn counted(word: u64, more: u64) -> u64
 
 /// The engine and the intake of a node that are out of their slots, with what their words were, and how many sets were laid then.
 #[derive(Drop)]
-pub(crate) struct HeldCell<C: Calculator> {
+pub(crate) struct HeldCell<C: NodeCalculator> {
     pub engine: Box<Engine<C>>,
     pub intake: Box<Intake>,
     pub engine_word: u64,
@@ -37,7 +37,7 @@ pub(crate) struct HeldCell<C: Calculator> {
     pub laid: u64,
 }
 
-impl<C: Calculator> Pair<C> {
+impl<C: NodeCalculator> Pair<C> {
     /// The cell of a pair of which one is an engine and the other an intake.
     pub fn into_cell(self) -> HeldCell<C>
         requires { (is_some self.engine.part.engine ≡ true) × (is_some self.intake.part.intake ≡ true) }

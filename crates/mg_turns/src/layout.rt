@@ -1,16 +1,16 @@
 use crate::Part;
-use mg_calc::{Calculator, Plan};
+use mg_calc::{NodeCalculator, Plan};
 use std::marker::Model;
 
 /// A plan and the parts of its net, each at the place of its word: with n nodes, the intake of node i at 2i and its engine at 2i + 1,
 /// the collector's intake at 2n, and the engine of graph input j at 2n + 1 + j.
 #[derive(Drop)]
-pub struct Layout<C: Calculator> {
+pub struct Layout<C: NodeCalculator> {
     pub(crate) plan: Plan,
     pub(crate) parts: Vec<Part<C>>,
 }
 
-impl<C: Calculator> Model for Layout<C> {
+impl<C: NodeCalculator> Model for Layout<C> {
     ghost use Rattle.mg_turns.specs.Parts.{LayoutView, layout_code};
 
     ghost Value = { LayoutView };
@@ -20,7 +20,7 @@ impl<C: Calculator> Model for Layout<C> {
     ghost view = { λ f. record { plan = f.plan; parts = f.parts.items } };
 }
 
-impl<C: Calculator> Layout<C> {
+impl<C: NodeCalculator> Layout<C> {
     ghost use Rattle.std.specs.Prelude.{◌≡◌};
 
     /// The layout of a plan and its parts.

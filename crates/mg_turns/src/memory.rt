@@ -7,12 +7,12 @@ ghost use Rattle.mg_turns.specs.Code.Ways.{way_of};
 use crate::room::Room;
 use crate::way::{Way, ways_of};
 use crate::{Layout, Part};
-use mg_calc::Calculator;
+use mg_calc::NodeCalculator;
 use std::alloc::{AllocError, Global};
 
 /// The memory for a table, taken before a part is moved.
 #[derive(Drop)]
-pub(crate) struct Rooms<C: Calculator> {
+pub(crate) struct Rooms<C: NodeCalculator> {
     pub words: Vec<u64>,
     pub ways: Vec<Way>,
     pub slots: Vec<Option<Part<C>>>,
@@ -31,7 +31,7 @@ fn free_words(alloc: Global, size: usize) -> Result<Vec<u64>, AllocError>
     Ok(words)
 }
 
-impl<C: Calculator> Rooms<C> {
+impl<C: NodeCalculator> Rooms<C> {
     /// Takes the memory for a table of the parts of a layout.
     pub fn new(alloc: Global, layout: &Layout<C>) -> Result<Rooms<C>, AllocError>
         requires ready { Ready layout.now }
@@ -56,7 +56,7 @@ impl<C: Calculator> Rooms<C> {
 }
 
 /// Moves the parts into `slots`, which is empty and has room for all.
-pub(crate) fn all_in<C: Calculator>(
+pub(crate) fn all_in<C: NodeCalculator>(
     slots: Vec<Option<Part<C>>>,
     parts: Vec<Part<C>>,
 ) -> Vec<Option<Part<C>>>
@@ -71,7 +71,7 @@ pub(crate) fn all_in<C: Calculator>(
 }
 
 /// Moves the parts out of the slots that have one, into `parts`, which is empty and has room for all.
-pub(crate) fn all_out<C: Calculator>(
+pub(crate) fn all_out<C: NodeCalculator>(
     slots: Vec<Option<Part<C>>>,
     parts: Vec<Part<C>>,
 ) -> Vec<Part<C>>

@@ -1,18 +1,18 @@
 ghost use Rattle.std.specs.Prelude.{◌≡◌, Some, true, is_some};
 ghost use Rattle.mg_turns.specs.Parts.{an_engine, an_intake};
 
-use mg_calc::Calculator;
+use mg_calc::NodeCalculator;
 use mg_node::{Engine, Intake};
 use std::marker::Model;
 
 /// What lies in a slot: an engine or an intake. Each is on the heap, so that little is moved when it leaves its slot.
 #[derive(Drop)]
-pub struct Part<C: Calculator> {
+pub struct Part<C: NodeCalculator> {
     engine: Option<Box<Engine<C>>>,
     intake: Option<Box<Intake>>,
 }
 
-impl<C: Calculator> Model for Part<C> {
+impl<C: NodeCalculator> Model for Part<C> {
     ghost use Rattle.std.specs.Prelude.{option_map};
     ghost use Rattle.mg_turns.specs.Parts.{PartView, part_code};
 
@@ -23,7 +23,7 @@ impl<C: Calculator> Model for Part<C> {
     ghost view = { λ p. record { engine = option_map (λ b. b.value) p.engine; intake = option_map (λ b. b.value) p.intake } };
 }
 
-impl<C: Calculator> Part<C> {
+impl<C: NodeCalculator> Part<C> {
     /// The part of an engine.
     pub fn of_engine(engine: Box<Engine<C>>) -> Part<C>
         ensures { result ≡ an_engine engine.value }

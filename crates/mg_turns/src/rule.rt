@@ -7,7 +7,7 @@ use crate::layout::Layout;
 use crate::part::Part;
 use crate::view::View;
 use atomic_table::{Join, Play, Split, TableRule};
-use mg_calc::Calculator;
+use mg_calc::NodeCalculator;
 use std::marker::{Brand, PhantomData};
 use std::snapshot::Snapshot;
 
@@ -17,10 +17,10 @@ pub type Key<C> = Snapshot<Layout<C>>;
 /// The rule of a table of parts.
 pub struct Law;
 
-impl<C: Calculator> TableRule<Option<Part<C>>, View, Key<C>> for Law {
+impl<C: NodeCalculator> TableRule<Option<Part<C>>, View, Key<C>> for Law {
     ghost use Rattle.mg_turns.specs.Rule.{RuledApart, first_view};
 
-    ghost holds = { λ key. RuledApart key.value };
+    ghost holds = { λ key. RuledApart C.laws key.value };
 
     ghost first = { λ key. first_view key.value };
 }
@@ -28,14 +28,14 @@ impl<C: Calculator> TableRule<Option<Part<C>>, View, Key<C>> for Law {
 /// The step that tries to take the turn of a word.
 pub struct Try;
 
-impl<C: Calculator> Play<Option<Part<C>>, View> for Try {
-    ghost then = { tried };
+impl<C: NodeCalculator> Play<Option<Part<C>>, View> for Try {
+    ghost then = { tried C.laws };
 }
 
 /// The step that looks at a word.
 pub struct Look;
 
-impl<C: Calculator> Play<Option<Part<C>>, View> for Look {
+impl<C: NodeCalculator> Play<Option<Part<C>>, View> for Look {
     ghost then = { looked };
 }
 
@@ -55,7 +55,7 @@ pub struct Give<N: After> {
     of: PhantomData<N>,
 }
 
-impl<C: Calculator, N: After> Play<Option<Part<C>>, View> for Give<N> {
+impl<C: NodeCalculator, N: After> Play<Option<Part<C>>, View> for Give<N> {
     ghost then = { λ st m r n. n ≡ (N.after, rest m.1) };
 }
 

@@ -8,16 +8,16 @@ ghost use Rattle.mg_turns.specs.Rounds.{Stops};
 ghost use Rattle.mg_turns.specs.Told.{committed_in, RunEnds};
 ghost use Rattle.mg_turns.specs.Code.Running.{Returned, CellSteps, IsCommitted, IsDone, IsPutBack, SomeRound, RanRounds, NoneCommitted};
 
-use mg_calc::Calculator;
+use mg_calc::NodeCalculator;
 use mg_edge::Gate;
 use mg_node::{Claimed, Engine, Intake, Outcome, Work, perform};
 use std::alloc::Global;
 
 /// Commits a work, or puts it back into its window where there is no memory. Returns whether the work is committed.
-fn take_in<C: Calculator>(engine: &mut Engine<C>, outcome: Outcome<C>) -> bool
+fn take_in<C: NodeCalculator>(engine: &mut Engine<C>, outcome: Outcome<C>) -> bool
     requires out { IsOut engine.old outcome.work }
-    requires lawful { SomeJobHasEngine engine.old }
-    ensures returned { Returned engine.old engine.new outcome.work.number (λ job. LawfulOutcome job outcome) }
+    requires lawful { SomeJobHasEngine C.laws engine.old }
+    ensures returned { Returned C.laws engine.old engine.new outcome.work.number (λ job. LawfulOutcome job outcome) }
     ensures came { MatchBool result (IsCommitted outcome engine.old engine.new) (engine.new ≡ shelved engine.old outcome) }
     ensures counts { MatchBool result (committed_in engine.new ≡ committed_in engine.old + cond (is_some outcome.answer) 1 0) (NoneCommitted engine.old engine.new) }
 {
@@ -31,17 +31,17 @@ fn take_in<C: Calculator>(engine: &mut Engine<C>, outcome: Outcome<C>) -> bool
 }
 
 /// Performs a work, and commits it. Where there is no memory the work is put back into its window. Returns whether it is committed.
-fn run_work<C: Calculator, G: Gate>(
+fn run_work<C: NodeCalculator, G: Gate>(
     alloc: Global,
     engine: &mut Engine<C>,
     work: Work<C>,
     gate: &G,
 ) -> bool
     requires out { IsOut engine.old work }
-    requires some { SomeJobHas work }
-    requires lawful { SomeJobHasEngine engine.old }
-    ensures returned { Returned engine.old engine.new work.number (λ job. LawfulWork job work) }
-    ensures came { MatchBool result (IsDone work engine.old engine.new) (IsPutBack work engine.old engine.new) }
+    requires some { SomeJobHas C.laws work }
+    requires lawful { SomeJobHasEngine C.laws engine.old }
+    ensures returned { Returned C.laws engine.old engine.new work.number (λ job. LawfulWork job work) }
+    ensures came { MatchBool result (IsDone C.laws work engine.old engine.new) (IsPutBack C.laws work engine.old engine.new) }
     ensures counts { MatchBool result (committed_in engine.new ≡ committed_in engine.old + 1) (NoneCommitted engine.old engine.new) }
 {
     match perform(alloc, work, gate) {
@@ -54,15 +54,15 @@ fn run_work<C: Calculator, G: Gate>(
 }
 
 /// Does the next work of a cell, and returns whether there was one and it is committed.
-fn run_set<C: Calculator, G: Gate>(
+fn run_set<C: NodeCalculator, G: Gate>(
     alloc: Global,
     engine: &mut Engine<C>,
     intake: &mut Intake,
     gate: &G,
 ) -> bool
-    requires { AreCell engine.old intake.old }
-    ensures steps { CellSteps engine.old engine.new intake.old intake.new }
-    ensures ran { MatchBool result (SomeRound engine.old engine.new intake.old intake.new) (Stops engine.old engine.new intake.old intake.new) }
+    requires { AreCell C.laws engine.old intake.old }
+    ensures steps { CellSteps C.laws engine.old engine.new intake.old intake.new }
+    ensures ran { MatchBool result (SomeRound C.laws engine.old engine.new intake.old intake.new) (Stops C.laws engine.old engine.new intake.old intake.new) }
     ensures counts { MatchBool result (committed_in engine.new ≡ committed_in engine.old + 1) ((committed_in engine.new ≡ committed_in engine.old) × RunEnds engine.new intake.new) }
 {
     match engine.claim(intake) {
@@ -77,16 +77,16 @@ fn run_set<C: Calculator, G: Gate>(
 }
 
 /// Does at most `most` works of a cell, one after the other, and returns how many.
-pub(crate) fn run_sets<C: Calculator, G: Gate>(
+pub(crate) fn run_sets<C: NodeCalculator, G: Gate>(
     alloc: Global,
     engine: &mut Engine<C>,
     intake: &mut Intake,
     most: u32,
     gate: &G,
 ) -> u32
-    requires { AreCell engine.old intake.old }
-    ensures steps { CellSteps engine.old engine.new intake.old intake.new }
-    ensures ran { RanRounds result most engine.old engine.new intake.old intake.new }
+    requires { AreCell C.laws engine.old intake.old }
+    ensures steps { CellSteps C.laws engine.old engine.new intake.old intake.new }
+    ensures ran { RanRounds C.laws result most engine.old engine.new intake.old intake.new }
     ensures counts { committed_in engine.new ≡ committed_in engine.old + result }
     ensures ends { result < most → RunEnds engine.new intake.new }
 {

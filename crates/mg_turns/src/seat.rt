@@ -7,14 +7,14 @@ use crate::part::Part;
 use crate::rule::{Amount, Both, Cut};
 use crate::shared::SharedNet;
 use crate::view::View;
-use mg_calc::Calculator;
+use mg_calc::NodeCalculator;
 use std::marker::Brand;
 
 pub(crate) type Seat<C> = atomic_table::Seat<Option<Part<C>>, View>;
 
 /// A seat: what a thread calls a shared net with. Between two calls it has no turn.
 #[derive(Drop)]
-pub struct NetSeat<C: Calculator> {
+pub struct NetSeat<C: NodeCalculator> {
     pub(crate) seat: Seat<C>,
     pub(crate) portion: u64,
     pub(crate) misses: u64,
@@ -31,7 +31,11 @@ pub(crate) fn one_more(count: u64) -> u64
 }
 
 // Hands over a part of a seat's portion to a new seat. The call picks how much, as `N`.
-fn cut<C: Calculator, N: Amount>(net: &SharedNet<C>, seat: &mut Seat<C>, _portion: u64) -> Seat<C>
+fn cut<C: NodeCalculator, N: Amount>(
+    net: &SharedNet<C>,
+    seat: &mut Seat<C>,
+    _portion: u64,
+) -> Seat<C>
     requires { (_portion ≡ N.amount) × (seat.old.table_id ≡ net.now.table.shared.table_id) × (0 < N.amount) × (N.amount < seat.old.me.0.portion) }
     ensures seat { (seat.new.table_id ≡ seat.old.table_id) × (seat.new.me ≡ (kept_after N.amount seat.old.me.0, seat.old.me.1)) }
     ensures new { (result.table_id ≡ seat.old.table_id) × (result.me ≡ (handed N.amount seat.old.me.0, [])) }
@@ -39,7 +43,7 @@ fn cut<C: Calculator, N: Amount>(net: &SharedNet<C>, seat: &mut Seat<C>, _portio
     net.table.shared.split_seat::<Cut<N>>(seat)
 }
 
-impl<C: Calculator> NetSeat<C> {
+impl<C: NodeCalculator> NetSeat<C> {
     ghost use Rattle.mg_turns.specs.Calls.{IsSeatOf, view_of};
 
     /// How often this seat found a word held, at most `u64::MAX`.

@@ -16,14 +16,14 @@ use crate::view::View;
 use crate::way::{Way, ways_of};
 use crate::{Layout, Part};
 use atomic_table::{Refused, Table};
-use mg_calc::Calculator;
+use mg_calc::NodeCalculator;
 use std::alloc::Global;
 use std::snapshot::Snapshot;
 
 /// A net that threads share. Each of its parts has a word, which says whether a seat has the part's turn, and a slot. The words stand
 /// eight apart, so that those of two parts are never in one line of a cache.
 #[derive(Drop)]
-pub struct SharedNet<C: Calculator> {
+pub struct SharedNet<C: NodeCalculator> {
     pub(crate) table: Table<Option<Part<C>>, View, Key<C>, Law, Global>,
     nodes: u32,
     size: usize,
@@ -36,7 +36,7 @@ pub struct SharedNet<C: Calculator> {
     ghost led: { ways.items ≡ map (way_of table.shared.key.value.plan) table.shared.key.value.plan.edges },
 }
 
-impl<C: Calculator> SharedNet<C> {
+impl<C: NodeCalculator> SharedNet<C> {
     ghost use Rattle.mg_turns.specs.Rule.{first_view, Ready};
     ghost use Rattle.mg_turns.specs.Ends.{Unshared};
     ghost use Rattle.mg_turns.specs.Calls.{key_of, view_of, IsSeatOf};
@@ -104,7 +104,7 @@ impl<C: Calculator> SharedNet<C> {
         requires of { IsSeatOf self seat }
         requires whole { (view_of seat).portion ≡ 2 ^ 32 }
         requires free { (view_of seat).work ≡ None }
-        ensures { Unshared (key_of self) (view_of seat) result.items }
+        ensures { Unshared C.laws (key_of self) (view_of seat) result.items }
     {
         let SharedNet {
             table,

@@ -1,4 +1,4 @@
-use mg_calc::Calculator;
+use mg_calc::NodeCalculator;
 use mg_node::Outcome;
 
 /// What a call gives that needs turns: its answer, or the number of the word whose turn another seat has.
@@ -13,7 +13,7 @@ pub enum Tried<T> {
 /// What a commit gives: how many sets or calls were laid; or the outcome again, where another seat has the turn, or where there is no
 /// memory.
 #[derive(Drop)]
-pub enum TriedCommit<C: Calculator> {
+pub enum TriedCommit<C: NodeCalculator> {
     /// The work is committed, and this many sets or calls were laid with it.
     Laid(u32),
     /// Another seat has the turn of this word; the outcome comes back.
@@ -24,7 +24,7 @@ pub enum TriedCommit<C: Calculator> {
 
 /// What shelving gives: the work stands in its window; or the outcome again, where another seat has the turn.
 #[derive(Drop)]
-pub enum TriedShelf<C: Calculator> {
+pub enum TriedShelf<C: NodeCalculator> {
     /// The work stands in its window.
     Shelved,
     /// Another seat has the turn of this word; the outcome comes back.

@@ -5,6 +5,7 @@ use Rattle.std.proofs.lemmas.List.{length-map}
 use Rattle.std.proofs.lemmas.Option.{slice_get_within}
 use Rattle.mg_value.specs.Payload.{Plain}
 use Rattle.mg_stream.specs.Pool.{Backlog}
+use Rattle.mg_calc.specs.Rules.{Laws}
 use Rattle.mg_calc.specs.declared.edge.Edge.{Edge}
 use Rattle.mg_calc.specs.declared.plan_stream.PlanStream.{PlanStream}
 use Rattle.mg_calc.specs.declared.plan_stream.Producer.{Producer}
@@ -33,7 +34,7 @@ use Rattle.mg_turns.proofs.Appends.{gone_get}
 use Rattle.mg_workers.specs.Woven.{woven, layout_of}
 use Rattle.mg_workers.proofs.Places.{woven_long, intake_slot, engine_slot, input_slot, word_kind}
 
-module _ (job : LoggedJob) (ps : PartsView) (h : ArePartsOf job ps) where
+module _ {laws : Laws} (job : LoggedJob laws) (ps : PartsView) (h : ArePartsOf job ps) where
   abbrev n : ℕ
   n = length ps.plan.nodes
 
@@ -94,7 +95,7 @@ module _ (job : LoggedJob) (ps : PartsView) (h : ArePartsOf job ps) where
         (λ j e here f is. subst (λ (v : EngineView). LawfulEngine job (of_input j) v) (some_same (Some e) e f refl is) (h.inputs j e here));
   }
 
-  pub some_fits : FitsSome key
+  pub some_fits : FitsSome laws key
   some_fits = record { job = job; fits = fits }
 
   -- Edges.

@@ -5,6 +5,7 @@ use Rattle.std.proofs.lemmas.Option.{slice_get_within, slice_get-get_or}
 use Rattle.mg_value.specs.Payload.{Plain}
 use Rattle.mg_stream.specs.Pool.{Backlog}
 use Rattle.mg_stream.specs.Queue.{count_of}
+use Rattle.mg_calc.specs.Rules.{Laws}
 use Rattle.mg_calc.specs.declared.edge.Edge.{Edge}
 use Rattle.mg_node.specs.Views.{IntakeView, WorkView, OutcomeView, EngineView}
 use Rattle.mg_node.specs.Job.{LoggedJob}
@@ -58,7 +59,7 @@ count_grows (Some x) i port g = (g.ports port).count
 taken_at : (is : List IntakeView) (n : ℕ) (i : IntakeView) → slice_get is n ≡ Some i → unwrap_or (option_map (λ (x : IntakeView). x.claimed) (slice_get is n)) 0 ≡ i.claimed
 taken_at is n i there = ap (λ (o : Option IntakeView). unwrap_or (option_map (λ (x : IntakeView). x.claimed) o) 0) there
 
-module _ (job : LoggedJob) (ps : PartsView) (h : ArePartsOf job ps) (v : View) (parts : List PartView) (u : Unshared (layout_of ps) v parts) where
+module _ {laws : Laws} (job : LoggedJob laws) (ps : PartsView) (h : ArePartsOf job ps) (v : View) (parts : List PartView) (u : Unshared laws (layout_of ps) v parts) where
   abbrev n : ℕ
   n = length ps.plan.nodes
 
@@ -227,9 +228,9 @@ shelved_gone : (engine : EngineView) (works : List WorkView) → gones (all_shel
 shelved_gone engine [] = refl
 shelved_gone engine (work ∷ works) = shelved_gone engine works
 
-pub apart_gone : (before : NetView) (ps : PartsView) (place : ℕ) (engine : EngineView) → StandsForSome before → HasComeApart before ps → slice_get ps.engines place ≡ Some engine → HadGone before.engines place engine
+pub apart_gone : {laws : Laws} (before : NetView) (ps : PartsView) (place : ℕ) (engine : EngineView) → StandsForSome laws before → HasComeApart before ps → slice_get ps.engines place ≡ Some engine → HadGone before.engines place engine
 unfolding StandsFor
-apart_gone before ps place engine some apart there =
+apart_gone {laws} before ps place engine some apart there =
     let back = apart.puts_back in
     elim (order_of place (length before.plan.nodes)) [
       | inl less ↦
@@ -244,8 +245,8 @@ apart_gone before ps place engine some apart there =
 
 -- What came apart and is put together is what it was.
 
-pub same_became : (before now : NetView) (ps : PartsView) → StandsForSome before → HasComeApart before ps → IsPutTogether ps now → ((job : LoggedJob) → StandsFor job before → StandsFor job now) → Became before now
-same_became before now ps some apart put stands = record {
+pub same_became : {laws : Laws} (before now : NetView) (ps : PartsView) → StandsForSome laws before → HasComeApart before ps → IsPutTogether ps now → ((job : LoggedJob laws) → StandsFor job before → StandsFor job now) → Became laws before now
+same_became {laws} before now ps some apart put stands = record {
   stands = stands;
   taken = ap taken_out put.made ∙ ap (λ (p : PartsView). unwrap_or (option_map (λ (x : IntakeView). x.claimed) (slice_get p.intakes (length p.plan.nodes))) 0) apart.others;
   plan = ap (λ (x : NetView). x.plan) put.made ∙ ap (λ (p : PartsView). p.plan) apart.others;
@@ -258,19 +259,19 @@ same_became before now ps some apart put stands = record {
 
 -- What a shared net became while threads had it.
 
-module _ (before : NetView) (some : StandsForSome before) (key : LayoutView) (kept : KeptView) (s : IsSharedOf before key kept) (v : View) (parts : List PartView) (u : Unshared key v parts) where
-  own : Unshared (layout_of s.parts) v parts
-  own = subst (λ (k : LayoutView). Unshared k v parts) s.shared u
+module _ {laws : Laws} (before : NetView) (some : StandsForSome laws before) (key : LayoutView) (kept : KeptView) (s : IsSharedOf laws before key kept) (v : View) (parts : List PartView) (u : Unshared laws key v parts) where
+  own : Unshared laws (layout_of s.parts) v parts
+  own = subst (λ (k : LayoutView). Unshared laws k v parts) s.shared u
 
   abbrev back : PartsView
   back = record { plan = kept.plan; engines = engines_in parts; intakes = intakes_in parts; rest = kept.rest }
 
-  pub of_job : (job : LoggedJob) → StandsFor job before → ArePartsOf job back
+  pub of_job : (job : LoggedJob laws) → StandsFor job before → ArePartsOf job back
   of_job job stands =
       subst (λ (k : KeptView). ArePartsOf job (record { plan = k.plan; engines = engines_in parts; intakes = intakes_in parts; rest = k.rest })) (sym s.stays)
       (parts_back job s.parts (s.of job stands) v parts own)
 
-  pub are_back : AreParts back
+  pub are_back : AreParts laws back
   are_back = record { job = some.job; parts_of = of_job some.job some.stands }
 
   pub kinds_of : (nodes : ℕ) → nodes ≡ nodes_in key → AreKinds nodes parts
@@ -288,10 +289,10 @@ module _ (before : NetView) (some : StandsForSome before) (key : LayoutView) (ke
       ∙ ap (λ (k : KeptView). woven (length k.plan.nodes) (engines_in parts) (intakes_in parts)) s.stays
       ∙ sym (woven_again some.job s.parts (s.of some.job some.stands) v parts own)
 
-  pub given_back : (net : NetView) → IsPutTogether back net → Unshared key v (woven (length net.plan.nodes) net.engines net.intakes)
-  given_back net put = subst (λ (xs : List PartView). Unshared key v xs) (sym (woven_now net put)) u
+  pub given_back : (net : NetView) → IsPutTogether back net → Unshared laws key v (woven (length net.plan.nodes) net.engines net.intakes)
+  given_back net put = subst (λ (xs : List PartView). Unshared laws key v xs) (sym (woven_now net put)) u
 
-  pub became : (net : NetView) → IsPutTogether back net → ((job : LoggedJob) → ArePartsOf job back → StandsFor job net) → Became before net
+  pub became : (net : NetView) → IsPutTogether back net → ((job : LoggedJob laws) → ArePartsOf job back → StandsFor job net) → Became laws before net
   became net put stands = record {
     stands = λ job h. stands job (of_job job h);
     taken = ap taken_out put.made

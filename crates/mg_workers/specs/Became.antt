@@ -1,4 +1,5 @@
 -- What becomes of a net that threads share.
+use Rattle.mg_calc.specs.Rules.{Laws}
 use Rattle.std.specs.Prelude.{◌≡◌, ℕ}
 use Rattle.mg_node.specs.Job.{LoggedJob}
 use Rattle.mg_sched.specs.Views.{NetView}
@@ -9,8 +10,8 @@ use Rattle.mg_sched.specs.ComesApart.{PartsView, HasComeApart, IsPutTogether}
 
 -- A net is what another one became: it stands for each job for which that one stood. As many sets were taken of its outputs, its plan and
 -- the calculators that no node uses are the same, and no packet of a stream was given up in between.
-pub record Became (before now : NetView) : Type 0 where
-  pub stands : (job : LoggedJob) → StandsFor job before → StandsFor job now
+pub record Became (laws : Laws) (before now : NetView) : Type 0 where
+  pub stands : (job : LoggedJob laws) → StandsFor job before → StandsFor job now
   pub taken : taken_out now ≡ taken_out before
   pub plan : now.plan ≡ before.plan
   pub spare : now.spare ≡ before.spare

@@ -1,4 +1,4 @@
-use mg_calc::{Calculator, Plan};
+use mg_calc::{NodeCalculator, Plan};
 use mg_node::{Engine, Intake};
 use mg_sched::{IndexedPlan, NetRest};
 use std::marker::Model;
@@ -6,14 +6,14 @@ use std::marker::Model;
 /// What stays aside while a net is shared: its plan, what doesn't go into the shared table, and the two lists in which its parts lay, which
 /// are empty and have room for them again.
 #[derive(Drop)]
-pub struct Kept<C: Calculator> {
+pub struct Kept<C: NodeCalculator> {
     pub(crate) plan: IndexedPlan,
     pub(crate) engines: Vec<Engine<C>>,
     pub(crate) intakes: Vec<Intake>,
     pub(crate) rest: NetRest<C>,
 }
 
-impl<C: Calculator> Model for Kept<C> {
+impl<C: NodeCalculator> Model for Kept<C> {
     ghost use Rattle.std.specs.Prelude.{◌≡◌, ◌+◌, ◌≤◌, [], length, vec_capacity};
     ghost use Rattle.mg_workers.specs.Shared.{KeptView, kept_code};
 
@@ -28,7 +28,7 @@ impl<C: Calculator> Model for Kept<C> {
         × (length k.plan.nodes + 1 ≤ vec_capacity k.intakes) };
 }
 
-impl<C: Calculator> Kept<C> {
+impl<C: NodeCalculator> Kept<C> {
     ghost use Rattle.std.specs.Prelude.{◌≡◌};
 
     /// The plan of the net.

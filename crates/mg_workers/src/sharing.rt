@@ -15,7 +15,7 @@ ghost use Rattle.mg_workers.specs.Became.{Became, CameBack};
 use crate::kept::Kept;
 use crate::unweaving::unweave;
 use crate::weaving::weave;
-use mg_calc::{Calculator, Plan, TryClone};
+use mg_calc::{NodeCalculator, Plan, TryClone};
 use mg_node::{Engine, Intake};
 use mg_sched::{Net, NetParts};
 use mg_turns::{Layout, NetSeat, Part, SharedNet};
@@ -25,7 +25,7 @@ use std::alloc::{AllocError, Global};
 pub type Shared<C> = (SharedNet<C>, NetSeat<C>, Kept<C>);
 
 // Returns an empty list with room for the parts of a net. More than 2^32 parts count as want of memory: there are no more words.
-fn make_room<C: Calculator>(
+fn make_room<C: NodeCalculator>(
     alloc: Global,
     engines: usize,
     intakes: usize,
@@ -41,7 +41,7 @@ fn make_room<C: Calculator>(
 }
 
 // Shares engines and intakes, whose lists are emptied. Where there is no memory nothing changes.
-fn share_parts<C: Calculator>(
+fn share_parts<C: NodeCalculator>(
     alloc: Global,
     plan: &Plan,
     engines: &mut Vec<Engine<C>>,
@@ -78,21 +78,21 @@ fn share_parts<C: Calculator>(
 
 /// Shares a net whose nodes are begun. The works in its work queues stand in their windows again, as they are. The first seat has the whole
 /// portion, 2^32. Where there is no memory the net comes back, as it was but for these works.
-pub fn share<C: Calculator>(alloc: Global, net: Net<C>) -> Result<Shared<C>, Net<C>>
+pub fn share<C: NodeCalculator>(alloc: Global, net: Net<C>) -> Result<Shared<C>, Net<C>>
     requires running { IsRunning net }
-    requires stands { StandsForSome net }
+    requires stands { StandsForSome C.laws net }
 
     // The seat is one of the net, and has no work.
-    ensures shared { IfOk result (λ r. IsShared r.0 r.1) }
+    ensures shared { IfOk result (λ r. IsShared C.laws r.0 r.1) }
     ensures whole { IfOk result (λ r. (view_of r.1).portion ≡ 2 ^ 32) }
 
     // What is shared and what is kept aside are what the net came apart into.
-    ensures of { IfOk result (λ r. IsSharedOf net (key_of r.0) r.2) }
+    ensures of { IfOk result (λ r. IsSharedOf C.laws net (key_of r.0) r.2) }
 
     // Its parts are lawful for each job for which the net stood.
-    ensures jobs { IfOk result (λ r. (job : LoggedJob) → StandsFor job net → Fits job (key_of r.0)) }
+    ensures jobs { IfOk result (λ r. (job : LoggedJob C.laws) → StandsFor job net → Fits job (key_of r.0)) }
     ensures back { IfErr result (λ n. CameBack net n) }
-    ensures became { IfErr result (λ n. IsRunning n × Became net n) }
+    ensures became { IfErr result (λ n. IsRunning n × Became C.laws net n) }
 {
     let NetParts {
         plan,
@@ -121,17 +121,17 @@ pub fn share<C: Calculator>(alloc: Global, net: Net<C>) -> Result<Shared<C>, Net
 }
 
 /// Puts a shared net together again. Every other seat was joined into this one, so that it has the whole portion, and it has no work.
-pub fn unshare<C: Calculator>(net: SharedNet<C>, seat: NetSeat<C>, kept: Kept<C>) -> Net<C>
-    requires shared { IsShared net seat }
+pub fn unshare<C: NodeCalculator>(net: SharedNet<C>, seat: NetSeat<C>, kept: Kept<C>) -> Net<C>
+    requires shared { IsShared C.laws net seat }
     requires whole { (view_of seat).portion ≡ 2 ^ 32 }
-    requires kept { (before : NetView) × StandsForSome before × IsSharedOf before (key_of net) kept }
+    requires kept { (before : NetView) × StandsForSome C.laws before × IsSharedOf C.laws before (key_of net) kept }
     ensures running { IsRunning result }
 
     // Its parts are those that were shared, and each has come at least as far as the seat saw.
-    ensures parts { Unshared (key_of net) (view_of seat) (layout_of (parts_in result)).parts }
+    ensures parts { Unshared C.laws (key_of net) (view_of seat) (layout_of (parts_in result)).parts }
 
     // The net is one that the shared net may have become.
-    ensures became { (before : NetView) → StandsForSome before → IsSharedOf before (key_of net) kept → Became before result }
+    ensures became { (before : NetView) → StandsForSome C.laws before → IsSharedOf C.laws before (key_of net) kept → Became C.laws before result }
 {
     let Kept {
         plan,

@@ -4,7 +4,7 @@ ghost use Rattle.mg_node.specs.Lawful.{Owner};
 ghost use Rattle.mg_turns.specs.Words.{intake_of, engine_of, whose};
 ghost use Rattle.mg_workers.specs.Code.Weaving.{engines_in, intakes_in, AreKinds};
 
-use mg_calc::Calculator;
+use mg_calc::NodeCalculator;
 use mg_node::{Engine, Intake};
 use mg_turns::Part;
 
@@ -18,7 +18,7 @@ fn is_intake(nodes: u32, word: usize) -> bool
 
 /// Moves parts, which stand in the order of their words, to the lists of engines and of intakes. What these lists still have, the last ones
 /// first, stands behind the moved ones then, in its own order. There is room for all.
-pub(crate) fn unweave<C: Calculator>(
+pub(crate) fn unweave<C: NodeCalculator>(
     nodes: u32,
     parts: Vec<Part<C>>,
     engines: &mut Vec<Engine<C>>,

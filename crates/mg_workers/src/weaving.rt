@@ -4,7 +4,7 @@ ghost use Rattle.mg_node.specs.Views.{IntakeView, EngineView};
 ghost use Rattle.mg_workers.specs.Woven.{woven};
 ghost use Rattle.mg_workers.specs.Code.Weaving.{IsWovenFrom};
 
-use mg_calc::Calculator;
+use mg_calc::NodeCalculator;
 use mg_node::{Engine, Intake};
 use mg_turns::Part;
 use std::alloc::Global;
@@ -27,7 +27,7 @@ fn box_last<T>(alloc: Global, items: &mut Vec<T>) -> Option<Box<T>>
 
 // Moves the parts of the nodes from their lists, which have the last ones first: of each node its intake and its engine. Tells whether
 // there was memory for all.
-fn weave_nodes<C: Calculator>(
+fn weave_nodes<C: NodeCalculator>(
     alloc: Global,
     nodes: u32,
     engines: &mut Vec<Engine<C>>,
@@ -54,7 +54,7 @@ fn weave_nodes<C: Calculator>(
 }
 
 // Moves the engines of the graph inputs from their list, behind all other parts. Tells whether there was memory for all.
-fn weave_inputs<C: Calculator>(
+fn weave_inputs<C: NodeCalculator>(
     alloc: Global,
     engines: &mut Vec<Engine<C>>,
     parts: &mut Vec<Part<C>>,
@@ -74,7 +74,7 @@ fn weave_inputs<C: Calculator>(
 
 /// Moves the engines and the intakes of a net to `parts`, in the order of their words. Tells whether there was memory for all. If there
 /// wasn't for one, those before it are parts, and the others lie in their lists, the last ones first.
-pub(crate) fn weave<C: Calculator>(
+pub(crate) fn weave<C: NodeCalculator>(
     alloc: Global,
     nodes: u32,
     engines: &mut Vec<Engine<C>>,

@@ -3,7 +3,7 @@ use Rattle.std.specs.Prelude.{◌≡◌, ◌≢◌, ◌≤◌, ◌⊎◌, ℕ, f
 use Rattle.mg_calc.specs.declared.law.Law.{Law}
 use Rattle.mg_calc.specs.declared.law.Law.TheVariants.{Loopback}
 use Rattle.mg_calc.specs.declared.shape.OuterShape.{OuterShape}
-use Rattle.mg_calc.specs.Shape.{ParametersFit, IsShapeOf, IsLimiter}
+use Rattle.mg_calc.specs.Shape.{ParametersFit, IsStated, IsShapeOf, IsLimiter}
 use Rattle.mg_calc.specs.Plan.{MayHavePolicy}
 use Rattle.mg_check.specs.Drafts.{DraftView}
 
@@ -25,14 +25,15 @@ pub record HasFlight (d : DraftView) : Type 0 where
 abbrev pub IsBackPort : Law → ℕ → Type 0
 IsBackPort rule port = ((port ≡ 0) × (rule ≡ Loopback)) ⊎ ((port ≡ 1) × IsLimiter rule)
 
--- The draft's law has parameters in their ranges, its shape is its law's, it has a policy that its law may have, and a
--- back edge only where one may be.
+-- The draft's law has parameters in their ranges, its shape is its law's, it has a policy that its law may have, a calculator that is
+-- handed in where its law is stated, and a back edge only where one may be.
 pub record IsSound (d : DraftView) : Type 0 where
   pub names : HasNames d
   pub parameters : ParametersFit d.law
   pub shape : IsShapeOf d.law d.shape
   pub flight : HasFlight d
   pub policy : MayHavePolicy d.law d.policy
+  pub stated : IsStated d.law → IsSome d.box_number
   pub back : IfSome d.back (IsBackPort d.law)
 
 -- The calculator that is handed in has the draft's law and shape.

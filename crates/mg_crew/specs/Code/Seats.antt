@@ -1,7 +1,8 @@
 -- What each call of a worker keeps: its seat at the net, and its seat at the levels.
 use Rattle.std.specs.Prelude.{◌≡◌, ◌≤◌, length, All, Contains}
+use Rattle.mg_calc.specs.Rules.{Laws}
 use Rattle.mg_calc.specs.Plan.{HasEachOnce}
-use Rattle.mg_calc.specs.declared.calculator.Calculator.{Ghosts}
+use Rattle.mg_calc.specs.declared.node_calculator.NodeCalculator.{Ghosts}
 use Rattle.mg_levels.specs.Levels.{order_of}
 use Rattle.mg_node.specs.Job.{LoggedJob}
 use Rattle.mg_node.specs.Lawful.{LawfulWork, LawfulOutcome}
@@ -16,12 +17,12 @@ use Rattle.mg_crew.specs.declared.shop.Tools.{Tools}
 use Rattle.mg_crew.specs.Code.Places.{IsPlaceAt}
 
 -- an outcome is lawful for each job for which the net's parts are lawful
-abbrev pub FitsOutcome : LayoutView → OutcomeView → Type 0
-FitsOutcome key outcome = (job : LoggedJob) → Fits job key → LawfulOutcome job outcome
+abbrev pub FitsOutcome : Laws → LayoutView → OutcomeView → Type 0
+FitsOutcome laws key outcome = (job : LoggedJob laws) → Fits job key → LawfulOutcome job outcome
 
 -- a work is lawful for each job for which the net's parts are lawful
-abbrev pub FitsWork : LayoutView → WorkView → Type 0
-FitsWork key work = (job : LoggedJob) → Fits job key → LawfulWork job work
+abbrev pub FitsWork : Laws → LayoutView → WorkView → Type 0
+FitsWork laws key work = (job : LoggedJob laws) → Fits job key → LawfulWork job work
 
 -- the sources that stand in the chart are nodes of the levels
 abbrev pub HasSources : Tools → Type 0
@@ -37,18 +38,18 @@ pub record AreToolsOf {X : Type 0} (net : SharedNet X) (tools : Tools) : Type 0 
   pub sources : HasSources tools
 
 -- a worker has a seat of a net and a place at its levels, and it has no work
-pub record IsWithoutWork {X : Type 0} {g : Ghosts X} (net : SharedNet X) (tools : Tools) (seat : NetSeat X g) (place : Place) : Type 0 where
-  pub shared : IsShared net seat
+pub record IsWithoutWork (laws : Laws) {X : Type 0} {g : Ghosts X} (net : SharedNet X) (tools : Tools) (seat : NetSeat X g) (place : Place) : Type 0 where
+  pub shared : IsShared laws net seat
   pub fits : AreToolsOf net tools
   pub placed : IsPlaceAt tools.levels place
 
 -- after a call a worker has as much of the portion as before, and no work
-pub record StaysAtWork {X : Type 0} {g : Ghosts X} (net : SharedNet X) (tools : Tools) (before now : NetSeat X g) (place : Place) : Type 0 where
-  pub stays : StaysShared net before now
+pub record StaysAtWork (laws : Laws) {X : Type 0} {g : Ghosts X} (net : SharedNet X) (tools : Tools) (before now : NetSeat X g) (place : Place) : Type 0 where
+  pub stays : StaysShared laws net before now
   pub placed : IsPlaceAt tools.levels place
 
 -- a seat has the work of this outcome, the outcome is lawful, and the seat has as much of the portion as before
-pub record HasWork {X : Type 0} {g : Ghosts X} (net : SharedNet X) (before now : NetSeat X g) (outcome : OutcomeView) : Type 0 where
-  pub has : IsSharedWith net now outcome.work
-  pub lawful : FitsOutcome (key_of net) outcome
+pub record HasWork (laws : Laws) {X : Type 0} {g : Ghosts X} (net : SharedNet X) (before now : NetSeat X g) (outcome : OutcomeView) : Type 0 where
+  pub has : IsSharedWith laws net now outcome.work
+  pub lawful : FitsOutcome laws (key_of net) outcome
   pub portion : (view_of now).portion ≡ (view_of before).portion

@@ -3,11 +3,12 @@ use Rattle.std.specs.Prelude.{◌≡◌, ◌⊎◌, ℕ, Bool, List, [], Some, s
 use Rattle.mg_edge.specs.Edge.{SourceTold, SinkTold}
 use Rattle.mg_value.specs.Payload.{Plain}
 use Rattle.mg_settled.specs.Prefix.{StreamPrefix}
+use Rattle.mg_calc.specs.Rules.{Laws}
 use Rattle.mg_calc.specs.declared.inputs.Inputs.{Inputs}
 use Rattle.mg_calc.specs.declared.plan.Plan.{Plan}
 use Rattle.mg_calc.specs.declared.plan_node.PlanNode.{PlanNode}
 use Rattle.mg_calc.specs.Shape.{IsOuter}
-use Rattle.mg_calc.specs.Told.{CalculatorTold}
+use Rattle.mg_calc.specs.Told.{BoxTold}
 use Rattle.mg_calc.specs.Equations.{Job, IsSolution}
 use Rattle.mg_feed.specs.declared.feed_end.FeedEnd.{FeedEnd}
 use Rattle.mg_feed.specs.declared.feed_end.BatchEnd.{BatchEnd}
@@ -41,21 +42,21 @@ pub record TellsNet (net : NetView) (outcomes : Outcomes) : Type 0 where
 -- Calculators.
 
 -- the calculator of a node comes back with all the calls that its node has in a solution
-pub record CalculatorComesBack (job : LoggedJob) (streams : List (StreamPrefix Plain)) (node : PlanNode) (place : ℕ) (net : NetView) : Type 0 where
-  pub told : CalculatorTold
+pub record CalculatorComesBack {laws : Laws} (job : LoggedJob laws) (streams : List (StreamPrefix Plain)) (node : PlanNode) (place : ℕ) (net : NetView) : Type 0 where
+  pub told : BoxTold
   pub there : slice_get (given_back net) place ≡ Some told
   pub had : HadCalls job streams node told
 
 -- each calculator that is handed in and that a node uses comes back with all the calls that its node has in a solution of a job
-pub record HadAllOf (job : LoggedJob) (net : NetView) : Type 0 where
+pub record HadAllOf {laws : Laws} (job : LoggedJob laws) (net : NetView) : Type 0 where
   pub streams : List (StreamPrefix Plain)
   pub solution : IsSolution job.job streams
   pub each : (number place : ℕ) (node : PlanNode) → slice_get job.job.plan.nodes number ≡ Some node → node.box_number ≡ Some place → IsOuter node.law
       → CalculatorComesBack job streams node place net
 
 -- a net stood for some job with these calculators, and may have been wound up since
-pub record StoodWith (boxes : List CalculatorTold) (net : NetView) : Type 0 where
-  pub job : LoggedJob
+pub record StoodWith (laws : Laws) (boxes : List BoxTold) (net : NetView) : Type 0 where
+  pub job : LoggedJob laws
   pub stood : StoodFor job net
   pub boxes_are : job.boxes ≡ boxes
 
@@ -70,26 +71,26 @@ abbrev pub since : SourceTold → RunDevices → RunDevices
 since source devices = record devices { input = device source devices.input.now }
 
 -- A net was run: the answer of the job of all that was given was written, and its nodes' calculators had their calls.
-pub record HasEnded {B : Type 0} (gives : Giving B) (writes : Writing B) (form : OutputForm) (report : Bool) (start : Start B) (status : Status) (source : SourceTold) (sink : SinkTold) (notes : Device SinkTold) (net : NetView) : Type 0 where
+pub record HasEnded (laws : Laws) {B : Type 0} (gives : Giving B) (writes : Writing B) (form : OutputForm) (report : Bool) (start : Start B) (status : Status) (source : SourceTold) (sink : SinkTold) (notes : Device SinkTold) (net : NetView) : Type 0 where
   pub batches : B
   pub end : FeedEnd
   pub inputs : Inputs
   pub given : gives start.batches batches start.plan start.source source (End end) inputs
-  pub wrote : writes batches form report (job_with start inputs).job end status (device start.sink sink) notes
-  pub had : HadAllOf (job_with start inputs) net
-  pub stood : StoodFor (job_with start inputs) net
+  pub wrote : writes batches form report (job_with laws start inputs).job end status (device start.sink sink) notes
+  pub had : HadAllOf (job_with laws start inputs) net
+  pub stood : StoodFor (job_with laws start inputs) net
 
 -- A run is over: the answer of the job of all that was given was written, and the calculators that were handed in had their calls.
-pub record HasRunBatches {B : Type 0} (gives : Giving B) (writes : Writing B) (form : OutputForm) (report : Bool) (began : B) (plan : Plan) (status : Status) (devices : RunDevices) (boxes : Device (List CalculatorTold)) : Type 0 where
+pub record HasRunBatches (laws : Laws) {B : Type 0} (gives : Giving B) (writes : Writing B) (form : OutputForm) (report : Bool) (began : B) (plan : Plan) (status : Status) (devices : RunDevices) (boxes : Device (List BoxTold)) : Type 0 where
   pub batches : B
   pub end : FeedEnd
   pub inputs : Inputs
   pub given : gives began batches plan devices.input.before devices.input.now (End end) inputs
-  pub wrote : writes batches form report (record { plan = plan; inputs = inputs }) end status devices.output devices.notes
-  pub had : HadCallsOf (record { plan = plan; inputs = inputs }) boxes
+  pub wrote : writes batches form report (record { plan = plan; inputs = inputs; laws = laws }) end status devices.output devices.notes
+  pub had : HadCallsOf (record { plan = plan; inputs = inputs; laws = laws }) boxes
 
 -- Memory ran out in a run once there was a net.
-pub record WasShort {B T : Type 0} (gives : Giving B) (reads_on : ReadingOn B) (has_told : TellingSets T) (form : OutputForm) (began : B) (plan : Plan) (devices : RunDevices) (boxes : Device (List CalculatorTold)) : Type 0 where
+pub record WasShort (laws : Laws) {B T : Type 0} (gives : Giving B) (reads_on : ReadingOn B) (has_told : TellingSets T) (form : OutputForm) (began : B) (plan : Plan) (devices : RunDevices) (boxes : Device (List BoxTold)) : Type 0 where
   pub batches : B
   pub end : BatchEnd
   pub at : SourceTold
@@ -97,11 +98,11 @@ pub record WasShort {B T : Type 0} (gives : Giving B) (reads_on : ReadingOn B) (
   pub given : gives began batches plan devices.input.before at end inputs
   pub last : (at ≡ devices.input.now) ⊎ (IsMore end × reads_on batches plan devices.input.before at devices.input.now)
   pub net : NetView
-  pub stood : StoodFor (logged plan inputs boxes.before) net
+  pub stood : StoodFor (logged laws plan inputs boxes.before) net
   pub back : boxes.now ≡ given_back net
-  pub front : IsToldSome has_told (record { plan = plan; inputs = inputs }) devices.output.before devices.output.now
-      ⊎ FrontIn form devices.output.before devices.output.now (record { plan = plan; inputs = inputs })
-  pub unended : IsMore end → IsToldSome has_told (record { plan = plan; inputs = inputs }) devices.output.before devices.output.now
+  pub front : IsToldSome has_told (record { plan = plan; inputs = inputs; laws = laws }) devices.output.before devices.output.now
+      ⊎ FrontIn form devices.output.before devices.output.now (record { plan = plan; inputs = inputs; laws = laws })
+  pub unended : IsMore end → IsToldSome has_told (record { plan = plan; inputs = inputs; laws = laws }) devices.output.before devices.output.now
 
 -- A first batch was given.
 pub record HasGiven {B : Type 0} (gives : Giving B) (began : B) (plan : Plan) (input : Device SourceTold) : Type 0 where
@@ -115,6 +116,6 @@ abbrev pub ReadFirst : {B : Type 0} → Giving B → ReadingOn B → B → Plan 
 ReadFirst gives reads_on began plan input = (input.now ≡ input.before) ⊎ (reads_on began plan input.before input.before input.now ⊎ HasGiven gives began plan input)
 
 -- a run over batches ended since memory ran out, before there was a net or later
-abbrev pub RanOutOfMemory : {B T : Type 0} → Giving B → ReadingOn B → TellingSets T → OutputForm → B → Plan → RunDevices → Device (List CalculatorTold) → Type 0
-RanOutOfMemory gives reads_on has_told form began plan devices boxes =
-    (ReadFirst gives reads_on began plan devices.input × WasNothing devices.output boxes) ⊎ WasShort gives reads_on has_told form began plan devices boxes
+abbrev pub RanOutOfMemory : (laws : Laws) {B T : Type 0} → Giving B → ReadingOn B → TellingSets T → OutputForm → B → Plan → RunDevices → Device (List BoxTold) → Type 0
+RanOutOfMemory laws gives reads_on has_told form began plan devices boxes =
+    (ReadFirst gives reads_on began plan devices.input × WasNothing devices.output boxes) ⊎ WasShort laws gives reads_on has_told form began plan devices boxes

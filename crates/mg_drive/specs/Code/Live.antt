@@ -4,6 +4,7 @@ use Rattle.std.specs.List.{flat_map, zip}
 use Rattle.mg_edge.specs.Edge.{SourceTold, SinkTold}
 use Rattle.mg_value.specs.Payload.{Plain}
 use Rattle.mg_settled.specs.Prefix.{StreamPrefix}
+use Rattle.mg_calc.specs.Rules.{Laws}
 use Rattle.mg_calc.specs.declared.inputs.Inputs.{Inputs}
 use Rattle.mg_calc.specs.declared.plan.Plan.{Plan}
 use Rattle.mg_calc.specs.Plan.{IsValidWithFree}
@@ -33,8 +34,8 @@ use Rattle.mg_drive.specs.Live.{LiveTells}
 -- The streams --
 
 -- the streams of a net that has come to rest solve the job for which it stands
-pub record AreRested (net : NetView) (streams : List (StreamPrefix Plain)) : Type 0 where
-  pub job : LoggedJob
+pub record AreRested (laws : Laws) (net : NetView) (streams : List (StreamPrefix Plain)) : Type 0 where
+  pub job : LoggedJob laws
   pub stands : StandsFor job net
   pub has_rested : HasRested job net
   pub solves : Solves job streams
@@ -102,7 +103,7 @@ EndsLive (End end) live = (live.ended ≡ Some end) × (live.rested ≡ true)
 
 -- What came to a core: what the batches of the plan gave together, now and by the end of each earlier batch, and what rounds over these
 -- laid, in which the free nodes have taken what they have.
-pub record LiveGives {B : Type 0} (gives : Giving B) (came : Coming B) (is_due : Due B) (began : B) (live : LiveView B) (core : Plan) (first source : SourceTold) (end : BatchEnd) (inputs : Inputs) : Type 0 where
+pub record LiveGives (laws : Laws) {B : Type 0} (gives : Giving B) (came : Coming B) (is_due : Due B) (began : B) (live : LiveView B) (core : Plan) (first source : SourceTold) (end : BatchEnd) (inputs : Inputs) : Type 0 where
   pub of : IsLiveOf is_due core live
   pub base : Inputs
   pub earlier : List Inputs
@@ -112,17 +113,17 @@ pub record LiveGives {B : Type 0} (gives : Giving B) (came : Coming B) (is_due :
   pub takens : List Taken
   pub taken : HaveTaken live.frees takens live.takers
   pub handed : handed_of live.takers ≡ map (λ s. length s.packets) (outputs_so_far live.frees takens)
-  pub so_far : SoFar (split_of live.whole) (base ∷ earlier) takens
+  pub so_far : SoFar laws (split_of live.whole) (base ∷ earlier) takens
   pub inputs_are : inputs ≡ core_inputs (split_of live.whole) base takens
-  pub rests : live.rested ≡ true → IsRound (split_of live.whole) base takens takens
+  pub rests : live.rested ≡ true → IsRound laws (split_of live.whole) base takens takens
   pub ends : EndsLive end live
 
 -- What came to a core, as a history: the newest entry is all that came to it, and nothing is said of the others.
-pub record LiveCame {B : Type 0} (gives : Giving B) (came : Coming B) (is_due : Due B) (began : B) (live : LiveView B) (core : Plan) (first source : SourceTold) (end : BatchEnd) (history : List Inputs) : Type 0 where
+pub record LiveCame (laws : Laws) {B : Type 0} (gives : Giving B) (came : Coming B) (is_due : Due B) (began : B) (live : LiveView B) (core : Plan) (first source : SourceTold) (end : BatchEnd) (history : List Inputs) : Type 0 where
   pub inputs : Inputs
   pub earlier : List Inputs
   pub history_is : history ≡ inputs ∷ earlier
-  pub given : LiveGives gives came is_due began live core first source end inputs
+  pub given : LiveGives laws gives came is_due began live core first source end inputs
 
 -- The next batch is due: the input has no end yet, and a round has done nothing since the last batch came.
 abbrev pub IsLiveDue : {B : Type 0} → LiveView B → Type 0

@@ -3,10 +3,11 @@ use Rattle.std.specs.Prelude.{◌≡◌, ◌⊎◌, ℕ, Bool, List, ◌∷◌, 
 use Rattle.mg_edge.specs.Edge.{SourceTold}
 use Rattle.mg_value.specs.Payload.{Plain}
 use Rattle.mg_settled.specs.Prefix.{StreamPrefix, empty_prefix}
+use Rattle.mg_calc.specs.Rules.{Laws}
 use Rattle.mg_calc.specs.declared.inputs.Inputs.{Inputs}
 use Rattle.mg_calc.specs.declared.plan.Plan.{Plan}
 use Rattle.mg_calc.specs.Equations.{IsJob, IsSolution}
-use Rattle.mg_calc.specs.Told.{CalculatorTold}
+use Rattle.mg_calc.specs.Told.{BoxTold}
 use Rattle.mg_free.specs.Core.{split_of}
 use Rattle.mg_free.specs.Rounds.{Taken, core_job}
 use Rattle.mg_live.specs.SoFar.{SoFar}
@@ -25,7 +26,7 @@ use Rattle.mg_drive.specs.Code.Live.{end_by}
 
 -- All batches were given and run: `base` is what they gave together, and `earlier` has what they had given by the end of each earlier
 -- batch.
-pub record HasRunLive {B : Type 0} (gives : Giving B) (came : Coming B) (form : OutputForm) (report : Bool) (began : B) (whole : Plan) (status : Status) (devices : RunDevices) (boxes : Device (List CalculatorTold)) : Type 0 where
+pub record HasRunLive (laws : Laws) {B : Type 0} (gives : Giving B) (came : Coming B) (form : OutputForm) (report : Bool) (began : B) (whole : Plan) (status : Status) (devices : RunDevices) (boxes : Device (List BoxTold)) : Type 0 where
   pub batches : B
   pub end : FeedEnd
   pub base : Inputs
@@ -35,7 +36,7 @@ pub record HasRunLive {B : Type 0} (gives : Giving B) (came : Coming B) (form : 
   pub first : Inputs
   pub later : List Inputs
   pub in_order : reverse (base ∷ earlier) ≡ first ∷ later
-  pub run : OneLive form report whole first later end status devices.output devices.notes boxes
+  pub run : OneLive laws form report whole first later end status devices.output devices.notes boxes
 
 -- what a further call of batches reads, where one may come
 abbrev pub ReadsWhere : {B : Type 0} → (B → Plan → Type 0) → Due B → ReadingOn B → ReadingOn B
@@ -43,7 +44,7 @@ ReadsWhere is_fresh is_due reads_on batches plan first at now = MayRead is_fresh
 
 -- Memory ran out once there was a net of the core: after a batch of the plan had come, with which the input may have ended, or while more
 -- was read behind it.
-pub record CoreShort {B T : Type 0} (came : Coming B) (reads_on : ReadingOn B) (has_told : TellingSets T) (form : OutputForm) (began : B) (whole : Plan) (devices : RunDevices) (boxes : Device (List CalculatorTold)) : Type 0 where
+pub record CoreShort (laws : Laws) {B T : Type 0} (came : Coming B) (reads_on : ReadingOn B) (has_told : TellingSets T) (form : OutputForm) (began : B) (whole : Plan) (devices : RunDevices) (boxes : Device (List BoxTold)) : Type 0 where
   pub batches : B
   pub ended : Option FeedEnd
   pub at : SourceTold
@@ -52,18 +53,18 @@ pub record CoreShort {B T : Type 0} (came : Coming B) (reads_on : ReadingOn B) (
   pub in_turn : came began batches whole devices.input.before at (end_by ended) (base ∷ earlier)
   pub last : (at ≡ devices.input.now) ⊎ (IsMore (end_by ended) × reads_on batches whole devices.input.before at devices.input.now)
   pub takens : List Taken
-  pub so_far : SoFar (split_of whole) (base ∷ earlier) takens
-  pub is_job : IsJob (core_job (split_of whole) base takens)
+  pub so_far : SoFar laws (split_of whole) (base ∷ earlier) takens
+  pub is_job : IsJob (core_job laws (split_of whole) base takens)
   pub streams : List (StreamPrefix Plain)
-  pub solution : IsSolution (core_job (split_of whole) base takens) streams
-  pub front : IsToldSome has_told (core_job (split_of whole) base takens) devices.output.before devices.output.now
-      ⊎ FrontIn form devices.output.before devices.output.now (core_job (split_of whole) base takens)
-  pub had : AllHad (split_of whole).core (KeepsAFront (core_job (split_of whole) base takens) streams) boxes
+  pub solution : IsSolution (core_job laws (split_of whole) base takens) streams
+  pub front : IsToldSome has_told (core_job laws (split_of whole) base takens) devices.output.before devices.output.now
+      ⊎ FrontIn form devices.output.before devices.output.now (core_job laws (split_of whole) base takens)
+  pub had : AllHad (split_of whole).core (KeepsAFront (core_job laws (split_of whole) base takens) streams) boxes
 
 -- a run of a core over batches of its plan ended since memory ran out, before there was a net or later
-abbrev pub HasRunLiveShort : {B T : Type 0} → Giving B → Coming B → ReadingOn B → TellingSets T → OutputForm → B → Plan → RunDevices → Device (List CalculatorTold) → Type 0
-HasRunLiveShort gives came reads_on has_told form began whole devices boxes =
-    (ReadFirst gives reads_on began whole devices.input × WasNothing devices.output boxes) ⊎ CoreShort came reads_on has_told form began whole devices boxes
+abbrev pub HasRunLiveShort : (laws : Laws) {B T : Type 0} → Giving B → Coming B → ReadingOn B → TellingSets T → OutputForm → B → Plan → RunDevices → Device (List BoxTold) → Type 0
+HasRunLiveShort laws gives came reads_on has_told form began whole devices boxes =
+    (ReadFirst gives reads_on began whole devices.input × WasNothing devices.output boxes) ⊎ CoreShort laws came reads_on has_told form began whole devices boxes
 
 -- the further inputs are these, with `count` streams of which nothing is known behind their streams
 pub record IsWidened (inputs more : Inputs) (count : ℕ) : Type 0 where

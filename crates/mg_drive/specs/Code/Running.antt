@@ -4,10 +4,11 @@ use Rattle.mg_edge.specs.Edge.{SourceTold, SinkTold}
 use Rattle.mg_value.specs.Payload.{Plain}
 use Rattle.mg_settled.specs.Prefix.{StreamPrefix}
 use Rattle.mg_settled.specs.Settled.{TimedSet}
+use Rattle.mg_calc.specs.Rules.{Laws}
 use Rattle.mg_calc.specs.declared.inputs.Inputs.{Inputs}
 use Rattle.mg_calc.specs.declared.plan.Plan.{Plan}
 use Rattle.mg_calc.specs.Equations.{Job, IsSolution}
-use Rattle.mg_calc.specs.Told.{CalculatorTold}
+use Rattle.mg_calc.specs.Told.{BoxTold}
 use Rattle.mg_feed.specs.declared.feed_end.FeedEnd.{FeedEnd}
 use Rattle.mg_feed.specs.declared.feed_end.BatchEnd.{BatchEnd}
 use Rattle.mg_feed.specs.declared.feed_end.BatchEnd.TheVariants.{More, End}
@@ -35,14 +36,14 @@ TellingSets T = T → Plan → SinkTold → SinkTold → List (TimedSet Plain) �
 -- come from
 pub record Start (B : Type 0) : Type 0 where
   pub plan : Plan
-  pub boxes : List CalculatorTold
+  pub boxes : List BoxTold
   pub source : SourceTold
   pub sink : SinkTold
   pub batches : B
 
 -- the job of a run over what was given so far
-abbrev pub job_with : {B : Type 0} → Start B → Inputs → LoggedJob
-job_with start inputs = logged start.plan inputs start.boxes
+abbrev pub job_with : (laws : Laws) {B : Type 0} → Start B → Inputs → LoggedJob laws
+job_with laws start inputs = logged laws start.plan inputs start.boxes
 
 -- the first `taken` sets of a job's solution were told
 pub record IsTold {T : Type 0} (has_told : TellingSets T) (job : Job) (first sink : SinkTold) (taken : ℕ) (telling : T) : Type 0 where
@@ -55,75 +56,75 @@ pub record IsToldSome {T : Type 0} (has_told : TellingSets T) (job : Job) (first
   pub is_told : IsTold has_told job first sink taken telling
 
 -- a net stands for some job, and those sets of the job's solution were told that were taken out of the net
-pub record IsSomeTold {T : Type 0} (has_told : TellingSets T) (sink : SinkTold) (net : NetView) (telling : T) : Type 0 where
-  pub job : LoggedJob
+pub record IsSomeTold (laws : Laws) {T : Type 0} (has_told : TellingSets T) (sink : SinkTold) (net : NetView) (telling : T) : Type 0 where
+  pub job : LoggedJob laws
   pub first : SinkTold
   pub stands : StandsFor job net
   pub is_told : IsTold has_told job.job first sink (taken_out net) telling
 
 -- A run over batches is under way: its net stands for the job of what they gave, and the last of them ended in this way.
-pub record IsUnderWay {B T : Type 0} (gives : Giving B) (has_told : TellingSets T) (start : Start B) (end : BatchEnd) (source : SourceTold) (sink : SinkTold) (batches : B) (telling : T) (net : NetView) : Type 0 where
+pub record IsUnderWay (laws : Laws) {B T : Type 0} (gives : Giving B) (has_told : TellingSets T) (start : Start B) (end : BatchEnd) (source : SourceTold) (sink : SinkTold) (batches : B) (telling : T) (net : NetView) : Type 0 where
   pub inputs : Inputs
   pub given : gives start.batches batches start.plan start.source source end inputs
-  pub stands : StandsFor (job_with start inputs) net
-  pub is_told : IsTold has_told (job_with start inputs).job start.sink sink (taken_out net) telling
+  pub stands : StandsFor (job_with laws start inputs) net
+  pub is_told : IsTold has_told (job_with laws start inputs).job start.sink sink (taken_out net) telling
 
 -- some run of a plan is under way with these batches and this net
-pub record IsSomeRun {B T : Type 0} (gives : Giving B) (has_told : TellingSets T) (plan : Plan) (end : BatchEnd) (source : SourceTold) (sink : SinkTold) (batches : B) (telling : T) (net : NetView) : Type 0 where
+pub record IsSomeRun (laws : Laws) {B T : Type 0} (gives : Giving B) (has_told : TellingSets T) (plan : Plan) (end : BatchEnd) (source : SourceTold) (sink : SinkTold) (batches : B) (telling : T) (net : NetView) : Type 0 where
   pub start : Start B
   pub plan_is : start.plan ≡ plan
-  pub under_way : IsUnderWay gives has_told start end source sink batches telling net
+  pub under_way : IsUnderWay laws gives has_told start end source sink batches telling net
 
 -- in some run with this net and these batches the next batch is due
-pub record IsSomeMore {B : Type 0} (gives : Giving B) (is_due : Due B) (source : SourceTold) (batches : B) (net : NetView) : Type 0 where
+pub record IsSomeMore (laws : Laws) {B : Type 0} (gives : Giving B) (is_due : Due B) (source : SourceTold) (batches : B) (net : NetView) : Type 0 where
   pub start : Start B
   pub inputs : Inputs
   pub given : gives start.batches batches start.plan start.source source More inputs
   pub due : is_due batches start.plan inputs
-  pub stands : StandsFor (job_with start inputs) net
+  pub stands : StandsFor (job_with laws start inputs) net
 
 -- A net went on with one more batch.
-pub record WentOn {B : Type 0} (gives : Giving B) (start : Start B) (end : BatchEnd) (source : SourceTold) (batches : B) (inputs : Inputs) (net : NetView) : Type 0 where
+pub record WentOn (laws : Laws) {B : Type 0} (gives : Giving B) (start : Start B) (end : BatchEnd) (source : SourceTold) (batches : B) (inputs : Inputs) (net : NetView) : Type 0 where
   pub all : Inputs
   pub given : gives start.batches batches start.plan start.source source end all
-  pub grows : Grows (job_with start inputs) (job_with start all)
-  pub stands : StandsFor (job_with start all) net
+  pub grows : Grows (job_with laws start inputs) (job_with laws start all)
+  pub stands : StandsFor (job_with laws start all) net
 
 -- all sets of a job's solution were taken out of a net
-abbrev pub IsAllTaken : LoggedJob → NetView → Type 0
-IsAllTaken job net = (streams : List (StreamPrefix Plain)) → Solves job streams → taken_out net ≡ length (settled_outputs net.plan streams)
+abbrev pub IsAllTaken : {laws : Laws} → LoggedJob laws → NetView → Type 0
+IsAllTaken {laws} job net = (streams : List (StreamPrefix Plain)) → Solves job streams → taken_out net ≡ length (settled_outputs net.plan streams)
 
 -- a net has come to rest for some job of a plan
-pub record SomeRested (plan : Plan) (net : NetView) : Type 0 where
-  pub job : LoggedJob
+pub record SomeRested (laws : Laws) (plan : Plan) (net : NetView) : Type 0 where
+  pub job : LoggedJob laws
   pub plan_is : job.job.plan ≡ plan
   pub stands : StandsFor job net
   pub has_rested : HasRested job net
 
 -- a net has come to rest over what batches gave for a plan, the last of which ended the input in this way
-pub record SomeRestedOf {B : Type 0} (gives : Giving B) (plan : Plan) (end : FeedEnd) (net : NetView) (batches : B) : Type 0 where
-  pub given : SomeGiven gives (End end) net batches
+pub record SomeRestedOf (laws : Laws) {B : Type 0} (gives : Giving B) (plan : Plan) (end : FeedEnd) (net : NetView) (batches : B) : Type 0 where
+  pub given : SomeGiven laws gives (End end) net batches
   pub plan_is : given.plan ≡ plan
 
 -- A run is over: its input has ended, its net has come to rest with that, and all sets were told.
-pub record RunIsOver {B T : Type 0} (gives : Giving B) (has_told : TellingSets T) (start : Start B) (end : FeedEnd) (source : SourceTold) (sink : SinkTold) (batches : B) (telling : T) (net : NetView) : Type 0 where
-  pub under_way : IsUnderWay gives has_told start (End end) source sink batches telling net
-  pub has_rested : HasRested (job_with start under_way.inputs) net
-  pub all : IsAllTaken (job_with start under_way.inputs) net
+pub record RunIsOver (laws : Laws) {B T : Type 0} (gives : Giving B) (has_told : TellingSets T) (start : Start B) (end : FeedEnd) (source : SourceTold) (sink : SinkTold) (batches : B) (telling : T) (net : NetView) : Type 0 where
+  pub under_way : IsUnderWay laws gives has_told start (End end) source sink batches telling net
+  pub has_rested : HasRested (job_with laws start under_way.inputs) net
+  pub all : IsAllTaken (job_with laws start under_way.inputs) net
 
 -- a front of the text by which a job's solution is told in a form was taken
 abbrev pub FrontIn : OutputForm → SinkTold → SinkTold → Job → Type 0
 FrontIn form first sink job = (streams : List (StreamPrefix Plain)) → IsSolution job streams → TookFront (device first sink) (output_in form job.plan streams)
 
 -- Memory ran out in a run: after a batch had come, or while more was read behind it.
-pub record IsShort {B T : Type 0} (gives : Giving B) (reads_on : ReadingOn B) (has_told : TellingSets T) (form : OutputForm) (start : Start B) (source : SourceTold) (sink : SinkTold) (net : NetView) : Type 0 where
+pub record IsShort (laws : Laws) {B T : Type 0} (gives : Giving B) (reads_on : ReadingOn B) (has_told : TellingSets T) (form : OutputForm) (start : Start B) (source : SourceTold) (sink : SinkTold) (net : NetView) : Type 0 where
   pub batches : B
   pub end : BatchEnd
   pub at : SourceTold
   pub inputs : Inputs
   pub given : gives start.batches batches start.plan start.source at end inputs
   pub last : (at ≡ source) ⊎ (IsMore end × reads_on batches start.plan start.source at source)
-  pub stood : StoodFor (job_with start inputs) net
-  pub front : IsToldSome has_told (job_with start inputs).job start.sink sink ⊎ FrontIn form start.sink sink (job_with start inputs).job
+  pub stood : StoodFor (job_with laws start inputs) net
+  pub front : IsToldSome has_told (job_with laws start inputs).job start.sink sink ⊎ FrontIn form start.sink sink (job_with laws start inputs).job
   -- while the input went on, sets were told and nothing else was written
-  pub unended : IsMore end → IsToldSome has_told (job_with start inputs).job start.sink sink
+  pub unended : IsMore end → IsToldSome has_told (job_with laws start inputs).job start.sink sink

@@ -17,7 +17,7 @@ use Rattle.mg_calc.specs.Outcome.{Outcome, shown, ended}
 use Rattle.mg_calc.specs.Equations.{Job, outcome_of}
 use Rattle.mg_equations.specs.declared.progress.Progress.{Progress}
 use Rattle.mg_equations.specs.Code.Seen.{seen, with_answers}
-use Rattle.mg_calc.specs.Law.{rules_of}
+use Rattle.mg_calc.specs.Law.{table_rules}
 
 -- What is kept of a node whose streams have been read.
 
@@ -63,8 +63,8 @@ pub record CanGoOn (node : PlanNode) (ss : List (StreamPrefix Plain)) (progress 
 -- a node was shown the settled sets of what was left of its streams, and has read the packets that go with them
 pub record IsShownMore (node : PlanNode) (ss : List (StreamPrefix Plain)) (before now : Progress) : Type 0 where
   pub outcome : seen now.outcome
-      ≡ ended (rules_of node.law) node.shape.offset (reach node.policy (without_first before.read.items ss))
-      (fold (shown (rules_of node.law) node.shape.offset) (seen before.outcome) (settled_sets node.policy (without_first before.read.items ss)))
+      ≡ ended (table_rules node.law) node.shape.offset (reach node.policy (without_first before.read.items ss))
+      (fold (shown (table_rules node.law) node.shape.offset) (seen before.outcome) (settled_sets node.policy (without_first before.read.items ss)))
   pub left : List (StreamPrefix Plain)
   pub are_left : AreLeft node.policy (length (settled_sets node.policy (without_first before.read.items ss))) (without_first before.read.items ss) left
   pub read : now.read.items ≡ gone_of ss left

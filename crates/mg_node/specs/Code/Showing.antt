@@ -2,6 +2,7 @@
 use Rattle.std.specs.Prelude.{◌≡◌, ℕ, ◌+◌, List, [], ◌∷◌, ◌++◌, map, Option, option_map, IfSome, IfNone, Result}
 use Rattle.mg_value.specs.Payload.{Plain}
 use Rattle.mg_settled.specs.Prefix.{StreamPrefix}
+use Rattle.mg_calc.specs.Rules.{Laws}
 use Rattle.mg_calc.specs.declared.cause.Cause.{Cause}
 use Rattle.mg_calc.specs.declared.emission.Laid.{Laid}
 use Rattle.mg_calc.specs.declared.node_fault.Phase.TheVariants.{Process}
@@ -17,11 +18,11 @@ work_at node number at context = record { node = node; number = number; phase = 
 
 -- a context's calculator was shown the context's set at a time: a work of that set in the context is thereby performed, whatever its
 -- node and number
-abbrev pub HasShown : ℕ → Result (List Laid) Cause → ContextView → ContextView → Type 0
-HasShown at answer before now = (node number : ℕ) → IsPerformed (work_at node number at before) (record { work = work_at node number at now; answer = answer })
+abbrev pub HasShown : Laws → ℕ → Result (List Laid) Cause → ContextView → ContextView → Type 0
+HasShown laws at answer before now = (node number : ℕ) → IsPerformed laws (work_at node number at before) (record { work = work_at node number at now; answer = answer })
 
 -- the last idle context takes the next set, and its calculator is shown that; where memory is short, only the set has changed there
-pub record Shows (answer : Option (Result (List Laid) Cause)) (at : ℕ) (engine engine_now : EngineView) (intake intake_now : IntakeView) : Type 0 where
+pub record Shows (laws : Laws) (answer : Option (Result (List Laid) Cause)) (at : ℕ) (engine engine_now : EngineView) (intake intake_now : IntakeView) : Type 0 where
   pub rest : List ContextView
   pub context : ContextView
   pub filled : ContextView
@@ -30,7 +31,7 @@ pub record Shows (answer : Option (Result (List Laid) Cause)) (at : ℕ) (engine
   pub now_is : engine_now ≡ record engine { idle = rest ++ context_now ∷ [] }
   pub told : filled.told ≡ context.told
   pub takes : Takes intake intake_now filled.set
-  pub shown : IfSome answer (λ a. HasShown at a filled context_now)
+  pub shown : IfSome answer (λ a. HasShown laws at a filled context_now)
   pub unchanged : IfNone answer (context_now ≡ filled)
 
 -- an answer to the set at a time is laid, whatever whole prefixes the outputs stood for

@@ -9,17 +9,17 @@ ghost use Rattle.mg_node.specs.Out.{KeepsOut, KeepsSetUp};
 use super::Engine;
 use crate::Intake;
 use crate::raising::{moves_one, never_raises, raise_all, raised_by, until_claimed};
-use mg_calc::Calculator;
+use mg_calc::NodeCalculator;
 use mg_time::Timestamp;
 
-impl<C: Calculator> Engine<C> {
+impl<C: NodeCalculator> Engine<C> {
     /// Raises the bounds of the outputs as far as what waits at the node tells, and returns whether that moved one of them. Each is raised
     /// to the least of these times, moved by the node's offset: how far the node's input sets reach, the time of the first packet that
     /// waits (under Mux, on SELECT), and the time of the first set that is claimed and not laid. The output of a loopback is raised as far
     /// as its stream is told. An engine that has failed or closed raises nothing, and neither does one whose node has no offset and isn't a
     /// loopback. (MediaPipe, Synchronization: timestamp bounds.)
     pub fn advance(&mut self, intake: &Intake) -> bool
-        requires cell { AreCell self.old intake.now }
+        requires cell { AreCell C.laws self.old intake.now }
         ensures advanced { self.new ≡ advanced self.old intake.now.waits }
         ensures moved { result ≡ is_advanced self.old intake.now.waits }
 
@@ -31,7 +31,7 @@ impl<C: Calculator> Engine<C> {
         ensures grows { EngineGrows self.old self.new }
 
         // Lawful in, lawful out, for every job.
-        ensures lawful { (job : LoggedJob) (number : ℕ) → LawfulEngine job (of_node number) self.old → LawfulIntake job number intake.now → Agree self.old intake.now
+        ensures lawful { (job : LoggedJob C.laws) (number : ℕ) → LawfulEngine job (of_node number) self.old → LawfulIntake job number intake.now → Agree self.old intake.now
             → LawfulEngine job (of_node number) self.new }
     {
         self.raise_outputs(intake)

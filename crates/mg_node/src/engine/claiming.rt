@@ -15,16 +15,16 @@ use crate::entry::Entry;
 use crate::replied::{Replied, reply};
 use crate::window::{first_unrun, hand_out, is_empty};
 use crate::{Claimed, Context, Intake, Role, Work};
-use mg_calc::{Calculator, Phase};
+use mg_calc::{NodeCalculator, Phase};
 use mg_policy::Readiness;
 
-impl<C: Calculator> Engine<C> {
+impl<C: NodeCalculator> Engine<C> {
     /// Claims the next work. The first of these that holds is returned: `Ended`, where the node has failed or closed; `Work` with the first
     /// work that came back unrun; `InFlightFull`, where as many works are claimed as may be; `Draining`, where no set comes any more and
     /// works are still to be laid; `NotReady`, where neither a set nor the end can be told; `Answered`, where the loopback has answered;
     /// `Work` with the next set, call or Close. Only a loopback's answer takes memory; `OutOfMemory` where there is none.
     pub fn claim(&mut self, intake: &mut Intake) -> Claimed<C>
-        requires cell { AreCell self.old intake.old }
+        requires cell { AreCell C.laws self.old intake.old }
         ensures claims { Claims result self.old self.new intake.old intake.new }
         ensures out { GivesOut result self.new }
 
@@ -40,7 +40,7 @@ impl<C: Calculator> Engine<C> {
         ensures intake_grows { IntakeGrows intake.old intake.new }
 
         // Lawful in, lawful out, for every job.
-        ensures lawful { (job : LoggedJob) (number : ℕ) → LawfulEngine job (of_node number) self.old → LawfulIntake job number intake.old
+        ensures lawful { (job : LoggedJob C.laws) (number : ℕ) → LawfulEngine job (of_node number) self.old → LawfulIntake job number intake.old
             → Agree self.old intake.old → LawfulClaim job number result self.new intake.new }
     {
         self.claim_next(intake)
@@ -48,7 +48,7 @@ impl<C: Calculator> Engine<C> {
 
     // Claims the next work, as `claim` does.
     fn claim_next(&mut self, intake: &mut Intake) -> Claimed<C>
-        requires cell { AreCell self.old intake.old }
+        requires cell { AreCell C.laws self.old intake.old }
         ensures { Claims result self.old self.new intake.old intake.new }
     {
         if self.has_ended() {
@@ -86,7 +86,7 @@ impl<C: Calculator> Engine<C> {
     fn claim_set(&mut self, intake: &mut Intake) -> Claimed<C>
         requires may { MayClaim self.old }
         requires role { self.old.role ≡ Role.Sets }
-        requires cell { AreCell self.old intake.old }
+        requires cell { AreCell C.laws self.old intake.old }
         ensures { Claims result self.old self.new intake.old intake.new }
     {
         match intake.set_readiness() {
@@ -105,7 +105,7 @@ impl<C: Calculator> Engine<C> {
     fn claim_answer(&mut self, intake: &mut Intake) -> Claimed<C>
         requires may { MayClaim self.old }
         requires role { self.old.role ≡ Role.Loop }
-        requires cell { AreCell self.old intake.old }
+        requires cell { AreCell C.laws self.old intake.old }
         ensures { Claims result self.old self.new intake.old intake.new }
     {
         if intake.is_over() {

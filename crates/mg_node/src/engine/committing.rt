@@ -12,17 +12,17 @@ use super::Engine;
 use crate::Outcome;
 use crate::fronts::{lay_front, reserve};
 use crate::window::{put_committed, take_back};
-use mg_calc::{Calculator, Phase};
+use mg_calc::{NodeCalculator, Phase};
 use std::alloc::AllocError;
 
-impl<C: Calculator> Engine<C> {
+impl<C: NodeCalculator> Engine<C> {
     /// Takes back a work that is out. If it was performed it is committed, and what is committed at the front of the window is laid at the
     /// outputs: entry by entry, up to the first that isn't committed or at which the node fails or closes. Returns how many sets or calls
     /// were laid; Close isn't counted. A work that wasn't run stands in its window and is claimed again. Want of memory hands the work
     /// back, and nothing has changed.
     pub fn commit(&mut self, outcome: Outcome<C>) -> Result<u32, Outcome<C>>
         requires out { IsOut self.old outcome.work }
-        requires lawful { SomeJobHasEngine self.old }
+        requires lawful { SomeJobHasEngine C.laws self.old }
         ensures commits { IfOk result (λ n. Commits outcome n self.old self.new) }
         ensures returned { IfErr result (λ o. o ≡ outcome) }
         ensures unchanged { OnErr result (self.new ≡ self.old) }
@@ -37,7 +37,7 @@ impl<C: Calculator> Engine<C> {
         ensures grows { EngineGrows self.old self.new }
 
         // Lawful in, lawful out, for every job.
-        ensures lawful { (job : LoggedJob) (number : ℕ) → LawfulEngine job (of_node number) self.old → LawfulOutcome job outcome
+        ensures lawful { (job : LoggedJob C.laws) (number : ℕ) → LawfulEngine job (of_node number) self.old → LawfulOutcome job outcome
             → LawfulEngine job (of_node number) self.new }
     {
         self.commit_outcome(outcome)
@@ -46,7 +46,7 @@ impl<C: Calculator> Engine<C> {
     // Commits a work, as `commit` does.
     fn commit_outcome(&mut self, outcome: Outcome<C>) -> Result<u32, Outcome<C>>
         requires out { IsOut self.old outcome.work }
-        requires lawful { SomeJobHasEngine self.old }
+        requires lawful { SomeJobHasEngine C.laws self.old }
         ensures commits { IfOk result (λ n. Commits outcome n self.old self.new) }
         ensures returned { IfErr result (λ o. o ≡ outcome) }
         ensures unchanged { OnErr result (self.new ≡ self.old) }

@@ -14,13 +14,13 @@ use super::Engine;
 use crate::delivery::deliver;
 use crate::laid::give_up;
 use crate::{Delivered, Intake};
-use mg_calc::{Calculator, Edge};
+use mg_calc::{Edge, NodeCalculator};
 
-impl<C: Calculator> Engine<C> {
+impl<C: NodeCalculator> Engine<C> {
     /// Brings at most `most` packets along an edge to the port that hasn't got them, and the bound once all are there. Nothing of the
     /// engine changes.
     pub fn deliver(&self, edge: Edge, intake: &mut Intake, most: u32) -> Delivered
-        requires { Leads self.now edge intake.old }
+        requires { Leads C.laws self.now edge intake.old }
         ensures moved { Delivers result (output_at self.now edge) edge.port most intake.old.waits intake.new.waits }
         ensures claimed { intake.new.claimed ≡ intake.old.claimed }
 
@@ -31,7 +31,7 @@ impl<C: Calculator> Engine<C> {
         ensures grows { IntakeGrows intake.old intake.new }
 
         // Lawful in, lawful out, for every job.
-        ensures lawful { (job : LoggedJob) (owner : Owner) → LawfulEngine job owner self.now → LawfulIntake job edge.node intake.old
+        ensures lawful { (job : LoggedJob C.laws) (owner : Owner) → LawfulEngine job owner self.now → LawfulIntake job edge.node intake.old
             → slice_get (ports_of job.job.plan edge.node) edge.port ≡ Some edge.stream → LawfulIntake job edge.node intake.new }
     {
         let output = &self.outputs[(edge.stream - self.first) as usize];
@@ -48,7 +48,7 @@ impl<C: Calculator> Engine<C> {
         ensures grows { EngineGrows self.old self.new }
 
         // Lawful in, lawful out, for every job.
-        ensures lawful { (job : LoggedJob) (owner : Owner) → LawfulEngine job owner self.old → LawfulEngine job owner self.new }
+        ensures lawful { (job : LoggedJob C.laws) (owner : Owner) → LawfulEngine job owner self.old → LawfulEngine job owner self.new }
     {
         give_up(&mut self.outputs[output as usize], got);
     }

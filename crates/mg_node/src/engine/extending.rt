@@ -9,22 +9,22 @@ ghost use Rattle.mg_node.specs.Extending.{joined, extended, MayExtend, WasExtend
 
 use super::Engine;
 use crate::laid::{lengthen, shorten};
-use mg_calc::Calculator;
+use mg_calc::NodeCalculator;
 use mg_settled::Prefix;
 use mg_time::Timestamp;
 use std::alloc::AllocError;
 
-impl<C: Calculator> Engine<C> {
+impl<C: NodeCalculator> Engine<C> {
     /// Goes on with more of the graph input's stream: the further packets stand behind those that its output keeps. Payloads are shared.
     /// Want of memory changes nothing.
     pub fn extend(&mut self, more: &Prefix) -> Result<(), AllocError>
-        requires { MayExtend self.old more.now }
+        requires { MayExtend C.laws self.old more.now }
         ensures engine { OnOk result (self.new ≡ extended self.old more.now) }
         ensures unchanged { OnErr result (self.new ≡ self.old) }
 
         // The engine is then lawful for every job whose stream of this input is that of a job for which it was lawful, with the further
         // packets behind.
-        ensures lawful { (job later : LoggedJob) (input : ℕ) (streams longer : List (StreamPrefix Plain)) → LawfulEngine job (of_input input) self.old → Solves job streams
+        ensures lawful { (job later : LoggedJob C.laws) (input : ℕ) (streams longer : List (StreamPrefix Plain)) → LawfulEngine job (of_input input) self.old → Solves job streams
             → Solves later longer → input < length later.job.plan.inputs
             → slice_index_or longer input empty_prefix ≡ joined (slice_index_or streams input empty_prefix) more.now
             → OnOk result (LawfulEngine later (of_input input) self.new) }
@@ -36,8 +36,8 @@ impl<C: Calculator> Engine<C> {
     /// Undoes the last `extend`, which was by `more`: takes back its packets, and gives the output `bound`, the bound that it had before.
     /// The engine is then as it was.
     pub fn shorten(&mut self, more: &Prefix, bound: Timestamp)
-        requires { SomeExtended more.now bound self.old }
-        ensures { (before : EngineView) → WasExtended more.now bound before self.old → self.new ≡ before }
+        requires { SomeExtended C.laws more.now bound self.old }
+        ensures { (before : EngineView) → WasExtended C.laws more.now bound before self.old → self.new ≡ before }
     {
         shorten(&mut self.outputs[0], more, bound);
     }

@@ -4,9 +4,9 @@ ghost use Rattle.mg_node.specs.Leaving.{first_handed};
 
 use super::Engine;
 use crate::leaving::{from_contexts, from_window};
-use mg_calc::Calculator;
+use mg_calc::NodeCalculator;
 
-impl<C: Calculator> Engine<C> {
+impl<C: NodeCalculator> Engine<C> {
     /// The calculator that was handed in, if one stands in this engine: in a context that no work has, or in an outcome that came back to
     /// the window. The calculator of a work that is out is with that work.
     pub fn into_calculator(self) -> Option<C>

@@ -4,7 +4,7 @@ ghost use Rattle.mg_stream.specs.Pool.{empty_backlog, backlog_of};
 ghost use Rattle.mg_node.specs.Looking.{kept_packet};
 
 use super::Engine;
-use mg_calc::Calculator;
+use mg_calc::NodeCalculator;
 use mg_stream::Queue;
 use mg_value::Packet;
 
@@ -26,7 +26,7 @@ fn packet_at(queue: &Queue, number: u64) -> Option<&Packet>
     queue.get(number - gone)
 }
 
-impl<C: Calculator> Engine<C> {
+impl<C: NodeCalculator> Engine<C> {
     /// The packet of this number that was laid at an output, counted from 0. `None` where it is given up, or wasn't laid yet.
     pub fn packet(&self, output: u32, number: u64) -> Option<&Packet>
         requires { output < length self.now.outputs }

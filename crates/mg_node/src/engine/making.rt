@@ -16,13 +16,13 @@ use super::Engine;
 use crate::laid::queue_of;
 use crate::parts::{empty_outputs, first_of, own_contexts, role_of};
 use crate::{Context, Role};
-use mg_calc::{Calculator, Plan, PlanNode};
+use mg_calc::{NodeCalculator, Plan, PlanNode};
 use mg_route::Holder;
 use mg_settled::{InputSet, Prefix};
 use std::alloc::{AllocError, Global};
 use std::collections::VecDeque;
 
-impl<C: Calculator> Engine<C> {
+impl<C: NodeCalculator> Engine<C> {
     /// The engine of a node of a plan, with the calculator in `holder`, not begun. Where several sets may be worked on at once, it makes
     /// the further calculators itself. Want of memory hands the calculator back.
     pub fn new(
@@ -37,7 +37,7 @@ impl<C: Calculator> Engine<C> {
         ensures returned { IfErr result (λ h. h ≡ holder) }
 
         // The engine is lawful, as one that isn't begun, for every job that has such a calculator for this node.
-        ensures lawful { (job : LoggedJob) (planned : PlanNode) → job.job.plan ≡ plan.now → IsHanded job node planned holder
+        ensures lawful { (job : LoggedJob C.laws) (planned : PlanNode) → job.job.plan ≡ plan.now → IsHanded job node planned holder
             → IfOk result (λ e. LawfulUnbegun job node e) }
     {
         let planned = &plan.nodes.as_slice()[node as usize];
@@ -97,7 +97,7 @@ impl<C: Calculator> Engine<C> {
         ensures engine { IfOk result (λ e. e ≡ input_engine input (slice_index_or plan.now.inputs input 0) prefix.now) }
 
         // The engine is lawful for every job that has this input.
-        ensures lawful { (job : LoggedJob) (streams : List (StreamPrefix Plain)) → job.job.plan ≡ plan.now → Solves job streams → slice_index_or streams input empty_prefix ≡ prefix.now
+        ensures lawful { (job : LoggedJob C.laws) (streams : List (StreamPrefix Plain)) → job.job.plan ≡ plan.now → Solves job streams → slice_index_or streams input empty_prefix ≡ prefix.now
             → IfOk result (λ e. LawfulEngine job (of_input input) e) }
     {
         let first = plan.inputs.as_slice()[input as usize];

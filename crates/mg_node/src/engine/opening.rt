@@ -14,26 +14,26 @@ ghost use Rattle.mg_node.specs.Begun.{IsUnbegun, HasOpened, HasBegun, LawfulUnbe
 use super::Engine;
 use crate::entry::Entry;
 use crate::window::is_empty;
-use mg_calc::{Calculator, GivenList};
+use mg_calc::{GivenList, NodeCalculator};
 use std::alloc::AllocError;
 
-impl<C: Calculator> Engine<C> {
+impl<C: NodeCalculator> Engine<C> {
     /// Begins the engine of a node: its calculator is opened with the node's side packets, and what it emits is laid. Where there is no
     /// memory the engine isn't begun, and this may be called again; a calculator that was opened isn't opened again then.
     pub fn begin(&mut self, sides: &GivenList) -> Result<(), AllocError>
-        requires { SomeUnbegun sides.now self.old }
-        ensures begun { (node : PlanNode) (number : ℕ) (told : HolderView) → IsNew node told → IsUnbegun node number told sides.now self.old
-            → OnOk result (HasBegun node number told sides.now self.new) }
-        ensures unbegun { (node : PlanNode) (number : ℕ) (told : HolderView) → IsUnbegun node number told sides.now self.old
-            → OnErr result (IsUnbegun node number told sides.now self.new) }
+        requires { SomeUnbegun C.laws sides.now self.old }
+        ensures begun { (node : PlanNode) (number : ℕ) (told : HolderView) → IsNew node told → IsUnbegun C.laws node number told sides.now self.old
+            → OnOk result (HasBegun C.laws node number told sides.now self.new) }
+        ensures unbegun { (node : PlanNode) (number : ℕ) (told : HolderView) → IsUnbegun C.laws node number told sides.now self.old
+            → OnErr result (IsUnbegun C.laws node number told sides.now self.new) }
 
         // The engine's standing only grows.
         ensures grows { EngineGrows self.old self.new }
 
         // The engine is then lawful for every job that has its calculator and these side packets, or still lawful as one that isn't begun.
-        ensures lawful { (job : LoggedJob) (number : ℕ) (node : PlanNode) (streams : List (StreamPrefix Plain)) → Solves job streams → slice_get job.job.plan.nodes number ≡ Some node
+        ensures lawful { (job : LoggedJob C.laws) (number : ℕ) (node : PlanNode) (streams : List (StreamPrefix Plain)) → Solves job streams → slice_get job.job.plan.nodes number ≡ Some node
             → sides.now ≡ sides_of job.job node → LawfulUnbegun job number self.old → OnOk result (LawfulEngine job (of_node number) self.new) }
-        ensures lawful_unbegun { (job : LoggedJob) (number : ℕ) (node : PlanNode) → slice_get job.job.plan.nodes number ≡ Some node
+        ensures lawful_unbegun { (job : LoggedJob C.laws) (number : ℕ) (node : PlanNode) → slice_get job.job.plan.nodes number ≡ Some node
             → sides.now ≡ sides_of job.job node → LawfulUnbegun job number self.old → OnErr result (LawfulUnbegun job number self.new) }
     {
         self.open_once(sides)?;
@@ -44,9 +44,9 @@ impl<C: Calculator> Engine<C> {
 
     // Opens the calculator, unless it was opened already.
     fn open_once(&mut self, sides: &GivenList) -> Result<(), AllocError>
-        requires { SomeUnbegun sides.now self.old }
-        ensures opened { (node : PlanNode) (number : ℕ) (told : HolderView) → IsUnbegun node number told sides.now self.old
-            → OnOk result (HasOpened node number told sides.now self.new) }
+        requires { SomeUnbegun C.laws sides.now self.old }
+        ensures opened { (node : PlanNode) (number : ℕ) (told : HolderView) → IsUnbegun C.laws node number told sides.now self.old
+            → OnOk result (HasOpened C.laws node number told sides.now self.new) }
         ensures unchanged { OnErr result (self.new ≡ self.old) }
     {
         if is_empty(&self.window) {
@@ -61,7 +61,7 @@ impl<C: Calculator> Engine<C> {
         requires window { self.old.window ≡ [] }
         requires context { 0 < length self.old.idle }
         ensures opened { (node : PlanNode) (number : ℕ) (told : HolderView) → self.old ≡ fresh_engine node number told
-            → OnOk result (HasOpened node number told sides.now self.new) }
+            → OnOk result (HasOpened C.laws node number told sides.now self.new) }
         ensures unchanged { OnErr result (self.new ≡ self.old) }
     {
         let mut context = self.idle.take_last();

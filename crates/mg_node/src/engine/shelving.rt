@@ -10,9 +10,9 @@ ghost use Rattle.mg_node.specs.Shelves.{IsOut, shelved, shelf_at, Unshelves};
 use super::Engine;
 use crate::window::{first_shelf, put_back, take_shelf};
 use crate::{Outcome, Performed};
-use mg_calc::Calculator;
+use mg_calc::NodeCalculator;
 
-impl<C: Calculator> Engine<C> {
+impl<C: NodeCalculator> Engine<C> {
     /// Takes back a work that is out, as it is: it stands in its window as unrun, or as performed and not committed.
     pub fn shelve(&mut self, outcome: Outcome<C>)
         requires out { IsOut self.old outcome.work }
@@ -28,7 +28,7 @@ impl<C: Calculator> Engine<C> {
         ensures grows { EngineGrows self.old self.new }
 
         // Lawful in, lawful out, for every job.
-        ensures lawful { (job : LoggedJob) (number : ℕ) → LawfulEngine job (of_node number) self.old → LawfulOutcome job outcome
+        ensures lawful { (job : LoggedJob C.laws) (number : ℕ) → LawfulEngine job (of_node number) self.old → LawfulOutcome job outcome
             → LawfulEngine job (of_node number) self.new }
     {
         let place = (outcome.number() - self.laid) as usize;
@@ -41,11 +41,11 @@ impl<C: Calculator> Engine<C> {
         ensures taken { Unshelves result self.old self.new number }
 
         // Of a lawful engine, what is found is the work of that number, and it is out.
-        ensures numbered { (job : LoggedJob) (owner : ℕ) → LawfulEngine job (of_node owner) self.old → IfSome result (λ p. p.work.number ≡ number) }
-        ensures out { (job : LoggedJob) (owner : ℕ) → LawfulEngine job (of_node owner) self.old → IfSome result (λ p. IsOut self.new p.work) }
+        ensures numbered { (job : LoggedJob C.laws) (owner : ℕ) → LawfulEngine job (of_node owner) self.old → IfSome result (λ p. p.work.number ≡ number) }
+        ensures out { (job : LoggedJob C.laws) (owner : ℕ) → LawfulEngine job (of_node owner) self.old → IfSome result (λ p. IsOut self.new p.work) }
 
         // The work is one more that is out, and all others that were out stay so.
-        ensures goes_out { (job : LoggedJob) (owner : ℕ) → LawfulEngine job (of_node owner) self.old → IfSome result (λ p. GoesOut self.old self.new p.work) }
+        ensures goes_out { (job : LoggedJob C.laws) (owner : ℕ) → LawfulEngine job (of_node owner) self.old → IfSome result (λ p. GoesOut self.old self.new p.work) }
 
         // The engine stays as it was set up.
         ensures set_up { KeepsSetUp self.old self.new }
@@ -54,7 +54,7 @@ impl<C: Calculator> Engine<C> {
         ensures grows { EngineGrows self.old self.new }
 
         // Lawful in, lawful out, for every job.
-        ensures lawful { (job : LoggedJob) (owner : ℕ) → LawfulEngine job (of_node owner) self.old
+        ensures lawful { (job : LoggedJob C.laws) (owner : ℕ) → LawfulEngine job (of_node owner) self.old
             → LawfulEngine job (of_node owner) self.new × IfSome result (λ p. LawfulPerformed job p) }
     {
         self.take_shelf(number)
@@ -62,7 +62,7 @@ impl<C: Calculator> Engine<C> {
 
     /// The number of the first performed work in the window that isn't committed, if there is one.
     pub fn shelved(&self) -> Option<u64>
-        requires { SomeJobHasEngine self.now }
+        requires { SomeJobHasEngine C.laws self.now }
         ensures some { IfSome result (λ number. IsSome (shelf_at self.now number)) }
         ensures none { IfNone result ((number : ℕ) → shelf_at self.now number ≡ None) }
     {

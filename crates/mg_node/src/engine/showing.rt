@@ -13,22 +13,22 @@ use crate::fronts::{note_fault, reserve_for};
 use crate::laying::lay;
 use crate::window::is_empty;
 use crate::{AtOnce, Intake, Outcome, Performed, Role, Work};
-use mg_calc::{Calculator, Cause, Emission, Phase};
+use mg_calc::{Cause, Emission, NodeCalculator, Phase};
 use mg_edge::Gate;
 use mg_policy::Readiness;
 use mg_time::Timestamp;
 
-impl<C: Calculator> Engine<C> {
+impl<C: NodeCalculator> Engine<C> {
     /// Claims the next set, shows it to the node's calculator and lays the answer, where no work is under way. The calculator stays in its
     /// context, and the gate is round its call. Where a claim may answer with something else than a set nothing changes. At want of memory
     /// the work is handed out as it is claimed, or stands in its window as performed.
     pub fn work_at_once<G: Gate>(&mut self, intake: &mut Intake, gate: &G) -> AtOnce<C>
-        requires cell { AreCell self.old intake.old }
-        ensures does { DoesAtOnce result self.old self.new intake.old intake.new }
+        requires cell { AreCell C.laws self.old intake.old }
+        ensures does { DoesAtOnce C.laws result self.old self.new intake.old intake.new }
         ensures shown { (at : ℕ) → MayShow self.old → IsNext intake.old.waits (Readiness.Ready at) → IsShown result }
 
         // Lawful in, lawful out, for every job.
-        ensures lawful { (job : LoggedJob) (number : ℕ) → LawfulEngine job (of_node number) self.old → LawfulIntake job number intake.old
+        ensures lawful { (job : LoggedJob C.laws) (number : ℕ) → LawfulEngine job (of_node number) self.old → LawfulIntake job number intake.old
             → Agree self.old intake.old → LawfulEngine job (of_node number) self.new × LawfulIntake job number intake.new }
     {
         self.do_next(intake, gate)
@@ -36,8 +36,8 @@ impl<C: Calculator> Engine<C> {
 
     // Does the next set at once, as `work_at_once` does.
     fn do_next<G: Gate>(&mut self, intake: &mut Intake, gate: &G) -> AtOnce<C>
-        requires cell { AreCell self.old intake.old }
-        ensures does { DoesAtOnce result self.old self.new intake.old intake.new }
+        requires cell { AreCell C.laws self.old intake.old }
+        ensures does { DoesAtOnce C.laws result self.old self.new intake.old intake.new }
         ensures shown { (at : ℕ) → MayShow self.old → IsNext intake.old.waits (Readiness.Ready at) → IsShown result }
     {
         if !self.may_show() {
@@ -66,10 +66,10 @@ impl<C: Calculator> Engine<C> {
 
     // Shows the next set, and lays the answer, as far as there is memory.
     fn show_next<G: Gate>(&mut self, at: Timestamp, intake: &mut Intake, gate: &G) -> AtOnce<C>
-        requires cell { AreCell self.old intake.old }
+        requires cell { AreCell C.laws self.old intake.old }
         requires may { MayShow self.old }
         requires next { IsNext intake.old.waits (Readiness.Ready at) }
-        ensures does { DoesAtOnce result self.old self.new intake.old intake.new }
+        ensures does { DoesAtOnce C.laws result self.old self.new intake.old intake.new }
         ensures shown { IsShown result }
     {
         let number = self.claimed;
@@ -93,10 +93,10 @@ impl<C: Calculator> Engine<C> {
         intake: &mut Intake,
         gate: &G,
     ) -> Option<Result<Emission, Cause>>
-        requires cell { AreCell self.old intake.old }
+        requires cell { AreCell C.laws self.old intake.old }
         requires may { MayShow self.old }
         requires next { IsNext intake.old.waits (Readiness.Ready at) }
-        ensures { Shows result at self.old self.new intake.old intake.new }
+        ensures { Shows C.laws result at self.old self.new intake.old intake.new }
     {
         let mut context = self.idle.take_last();
         context.fill(at, intake);

@@ -5,7 +5,7 @@ ghost use Rattle.mg_node.specs.WindingUp.{closes_after, closes_despite, lacks_cl
 
 use super::Engine;
 use crate::window::finish_first;
-use mg_calc::{Calculator, NodeFault, Phase};
+use mg_calc::{NodeCalculator, NodeFault, Phase};
 use std::alloc::AllocError;
 
 fn closes_after(phase: Phase) -> bool
@@ -28,14 +28,14 @@ fn closes_despite(fault: Option<NodeFault>) -> bool
     }
 }
 
-impl<C: Calculator> Engine<C> {
+impl<C: NodeCalculator> Engine<C> {
     /// Closes the calculator of a node that was opened and had no Close, once a run has ended, also where the node has failed at a set or
     /// in a call. It is the calculator in the last idle context, or where no context is idle, that of the first work in the window, if that
     /// came back and wasn't a performed Close. What it emits or answers is dropped, and nothing else changes; the engine isn't used any
     /// more. A node that isn't begun, was closed, or failed in Open or in Close stays as it is. Want of memory changes nothing, and this
     /// may be called again.
     pub fn wind_up(&mut self) -> Result<(), AllocError>
-        ensures wound_up { OnOk result (WindsUp self.old self.new) }
+        ensures wound_up { OnOk result (WindsUp C.laws self.old self.new) }
         ensures unchanged { OnErr result (self.new ≡ self.old) }
 
         // The engine's standing only grows.
@@ -59,7 +59,7 @@ impl<C: Calculator> Engine<C> {
 
     // Closes the calculator of the first work in the window, if that came back and wasn't a performed Close.
     fn finish_front(&mut self) -> Result<(), AllocError>
-        ensures finished { OnOk result (FinishesFront self.old self.new) }
+        ensures finished { OnOk result (FinishesFront C.laws self.old self.new) }
         ensures unchanged { OnErr result (self.new ≡ self.old) }
     {
         finish_first(&mut self.window, self.alloc)
@@ -68,7 +68,7 @@ impl<C: Calculator> Engine<C> {
     // Closes the calculator of the last idle context.
     fn finish_last(&mut self) -> Result<(), AllocError>
         requires { 0 < length self.old.idle }
-        ensures finished { OnOk result (FinishesLast self.old self.new) }
+        ensures finished { OnOk result (FinishesLast C.laws self.old self.new) }
         ensures unchanged { OnErr result (self.new ≡ self.old) }
     {
         let mut context = self.idle.take_last();

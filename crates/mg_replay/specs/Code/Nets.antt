@@ -3,12 +3,13 @@ use Rattle.std.specs.Prelude.{◌≡◌, ◌⊎◌, ℕ, Bool, true, false, List
 use Rattle.mg_edge.specs.Edge.{SourceTold}
 use Rattle.mg_value.specs.Payload.{Plain}
 use Rattle.mg_settled.specs.Prefix.{StreamPrefix}
+use Rattle.mg_calc.specs.Rules.{Laws}
 use Rattle.mg_calc.specs.declared.inputs.Inputs.{Inputs}
 use Rattle.mg_calc.specs.declared.plan.Plan.{Plan}
 use Rattle.mg_calc.specs.declared.plan_node.PlanNode.{PlanNode}
 use Rattle.mg_calc.specs.Shape.{IsOuter}
 use Rattle.mg_calc.specs.Equations.{IsSolution}
-use Rattle.mg_calc.specs.Told.{CalculatorTold}
+use Rattle.mg_calc.specs.Told.{BoxTold}
 use Rattle.mg_sched.specs.Views.{NetView}
 use Rattle.mg_node.specs.Job.{LoggedJob}
 use Rattle.mg_node.specs.Had.{HadClose}
@@ -37,53 +38,53 @@ accepts (Refused line cause) = false
 accepts (Failed lines) = false
 
 -- a net stands for some job of this plan
-pub record StandsForPlan (plan : Plan) (net : NetView) : Type 0 where
-  pub job : LoggedJob
+pub record StandsForPlan (laws : Laws) (plan : Plan) (net : NetView) : Type 0 where
+  pub job : LoggedJob laws
   pub plan_is : job.job.plan ≡ plan
   pub stands : StandsFor job net
 
 -- each calculator that a node uses comes back with first calls of that node in a solution of a job, and closed where it was opened
-pub record ClosedAllOf (job : LoggedJob) (net : NetView) : Type 0 where
+pub record ClosedAllOf {laws : Laws} (job : LoggedJob laws) (net : NetView) : Type 0 where
   pub streams : List (StreamPrefix Plain)
   pub solution : IsSolution job.job streams
   pub each : (number place : ℕ) (node : PlanNode) → slice_get job.job.plan.nodes number ≡ Some node → node.box_number ≡ Some place → IsOuter node.law
-      → (told : CalculatorTold) × (slice_get (given_back net) place ≡ Some told) × HadClose job streams node told
+      → (told : BoxTold) × (slice_get (given_back net) place ≡ Some told) × HadClose job streams node told
 
 -- what the calculators of a net had, by how the reading of a run ended
-abbrev pub HadBy : TraceEnd → LoggedJob → NetView → Type 0
-HadBy Accepted job net = HadAllOf job net
-HadBy (Refused line cause) job net = ClosedAllOf job net
-HadBy (Failed lines) job net = ClosedAllOf job net
+abbrev pub HadBy : {laws : Laws} → TraceEnd → LoggedJob laws → NetView → Type 0
+HadBy {laws} Accepted job net = HadAllOf job net
+HadBy {laws} (Refused line cause) job net = ClosedAllOf job net
+HadBy {laws} (Failed lines) job net = ClosedAllOf job net
 
 -- A recorded run was made again on this net, and what is due at its end was written.
-pub record NetReplayed (report : Bool) (plan : Plan) (inputs : Inputs) (boxes : List CalculatorTold) (status : Status) (devices : RunDevices) (net : NetView) : Type 0 where
+pub record NetReplayed (laws : Laws) (report : Bool) (plan : Plan) (inputs : Inputs) (boxes : List BoxTold) (status : Status) (devices : RunDevices) (net : NetView) : Type 0 where
   pub end : TraceEnd
-  pub read : WasRead plan boxes devices.input (Some inputs) end
-  pub wrote : WroteEnd end report plan (Some inputs) status devices.output devices.notes
-  pub had : HadBy end (job_of plan inputs boxes) net
-  pub stood : StoodFor (job_of plan inputs boxes) net
+  pub read : WasRead laws plan boxes devices.input (Some inputs) end
+  pub wrote : WroteEnd laws end report plan (Some inputs) status devices.output devices.notes
+  pub had : HadBy end (job_of laws plan inputs boxes) net
+  pub stood : StoodFor (job_of laws plan inputs boxes) net
 
 -- What the output took where memory ran out: nothing, or a front of the text of a run that is accepted.
-abbrev pub TookOf : Plan → Inputs → List CalculatorTold → RunDevices → Type 0
-TookOf plan inputs boxes devices =
-    Untouched devices.output ⊎ (WasRead plan boxes devices.input (Some inputs) Accepted
-    × ((streams : List (StreamPrefix Plain)) → IsSolution (job_over plan inputs) streams → TookFront devices.output (output_text_of plan streams)))
+abbrev pub TookOf : Laws → Plan → Inputs → List BoxTold → RunDevices → Type 0
+TookOf laws plan inputs boxes devices =
+    Untouched devices.output ⊎ (WasRead laws plan boxes devices.input (Some inputs) Accepted
+    × ((streams : List (StreamPrefix Plain)) → IsSolution (job_over laws plan inputs) streams → TookFront devices.output (output_text_of plan streams)))
 
 -- Memory ran out while a recorded run was made again on this net.
-pub record NetShort (plan : Plan) (inputs : Inputs) (boxes : List CalculatorTold) (devices : RunDevices) (net : NetView) : Type 0 where
-  pub took : TookOf plan inputs boxes devices
+pub record NetShort (laws : Laws) (plan : Plan) (inputs : Inputs) (boxes : List BoxTold) (devices : RunDevices) (net : NetView) : Type 0 where
+  pub took : TookOf laws plan inputs boxes devices
   pub opened : BeginsWithJob plan devices.input inputs
-  pub stood : StoodFor (job_of plan inputs boxes) net
+  pub stood : StoodFor (job_of laws plan inputs boxes) net
 
 -- A recorded run of a job was made again, with what is due at its end and with the calls that the calculators had.
-pub record JobReplayed (report : Bool) (plan : Plan) (inputs : Inputs) (status : Status) (devices : RunDevices) (boxes : Device (List CalculatorTold)) : Type 0 where
+pub record JobReplayed (laws : Laws) (report : Bool) (plan : Plan) (inputs : Inputs) (status : Status) (devices : RunDevices) (boxes : Device (List BoxTold)) : Type 0 where
   pub end : TraceEnd
-  pub read : WasRead plan boxes.before devices.input (Some inputs) end
-  pub wrote : WroteEnd end report plan (Some inputs) status devices.output devices.notes
-  pub had : HadEnd end plan (Some inputs) boxes
+  pub read : WasRead laws plan boxes.before devices.input (Some inputs) end
+  pub wrote : WroteEnd laws end report plan (Some inputs) status devices.output devices.notes
+  pub had : HadEnd laws end plan (Some inputs) boxes
 
 -- Memory ran out while a recorded run of a job was made again.
-pub record JobShort (plan : Plan) (inputs : Inputs) (devices : RunDevices) (boxes : Device (List CalculatorTold)) : Type 0 where
-  pub took : TookOf plan inputs boxes.before devices
+pub record JobShort (laws : Laws) (plan : Plan) (inputs : Inputs) (devices : RunDevices) (boxes : Device (List BoxTold)) : Type 0 where
+  pub took : TookOf laws plan inputs boxes.before devices
   pub opened : BeginsWithJob plan devices.input inputs
-  pub fronts : HadFronts (job_over plan inputs) boxes
+  pub fronts : HadFronts (job_over laws plan inputs) boxes

@@ -3,11 +3,12 @@ use Rattle.std.specs.Prelude.{◌≡◌, ◌⊎◌, ℕ, ◌+◌, ◌≤◌, tru
 use Rattle.std.specs.Str.{bytes_eq}
 use Rattle.mg_edge.specs.Edge.{SourceTold}
 use Rattle.mg_edge.specs.Runs.{Gave}
+use Rattle.mg_calc.specs.Rules.{Laws}
 use Rattle.mg_calc.specs.declared.event.Event.{Event}
 use Rattle.mg_calc.specs.declared.event.Effect.TheVariants.{Did, Idle}
 use Rattle.mg_calc.specs.declared.inputs.Inputs.{Inputs}
 use Rattle.mg_calc.specs.declared.plan.Plan.{Plan}
-use Rattle.mg_calc.specs.Told.{CalculatorTold}
+use Rattle.mg_calc.specs.Told.{BoxTold}
 use Rattle.mg_feed.specs.Graph.{inputs_of}
 use Rattle.mg_feed.specs.View.{View}
 use Rattle.mg_feed.specs.Lines.{all_lines}
@@ -62,9 +63,9 @@ TakesLine (Some (Job ended)) line number old new = (line ≡ end_word ended) × 
 TakesLine (Some (Stopped end)) line number old new = (is_end_word line ≡ false) × ((cause : TraceFault) × (end ≡ Refused number cause) × TakesPackets (Some cause) line old new)
 
 -- one line more of a job was read: it is a packet line, or the job's lines ended with it, or the reading stopped
-abbrev pub OpensOn : Option Opened → Plan → SourceTold → SourceTold → Reading → ℕ → View → View → Type 0
-OpensOn None plan first now read number old view = IsOpening plan first now read number view × (view.lines ≡ old.lines + 1) × (view.lines ≤ most_lines)
-OpensOn (Some opened) plan first now read number old view = Opens opened plan first now read number view
+abbrev pub OpensOn : Laws → Option Opened → Plan → SourceTold → SourceTold → Reading → ℕ → View → View → Type 0
+OpensOn laws None plan first now read number old view = IsOpening plan first now read number view × (view.lines ≡ old.lines + 1) × (view.lines ≤ most_lines)
+OpensOn laws (Some opened) plan first now read number old view = Opens laws opened plan first now read number view
 
 -- The lines of a job were read, which has these inputs.
 pub record HasReadInputs (plan : Plan) (inputs : Inputs) (first now : SourceTold) (read : Reading) (number : ℕ) : Type 0 where
@@ -74,15 +75,15 @@ pub record HasReadInputs (plan : Plan) (inputs : Inputs) (first now : SourceTold
   pub inputs_are : inputs ≡ inputs_with plan given inputs.ended
 
 -- one line more behind a job was read: its event was made, or the reading ended
-abbrev pub MakesOn : Option TraceEnd → Plan → List CalculatorTold → Inputs → SourceTold → SourceTold → Reading → ℕ → NetView → Type 0
-MakesOn None plan boxes inputs first now read number net = IsMaking plan boxes inputs first now read number net
-MakesOn (Some end) plan boxes inputs first now read number net = WasRead plan boxes (device first now) (Some inputs) end
+abbrev pub MakesOn : Laws → Option TraceEnd → Plan → List BoxTold → Inputs → SourceTold → SourceTold → Reading → ℕ → NetView → Type 0
+MakesOn laws None plan boxes inputs first now read number net = IsMaking laws plan boxes inputs first now read number net
+MakesOn laws (Some end) plan boxes inputs first now read number net = WasRead laws plan boxes (device first now) (Some inputs) end
 
 -- what the next line of a run, which has this number, came to: its event was made, or it is refused
-abbrev pub MakesLine : Option TraceEnd → Plan → List ℕ → ℕ → NetView → NetView → Type 0
-MakesLine None plan line number before now = (event : Event) × IsEventOf plan event × (line ≡ event_line event) × Acts event Did before now
-MakesLine (Some end) plan line number before now =
-    (((event : Event) → ¬ (IsEventOf plan event × (line ≡ event_line event))) × (end ≡ Refused number BadEvent)) ⊎ IsIdleEvent plan before number line end
+abbrev pub MakesLine : Laws → Option TraceEnd → Plan → List ℕ → ℕ → NetView → NetView → Type 0
+MakesLine laws None plan line number before now = (event : Event) × IsEventOf plan event × (line ≡ event_line event) × Acts laws event Did before now
+MakesLine laws (Some end) plan line number before now =
+    (((event : Event) → ¬ (IsEventOf plan event × (line ≡ event_line event))) × (end ≡ Refused number BadEvent)) ⊎ IsIdleEvent laws plan before number line end
 
 -- how the reading ends behind the last line of a run, by what comes next
 abbrev pub StopsBehind : NextLine → ℕ → TraceEnd → Type 0
@@ -92,18 +93,18 @@ StopsBehind Ended number end = end ≡ Accepted
 StopsBehind Failed number end = end ≡ Failed_at number
 
 -- how the reading ends at the last line of a run, which has this number: the net isn't at rest; or it is, and what comes next decides
-abbrev pub EndsRun : TraceEnd → SourceTold → SourceTold → Reading → Reading → ℕ → NetView → NetView → Type 0
-EndsRun end before now old new number net net_now =
-    (MayGoOn net × (end ≡ Refused number NotAtRest) × (now ≡ before) × (new ≡ old))
-    ⊎ (IsAtRest net × (net_now ≡ net) × ((next : NextLine) × (line : List ℕ) × NextComes next line before now old new × StopsBehind next number end))
+abbrev pub EndsRun : Laws → TraceEnd → SourceTold → SourceTold → Reading → Reading → ℕ → NetView → NetView → Type 0
+EndsRun laws end before now old new number net net_now =
+    (MayGoOn laws net × (end ≡ Refused number NotAtRest) × (now ≡ before) × (new ≡ old))
+    ⊎ (IsAtRest laws net × (net_now ≡ net) × ((next : NextLine) × (line : List ℕ) × NextComes next line before now old new × StopsBehind next number end))
 
 -- what making an event comes to: it did something; or it did nothing, and its line is refused
-abbrev pub MakesEvent : Option TraceEnd → Event → ℕ → NetView → NetView → Type 0
-MakesEvent None event number before now = Acts event Did before now
-MakesEvent (Some end) event number before now = Acts event Idle before before × (end ≡ Refused number IdleEvent)
+abbrev pub MakesEvent : Laws → Option TraceEnd → Event → ℕ → NetView → NetView → Type 0
+MakesEvent laws None event number before now = Acts laws event Did before now
+MakesEvent laws (Some end) event number before now = Acts laws event Idle before before × (end ≡ Refused number IdleEvent)
 
 -- what a line behind those of the job comes to: it ends the run; or its event is made, or it is refused
-abbrev pub TakesEvent : Option TraceEnd → Plan → List ℕ → ℕ → SourceTold → SourceTold → Reading → Reading → ℕ → NetView → NetView → Type 0
-TakesEvent stop plan line number before now old new count net net_now =
-    ((line ≡ codes "end") × ((end : TraceEnd) × (stop ≡ Some end) × EndsRun end before now old new number net net_now))
-    ⊎ ((bytes_eq line (codes "end") ≡ false) × MakesLine stop plan line number net net_now × (now ≡ before) × (new ≡ old) × (count ≡ number))
+abbrev pub TakesEvent : Laws → Option TraceEnd → Plan → List ℕ → ℕ → SourceTold → SourceTold → Reading → Reading → ℕ → NetView → NetView → Type 0
+TakesEvent laws stop plan line number before now old new count net net_now =
+    ((line ≡ codes "end") × ((end : TraceEnd) × (stop ≡ Some end) × EndsRun laws end before now old new number net net_now))
+    ⊎ ((bytes_eq line (codes "end") ≡ false) × MakesLine laws stop plan line number net net_now × (now ≡ before) × (new ≡ old) × (count ≡ number))

@@ -2,6 +2,7 @@
 use Rattle.std.specs.Prelude.{ℕ, Bool, List, All}
 use Rattle.mg_calc.specs.declared.plan.Plan.{Plan}
 use Rattle.mg_calc.specs.declared.shape.OuterShape.{OuterShape}
+use Rattle.mg_calc.specs.Shape.{IsStated}
 use Rattle.mg_calc.specs.Plan.{IsValid, IsValidWithFree, OutersFit}
 use Rattle.mg_run.specs.Answer.{Action, refuse, show, run_plan, run_live, solve, generate, generate_live, trace, replay}
 use Rattle.mg_check.specs.Check.{IsOuterShape}
@@ -31,14 +32,14 @@ action_view (Refuse note) = refuse note.items
 action_view (Show text) = show text.items
 action_view (Graph used report plan) = use_action used report plan
 
--- An action can be done: a plan that is used is valid, with free nodes where such are run, and the calculators that are handed in fit a plan
--- that is run.
+-- An action can be done: a plan that is used is valid, with free nodes where such are run; the calculators that are handed in fit a plan
+-- that is run; and no node of a plan that is solved has a stated law.
 abbrev pub CanBeDone : List OuterShape → Action → Type 0
 CanBeDone outers (refuse note) = Unit {0}
 CanBeDone outers (show text) = Unit {0}
 CanBeDone outers (run_plan report plan) = IsValid plan × OutersFit plan outers
 CanBeDone outers (run_live report plan) = IsValidWithFree plan × OutersFit plan outers
-CanBeDone outers (solve report plan) = IsValid plan
+CanBeDone outers (solve report plan) = IsValid plan × All (λ node. IsStated node.law → ⊥) plan.nodes
 CanBeDone outers (generate report number plan) = IsValid plan × OutersFit plan outers
 CanBeDone outers (generate_live report number plan) = IsValidWithFree plan × OutersFit plan outers
 CanBeDone outers (trace report plan) = IsValid plan × OutersFit plan outers

@@ -1,5 +1,6 @@
 -- How far a node's next work came at once: which steps a net has made.
 use Rattle.std.specs.Prelude.{◌≡◌, ℕ, ◌<◌, Bool, true, false, List, [], ◌∷◌, ◌++◌, length, Option, Some, None, slice_get}
+use Rattle.mg_calc.specs.Rules.{Laws}
 use Rattle.mg_calc.specs.declared.event.Event.{Event}
 use Rattle.mg_calc.specs.declared.event.Event.TheVariants.{Claim, Perform, Commit}
 use Rattle.mg_calc.specs.declared.event.Effect.TheVariants.{Idle, OutOfMemory}
@@ -38,21 +39,21 @@ did_nothing NoSet = true
 did_nothing done = false
 
 -- a node's next set is shown to its calculator by its engine, and the limits hear how many packets wait now at each of its ports
-pub record ShowsTo {C : Type 0} (node : ℕ) (done : AtOnce C) (before now : NetView) : Type 0 where
+pub record ShowsTo (laws : Laws) {C : Type 0} (node : ℕ) (done : AtOnce C) (before now : NetView) : Type 0 where
   pub engine : EngineView
   pub at : slice_get before.engines node ≡ Some engine
   pub intake : IntakeView
   pub to : slice_get before.intakes node ≡ Some intake
   pub engine_now : EngineView
   pub intake_now : IntakeView
-  pub does : DoesAtOnce {C = C} done engine engine_now intake intake_now
+  pub does : DoesAtOnce laws {C = C} done engine engine_now intake intake_now
   pub now_is : now ≡ with_noted (with_intake (with_engine before node engine_now) node intake_now) (first_edge before.plan node) (lengths_of intake_now.waits)
 
 -- an engine tries to show a node's next set: nothing changes, or a claim finds that none is ready, or the set is claimed and shown
-abbrev pub ShowsAt : {C : Type 0} → ℕ → AtOnce C → NetView → NetView → Type 0
-ShowsAt node Other before now = now ≡ before
-ShowsAt {C} node NoSet before now = NodeHandsOut {C = C} node NotReady before now
-ShowsAt {C} node done before now = ShowsTo {C = C} node done before now
+abbrev pub ShowsAt : (laws : Laws) {C : Type 0} → ℕ → AtOnce C → NetView → NetView → Type 0
+ShowsAt laws node Other before now = now ≡ before
+ShowsAt laws {C} node NoSet before now = NodeHandsOut {C = C} node NotReady before now
+ShowsAt laws {C} node done before now = ShowsTo laws {C = C} node done before now
 
 -- a claim took nothing
 abbrev pub took_none : {C : Type 0} → Claimed C → Bool
@@ -67,18 +68,18 @@ abbrev pub with_work : NetView → ℕ → WorkQueueView → WorkView → NetVie
 with_work net node work_queue work = with_work_queue net node (record work_queue { works = work_queue.works ++ work ∷ [] })
 
 -- a work is handed out: if it lay in the work queue of its node, the net would stand for some job, and all nodes would be begun
-pub record IsHandedOut (net : NetView) (node : ℕ) (work : WorkView) : Type 0 where
+pub record IsHandedOut (laws : Laws) (net : NetView) (node : ℕ) (work : WorkView) : Type 0 where
   pub work_queue : WorkQueueView
   pub on : slice_get net.work_queues node ≡ Some work_queue
-  pub stands : StandsForSome (with_work net node work_queue work)
+  pub stands : StandsForSome laws (with_work net node work_queue work)
   pub running : IsRunning (with_work net node work_queue work)
   pub there : node < length net.plan.nodes
 
 -- a work that is handed out was performed
-pub record IsPerformedOut (net : NetView) (node number : ℕ) (performed : PerformedView) : Type 0 where
+pub record IsPerformedOut (laws : Laws) (net : NetView) (node number : ℕ) (performed : PerformedView) : Type 0 where
   pub work : WorkView
-  pub out : IsHandedOut net node work
-  pub done : IsPerformed work performed
+  pub out : IsHandedOut laws net node work
+  pub done : IsPerformed laws work performed
   pub number_is : number ≡ work.number
 
 -- the steps behind the claim of a work, as far as it came
@@ -94,16 +95,16 @@ steps_of node NotClaimed = []
 steps_of node reached = Claim node ∷ steps_after node reached
 
 -- a net in which a node's next work lies in its work queue becomes another one by the steps behind the claim, as far as the work came
-abbrev pub ComesOn : ℕ → Reached → NetView → NetView → Type 0
-ComesOn node Nothing before now = ⊥
-ComesOn node NotClaimed before now = ⊥
-ComesOn node reached before now = IsRun (steps_after node reached) before now
+abbrev pub ComesOn : Laws → ℕ → Reached → NetView → NetView → Type 0
+ComesOn laws node Nothing before now = ⊥
+ComesOn laws node NotClaimed before now = ⊥
+ComesOn laws node reached before now = IsRun laws (steps_after node reached) before now
 
 -- a net becomes another one by the claim, the performance and the commit of a node's next work, as far as the work came
-abbrev pub Comes : ℕ → Reached → NetView → NetView → Type 0
-Comes node Nothing before now = (now ≡ before) × Acts (Claim node) Idle before before
-Comes node NotClaimed before now = Acts (Claim node) OutOfMemory before now
-Comes node reached before now = IsRun (steps_of node reached) before now
+abbrev pub Comes : Laws → ℕ → Reached → NetView → NetView → Type 0
+Comes laws node Nothing before now = (now ≡ before) × Acts laws (Claim node) Idle before before
+Comes laws node NotClaimed before now = Acts laws (Claim node) OutOfMemory before now
+Comes laws node reached before now = IsRun laws (steps_of node reached) before now
 
 -- whether something was done; none where there was no memory for the next step
 abbrev pub did_of : Reached → Option Bool

@@ -2,6 +2,7 @@
 use Rattle.std.specs.Prelude.{◌≡◌, ℕ, ◌+◌, ◌-◌, ◌*◌, ◌^◌, ◌<◌, ◌||◌, Bool, true, false, [], sum_by, slice_get, Option, Some, None, IsSome, IsSomeAnd, is_some, if◌then◌else◌}
 use Rattle.std.specs.List.{list_any}
 use Rattle.mg_time.specs.Time.{done}
+use Rattle.mg_calc.specs.Rules.{Laws}
 use Rattle.mg_calc.specs.Plan.{numbers}
 use Rattle.mg_calc.specs.declared.event.Event.{Event}
 use Rattle.mg_calc.specs.declared.event.Event.TheVariants.{Deliver, Advance, Claim}
@@ -58,9 +59,9 @@ Goes true before now = left_in now < left_in before
 Goes false before now = now ≡ before
 
 -- a step did something, so that less is left, or its event has nothing to do
-abbrev pub Steps : Bool → Event → NetView → NetView → Type 0
-Steps true event before now = left_in now < left_in before
-Steps false event before now = (now ≡ before) × Acts event Idle before before
+abbrev pub Steps : Laws → Bool → Event → NetView → NetView → Type 0
+Steps laws true event before now = left_in now < left_in before
+Steps laws false event before now = (now ≡ before) × Acts laws event Idle before before
 
 -- Parts that have nothing to do.
 
@@ -81,25 +82,25 @@ abbrev pub HasShelf : NetView → ℕ → ℕ → Type 0
 HasShelf net node number = (engine : EngineView) → slice_get net.engines node ≡ Some engine → IsSome (shelf_at engine number)
 
 -- a node has no work to claim, to perform or to commit
-pub record WorksRest (net : NetView) (node : ℕ) : Type 0 where
-  pub claims : Acts (Claim node) Idle net net
+pub record WorksRest (laws : Laws) (net : NetView) (node : ℕ) : Type 0 where
+  pub claims : Acts laws (Claim node) Idle net net
   pub works : HasNoWork net node
   pub shelf : HasNoShelf net node
 
 -- a node has nothing to do: no work to claim, to perform or to commit, and no output to raise
-pub record RestsAt (net : NetView) (node : ℕ) : Type 0 where
-  pub claims : Acts (Claim node) Idle net net
+pub record RestsAt (laws : Laws) (net : NetView) (node : ℕ) : Type 0 where
+  pub claims : Acts laws (Claim node) Idle net net
   pub works : HasNoWork net node
   pub shelf : HasNoShelf net node
-  pub advances : Acts (Advance node) Idle net net
+  pub advances : Acts laws (Advance node) Idle net net
 
 -- the first `count` nodes have nothing to do
-abbrev pub NodesRest : NetView → ℕ → Type 0
-NodesRest net count = (node : ℕ) → node < count → RestsAt net node
+abbrev pub NodesRest : Laws → NetView → ℕ → Type 0
+NodesRest laws net count = (node : ℕ) → node < count → RestsAt laws net node
 
 -- nothing goes along the first `count` edges
-abbrev pub EdgesRest : NetView → ℕ → Type 0
-EdgesRest net count = (edge : ℕ) → edge < count → Acts (Deliver edge) Idle net net
+abbrev pub EdgesRest : Laws → NetView → ℕ → Type 0
+EdgesRest laws net count = (edge : ℕ) → edge < count → Acts laws (Deliver edge) Idle net net
 
 -- Looks.
 
@@ -109,6 +110,6 @@ effect_if true = Did
 effect_if false = Idle
 
 -- an event was found that would do something; or none was, `rest` says which events would do nothing, and the net is as it was
-abbrev pub Finds : Bool → Type 0 → NetView → NetView → Type 0
-Finds true rest before now = MayGoOn before
-Finds false rest before now = (now ≡ before) × rest
+abbrev pub Finds : Laws → Bool → Type 0 → NetView → NetView → Type 0
+Finds laws true rest before now = MayGoOn laws before
+Finds laws false rest before now = (now ≡ before) × rest

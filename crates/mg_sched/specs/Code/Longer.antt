@@ -1,4 +1,5 @@
 -- The engines of some graph inputs, the last ones, while they are extended one by one.
+use Rattle.mg_calc.specs.Rules.{Laws}
 use Rattle.std.specs.Prelude.{◌≡◌, ◌⊎◌, ℕ, ◌+◌, ◌<◌, ◌≤◌, List, Some, length, slice_get}
 use Rattle.mg_value.specs.Payload.{Plain}
 use Rattle.mg_settled.specs.Prefix.{StreamPrefix}
@@ -7,8 +8,8 @@ use Rattle.mg_node.specs.Outputs.{laid_at}
 use Rattle.mg_node.specs.Extending.{extended, MayExtend}
 
 -- each of the engines from a place on may be extended by its piece
-abbrev pub MayEach : ℕ → List (StreamPrefix Plain) → List EngineView → Type 0
-MayEach from pieces engines = (input : ℕ) (engine : EngineView) (piece : StreamPrefix Plain) → slice_get engines (from + input) ≡ Some engine → slice_get pieces input ≡ Some piece → MayExtend engine piece
+abbrev pub MayEach : Laws → ℕ → List (StreamPrefix Plain) → List EngineView → Type 0
+MayEach laws from pieces engines = (input : ℕ) (engine : EngineView) (piece : StreamPrefix Plain) → slice_get engines (from + input) ≡ Some engine → slice_get pieces input ≡ Some piece → MayExtend laws engine piece
 
 -- the first `count` engines from a place on are extended, each by its piece, and nothing else has changed
 pub record AreLonger (from : ℕ) (pieces : List (StreamPrefix Plain)) (count : ℕ) (before now : List EngineView) : Type 0 where
@@ -22,13 +23,13 @@ abbrev pub IsBound : ℕ → List EngineView → ℕ → ℕ → Type 0
 IsBound from engines input bound = (engine : EngineView) → slice_get engines (from + input) ≡ Some engine → (laid_at engine 0).bound ≡ bound
 
 -- the first `count` engines from a place on were extended, each by a piece by which it may be, and their bounds from before are noted
-pub record WereLonger (from : ℕ) (pieces : List (StreamPrefix Plain)) (bounds : List ℕ) (count : ℕ) (before now : List EngineView) : Type 0 where
+pub record WereLonger (laws : Laws) (from : ℕ) (pieces : List (StreamPrefix Plain)) (bounds : List ℕ) (count : ℕ) (before now : List EngineView) : Type 0 where
   pub are : AreLonger from pieces count before now
-  pub may : MayEach from pieces before
+  pub may : MayEach laws from pieces before
   pub bounds_were : (input bound : ℕ) → slice_get bounds input ≡ Some bound → IsBound from before input bound
   pub within : from + count ≤ length before
 
 -- these engines came of others, of which the first `count` from a place on were extended
-pub record SomeLonger (from : ℕ) (pieces : List (StreamPrefix Plain)) (bounds : List ℕ) (count : ℕ) (now : List EngineView) : Type 0 where
+pub record SomeLonger (laws : Laws) (from : ℕ) (pieces : List (StreamPrefix Plain)) (bounds : List ℕ) (count : ℕ) (now : List EngineView) : Type 0 where
   pub before : List EngineView
-  pub were : WereLonger from pieces bounds count before now
+  pub were : WereLonger laws from pieces bounds count before now

@@ -6,7 +6,8 @@ use Rattle.mg_settled.specs.Prefix.{StreamPrefix}
 use Rattle.mg_calc.specs.declared.inputs.Inputs.{Inputs}
 use Rattle.mg_calc.specs.declared.plan.Plan.{Plan}
 use Rattle.mg_calc.specs.declared.plan_node.PlanNode.{PlanNode}
-use Rattle.mg_calc.specs.Told.{CalculatorTold}
+use Rattle.mg_calc.specs.Told.{BoxTold}
+use Rattle.mg_calc.specs.Rules.{Laws}
 use Rattle.mg_route.specs.HolderView.{HolderView, holder_view}
 use Rattle.mg_node.specs.Views.{IntakeView, EngineView}
 use Rattle.mg_node.specs.Job.{LoggedJob, Solves}
@@ -24,11 +25,11 @@ AtPlaces {X} P xs = (place : ℕ) (x : X) → slice_get xs place ≡ Some x → 
 -- Calculators.
 
 -- the calculator with which a node begins: the one of its number, of those that were handed in, or one of its own kind
-abbrev pub first_holder : List (Option CalculatorTold) → PlanNode → HolderView
+abbrev pub first_holder : List (Option BoxTold) → PlanNode → HolderView
 first_holder given node = unwrap_or (option_map (holder_view true) (option_and_then (λ number. unwrap_or (slice_get given number) None) node.box_number)) (own_told node)
 
 -- the calculator of the node at a place, while the first `count` nodes alone have what was handed in
-abbrev pub holder_before : List (Option CalculatorTold) → ℕ → ℕ → PlanNode → HolderView
+abbrev pub holder_before : List (Option BoxTold) → ℕ → ℕ → PlanNode → HolderView
 holder_before given count place node = if nat_lt place count then first_holder given node else own_told node
 
 -- one of the first `count` nodes has the calculator of this number
@@ -41,13 +42,13 @@ pub record HasTaken (nodes : List PlanNode) (count number : ℕ) : Type 0 where
 
 -- the places of what was handed in, once the first `count` nodes have taken theirs: these places are empty, and all others have what they
 -- had
-pub record IsLeftOver (nodes : List PlanNode) (given : List (Option CalculatorTold)) (count : ℕ) (now : List (Option CalculatorTold)) : Type 0 where
+pub record IsLeftOver (nodes : List PlanNode) (given : List (Option BoxTold)) (count : ℕ) (now : List (Option BoxTold)) : Type 0 where
   pub places : length now ≡ length given
   pub taken : (number : ℕ) → slice_get now number ≡ Some None → HasTaken nodes count number
-  pub others : (number : ℕ) (told : CalculatorTold) → slice_get now number ≡ Some (Some told) → (slice_get given number ≡ Some (Some told)) × ¬ HasTaken nodes count number
+  pub others : (number : ℕ) (told : BoxTold) → slice_get now number ≡ Some (Some told) → (slice_get given number ≡ Some (Some told)) × ¬ HasTaken nodes count number
 
 -- each node that has a box number finds a calculator in the place of that number
-abbrev pub FindEach : List PlanNode → List (Option CalculatorTold) → Type 0
+abbrev pub FindEach : List PlanNode → List (Option BoxTold) → Type 0
 FindEach nodes given = All (λ node. IfSome node.box_number (λ number. IsSomeAnd (slice_get given number) (λ told. IsSome told))) nodes
 
 -- Parts.
@@ -61,7 +62,7 @@ pub record IsEngineAt (plan : Plan) (streams : List (StreamPrefix Plain)) (told 
 -- the intake of a consumer, to which nothing came: it is lawful for every job of the plan
 pub record IsIntakeAt (plan : Plan) (consumer : ℕ) (intake : IntakeView) : Type 0 where
   pub fresh : IsFresh plan consumer intake
-  pub lawful : (job : LoggedJob) (streams : List (StreamPrefix Plain)) → job.job.plan ≡ plan → Solves job streams → LawfulIntake job consumer intake
+  pub lawful : {laws : Laws} (job : LoggedJob laws) (streams : List (StreamPrefix Plain)) → job.job.plan ≡ plan → Solves job streams → LawfulIntake job consumer intake
 
 -- the work queue of a node, where nothing lies
 abbrev pub IsWorkQueueAt : Plan → ℕ → WorkQueueView → Type 0

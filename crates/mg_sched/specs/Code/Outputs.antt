@@ -2,6 +2,7 @@
 use Rattle.std.specs.Prelude.{◌≡◌, ℕ, ◌+◌, ◌<◌, ◌≤◌, List, length, Some, slice_get, slice_index_or, if◌then◌else◌, nat_lt}
 use Rattle.mg_value.specs.Payload.{Plain}
 use Rattle.mg_stream.specs.Pool.{Backlog}
+use Rattle.mg_calc.specs.Rules.{Laws}
 use Rattle.mg_calc.specs.declared.edge.Edge.{Edge}
 use Rattle.mg_calc.specs.declared.plan.Plan.{Plan}
 use Rattle.mg_calc.specs.declared.plan_stream.Producer.{Producer}
@@ -51,13 +52,13 @@ abbrev pub given_below : List ℕ → ℕ → ℕ → Backlog Plain → Backlog 
 given_below got upto stream output = if nat_lt stream upto then without_first (slice_index_or got stream 0) output else output
 
 -- an engine, once the first `upto` streams have given up packets at their outputs
-pub record GivenBelow (got : List ℕ) (upto : ℕ) (engine engine_now : EngineView) : Type 0 where
+pub record GivenBelow (laws : Laws) (got : List ℕ) (upto : ℕ) (engine engine_now : EngineView) : Type 0 where
   pub rest : engine_now ≡ record engine { outputs = engine_now.outputs }
   pub count : length engine_now.outputs ≡ length engine.outputs
   pub outputs : (port : ℕ) (output output_now : Backlog Plain) → slice_get engine.outputs port ≡ Some output → slice_get engine_now.outputs port ≡ Some output_now → output_now ≡ given_below got upto (engine.first + port) output
-  pub lawful : (job : LoggedJob) (owner : Owner) → LawfulEngine job owner engine → LawfulEngine job owner engine_now
+  pub lawful : (job : LoggedJob laws) (owner : Owner) → LawfulEngine job owner engine → LawfulEngine job owner engine_now
 
 -- all engines, once the first `upto` streams have given up packets at their outputs
-pub record AllGiven (got : List ℕ) (upto : ℕ) (before now : List EngineView) : Type 0 where
+pub record AllGiven (laws : Laws) (got : List ℕ) (upto : ℕ) (before now : List EngineView) : Type 0 where
   pub count : length now ≡ length before
-  pub engines : (place : ℕ) (engine engine_now : EngineView) → slice_get before place ≡ Some engine → slice_get now place ≡ Some engine_now → GivenBelow got upto engine engine_now
+  pub engines : (place : ℕ) (engine engine_now : EngineView) → slice_get before place ≡ Some engine → slice_get now place ≡ Some engine_now → GivenBelow laws got upto engine engine_now

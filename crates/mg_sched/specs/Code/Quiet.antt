@@ -1,5 +1,6 @@
 -- Parts of a net that have nothing to do, told by these parts alone: that stays so, whatever becomes of the others.
 use Rattle.std.specs.Prelude.{◌≡◌, ◌≢◌, ℕ, ◌+◌, ◌<◌, ◌≤◌, ◌⊎◌, false, List, [], length, Option, Some, None, slice_get, ⊤}
+use Rattle.mg_calc.specs.Rules.{Laws}
 use Rattle.mg_calc.specs.declared.edge.Edge.{Edge}
 use Rattle.mg_calc.specs.declared.plan.Plan.{Plan}
 use Rattle.mg_calc.specs.declared.event.Event.{Event}
@@ -108,19 +109,19 @@ OfKept P (Some before) (Some now) = P before now
 -- Places with nothing to do.
 
 -- nothing goes along an edge and along the later ones from the same place
-abbrev pub EdgesRestFrom : Plan → Option ℕ → NetView → Type 0
-EdgesRestFrom plan first net = (place low number : ℕ) → IsFirstFrom plan low place first → low ≤ number → LeadsFrom plan place number → Acts (Deliver number) Idle net net
+abbrev pub EdgesRestFrom : Laws → Plan → Option ℕ → NetView → Type 0
+EdgesRestFrom laws plan first net = (place low number : ℕ) → IsFirstFrom plan low place first → low ≤ number → LeadsFrom plan place number → Acts laws (Deliver number) Idle net net
 
 -- nothing goes along the edges from a place
-abbrev pub EdgesRestBehind : NetView → ℕ → Type 0
-EdgesRestBehind net place = (number : ℕ) → LeadsFrom net.plan place number → Acts (Deliver number) Idle net net
+abbrev pub EdgesRestBehind : Laws → NetView → ℕ → Type 0
+EdgesRestBehind laws net place = (number : ℕ) → LeadsFrom net.plan place number → Acts laws (Deliver number) Idle net net
 
 -- nothing goes along the edges into a place
-abbrev pub EdgesRestInto : NetView → ℕ → Type 0
-EdgesRestInto net place = (number : ℕ) (e : Edge) → slice_get net.plan.edges number ≡ Some e → e.node ≡ place → Acts (Deliver number) Idle net net
+abbrev pub EdgesRestInto : Laws → NetView → ℕ → Type 0
+EdgesRestInto laws net place = (number : ℕ) (e : Edge) → slice_get net.plan.edges number ≡ Some e → e.node ≡ place → Acts laws (Deliver number) Idle net net
 
 -- nothing goes along the edges into a place and from it, and the node there, if there is one, has nothing to do
-pub record RestsHere (net : NetView) (place : ℕ) : Type 0 where
-  pub into : EdgesRestInto net place
-  pub behind : EdgesRestBehind net place
-  pub node : place < length net.plan.nodes → RestsAt net place
+pub record RestsHere (laws : Laws) (net : NetView) (place : ℕ) : Type 0 where
+  pub into : EdgesRestInto laws net place
+  pub behind : EdgesRestBehind laws net place
+  pub node : place < length net.plan.nodes → RestsAt laws net place

@@ -6,10 +6,10 @@ ghost use Rattle.mg_sched.specs.StandsFor.{StandsFor, StandsForSome, IsRunning};
 ghost use Rattle.mg_sched.specs.Acts.{IsEventOf, Acts};
 
 use super::Net;
-use mg_calc::{Calculator, Effect, Event};
+use mg_calc::{Effect, Event, NodeCalculator};
 use mg_edge::Gate;
 
-impl<C: Calculator> Net<C> {
+impl<C: NodeCalculator> Net<C> {
     /// Makes a step. Each event changes the parts that it names, and costs what these cost: a delivery brings along an edge all that
     /// the port hasn't got, and the bound; an advance raises a node's outputs; a claim hands out the node's next work, which lies in
     /// the net then; a work is performed, and what is performed is committed; and limits are relaxed where a queue is full. `Idle` is
@@ -18,13 +18,13 @@ impl<C: Calculator> Net<C> {
     pub fn act<G: Gate>(&mut self, event: Event, gate: &G) -> Effect
         requires event { IsEventOf self.old event }
         requires running { IsRunning self.old }
-        requires stands { StandsForSome self.old }
-        ensures acts { Acts event result self.old self.new }
+        requires stands { StandsForSome C.laws self.old }
+        ensures acts { Acts C.laws event result self.old self.new }
         ensures running { IsRunning self.new }
         ensures idle { result ≡ Effect.Idle → self.new ≡ self.old }
 
         // The net still stands for each job for which it stood.
-        ensures stands { (job : LoggedJob) → StandsFor job self.old → StandsFor job self.new }
+        ensures stands { (job : LoggedJob C.laws) → StandsFor job self.old → StandsFor job self.new }
     {
         self.make(event, gate)
     }
@@ -33,8 +33,8 @@ impl<C: Calculator> Net<C> {
     fn make<G: Gate>(&mut self, event: Event, gate: &G) -> Effect
         requires event { IsEventOf self.old event }
         requires running { IsRunning self.old }
-        requires stands { StandsForSome self.old }
-        ensures { Acts event result self.old self.new }
+        requires stands { StandsForSome C.laws self.old }
+        ensures { Acts C.laws event result self.old self.new }
     {
         match event {
             Event::Deliver { edge } => self.carry(edge),

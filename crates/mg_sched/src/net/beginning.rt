@@ -7,7 +7,7 @@ ghost use Rattle.mg_sched.specs.StandsFor.{StandsFor, StandsForSome, IsRunning};
 ghost use Rattle.mg_sched.specs.Begins.{BeginsNet};
 
 use super::Net;
-use mg_calc::{Calculator, GivenList, Plan, node_sides};
+use mg_calc::{GivenList, NodeCalculator, Plan, node_sides};
 use std::alloc::{AllocError, Global};
 
 // Returns the side packets of a node, by its number.
@@ -23,14 +23,14 @@ fn sides_at(
     node_sides(alloc, plan, given, &plan.nodes.as_slice()[node as usize])
 }
 
-impl<C: Calculator> Net<C> {
+impl<C: NodeCalculator> Net<C> {
     /// Begins each node that isn't begun, in order: its calculator is opened with its side packets, and what it emits is laid. At want
     /// of memory the nodes begun so far stay begun, and this may be called again.
     pub fn begin(&mut self) -> Result<(), AllocError>
-        requires stands { StandsForSome self.old }
+        requires stands { StandsForSome C.laws self.old }
         ensures running { OnOk result (IsRunning self.new) }
         ensures begins { BeginsNet self.old self.new }
-        ensures stands { (job : LoggedJob) → StandsFor job self.old → StandsFor job self.new }
+        ensures stands { (job : LoggedJob C.laws) → StandsFor job self.old → StandsFor job self.new }
     {
         while self.begun < self.plan.nodes.len() {
             self.begin_next()?;
@@ -41,10 +41,10 @@ impl<C: Calculator> Net<C> {
     // Begins the next node.
     fn begin_next(&mut self) -> Result<(), AllocError>
         requires there { self.old.begun < length self.old.plan.nodes }
-        requires stands { StandsForSome self.old }
+        requires stands { StandsForSome C.laws self.old }
         ensures begins { BeginsNet self.old self.new }
         ensures next { OnOk result (self.new.begun ≡ self.old.begun + 1) }
-        ensures stands { (job : LoggedJob) → StandsFor job self.old → StandsFor job self.new }
+        ensures stands { (job : LoggedJob C.laws) → StandsFor job self.old → StandsFor job self.new }
     {
         self.known = false;
         let node = self.begun;

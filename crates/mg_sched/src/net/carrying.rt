@@ -8,7 +8,7 @@ ghost use Rattle.mg_sched.specs.Acts.{effect_of, IsHeld, Brings, DeliversAlong, 
 
 use super::Net;
 use crate::sources::{producer_of, source_of};
-use mg_calc::{Calculator, Edge, Effect, Producer};
+use mg_calc::{Edge, Effect, NodeCalculator, Producer};
 use mg_node::Delivered;
 
 // Returns the effect of a delivery.
@@ -32,11 +32,11 @@ fn done_if(done: bool) -> Effect
     if done { Effect::Did } else { Effect::Idle }
 }
 
-impl<C: Calculator> Net<C> {
+impl<C: NodeCalculator> Net<C> {
     /// Brings along an edge what its port hasn't got, unless it comes from a graph input that is throttled.
     pub(super) fn carry(&mut self, number: u32) -> Effect
         requires there { number < length self.old.plan.edges }
-        requires stands { StandsForSome self.old }
+        requires stands { StandsForSome C.laws self.old }
         requires running { IsRunning self.old }
         ensures { DeliversAlong number result self.old self.new }
     {
@@ -50,7 +50,7 @@ impl<C: Calculator> Net<C> {
     // Whether an edge leads from a graph input that is throttled.
     pub(super) fn is_held(&self, edge: Edge) -> bool
         requires stream { edge.stream < length self.now.plan.streams }
-        requires stands { StandsForSome self.now }
+        requires stands { StandsForSome C.laws self.now }
         ensures held { result ≡ true → IsHeld self.now edge }
         ensures not_held { result ≡ false → ¬ IsHeld self.now edge }
     {
@@ -79,7 +79,7 @@ impl<C: Calculator> Net<C> {
     // Brings along an edge what its port hasn't got, and tells the limits how many packets wait there.
     fn bring(&mut self, number: u32, edge: Edge) -> Effect
         requires there { slice_get self.old.plan.edges number ≡ Some edge }
-        requires stands { StandsForSome self.old }
+        requires stands { StandsForSome C.laws self.old }
         requires running { IsRunning self.old }
         ensures { Brings number edge result self.old self.new }
     {
@@ -95,7 +95,7 @@ impl<C: Calculator> Net<C> {
     /// Raises a node's outputs as far as what waits at it tells.
     pub(super) fn raise(&mut self, node: u32) -> Effect
         requires there { node < length self.old.plan.nodes }
-        requires stands { StandsForSome self.old }
+        requires stands { StandsForSome C.laws self.old }
         requires running { IsRunning self.old }
         ensures { NodeAdvances node result self.old self.new }
     {

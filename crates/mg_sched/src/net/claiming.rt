@@ -11,7 +11,7 @@ ghost use Rattle.mg_sched.specs.Code.Tables.{IsFeederOf};
 ghost use Rattle.mg_sched.specs.Acts.{IsHeldSource, NodeClaims as ClaimedAt, ClaimsNext, all_noted, with_noted};
 
 use super::Net;
-use mg_calc::{Calculator, Effect};
+use mg_calc::{Effect, NodeCalculator};
 use mg_node::{Claimed, Intake, Work};
 use mg_throttle::Limits;
 
@@ -45,7 +45,7 @@ fn note_each(limits: &mut Limits, first: u32, intake: &Intake)
 }
 
 // Whether a claim took nothing from the intake.
-fn took_none<C: Calculator>(claimed: &Claimed<C>) -> bool
+fn took_none<C: NodeCalculator>(claimed: &Claimed<C>) -> bool
     ensures { result ≡ took_none claimed.now }
 {
     match claimed {
@@ -59,11 +59,11 @@ fn took_none<C: Calculator>(claimed: &Claimed<C>) -> bool
     }
 }
 
-impl<C: Calculator> Net<C> {
+impl<C: NodeCalculator> Net<C> {
     /// Claims the next work of a node, unless it is a source that is throttled.
     pub(super) fn claim(&mut self, node: u32) -> Effect
         requires there { node < length self.old.plan.nodes }
-        requires stands { StandsForSome self.old }
+        requires stands { StandsForSome C.laws self.old }
         requires running { IsRunning self.old }
         ensures { ClaimedAt node result self.old self.new }
     {
@@ -76,7 +76,7 @@ impl<C: Calculator> Net<C> {
     // Whether a node is a source that is throttled.
     pub(super) fn is_held_source(&self, node: u32) -> bool
         requires there { node < length self.now.plan.nodes }
-        requires stands { StandsForSome self.now }
+        requires stands { StandsForSome C.laws self.now }
         ensures held { result ≡ true → IsHeldSource self.now node }
         ensures not_held { result ≡ false → ¬ IsHeldSource self.now node }
     {
@@ -105,7 +105,7 @@ impl<C: Calculator> Net<C> {
     // Claims the next work of a node, lays it in the node's work queue, and tells the limits how many packets wait.
     fn claim_next(&mut self, node: u32) -> Effect
         requires there { node < length self.old.plan.nodes }
-        requires stands { StandsForSome self.old }
+        requires stands { StandsForSome C.laws self.old }
         requires running { IsRunning self.old }
         ensures { ClaimsNext node result self.old self.new }
     {
@@ -126,7 +126,7 @@ impl<C: Calculator> Net<C> {
     // Claims the next work of a node, hands it out, and tells the limits how many packets wait.
     pub(super) fn hand_out(&mut self, node: u32) -> Claimed<C>
         requires there { node < length self.old.plan.nodes }
-        requires stands { StandsForSome self.old }
+        requires stands { StandsForSome C.laws self.old }
         requires running { IsRunning self.old }
         ensures { NodeHandsOut node result self.old self.new }
     {

@@ -10,21 +10,21 @@ ghost use Rattle.mg_sched.specs.Extends.{GoesOnWith, MayGoOnWith, Extends, for_l
 
 use super::Net;
 use crate::agenda::wake_last;
-use mg_calc::{Calculator, Inputs};
+use mg_calc::{Inputs, NodeCalculator};
 use mg_node::Engine;
 use mg_settled::{Prefix, PrefixList};
 use mg_time::Timestamp;
 use std::alloc::{AllocError, Global};
 
 // Returns the bounds of graph inputs, one for each piece. Their engines stand at the places from `from` on.
-fn bounds_of<C: Calculator>(
+fn bounds_of<C: NodeCalculator>(
     alloc: Global,
     engines: &[Engine<C>],
     from: usize,
     pieces: &PrefixList,
 ) -> Result<Vec<Timestamp>, AllocError>
     requires within { from + length pieces.now ≤ length engines.now }
-    requires may { MayEach from pieces.now engines.now }
+    requires may { MayEach C.laws from pieces.now engines.now }
     ensures count { IfOk result (λ v. length v.items ≡ length pieces.now) }
     ensures bounds { IfOk result (λ v. AtPlaces (IsBound from engines.now) v.items) }
 {
@@ -36,13 +36,13 @@ fn bounds_of<C: Calculator>(
 }
 
 // Extends the engine at a place.
-fn extend_at<C: Calculator>(
+fn extend_at<C: NodeCalculator>(
     engines: &mut [Engine<C>],
     place: usize,
     piece: &Prefix,
 ) -> Result<(), AllocError>
     requires there { place < length engines.old }
-    requires may { (engine : EngineView) → slice_get engines.old place ≡ Some engine → MayExtend engine piece.now }
+    requires may { (engine : EngineView) → slice_get engines.old place ≡ Some engine → MayExtend C.laws engine piece.now }
     ensures extended { (engine : EngineView) → slice_get engines.old place ≡ Some engine → OnOk result (engines.new ≡ slice_set engines.old place (extended engine piece.now)) }
     ensures unchanged { OnErr result (engines.new ≡ engines.old) }
 {
@@ -51,9 +51,13 @@ fn extend_at<C: Calculator>(
 }
 
 // Extends the engines from `from` on, each by its piece, as far as there is memory, and returns how many are extended.
-fn extend_each<C: Calculator>(engines: &mut [Engine<C>], from: usize, pieces: &PrefixList) -> u32
+fn extend_each<C: NodeCalculator>(
+    engines: &mut [Engine<C>],
+    from: usize,
+    pieces: &PrefixList,
+) -> u32
     requires within { from + length pieces.now ≤ length engines.old }
-    requires may { MayEach from pieces.now engines.old }
+    requires may { MayEach C.laws from pieces.now engines.old }
     ensures count { result ≤ length pieces.now }
     ensures longer { AreLonger from pieces.now result engines.old engines.new }
 {
@@ -67,21 +71,21 @@ fn extend_each<C: Calculator>(engines: &mut [Engine<C>], from: usize, pieces: &P
 }
 
 // Takes a piece back from the engine at a place.
-fn shorten_at<C: Calculator>(
+fn shorten_at<C: NodeCalculator>(
     engines: &mut [Engine<C>],
     place: usize,
     piece: &Prefix,
     bound: Timestamp,
 )
     requires there { place < length engines.old }
-    requires some { (now : EngineView) → slice_get engines.old place ≡ Some now → SomeExtended piece.now bound now }
-    ensures { (before now : EngineView) → slice_get engines.old place ≡ Some now → WasExtended piece.now bound before now → engines.new ≡ slice_set engines.old place before }
+    requires some { (now : EngineView) → slice_get engines.old place ≡ Some now → SomeExtended C.laws piece.now bound now }
+    ensures { (before now : EngineView) → slice_get engines.old place ≡ Some now → WasExtended C.laws piece.now bound before now → engines.new ≡ slice_set engines.old place before }
 {
     engines[place].shorten(piece, bound);
 }
 
 // Takes the pieces back from the first `count` engines from `from` on.
-fn shorten_each<C: Calculator>(
+fn shorten_each<C: NodeCalculator>(
     engines: &mut [Engine<C>],
     from: usize,
     pieces: &PrefixList,
@@ -90,8 +94,8 @@ fn shorten_each<C: Calculator>(
 )
     requires pieces { count ≤ length pieces.now }
     requires bounds { count ≤ length bounds.now }
-    requires some { SomeLonger from pieces.now bounds.now count engines.old }
-    ensures { (before : List EngineView) → WereLonger from pieces.now bounds.now count before engines.old → engines.new ≡ before }
+    requires some { SomeLonger C.laws from pieces.now bounds.now count engines.old }
+    ensures { (before : List EngineView) → WereLonger C.laws from pieces.now bounds.now count before engines.old → engines.new ≡ before }
 {
     let mut left = count;
     while left > 0 {
@@ -103,13 +107,13 @@ fn shorten_each<C: Calculator>(
 
 // Extends the last engines, each by its piece. Where one can't be, the pieces that were laid before are taken back: whether there is memory
 // for all shows only while they are laid.
-fn extend_last<C: Calculator>(
+fn extend_last<C: NodeCalculator>(
     alloc: Global,
     engines: &mut [Engine<C>],
     pieces: &PrefixList,
 ) -> Result<(), AllocError>
     requires room { length pieces.now ≤ length engines.old }
-    requires may { MayEach (length engines.old - length pieces.now) pieces.now engines.old }
+    requires may { MayEach C.laws (length engines.old - length pieces.now) pieces.now engines.old }
     ensures longer { OnOk result (AreLonger (length engines.old - length pieces.now) pieces.now (length pieces.now) engines.old engines.new) }
     ensures unchanged { OnErr result (engines.new ≡ engines.old) }
 {
@@ -123,16 +127,16 @@ fn extend_last<C: Calculator>(
     Ok(())
 }
 
-impl<C: Calculator> Net<C> {
+impl<C: NodeCalculator> Net<C> {
     /// Goes on with further input: the packets of each piece go behind those of its graph input, and the greater bound stands. Payloads
     /// are shared. Want of memory changes nothing. It costs a step for each graph input, and one for each packet.
     pub fn extend(&mut self, more: &Inputs) -> Result<(), AllocError>
-        requires may { MayGoOnWith more.now self.old }
+        requires may { MayGoOnWith C.laws more.now self.old }
         ensures extends { OnOk result (Extends more.now self.old self.new) }
         ensures unchanged { OnErr result (self.new ≡ self.old) }
 
         // A net that stands for a job then stands for every job that goes on from it with this input.
-        ensures stands { (first later : LoggedJob) → GoesOnWith more.now first later → StandsFor first self.old → OnOk result (StandsFor later self.new) }
+        ensures stands { (first later : LoggedJob C.laws) → GoesOnWith more.now first later → StandsFor first self.old → OnOk result (StandsFor later self.new) }
     {
         self.extend_last(&more.streams)?;
         Ok(())
@@ -141,12 +145,12 @@ impl<C: Calculator> Net<C> {
     /// Goes on with further input of the last graph inputs alone, a piece for each of them. Nothing comes to the graph inputs before
     /// them, and they cost nothing.
     pub fn extend_last(&mut self, pieces: &PrefixList) -> Result<(), AllocError>
-        requires may { MayGoOnWith (for_last (length self.old.plan.inputs) pieces.now) self.old }
+        requires may { MayGoOnWith C.laws (for_last (length self.old.plan.inputs) pieces.now) self.old }
         ensures extends { OnOk result (Extends (for_last (length self.old.plan.inputs) pieces.now) self.old self.new) }
         ensures unchanged { OnErr result (self.new ≡ self.old) }
 
         // A net that stands for a job then stands for every job that goes on from it with this input.
-        ensures stands { (first later : LoggedJob) → GoesOnWith (for_last (length self.old.plan.inputs) pieces.now) first later → StandsFor first self.old → OnOk result (StandsFor later self.new) }
+        ensures stands { (first later : LoggedJob C.laws) → GoesOnWith (for_last (length self.old.plan.inputs) pieces.now) first later → StandsFor first self.old → OnOk result (StandsFor later self.new) }
     {
         let known = self.known;
         self.known = false;

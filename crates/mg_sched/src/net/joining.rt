@@ -9,10 +9,10 @@ ghost use Rattle.mg_sched.specs.Code.Telling.{ToldTo};
 
 use super::{IndexedPlan, Net, NetRest};
 use crate::net_parts::NetParts;
-use mg_calc::Calculator;
+use mg_calc::NodeCalculator;
 
 // Returns the net that has these parts. Its limits aren't told anew what waits.
-fn joined<C: Calculator>(parts: NetParts<C>) -> Net<C>
+fn joined<C: NodeCalculator>(parts: NetParts<C>) -> Net<C>
     ensures { result ≡ net_of (record { plan = parts.plan; engines = parts.engines.items; intakes = parts.intakes.items; rest = parts.rest }) }
 {
     let NetParts {
@@ -58,14 +58,14 @@ fn joined<C: Calculator>(parts: NetParts<C>) -> Net<C>
     }
 }
 
-impl<C: Calculator> Net<C> {
+impl<C: NodeCalculator> Net<C> {
     /// Puts a net together of the parts into which one came apart, whatever became of them since: it stands for each job of which they are
     /// the parts. Its limits are told anew what waits. Nothing is copied, and no memory is taken.
     pub fn put_together(parts: NetParts<C>) -> Net<C>
-        requires { AreParts (record { plan = parts.plan; engines = parts.engines.items; intakes = parts.intakes.items; rest = parts.rest }) }
+        requires { AreParts C.laws (record { plan = parts.plan; engines = parts.engines.items; intakes = parts.intakes.items; rest = parts.rest }) }
         ensures together { IsPutTogether (record { plan = parts.plan; engines = parts.engines.items; intakes = parts.intakes.items; rest = parts.rest }) result }
         ensures running { IsRunning result }
-        ensures stands { (job : LoggedJob) → ArePartsOf job (record { plan = parts.plan; engines = parts.engines.items; intakes = parts.intakes.items; rest = parts.rest })
+        ensures stands { (job : LoggedJob C.laws) → ArePartsOf job (record { plan = parts.plan; engines = parts.engines.items; intakes = parts.intakes.items; rest = parts.rest })
             → StandsFor job result }
     {
         let mut net = joined(parts);
@@ -75,7 +75,7 @@ impl<C: Calculator> Net<C> {
 
     // Tells the limits how many packets wait at each port, and which nodes have ended.
     fn tell_limits(&mut self)
-        requires { AreParts (parts_in self.old) }
+        requires { AreParts C.laws (parts_in self.old) }
         ensures same { self.new ≡ with_limits self.old self.new.limits }
         ensures knows { KnowsLimits self.new }
     {
@@ -89,8 +89,8 @@ impl<C: Calculator> Net<C> {
     // Tells the limits what waits at a node, and whether it has ended.
     fn tell_of(&mut self, node: u32)
         requires there { node < length self.old.plan.nodes }
-        requires parts { AreParts (parts_in self.old) }
-        ensures { (start : NetView) → AreParts (parts_in start) → ToldTo node node start self.old → ToldTo (node + 1) (node + 1) start self.new }
+        requires parts { AreParts C.laws (parts_in self.old) }
+        ensures { (start : NetView) → AreParts C.laws (parts_in start) → ToldTo node node start self.old → ToldTo (node + 1) (node + 1) start self.new }
     {
         self.note_ports(node);
         self.stop_ended(node);

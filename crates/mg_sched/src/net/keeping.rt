@@ -5,7 +5,7 @@ ghost use Rattle.mg_sched.specs.StandsFor.{StandsFor, StandsForSome};
 ghost use Rattle.mg_sched.specs.Trims.{Keeps};
 
 use super::Net;
-use mg_calc::Calculator;
+use mg_calc::NodeCalculator;
 
 // Sets the mark at a place.
 fn mark(marks: &mut [bool], place: usize)
@@ -15,15 +15,15 @@ fn mark(marks: &mut [bool], place: usize)
     marks[place] = true;
 }
 
-impl<C: Calculator> Net<C> {
+impl<C: NodeCalculator> Net<C> {
     /// Keeps all that is laid of a stream from now on: `trim` gives up no more packets of it. What was given up before stays given up.
     pub fn keep(&mut self, stream: u32)
         requires stream { stream < length self.old.plan.streams }
-        requires stands { StandsForSome self.old }
+        requires stands { StandsForSome C.laws self.old }
         ensures keeps { Keeps stream self.old self.new }
 
         // The net still stands for each job for which it stood.
-        ensures stands { (job : LoggedJob) → StandsFor job self.old → StandsFor job self.new }
+        ensures stands { (job : LoggedJob C.laws) → StandsFor job self.old → StandsFor job self.new }
     {
         mark(&mut self.kept, stream as usize);
     }

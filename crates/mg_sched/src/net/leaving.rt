@@ -2,7 +2,7 @@
 ghost use Rattle.std.specs.Prelude.{◌≡◌, ℕ, ◌+◌, ◌≤◌, ◌++◌, true, is_some, Option, Some, length, map, option_map, slice_get, vec_len, vec_capacity};
 ghost use Rattle.std.specs.List.{filter_map};
 ghost use Rattle.mg_calc.specs.declared.plan_node.PlanNode.{PlanNode};
-ghost use Rattle.mg_calc.specs.Told.{CalculatorTold};
+ghost use Rattle.mg_calc.specs.Told.{BoxTold};
 ghost use Rattle.mg_node.specs.Views.{EngineView};
 ghost use Rattle.mg_node.specs.Job.{LoggedJob};
 ghost use Rattle.mg_sched.specs.Views.{WorkQueueView};
@@ -10,11 +10,11 @@ ghost use Rattle.mg_sched.specs.GivesBack.{cell_told, with_told, with_cells, giv
 
 use super::Net;
 use crate::work_queue::WorkQueue;
-use mg_calc::{Calculator, Plan};
+use mg_calc::{NodeCalculator, Plan};
 use mg_node::Engine;
 
 // Returns the calculator of a cell, if it was handed in.
-fn calculator_of<C: Calculator>(engine: Engine<C>, work_queue: WorkQueue<C>) -> Option<C>
+fn calculator_of<C: NodeCalculator>(engine: Engine<C>, work_queue: WorkQueue<C>) -> Option<C>
     ensures { option_map C.told result ≡ cell_told engine work_queue }
 {
     match engine.into_calculator() {
@@ -25,7 +25,11 @@ fn calculator_of<C: Calculator>(engine: Engine<C>, work_queue: WorkQueue<C>) -> 
 
 // Lays a calculator into the place of its number, if there is one.
 #[tactic(auto, using(crate::proofs::HandedOut::map_set))]
-fn put_in_place<C: Calculator>(places: &mut [Option<C>], number: Option<u32>, calculator: Option<C>)
+fn put_in_place<C: NodeCalculator>(
+    places: &mut [Option<C>],
+    number: Option<u32>,
+    calculator: Option<C>,
+)
     ensures { map (option_map C.told) places.new ≡ with_told (map (option_map C.told) places.old) number (option_map C.told calculator) }
 {
     let Some(number) = number else { return };
@@ -36,7 +40,7 @@ fn put_in_place<C: Calculator>(places: &mut [Option<C>], number: Option<u32>, ca
 }
 
 // Lays the calculators of cells into the places of their nodes' numbers.
-fn put_back<C: Calculator>(
+fn put_back<C: NodeCalculator>(
     plan: &Plan,
     engines: Vec<Engine<C>>,
     work_queues: Vec<WorkQueue<C>>,
@@ -57,9 +61,9 @@ fn put_back<C: Calculator>(
 }
 
 // Appends the calculators that lie in places, in order, to a list with room for them.
-fn all_in<C: Calculator>(places: Vec<Option<C>>, boxes: Vec<C>) -> Vec<C>
+fn all_in<C: NodeCalculator>(places: Vec<Option<C>>, boxes: Vec<C>) -> Vec<C>
     requires room { vec_len boxes + length places.items ≤ vec_capacity boxes }
-    ensures { map C.told result.items ≡ map C.told boxes.items ++ filter_map (λ (p : Option CalculatorTold). p) (map (option_map C.told) places.items) }
+    ensures { map C.told result.items ≡ map C.told boxes.items ++ filter_map (λ (p : Option BoxTold). p) (map (option_map C.told) places.items) }
 {
     let mut boxes = boxes;
     for place in places {
@@ -69,18 +73,18 @@ fn all_in<C: Calculator>(places: Vec<Option<C>>, boxes: Vec<C>) -> Vec<C>
     boxes
 }
 
-impl<C: Calculator> Net<C> {
+impl<C: NodeCalculator> Net<C> {
     /// Returns all calculators that were handed in, in the order in which they came: those of nodes, and those that no node uses.
     pub fn give_back(self) -> Vec<C>
         ensures told { map C.told result.items ≡ given_back self }
 
         // A net that stands for a job, begun or not, or was wound up since, gives back as many calculators as were handed in. The
         // calculator of a node stands at the place of its box number, and one that no node uses is as it lay.
-        ensures count { (job : LoggedJob) → StoodFor job self → length result.items ≡ length job.boxes }
-        ensures own { (job : LoggedJob) (number place : ℕ) (node : PlanNode) (engine : EngineView) (work_queue : WorkQueueView) → StoodFor job self
+        ensures count { (job : LoggedJob C.laws) → StoodFor job self → length result.items ≡ length job.boxes }
+        ensures own { (job : LoggedJob C.laws) (number place : ℕ) (node : PlanNode) (engine : EngineView) (work_queue : WorkQueueView) → StoodFor job self
             → slice_get self.plan.nodes number ≡ Some node → node.box_number ≡ Some place → slice_get self.engines number ≡ Some engine → slice_get self.work_queues number ≡ Some work_queue
             → (slice_get (map C.told result.items) place ≡ cell_told engine work_queue) × (is_some (cell_told engine work_queue) ≡ true) }
-        ensures unused { (job : LoggedJob) (place : ℕ) (told : CalculatorTold) → StoodFor job self → slice_get self.spare place ≡ Some (Some told)
+        ensures unused { (job : LoggedJob C.laws) (place : ℕ) (told : BoxTold) → StoodFor job self → slice_get self.spare place ≡ Some (Some told)
             → slice_get (map C.told result.items) place ≡ Some told }
     {
         let Net {

@@ -9,13 +9,13 @@ ghost use Rattle.mg_sched.specs.Looks.{IsOutputOf, IsOutputAmong};
 
 use super::Net;
 use super::trimming::output_of;
-use mg_calc::{Calculator, Plan};
+use mg_calc::{NodeCalculator, Plan};
 use mg_node::Engine;
 use mg_time::Timestamp;
 use mg_value::Packet;
 
 // Returns a stream's packet of this number, if it is laid and not given up.
-fn packet_of<'a, C: Calculator>(
+fn packet_of<'a, C: NodeCalculator>(
     plan: &Plan,
     engines: &'a [Engine<C>],
     stream: u32,
@@ -30,7 +30,7 @@ fn packet_of<'a, C: Calculator>(
 }
 
 // The bound of a stream.
-fn bound_of<C: Calculator>(plan: &Plan, engines: &[Engine<C>], stream: u32) -> Timestamp
+fn bound_of<C: NodeCalculator>(plan: &Plan, engines: &[Engine<C>], stream: u32) -> Timestamp
     requires stream { stream < length plan.now.streams }
     requires outputs { HaveOutputs plan.now engines.now }
     ensures { (output : Backlog Plain) → IsOutputAmong plan.now engines.now stream output → result ≡ output.bound }
@@ -39,10 +39,10 @@ fn bound_of<C: Calculator>(plan: &Plan, engines: &[Engine<C>], stream: u32) -> T
     engines[place].bound(output)
 }
 
-impl<C: Calculator> Net<C> {
+impl<C: NodeCalculator> Net<C> {
     /// Returns a stream's packet of this number, from 0 on, if it is laid and not given up. A stream that isn't there has no packets.
     pub fn packet(&self, stream: u32, number: u64) -> Option<&Packet>
-        requires { StandsForSome self.now }
+        requires { StandsForSome C.laws self.now }
         ensures packet { (output : Backlog Plain) → IsOutputOf self.now stream output → option_copied result ≡ kept_packet output number }
         ensures past { length self.now.plan.streams ≤ stream → option_copied result ≡ None }
     {
@@ -56,7 +56,7 @@ impl<C: Calculator> Net<C> {
     /// Returns the bound of a stream: the lowest timestamp that a further packet of it may have.
     pub fn bound(&self, stream: u32) -> Timestamp
         requires stream { stream < length self.now.plan.streams }
-        requires stands { StandsForSome self.now }
+        requires stands { StandsForSome C.laws self.now }
         ensures { (output : Backlog Plain) → IsOutputOf self.now stream output → result ≡ output.bound }
     {
         bound_of(&self.plan, &self.engines, stream)

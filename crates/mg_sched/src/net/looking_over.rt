@@ -14,11 +14,11 @@ use super::Net;
 use super::sweeping::go_on_with;
 use crate::Hears;
 use crate::agenda::Agenda;
-use mg_calc::{Calculator, Effect, Event};
+use mg_calc::{Effect, Event, NodeCalculator};
 use mg_edge::Gate;
 use std::alloc::AllocError;
 
-impl<C: Calculator> Net<C> {
+impl<C: NodeCalculator> Net<C> {
     // Relaxes the limits of full queues, and where none is full looks over the places whose parts may have changed, one after the other,
     // up to the first at which something is done. Tells whether something was done.
     pub(super) fn look_over<G: Gate, H: Hears>(
@@ -28,15 +28,15 @@ impl<C: Calculator> Net<C> {
         hearer: &mut H,
     ) -> Result<bool, AllocError>
         requires running { IsRunning self.old }
-        requires stands { StandsForSome self.old }
+        requires stands { StandsForSome C.laws self.old }
         requires agenda { IsAgendaOf self.old.plan agenda.old }
         requires rests { RestsBut self.old agenda.old }
-        ensures becomes { Becomes self.old self.new }
-        ensures heard { OnOk result (Heard H.has_heard hearer.old hearer.new self.old self.new) }
-        ensures heard_some { OnErr result (HeardSome H.has_heard hearer.old hearer.new self.old) }
+        ensures becomes { Becomes C.laws self.old self.new }
+        ensures heard { OnOk result (Heard C.laws H.has_heard hearer.old hearer.new self.old self.new) }
+        ensures heard_some { OnErr result (HeardSome C.laws H.has_heard hearer.old hearer.new self.old) }
         ensures goes { IfOk result (λ did. Goes did self.old self.new) }
         ensures agenda { IsAgendaOf self.old.plan agenda.new }
-        ensures rest { IfOk result (λ did. did ≡ false → IsAtRest self.new) }
+        ensures rest { IfOk result (λ did. did ≡ false → IsAtRest C.laws self.new) }
         ensures left { OnOk result (RestsBut self.new agenda.new) }
     {
         let relaxed = self.step(Event::Relax, gate, hearer)?;
@@ -56,16 +56,16 @@ impl<C: Calculator> Net<C> {
         hearer: &mut H,
     ) -> Result<bool, AllocError>
         requires running { IsRunning self.old }
-        requires stands { StandsForSome self.old }
+        requires stands { StandsForSome C.laws self.old }
         requires agenda { IsAgendaOf self.old.plan agenda.old }
         requires rests { RestsBut self.old agenda.old }
         requires free { ¬ IsAnyFull self.old.limits }
-        ensures becomes { Becomes self.old self.new }
-        ensures heard { OnOk result (Heard H.has_heard hearer.old hearer.new self.old self.new) }
-        ensures heard_some { OnErr result (HeardSome H.has_heard hearer.old hearer.new self.old) }
+        ensures becomes { Becomes C.laws self.old self.new }
+        ensures heard { OnOk result (Heard C.laws H.has_heard hearer.old hearer.new self.old self.new) }
+        ensures heard_some { OnErr result (HeardSome C.laws H.has_heard hearer.old hearer.new self.old) }
         ensures goes { IfOk result (λ did. Goes did self.old self.new) }
         ensures agenda { IsAgendaOf self.old.plan agenda.new }
-        ensures rest { IfOk result (λ did. did ≡ false → IsAtRest self.new) }
+        ensures rest { IfOk result (λ did. did ≡ false → IsAtRest C.laws self.new) }
         ensures left { OnOk result (RestsBut self.new agenda.new) }
     {
         'places: while let Some(place) = agenda.next_touched() {
@@ -86,17 +86,17 @@ impl<C: Calculator> Net<C> {
         hearer: &mut H,
     ) -> Result<bool, AllocError>
         requires running { IsRunning self.old }
-        requires stands { StandsForSome self.old }
+        requires stands { StandsForSome C.laws self.old }
         requires agenda { IsAgendaOf self.old.plan agenda.old }
         requires there { place ≤ length agenda.old.heads }
-        ensures becomes { Becomes self.old self.new }
-        ensures heard { OnOk result (Heard H.has_heard hearer.old hearer.new self.old self.new) }
-        ensures heard_some { OnErr result (HeardSome H.has_heard hearer.old hearer.new self.old) }
+        ensures becomes { Becomes C.laws self.old self.new }
+        ensures heard { OnOk result (Heard C.laws H.has_heard hearer.old hearer.new self.old self.new) }
+        ensures heard_some { OnErr result (HeardSome C.laws H.has_heard hearer.old hearer.new self.old) }
         ensures goes { IfOk result (λ did. Goes did self.old self.new) }
         ensures agenda { IsAgendaOf self.old.plan agenda.new }
         ensures notes { OnOk result (Notes self.old agenda.old self.new agenda.new) }
         ensures unchanged { IfOk result (λ did. did ≡ false → agenda.new ≡ agenda.old) }
-        ensures rest { IfOk result (λ did. did ≡ false → RestsHere self.new place) }
+        ensures rest { IfOk result (λ did. did ≡ false → RestsHere C.laws self.new place) }
     {
         let came = self.look_into(place, agenda, gate, hearer)?;
         let sent = self.look_from(place, agenda, gate, hearer)?;
@@ -113,16 +113,16 @@ impl<C: Calculator> Net<C> {
         hearer: &mut H,
     ) -> Result<bool, AllocError>
         requires running { IsRunning self.old }
-        requires stands { StandsForSome self.old }
+        requires stands { StandsForSome C.laws self.old }
         requires agenda { IsAgendaOf self.old.plan agenda.old }
-        ensures becomes { Becomes self.old self.new }
-        ensures heard { OnOk result (Heard H.has_heard hearer.old hearer.new self.old self.new) }
-        ensures heard_some { OnErr result (HeardSome H.has_heard hearer.old hearer.new self.old) }
+        ensures becomes { Becomes C.laws self.old self.new }
+        ensures heard { OnOk result (Heard C.laws H.has_heard hearer.old hearer.new self.old self.new) }
+        ensures heard_some { OnErr result (HeardSome C.laws H.has_heard hearer.old hearer.new self.old) }
         ensures goes { IfOk result (λ did. Goes did self.old self.new) }
         ensures agenda { IsAgendaOf self.old.plan agenda.new }
         ensures notes { OnOk result (Notes self.old agenda.old self.new agenda.new) }
         ensures unchanged { IfOk result (λ did. did ≡ false → agenda.new ≡ agenda.old) }
-        ensures rest { IfOk result (λ did. did ≡ false → EdgesRestInto self.new place) }
+        ensures rest { IfOk result (λ did. did ≡ false → EdgesRestInto C.laws self.new place) }
     {
         let nodes = self.node_count();
         if nodes < place {
@@ -141,17 +141,17 @@ impl<C: Calculator> Net<C> {
         hearer: &mut H,
     ) -> Result<bool, AllocError>
         requires running { IsRunning self.old }
-        requires stands { StandsForSome self.old }
+        requires stands { StandsForSome C.laws self.old }
         requires agenda { IsAgendaOf self.old.plan agenda.old }
         requires there { consumer ≤ length self.old.plan.nodes }
-        ensures becomes { Becomes self.old self.new }
-        ensures heard { OnOk result (Heard H.has_heard hearer.old hearer.new self.old self.new) }
-        ensures heard_some { OnErr result (HeardSome H.has_heard hearer.old hearer.new self.old) }
+        ensures becomes { Becomes C.laws self.old self.new }
+        ensures heard { OnOk result (Heard C.laws H.has_heard hearer.old hearer.new self.old self.new) }
+        ensures heard_some { OnErr result (HeardSome C.laws H.has_heard hearer.old hearer.new self.old) }
         ensures goes { IfOk result (λ did. Goes did self.old self.new) }
         ensures agenda { IsAgendaOf self.old.plan agenda.new }
         ensures notes { OnOk result (Notes self.old agenda.old self.new agenda.new) }
         ensures unchanged { IfOk result (λ did. did ≡ false → agenda.new ≡ agenda.old) }
-        ensures rest { IfOk result (λ did. did ≡ false → EdgesRestInto self.new consumer) }
+        ensures rest { IfOk result (λ did. did ≡ false → EdgesRestInto C.laws self.new consumer) }
     {
         let first = self.first_edge(consumer);
         let ports = self.port_count(consumer);
@@ -164,7 +164,7 @@ impl<C: Calculator> Net<C> {
 
     // How many ports a consumer has.
     fn port_count(&self, consumer: u32) -> u32
-        requires stands { StandsForSome self.now }
+        requires stands { StandsForSome C.laws self.now }
         requires there { consumer ≤ length self.now.plan.nodes }
         ensures { result ≡ length (ports_of self.now.plan consumer) }
     {
@@ -180,17 +180,17 @@ impl<C: Calculator> Net<C> {
         hearer: &mut H,
     ) -> Result<bool, AllocError>
         requires running { IsRunning self.old }
-        requires stands { StandsForSome self.old }
+        requires stands { StandsForSome C.laws self.old }
         requires agenda { IsAgendaOf self.old.plan agenda.old }
         requires there { place ≤ length agenda.old.heads }
-        ensures becomes { Becomes self.old self.new }
-        ensures heard { OnOk result (Heard H.has_heard hearer.old hearer.new self.old self.new) }
-        ensures heard_some { OnErr result (HeardSome H.has_heard hearer.old hearer.new self.old) }
+        ensures becomes { Becomes C.laws self.old self.new }
+        ensures heard { OnOk result (Heard C.laws H.has_heard hearer.old hearer.new self.old self.new) }
+        ensures heard_some { OnErr result (HeardSome C.laws H.has_heard hearer.old hearer.new self.old) }
         ensures goes { IfOk result (λ did. Goes did self.old self.new) }
         ensures agenda { IsAgendaOf self.old.plan agenda.new }
         ensures notes { OnOk result (Notes self.old agenda.old self.new agenda.new) }
         ensures unchanged { IfOk result (λ did. did ≡ false → agenda.new ≡ agenda.old) }
-        ensures rest { IfOk result (λ did. did ≡ false → EdgesRestBehind self.new place) }
+        ensures rest { IfOk result (λ did. did ≡ false → EdgesRestBehind C.laws self.new place) }
     {
         let count = agenda.count();
         if place < count {
@@ -210,16 +210,16 @@ impl<C: Calculator> Net<C> {
         hearer: &mut H,
     ) -> Result<bool, AllocError>
         requires running { IsRunning self.old }
-        requires stands { StandsForSome self.old }
+        requires stands { StandsForSome C.laws self.old }
         requires agenda { IsAgendaOf self.old.plan agenda.old }
-        ensures becomes { Becomes self.old self.new }
-        ensures heard { OnOk result (Heard H.has_heard hearer.old hearer.new self.old self.new) }
-        ensures heard_some { OnErr result (HeardSome H.has_heard hearer.old hearer.new self.old) }
+        ensures becomes { Becomes C.laws self.old self.new }
+        ensures heard { OnOk result (Heard C.laws H.has_heard hearer.old hearer.new self.old self.new) }
+        ensures heard_some { OnErr result (HeardSome C.laws H.has_heard hearer.old hearer.new self.old) }
         ensures goes { IfOk result (λ did. Goes did self.old self.new) }
         ensures agenda { IsAgendaOf self.old.plan agenda.new }
         ensures notes { OnOk result (Notes self.old agenda.old self.new agenda.new) }
         ensures unchanged { IfOk result (λ did. did ≡ false → agenda.new ≡ agenda.old) }
-        ensures rest { IfOk result (λ did. did ≡ false → place < length self.new.plan.nodes → RestsAt self.new place) }
+        ensures rest { IfOk result (λ did. did ≡ false → place < length self.new.plan.nodes → RestsAt C.laws self.new place) }
     {
         let nodes = self.node_count();
         if place < nodes {
@@ -238,17 +238,17 @@ impl<C: Calculator> Net<C> {
         hearer: &mut H,
     ) -> Result<bool, AllocError>
         requires running { IsRunning self.old }
-        requires stands { StandsForSome self.old }
+        requires stands { StandsForSome C.laws self.old }
         requires agenda { IsAgendaOf self.old.plan agenda.old }
         requires there { node < length self.old.plan.nodes }
-        ensures becomes { Becomes self.old self.new }
-        ensures heard { OnOk result (Heard H.has_heard hearer.old hearer.new self.old self.new) }
-        ensures heard_some { OnErr result (HeardSome H.has_heard hearer.old hearer.new self.old) }
+        ensures becomes { Becomes C.laws self.old self.new }
+        ensures heard { OnOk result (Heard C.laws H.has_heard hearer.old hearer.new self.old self.new) }
+        ensures heard_some { OnErr result (HeardSome C.laws H.has_heard hearer.old hearer.new self.old) }
         ensures goes { IfOk result (λ did. Goes did self.old self.new) }
         ensures agenda { IsAgendaOf self.old.plan agenda.new }
         ensures notes { OnOk result (Notes self.old agenda.old self.new agenda.new) }
         ensures unchanged { IfOk result (λ did. did ≡ false → agenda.new ≡ agenda.old) }
-        ensures rest { IfOk result (λ did. did ≡ false → RestsAt self.new node) }
+        ensures rest { IfOk result (λ did. did ≡ false → RestsAt C.laws self.new node) }
     {
         let worked = self.work(node, gate, hearer)?;
         if worked {
@@ -280,11 +280,11 @@ impl<C: Calculator> Net<C> {
     ) -> Result<bool, AllocError>
         requires event { IsEventOf self.old event }
         requires running { IsRunning self.old }
-        requires stands { StandsForSome self.old }
-        ensures becomes { Becomes self.old self.new }
-        ensures heard { OnOk result (Heard H.has_heard hearer.old hearer.new self.old self.new) }
-        ensures heard_some { OnErr result (HeardSome H.has_heard hearer.old hearer.new self.old) }
-        ensures steps { IfOk result (λ did. Steps did event self.old self.new) }
+        requires stands { StandsForSome C.laws self.old }
+        ensures becomes { Becomes C.laws self.old self.new }
+        ensures heard { OnOk result (Heard C.laws H.has_heard hearer.old hearer.new self.old self.new) }
+        ensures heard_some { OnErr result (HeardSome C.laws H.has_heard hearer.old hearer.new self.old) }
+        ensures steps { IfOk result (λ did. Steps C.laws did event self.old self.new) }
         ensures only { OnOk result ((place : ℕ) → IsAt self.old.plan event place → OnlyAt place self.old self.new) }
     {
         match self.act(event, gate) {

@@ -11,25 +11,25 @@ ghost use Rattle.mg_sched.specs.Made.{BoxesFit, IsMade};
 use super::Net;
 use crate::boxes::{hand_out, lay_out};
 use crate::parts::{Cells, Kept, Rules, cells_of, kept_of, rules_of};
-use mg_calc::{Calculator, Inputs, Plan};
+use mg_calc::{Inputs, NodeCalculator, Plan};
 use std::alloc::{AllocError, Global};
 
 /// All that a net keeps and for which it takes memory. Each node has a calculator of its own kind.
 #[derive(Drop)]
-struct Parts<C: Calculator> {
+struct Parts<C: NodeCalculator> {
     kept: Kept<C>,
     cells: Cells<C>,
     rules: Rules,
 }
 
 // Returns the parts of a net, with room for `count` calculators that are handed in.
-fn parts_of<C: Calculator>(
+fn parts_of<C: NodeCalculator>(
     alloc: Global,
     plan: &Plan,
     inputs: &Inputs,
     count: usize,
 ) -> Result<Parts<C>, AllocError>
-    requires { IsJob (record { plan = plan.now; inputs = inputs.now }) }
+    requires { IsJob (record { plan = plan.now; inputs = inputs.now; laws = C.laws }) }
     ensures parts { IfOk result (λ p. HasParts plan.now inputs.now (λ _ node. own_told node) (record {
       plan = p.kept.plan;
       given = p.kept.given;
@@ -55,7 +55,7 @@ fn parts_of<C: Calculator>(
 }
 
 // Returns the net of these parts, with the calculators that were handed in at their nodes. No memory is taken.
-fn joined<C: Calculator>(alloc: Global, plan: &Plan, parts: Parts<C>, boxes: Vec<C>) -> Net<C>
+fn joined<C: NodeCalculator>(alloc: Global, plan: &Plan, parts: Parts<C>, boxes: Vec<C>) -> Net<C>
     requires valid { IsValid plan.now }
     requires boxes { BoxesFit plan.now (map C.told boxes.items) }
     requires nodes { length plan.now.nodes ≤ length parts.cells.engines.items }
@@ -64,7 +64,7 @@ fn joined<C: Calculator>(alloc: Global, plan: &Plan, parts: Parts<C>, boxes: Vec
     requires none { parts.kept.places.items ≡ [] }
     requires empty { vec_len parts.kept.places ≡ 0 }
     requires room { vec_len boxes ≤ vec_capacity parts.kept.places }
-    ensures { (inputs : Inputs) → IsJob (record { plan = plan.now; inputs = inputs }) → HasParts plan.now inputs (λ _ node. own_told node) (record {
+    ensures { (inputs : Inputs) → IsJob (record { plan = plan.now; inputs = inputs; laws = C.laws }) → HasParts plan.now inputs (λ _ node. own_told node) (record {
       plan = parts.kept.plan;
       given = parts.kept.given;
       engines = parts.cells.engines.items;
@@ -75,7 +75,7 @@ fn joined<C: Calculator>(alloc: Global, plan: &Plan, parts: Parts<C>, boxes: Vec
       kept = parts.rules.kept.items;
       begun = zero;
       wound = zero;
-    }) → IsMade plan.now inputs (map C.told boxes.items) result }
+    }) → IsMade C.laws plan.now inputs (map C.told boxes.items) result }
 {
     let Parts { kept, cells, rules } = parts;
     let Kept {
@@ -119,13 +119,13 @@ fn joined<C: Calculator>(alloc: Global, plan: &Plan, parts: Parts<C>, boxes: Vec
     }
 }
 
-impl<C: Calculator> Net<C> {
+impl<C: NodeCalculator> Net<C> {
     /// Makes the net of a plan over inputs, with the calculators that are handed in: a node with a box number gets the one of that number.
     /// No node is begun. Want of memory hands the calculators back.
     pub fn new(alloc: Global, plan: &Plan, inputs: &Inputs, boxes: Vec<C>) -> Result<Net<C>, Vec<C>>
-        requires job { IsJob (record { plan = plan.now; inputs = inputs.now }) }
+        requires job { IsJob (record { plan = plan.now; inputs = inputs.now; laws = C.laws }) }
         requires boxes { BoxesFit plan.now (map C.told boxes.items) }
-        ensures made { IfOk result (λ n. IsMade plan.now inputs.now (map C.told boxes.items) n) }
+        ensures made { IfOk result (λ n. IsMade C.laws plan.now inputs.now (map C.told boxes.items) n) }
         ensures returned { IfErr result (λ bs. bs ≡ boxes) }
     {
         match parts_of(alloc, plan, inputs, boxes.len()) {

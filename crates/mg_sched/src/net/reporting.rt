@@ -8,14 +8,14 @@ ghost use Rattle.mg_sched.specs.Reports.{held_in, node_engines, input_engines, b
 
 use super::Net;
 use crate::report::Report;
-use mg_calc::{Calculator, NodeFaultList};
+use mg_calc::{NodeCalculator, NodeFaultList};
 use mg_node::{Engine, Intake};
 use mg_settled::{StreamEnd, StreamEndList};
 use mg_value::{BlockList, CountList};
 use std::alloc::{AllocError, Global};
 
 // How many packets engines keep.
-fn kept_by<C: Calculator>(engines: &[Engine<C>]) -> u64
+fn kept_by<C: NodeCalculator>(engines: &[Engine<C>]) -> u64
     ensures { result ≡ min (sum_by packets_kept engines.now) (2 ^ 64 - 1) }
 {
     let mut held: u64 = 0;
@@ -37,7 +37,7 @@ fn waiting_at(intakes: &[Intake]) -> u64
 }
 
 // Returns for each engine how many sets it has laid.
-fn sets_of<C: Calculator>(alloc: Global, engines: &[Engine<C>]) -> Result<CountList, AllocError>
+fn sets_of<C: NodeCalculator>(alloc: Global, engines: &[Engine<C>]) -> Result<CountList, AllocError>
     ensures { IfOk result (λ l. l ≡ map (λ e. e.laid) engines.now) }
 {
     let mut sets = Vec::with_capacity(alloc, engines.len())?;
@@ -48,7 +48,7 @@ fn sets_of<C: Calculator>(alloc: Global, engines: &[Engine<C>]) -> Result<CountL
 }
 
 // The faults of engines.
-fn faults_of<C: Calculator>(
+fn faults_of<C: NodeCalculator>(
     alloc: Global,
     engines: &[Engine<C>],
 ) -> Result<NodeFaultList, AllocError>
@@ -64,7 +64,7 @@ fn faults_of<C: Calculator>(
 }
 
 // How far the stream at an output has come.
-fn end_at<C: Calculator>(engine: &Engine<C>, output: u32) -> StreamEnd
+fn end_at<C: NodeCalculator>(engine: &Engine<C>, output: u32) -> StreamEnd
     requires { output < length engine.now.outputs }
     ensures { result ≡ backlog_end (slice_index_or engine.now.outputs output empty_backlog) }
 {
@@ -75,7 +75,10 @@ fn end_at<C: Calculator>(engine: &Engine<C>, output: u32) -> StreamEnd
 }
 
 // Appends how far the streams of an engine have come.
-fn tell_ends<C: Calculator>(ends: &mut Vec<StreamEnd>, engine: &Engine<C>) -> Result<(), AllocError>
+fn tell_ends<C: NodeCalculator>(
+    ends: &mut Vec<StreamEnd>,
+    engine: &Engine<C>,
+) -> Result<(), AllocError>
     ensures { OnOk result (ends.new.items ≡ ends.old.items ++ stream_ends_of engine.now) }
 {
     for output in 0..engine.outputs() {
@@ -85,7 +88,7 @@ fn tell_ends<C: Calculator>(ends: &mut Vec<StreamEnd>, engine: &Engine<C>) -> Re
 }
 
 // Appends how far the streams of each engine have come.
-fn tell_all<C: Calculator>(
+fn tell_all<C: NodeCalculator>(
     ends: &mut Vec<StreamEnd>,
     engines: &[Engine<C>],
 ) -> Result<(), AllocError>
@@ -98,7 +101,7 @@ fn tell_all<C: Calculator>(
 }
 
 // How far the streams of the graph inputs have come, and those of the nodes.
-fn streams_of<C: Calculator>(
+fn streams_of<C: NodeCalculator>(
     alloc: Global,
     inputs: &[Engine<C>],
     nodes: &[Engine<C>],
@@ -111,7 +114,7 @@ fn streams_of<C: Calculator>(
     Ok(BlockList::from_vec(ends)?)
 }
 
-impl<C: Calculator> Net<C> {
+impl<C: NodeCalculator> Net<C> {
     /// Returns how many packets are in the net, in its engines and its intakes. A number past 64 bits is returned as `u64::MAX`.
     pub fn held(&self) -> u64
         ensures { result ≡ min (held_in self.now) (2 ^ 64 - 1) }

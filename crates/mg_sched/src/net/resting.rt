@@ -6,7 +6,7 @@ ghost use Rattle.mg_sched.specs.Sweeps.{Becomes};
 ghost use Rattle.mg_sched.specs.Code.Left.{HasNoWork, HasNoShelf, EdgesRest, NodesRest, RestsAt, effect_if, Finds};
 
 use super::Net;
-use mg_calc::{Calculator, Effect};
+use mg_calc::{Effect, NodeCalculator};
 use std::alloc::AllocError;
 
 // Whether a step did something. Want of memory is an error.
@@ -20,15 +20,15 @@ fn did(effect: Effect) -> Result<bool, AllocError>
     }
 }
 
-impl<C: Calculator> Net<C> {
+impl<C: NodeCalculator> Net<C> {
     /// Whether the net is at rest: no event would do anything. Each event is looked at once at most, up to the first that would do
     /// something. That event is made, unless it performs a work: no calculator is called. So a look costs what the graph has of nodes,
     /// ports and edges, and one step. At want of memory what a delivery has moved stays moved.
     pub fn rests(&mut self) -> Result<bool, AllocError>
         requires running { IsRunning self.old }
-        requires stands { StandsForSome self.old }
-        ensures looks { IfOk result (λ rests. LooksOver rests self.old self.new) }
-        ensures becomes { Becomes self.old self.new }
+        requires stands { StandsForSome C.laws self.old }
+        ensures looks { IfOk result (λ rests. LooksOver C.laws rests self.old self.new) }
+        ensures becomes { Becomes C.laws self.old self.new }
     {
         let brings = self.goes_along_edges()?;
         if brings {
@@ -45,9 +45,9 @@ impl<C: Calculator> Net<C> {
     // Whether something goes along some edge. What goes along the first such edge is brought.
     fn goes_along_edges(&mut self) -> Result<bool, AllocError>
         requires running { IsRunning self.old }
-        requires stands { StandsForSome self.old }
-        ensures finds { IfOk result (λ found. Finds found (EdgesRest self.old (length self.old.plan.edges)) self.old self.new) }
-        ensures becomes { Becomes self.old self.new }
+        requires stands { StandsForSome C.laws self.old }
+        ensures finds { IfOk result (λ found. Finds C.laws found (EdgesRest C.laws self.old (length self.old.plan.edges)) self.old self.new) }
+        ensures becomes { Becomes C.laws self.old self.new }
     {
         'edges: for edge in 0..self.edge_count() {
             let brought = did(self.carry(edge))?;
@@ -61,9 +61,9 @@ impl<C: Calculator> Net<C> {
     // Whether some node has something to do. What the first such node has to do is done, unless it is to perform a work.
     fn goes_on_at_nodes(&mut self) -> Result<bool, AllocError>
         requires running { IsRunning self.old }
-        requires stands { StandsForSome self.old }
-        ensures finds { IfOk result (λ found. Finds found (NodesRest self.old (length self.old.plan.nodes)) self.old self.new) }
-        ensures becomes { Becomes self.old self.new }
+        requires stands { StandsForSome C.laws self.old }
+        ensures finds { IfOk result (λ found. Finds C.laws found (NodesRest C.laws self.old (length self.old.plan.nodes)) self.old self.new) }
+        ensures becomes { Becomes C.laws self.old self.new }
     {
         'nodes: for node in 0..self.node_count() {
             let goes = self.goes_on_at(node)?;
@@ -77,10 +77,10 @@ impl<C: Calculator> Net<C> {
     // Whether a node has something to do, which is done, unless it is to perform a work.
     fn goes_on_at(&mut self, node: u32) -> Result<bool, AllocError>
         requires running { IsRunning self.old }
-        requires stands { StandsForSome self.old }
+        requires stands { StandsForSome C.laws self.old }
         requires there { node < length self.old.plan.nodes }
-        ensures finds { IfOk result (λ found. Finds found (RestsAt self.old node) self.old self.new) }
-        ensures becomes { Becomes self.old self.new }
+        ensures finds { IfOk result (λ found. Finds C.laws found (RestsAt C.laws self.old node) self.old self.new) }
+        ensures becomes { Becomes C.laws self.old self.new }
     {
         match self.first_claimed(node) {
             Some(_) => Ok(true),
@@ -94,11 +94,11 @@ impl<C: Calculator> Net<C> {
     // Whether a node has a work to commit or to claim, or an output to raise, which is done. No work lies in its work queue.
     fn lays_at(&mut self, node: u32) -> Result<bool, AllocError>
         requires running { IsRunning self.old }
-        requires stands { StandsForSome self.old }
+        requires stands { StandsForSome C.laws self.old }
         requires there { node < length self.old.plan.nodes }
         requires works { HasNoWork self.old node }
-        ensures finds { IfOk result (λ found. Finds found (RestsAt self.old node) self.old self.new) }
-        ensures becomes { Becomes self.old self.new }
+        ensures finds { IfOk result (λ found. Finds C.laws found (RestsAt C.laws self.old node) self.old self.new) }
+        ensures becomes { Becomes C.laws self.old self.new }
     {
         match self.first_performed(node) {
             Some(number) => {
@@ -116,12 +116,12 @@ impl<C: Calculator> Net<C> {
     // performed and not committed.
     fn takes_at(&mut self, node: u32) -> Result<bool, AllocError>
         requires running { IsRunning self.old }
-        requires stands { StandsForSome self.old }
+        requires stands { StandsForSome C.laws self.old }
         requires there { node < length self.old.plan.nodes }
         requires works { HasNoWork self.old node }
         requires shelf { HasNoShelf self.old node }
-        ensures finds { IfOk result (λ found. Finds found (RestsAt self.old node) self.old self.new) }
-        ensures becomes { Becomes self.old self.new }
+        ensures finds { IfOk result (λ found. Finds C.laws found (RestsAt C.laws self.old node) self.old self.new) }
+        ensures becomes { Becomes C.laws self.old self.new }
     {
         let claimed = did(self.claim(node))?;
         if claimed {

@@ -16,7 +16,7 @@ ghost use Rattle.mg_sched.specs.Code.Quiet.{Notes, EdgesRestFrom};
 use super::Net;
 use crate::Hears;
 use crate::agenda::Agenda;
-use mg_calc::{Calculator, Edge, Event};
+use mg_calc::{Edge, Event, NodeCalculator};
 use mg_edge::Gate;
 use std::alloc::AllocError;
 
@@ -49,7 +49,7 @@ fn hold_at(agenda: &mut Agenda, place: u32, edge: u32)
     agenda.resume_at(place, edge);
 }
 
-impl<C: Calculator> Net<C> {
+impl<C: NodeCalculator> Net<C> {
     // Brings what came at a graph input along its edges until the input is throttled. The input is held back then, and sending goes on from
     // the edge whose turn it was: along those before it all has gone, since nothing comes at a graph input while a net is swept. Tells
     // whether something was brought.
@@ -61,12 +61,12 @@ impl<C: Calculator> Net<C> {
         hearer: &mut H,
     ) -> Result<bool, AllocError>
         requires running { IsRunning self.old }
-        requires stands { StandsForSome self.old }
+        requires stands { StandsForSome C.laws self.old }
         requires agenda { IsAgendaOf self.old.plan agenda.old }
         requires there { place < length agenda.old.heads }
-        ensures becomes { Becomes self.old self.new }
-        ensures heard { OnOk result (Heard H.has_heard hearer.old hearer.new self.old self.new) }
-        ensures heard_some { OnErr result (HeardSome H.has_heard hearer.old hearer.new self.old) }
+        ensures becomes { Becomes C.laws self.old self.new }
+        ensures heard { OnOk result (Heard C.laws H.has_heard hearer.old hearer.new self.old self.new) }
+        ensures heard_some { OnErr result (HeardSome C.laws H.has_heard hearer.old hearer.new self.old) }
         ensures goes { IfOk result (λ did. Goes did self.old self.new) }
         ensures agenda { IsAgendaOf self.old.plan agenda.new }
         ensures notes { OnOk result (Notes self.old agenda.old self.new agenda.new) }
@@ -89,7 +89,7 @@ impl<C: Calculator> Net<C> {
     // Whether the edge of this number leads from a graph input that is throttled.
     fn is_held_at(&self, edge: u32) -> bool
         requires there { edge < length self.now.plan.edges }
-        requires stands { StandsForSome self.now }
+        requires stands { StandsForSome C.laws self.now }
         ensures held { (e : Edge) → slice_get self.now.plan.edges edge ≡ Some e → result ≡ true → IsHeld self.now e }
         ensures not_held { (e : Edge) → slice_get self.now.plan.edges edge ≡ Some e → result ≡ false → ¬ IsHeld self.now e }
     {
@@ -106,12 +106,12 @@ impl<C: Calculator> Net<C> {
         hearer: &mut H,
     ) -> Result<bool, AllocError>
         requires running { IsRunning self.old }
-        requires stands { StandsForSome self.old }
+        requires stands { StandsForSome C.laws self.old }
         requires agenda { IsAgendaOf self.old.plan agenda.old }
         requires there { place < length agenda.old.heads }
-        ensures becomes { Becomes self.old self.new }
-        ensures heard { OnOk result (Heard H.has_heard hearer.old hearer.new self.old self.new) }
-        ensures heard_some { OnErr result (HeardSome H.has_heard hearer.old hearer.new self.old) }
+        ensures becomes { Becomes C.laws self.old self.new }
+        ensures heard { OnOk result (Heard C.laws H.has_heard hearer.old hearer.new self.old self.new) }
+        ensures heard_some { OnErr result (HeardSome C.laws H.has_heard hearer.old hearer.new self.old) }
         ensures goes { IfOk result (λ did. Goes did self.old self.new) }
         ensures agenda { IsAgendaOf self.old.plan agenda.new }
         ensures notes { OnOk result (Notes self.old agenda.old self.new agenda.new) }
@@ -131,17 +131,17 @@ impl<C: Calculator> Net<C> {
         hearer: &mut H,
     ) -> Result<bool, AllocError>
         requires running { IsRunning self.old }
-        requires stands { StandsForSome self.old }
+        requires stands { StandsForSome C.laws self.old }
         requires agenda { IsAgendaOf self.old.plan agenda.old }
         requires there { IfSome first (λ edge. edge < length agenda.old.links) }
-        ensures becomes { Becomes self.old self.new }
-        ensures heard { OnOk result (Heard H.has_heard hearer.old hearer.new self.old self.new) }
-        ensures heard_some { OnErr result (HeardSome H.has_heard hearer.old hearer.new self.old) }
+        ensures becomes { Becomes C.laws self.old self.new }
+        ensures heard { OnOk result (Heard C.laws H.has_heard hearer.old hearer.new self.old self.new) }
+        ensures heard_some { OnErr result (HeardSome C.laws H.has_heard hearer.old hearer.new self.old) }
         ensures goes { IfOk result (λ did. Goes did self.old self.new) }
         ensures agenda { IsAgendaOf self.old.plan agenda.new }
         ensures notes { OnOk result (Notes self.old agenda.old self.new agenda.new) }
         ensures unchanged { IfOk result (λ did. did ≡ false → agenda.new ≡ agenda.old) }
-        ensures rest { IfOk result (λ did. did ≡ false → EdgesRestFrom self.old.plan first self.new) }
+        ensures rest { IfOk result (λ did. did ≡ false → EdgesRestFrom C.laws self.old.plan first self.new) }
     {
         let mut did = false;
         let mut cursor = first;
@@ -161,17 +161,17 @@ impl<C: Calculator> Net<C> {
         hearer: &mut H,
     ) -> Result<bool, AllocError>
         requires running { IsRunning self.old }
-        requires stands { StandsForSome self.old }
+        requires stands { StandsForSome C.laws self.old }
         requires agenda { IsAgendaOf self.old.plan agenda.old }
         requires there { edge < length self.old.plan.edges }
-        ensures becomes { Becomes self.old self.new }
-        ensures heard { OnOk result (Heard H.has_heard hearer.old hearer.new self.old self.new) }
-        ensures heard_some { OnErr result (HeardSome H.has_heard hearer.old hearer.new self.old) }
+        ensures becomes { Becomes C.laws self.old self.new }
+        ensures heard { OnOk result (Heard C.laws H.has_heard hearer.old hearer.new self.old self.new) }
+        ensures heard_some { OnErr result (HeardSome C.laws H.has_heard hearer.old hearer.new self.old) }
         ensures goes { IfOk result (λ did. Goes did self.old self.new) }
         ensures agenda { IsAgendaOf self.old.plan agenda.new }
         ensures notes { OnOk result (Notes self.old agenda.old self.new agenda.new) }
         ensures unchanged { IfOk result (λ did. did ≡ false → agenda.new ≡ agenda.old) }
-        ensures rest { IfOk result (λ did. did ≡ false → Acts (ToDeliver edge) Idle self.new self.new) }
+        ensures rest { IfOk result (λ did. did ≡ false → Acts C.laws (ToDeliver edge) Idle self.new self.new) }
     {
         if !self.step(Event::Deliver { edge }, gate, hearer)? {
             return Ok(false);
@@ -183,7 +183,7 @@ impl<C: Calculator> Net<C> {
     // Notes that the parts of an edge's consumer have changed, and adds it to the agenda if it is a node.
     fn put_consumer(&self, edge: u32, agenda: &mut Agenda)
         requires there { edge < length self.now.plan.edges }
-        requires stands { StandsForSome self.now }
+        requires stands { StandsForSome C.laws self.now }
         requires agenda { IsAgendaOf self.now.plan agenda.old }
         ensures agenda { IsAgendaOf self.now.plan agenda.new }
         ensures touched { (e : Edge) → slice_get self.now.plan.edges edge ≡ Some e → IsIn agenda.new.touched e.node × ChangesOnly agenda.old.touched agenda.new.touched e.node }

@@ -22,7 +22,7 @@ ghost use Rattle.mg_sched.specs.Code.Quiet.{Notes, RestsBut};
 use super::Net;
 use crate::Hears;
 use crate::agenda::Agenda;
-use mg_calc::{Calculator, Event};
+use mg_calc::{Event, NodeCalculator};
 use mg_edge::Gate;
 use mg_node::Intake;
 use mg_throttle::Limits;
@@ -93,7 +93,7 @@ fn woken_unless(known: bool, agenda: Agenda) -> Agenda
     agenda
 }
 
-impl<C: Calculator> Net<C> {
+impl<C: NodeCalculator> Net<C> {
     /// Makes steps until none would do anything; the net is at rest then. Of the nodes that may have something to do the one goes first
     /// that stands last in the plan's order, and graph inputs come behind all nodes (MediaPipe, Synchronization). A feeder that is
     /// throttled waits until a queue falls below its limit, and where nothing else can be done limits are relaxed (MediaPipe, Real-time
@@ -108,17 +108,17 @@ impl<C: Calculator> Net<C> {
     /// agenda that is kept, and so does the first one after the net was put together of its parts.
     pub fn sweep<G: Gate, H: Hears>(&mut self, gate: &G, hearer: &mut H) -> Result<(), AllocError>
         requires running { IsRunning self.old }
-        requires stands { StandsForSome self.old }
-        ensures becomes { Becomes self.old self.new }
-        ensures heard { OnOk result (Heard H.has_heard hearer.old hearer.new self.old self.new) }
-        ensures heard_some { OnErr result (HeardSome H.has_heard hearer.old hearer.new self.old) }
-        ensures rest { IfOk result (λ _. IsAtRest self.new) }
+        requires stands { StandsForSome C.laws self.old }
+        ensures becomes { Becomes C.laws self.old self.new }
+        ensures heard { OnOk result (Heard C.laws H.has_heard hearer.old hearer.new self.old self.new) }
+        ensures heard_some { OnErr result (HeardSome C.laws H.has_heard hearer.old hearer.new self.old) }
+        ensures rest { IfOk result (λ _. IsAtRest C.laws self.new) }
         ensures running { IsRunning self.new }
-        ensures stands { (job : LoggedJob) → StandsFor job self.old → StandsFor job self.new }
+        ensures stands { (job : LoggedJob C.laws) → StandsFor job self.old → StandsFor job self.new }
         ensures taken { taken_out self.new ≡ taken_out self.old }
 
         // The nodes have claimed at most as many sets, calls and answers, all together, as the weight of the job is.
-        ensures weight { (job : LoggedJob) (solution : List (StreamPrefix Plain)) → StandsFor job self.old → Solves job solution → claimed_in self.new ≤ weight job.job solution }
+        ensures weight { (job : LoggedJob C.laws) (solution : List (StreamPrefix Plain)) → StandsFor job self.old → Solves job solution → claimed_in self.new ≤ weight job.job solution }
     {
         self.come_to_rest(gate, hearer)
     }
@@ -130,11 +130,11 @@ impl<C: Calculator> Net<C> {
         hearer: &mut H,
     ) -> Result<(), AllocError>
         requires running { IsRunning self.old }
-        requires stands { StandsForSome self.old }
-        ensures becomes { Becomes self.old self.new }
-        ensures heard { OnOk result (Heard H.has_heard hearer.old hearer.new self.old self.new) }
-        ensures heard_some { OnErr result (HeardSome H.has_heard hearer.old hearer.new self.old) }
-        ensures rest { IfOk result (λ _. IsAtRest self.new) }
+        requires stands { StandsForSome C.laws self.old }
+        ensures becomes { Becomes C.laws self.old self.new }
+        ensures heard { OnOk result (Heard C.laws H.has_heard hearer.old hearer.new self.old self.new) }
+        ensures heard_some { OnErr result (HeardSome C.laws H.has_heard hearer.old hearer.new self.old) }
+        ensures rest { IfOk result (λ _. IsAtRest C.laws self.new) }
     {
         let mut agenda = self.take_agenda()?;
         match self.rest_by(&mut agenda, gate, hearer) {
@@ -151,7 +151,7 @@ impl<C: Calculator> Net<C> {
 
     // Takes the agenda that the last sweep left, or makes a new one. All places are in it where it isn't known which have changed.
     fn take_agenda(&mut self) -> Result<Agenda, AllocError>
-        requires { StandsForSome self.old }
+        requires { StandsForSome C.laws self.old }
         ensures same { self.new ≡ self.old }
         ensures agenda { IfOk result (λ a. IsAgendaOf self.old.plan a) }
         ensures rests { IfOk result (λ a. RestsBut self.old a) }
@@ -167,7 +167,7 @@ impl<C: Calculator> Net<C> {
 
     // Returns a new agenda with all places in it.
     fn made_agenda(&self) -> Result<Agenda, AllocError>
-        requires { StandsForSome self.now }
+        requires { StandsForSome C.laws self.now }
         ensures agenda { IfOk result (λ a. IsAgendaOf self.now.plan a) }
         ensures rests { IfOk result (λ a. RestsBut self.now a) }
     {
@@ -193,13 +193,13 @@ impl<C: Calculator> Net<C> {
         hearer: &mut H,
     ) -> Result<(), AllocError>
         requires running { IsRunning self.old }
-        requires stands { StandsForSome self.old }
+        requires stands { StandsForSome C.laws self.old }
         requires agenda { IsAgendaOf self.old.plan agenda.old }
         requires rests { RestsBut self.old agenda.old }
-        ensures becomes { Becomes self.old self.new }
-        ensures heard { OnOk result (Heard H.has_heard hearer.old hearer.new self.old self.new) }
-        ensures heard_some { OnErr result (HeardSome H.has_heard hearer.old hearer.new self.old) }
-        ensures rest { IfOk result (λ _. IsAtRest self.new) }
+        ensures becomes { Becomes C.laws self.old self.new }
+        ensures heard { OnOk result (Heard C.laws H.has_heard hearer.old hearer.new self.old self.new) }
+        ensures heard_some { OnErr result (HeardSome C.laws H.has_heard hearer.old hearer.new self.old) }
+        ensures rest { IfOk result (λ _. IsAtRest C.laws self.new) }
         ensures agenda { IsAgendaOf self.old.plan agenda.new }
         ensures left { OnOk result (RestsBut self.new agenda.new) }
     {
@@ -219,11 +219,11 @@ impl<C: Calculator> Net<C> {
         hearer: &mut H,
     ) -> Result<(), AllocError>
         requires running { IsRunning self.old }
-        requires stands { StandsForSome self.old }
+        requires stands { StandsForSome C.laws self.old }
         requires agenda { IsAgendaOf self.old.plan agenda.old }
-        ensures becomes { Becomes self.old self.new }
-        ensures heard { OnOk result (Heard H.has_heard hearer.old hearer.new self.old self.new) }
-        ensures heard_some { OnErr result (HeardSome H.has_heard hearer.old hearer.new self.old) }
+        ensures becomes { Becomes C.laws self.old self.new }
+        ensures heard { OnOk result (Heard C.laws H.has_heard hearer.old hearer.new self.old self.new) }
+        ensures heard_some { OnErr result (HeardSome C.laws H.has_heard hearer.old hearer.new self.old) }
         ensures agenda { IsAgendaOf self.old.plan agenda.new }
         ensures notes { OnOk result (Notes self.old agenda.old self.new agenda.new) }
     {
@@ -239,11 +239,11 @@ impl<C: Calculator> Net<C> {
         hearer: &mut H,
     ) -> Result<bool, AllocError>
         requires running { IsRunning self.old }
-        requires stands { StandsForSome self.old }
+        requires stands { StandsForSome C.laws self.old }
         requires agenda { IsAgendaOf self.old.plan agenda.old }
-        ensures becomes { Becomes self.old self.new }
-        ensures heard { OnOk result (Heard H.has_heard hearer.old hearer.new self.old self.new) }
-        ensures heard_some { OnErr result (HeardSome H.has_heard hearer.old hearer.new self.old) }
+        ensures becomes { Becomes C.laws self.old self.new }
+        ensures heard { OnOk result (Heard C.laws H.has_heard hearer.old hearer.new self.old self.new) }
+        ensures heard_some { OnErr result (HeardSome C.laws H.has_heard hearer.old hearer.new self.old) }
         ensures goes { IfOk result (λ did. Goes did self.old self.new) }
         ensures agenda { IsAgendaOf self.old.plan agenda.new }
         ensures notes { OnOk result (Notes self.old agenda.old self.new agenda.new) }
@@ -267,12 +267,12 @@ impl<C: Calculator> Net<C> {
         hearer: &mut H,
     ) -> Result<bool, AllocError>
         requires running { IsRunning self.old }
-        requires stands { StandsForSome self.old }
+        requires stands { StandsForSome C.laws self.old }
         requires agenda { IsAgendaOf self.old.plan agenda.old }
         requires there { place < length agenda.old.heads }
-        ensures becomes { Becomes self.old self.new }
-        ensures heard { OnOk result (Heard H.has_heard hearer.old hearer.new self.old self.new) }
-        ensures heard_some { OnErr result (HeardSome H.has_heard hearer.old hearer.new self.old) }
+        ensures becomes { Becomes C.laws self.old self.new }
+        ensures heard { OnOk result (Heard C.laws H.has_heard hearer.old hearer.new self.old self.new) }
+        ensures heard_some { OnErr result (HeardSome C.laws H.has_heard hearer.old hearer.new self.old) }
         ensures goes { IfOk result (λ did. Goes did self.old self.new) }
         ensures agenda { IsAgendaOf self.old.plan agenda.new }
         ensures notes { OnOk result (Notes self.old agenda.old self.new agenda.new) }
@@ -296,12 +296,12 @@ impl<C: Calculator> Net<C> {
         hearer: &mut H,
     ) -> Result<bool, AllocError>
         requires running { IsRunning self.old }
-        requires stands { StandsForSome self.old }
+        requires stands { StandsForSome C.laws self.old }
         requires agenda { IsAgendaOf self.old.plan agenda.old }
         requires there { node < length self.old.plan.nodes }
-        ensures becomes { Becomes self.old self.new }
-        ensures heard { OnOk result (Heard H.has_heard hearer.old hearer.new self.old self.new) }
-        ensures heard_some { OnErr result (HeardSome H.has_heard hearer.old hearer.new self.old) }
+        ensures becomes { Becomes C.laws self.old self.new }
+        ensures heard { OnOk result (Heard C.laws H.has_heard hearer.old hearer.new self.old self.new) }
+        ensures heard_some { OnErr result (HeardSome C.laws H.has_heard hearer.old hearer.new self.old) }
         ensures goes { IfOk result (λ did. Goes did self.old self.new) }
         ensures agenda { IsAgendaOf self.old.plan agenda.new }
         ensures notes { OnOk result (Notes self.old agenda.old self.new agenda.new) }
@@ -324,7 +324,7 @@ impl<C: Calculator> Net<C> {
     // Whether a queue of a node holds its limit of packets or more.
     fn is_full(&self, node: u32) -> bool
         requires there { node < length self.now.plan.nodes }
-        requires stands { StandsForSome self.now }
+        requires stands { StandsForSome C.laws self.now }
         ensures { (intake : IntakeView) → slice_get self.now.intakes node ≡ Some intake
             → TellsAtLimit result self.now.limits.queues (first_edge self.now.plan node) intake.waits }
     {

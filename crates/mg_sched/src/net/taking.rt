@@ -10,20 +10,20 @@ ghost use Rattle.mg_sched.specs.Taking.{TakesOut, taken_out};
 
 use super::Net;
 use crate::agenda::touch;
-use mg_calc::Calculator;
+use mg_calc::NodeCalculator;
 use mg_settled::InputSet;
 
-impl<C: Calculator> Net<C> {
+impl<C: NodeCalculator> Net<C> {
     /// Takes the next settled set of the graph's outputs, and returns whether there was one: it is then in `into`, which has a place for
     /// each output. Otherwise nothing changes.
     pub fn take_out(&mut self, into: &mut InputSet) -> bool
         requires places { length into.old ≡ length self.old.plan.outputs }
-        requires stands { StandsForSome self.old }
+        requires stands { StandsForSome C.laws self.old }
         ensures taken { TakesOut result into.old into.new self.old self.new }
-        ensures stands { (job : LoggedJob) → StandsFor job self.old → StandsFor job self.new }
+        ensures stands { (job : LoggedJob C.laws) → StandsFor job self.old → StandsFor job self.new }
 
         // The set is the one that the solution has under the same number.
-        ensures in_solution { (job : LoggedJob) (streams : List (StreamPrefix Plain)) → Solves job streams → StandsFor job self.old
+        ensures in_solution { (job : LoggedJob C.laws) (streams : List (StreamPrefix Plain)) → Solves job streams → StandsFor job self.old
             → OnTrue result (HasSet job streams (length self.old.plan.nodes) (taken_out self.old) into.new) }
     {
         let place = self.plan.nodes.len();

@@ -8,7 +8,7 @@ ghost use Rattle.mg_sched.specs.Code.Outputs.{LaidAt, HaveOutputs, LeadToPorts, 
 ghost use Rattle.mg_sched.specs.Trims.{came_of, Trims};
 
 use super::Net;
-use mg_calc::{Calculator, Edge, Plan, Producer};
+use mg_calc::{Edge, NodeCalculator, Plan, Producer};
 use mg_node::{Engine, Intake};
 
 // Who writes a stream.
@@ -32,7 +32,7 @@ pub(super) fn output_of(plan: &Plan, stream: u32) -> (usize, u32)
 }
 
 // Sets the number of each stream to how many packets are laid at its output.
-fn set_laid<C: Calculator>(got: &mut [u64], plan: &Plan, engines: &[Engine<C>])
+fn set_laid<C: NodeCalculator>(got: &mut [u64], plan: &Plan, engines: &[Engine<C>])
     requires streams { length got.old ≡ length plan.now.streams }
     requires outputs { HaveOutputs plan.now engines.now }
     ensures laid { AreLaid engines.now (length plan.now.streams) got.new }
@@ -76,11 +76,11 @@ fn spare(got: &mut [u64], kept: &[bool])
 }
 
 // Gives up the first packets of each stream, as many in all as its number is.
-fn give_up<C: Calculator>(engines: &mut [Engine<C>], plan: &Plan, got: &[u64])
+fn give_up<C: NodeCalculator>(engines: &mut [Engine<C>], plan: &Plan, got: &[u64])
     requires streams { length got.now ≡ length plan.now.streams }
     requires outputs { HaveOutputs plan.now engines.old }
     requires within { AreWithin engines.old got.now }
-    ensures { AllGiven got.now (length plan.now.streams) engines.old engines.new }
+    ensures { AllGiven C.laws got.now (length plan.now.streams) engines.old engines.new }
 {
     for stream in 0..plan.streams.len() {
         let (place, output) = output_of(plan, stream);
@@ -88,15 +88,15 @@ fn give_up<C: Calculator>(engines: &mut [Engine<C>], plan: &Plan, got: &[u64])
     }
 }
 
-impl<C: Calculator> Net<C> {
+impl<C: NodeCalculator> Net<C> {
     /// Gives up the packets that have come along all edges of their streams, and all that are laid of streams without edges; but none of a
     /// stream that is kept. Each stream and each edge is looked at once, and the next sweep looks over the whole net.
     pub fn trim(&mut self)
-        requires stands { StandsForSome self.old }
+        requires stands { StandsForSome C.laws self.old }
         ensures trims { Trims self.old self.new }
 
         // The net still stands for each job for which it stood.
-        ensures stands { (job : LoggedJob) → StandsFor job self.old → StandsFor job self.new }
+        ensures stands { (job : LoggedJob C.laws) → StandsFor job self.old → StandsFor job self.new }
     {
         self.known = false;
         set_laid(&mut self.got, &self.plan, &self.engines);

@@ -3,15 +3,15 @@ ghost use Rattle.std.specs.Prelude.{◌≡◌, ◌<◌, ◌^◌, length, OnOk, O
 ghost use Rattle.mg_sched.specs.WindsUp.{MayWindUp, WindsNext, WindsUpNet};
 
 use super::Net;
-use mg_calc::Calculator;
+use mg_calc::NodeCalculator;
 use std::alloc::AllocError;
 
-impl<C: Calculator> Net<C> {
+impl<C: NodeCalculator> Net<C> {
     /// Winds up each node that isn't wound up, in order: the calculator of a node that was opened and had no Close is closed. At want
     /// of memory the nodes wound up so far stay so, and this may be called again.
     pub fn wind_up(&mut self) -> Result<(), AllocError>
         requires may { MayWindUp self.old }
-        ensures wound_up { WindsUpNet self.old self.new }
+        ensures wound_up { WindsUpNet C.laws self.old self.new }
         ensures all { OnOk result (self.new.wound ≡ length self.old.plan.nodes) }
     {
         while self.wound < self.plan.nodes.len() {
@@ -25,7 +25,7 @@ impl<C: Calculator> Net<C> {
         requires may { MayWindUp self.old }
         requires there { self.old.wound < length self.old.plan.nodes }
         requires few { length self.old.plan.nodes < 2 ^ 32 }
-        ensures next { OnOk result (WindsNext self.old self.new) }
+        ensures next { OnOk result (WindsNext C.laws self.old self.new) }
         ensures unchanged { OnErr result (self.new ≡ self.old) }
     {
         self.known = false;

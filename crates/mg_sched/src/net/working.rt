@@ -6,18 +6,18 @@ ghost use Rattle.mg_sched.specs.Places.{with_limits};
 ghost use Rattle.mg_sched.specs.Acts.{NodePerforms, NodeCommits, stopped_by};
 
 use super::Net;
-use mg_calc::{Calculator, Effect};
+use mg_calc::{Effect, NodeCalculator};
 use mg_edge::Gate;
 use mg_node::{Outcome, perform};
 
-impl<C: Calculator> Net<C> {
+impl<C: NodeCalculator> Net<C> {
     /// Performs a node's work of this number, if it lies in the node's work queue. The work stands in the node's window then, as performed
     /// and not committed.
     pub(super) fn perform<G: Gate>(&mut self, node: u32, number: u64, gate: &G) -> Effect
         requires there { node < length self.old.plan.nodes }
-        requires stands { StandsForSome self.old }
+        requires stands { StandsForSome C.laws self.old }
         requires running { IsRunning self.old }
-        ensures { NodePerforms node number result self.old self.new }
+        ensures { NodePerforms C.laws node number result self.old self.new }
     {
         self.known = false;
         let place = node as usize;
@@ -39,7 +39,7 @@ impl<C: Calculator> Net<C> {
     /// Commits a node's work of this number, if it stands in the node's window as performed and not committed.
     pub(super) fn commit(&mut self, node: u32, number: u64) -> Effect
         requires there { node < length self.old.plan.nodes }
-        requires stands { StandsForSome self.old }
+        requires stands { StandsForSome C.laws self.old }
         requires running { IsRunning self.old }
         ensures { NodeCommits node number result self.old self.new }
     {

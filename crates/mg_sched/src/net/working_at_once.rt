@@ -15,7 +15,7 @@ ghost use Rattle.mg_sched.specs.Code.Quiet.{OnlyAt};
 use super::Net;
 use crate::Hears;
 use crate::reached::Reached;
-use mg_calc::{Calculator, Event};
+use mg_calc::{Event, NodeCalculator};
 use mg_edge::Gate;
 use mg_node::{AtOnce, Claimed, Outcome, Performed, Work, perform};
 use std::alloc::AllocError;
@@ -59,7 +59,7 @@ fn did(reached: &Reached) -> Result<bool, AllocError>
 }
 
 // Whether no set was claimed to be shown.
-fn did_nothing<C: Calculator>(done: &AtOnce<C>) -> bool
+fn did_nothing<C: NodeCalculator>(done: &AtOnce<C>) -> bool
     ensures { result ≡ did_nothing done.now }
 {
     match done {
@@ -71,7 +71,7 @@ fn did_nothing<C: Calculator>(done: &AtOnce<C>) -> bool
     }
 }
 
-impl<C: Calculator> Net<C> {
+impl<C: NodeCalculator> Net<C> {
     /// Claims a node's next work, and performs and commits it at once: the work lies in the node's work queue or in its window only where
     /// there is no memory for the next step. Tells whether something was done.
     pub(super) fn work_at_once<G: Gate, H: Hears>(
@@ -81,12 +81,12 @@ impl<C: Calculator> Net<C> {
         hearer: &mut H,
     ) -> Result<bool, AllocError>
         requires running { IsRunning self.old }
-        requires stands { StandsForSome self.old }
+        requires stands { StandsForSome C.laws self.old }
         requires there { node < length self.old.plan.nodes }
-        ensures becomes { Becomes self.old self.new }
-        ensures heard { OnOk result (Heard H.has_heard hearer.old hearer.new self.old self.new) }
-        ensures heard_some { OnErr result (HeardSome H.has_heard hearer.old hearer.new self.old) }
-        ensures steps { IfOk result (λ did. Steps did (ToClaim node) self.old self.new) }
+        ensures becomes { Becomes C.laws self.old self.new }
+        ensures heard { OnOk result (Heard C.laws H.has_heard hearer.old hearer.new self.old self.new) }
+        ensures heard_some { OnErr result (HeardSome C.laws H.has_heard hearer.old hearer.new self.old) }
+        ensures steps { IfOk result (λ did. Steps C.laws did (ToClaim node) self.old self.new) }
         ensures only { OnOk result (OnlyAt node self.old self.new) }
     {
         let reached = self.turn(node, gate);
@@ -98,9 +98,9 @@ impl<C: Calculator> Net<C> {
     // Claims a node's next work, unless it is a source that is throttled, and performs and commits it.
     fn turn<G: Gate>(&mut self, node: u32, gate: &G) -> Reached
         requires running { IsRunning self.old }
-        requires stands { StandsForSome self.old }
+        requires stands { StandsForSome C.laws self.old }
         requires there { node < length self.old.plan.nodes }
-        ensures { Comes node result self.old self.new }
+        ensures { Comes C.laws node result self.old self.new }
     {
         if self.is_held_source(node) {
             return Reached::Nothing;
@@ -123,9 +123,9 @@ impl<C: Calculator> Net<C> {
     // Shows a node's calculator its next set where no work is under way, lays what it answers, and tells the limits how many packets wait.
     fn show<G: Gate>(&mut self, node: u32, gate: &G) -> AtOnce<C>
         requires there { node < length self.old.plan.nodes }
-        requires stands { StandsForSome self.old }
+        requires stands { StandsForSome C.laws self.old }
         requires running { IsRunning self.old }
-        ensures { ShowsAt node result self.old self.new }
+        ensures { ShowsAt C.laws node result self.old self.new }
     {
         self.known = false;
         let place = node as usize;
@@ -140,10 +140,10 @@ impl<C: Calculator> Net<C> {
     // Claims a node's next work, whatever it is, and performs and commits it.
     fn turn_over<G: Gate>(&mut self, node: u32, gate: &G) -> Reached
         requires running { IsRunning self.old }
-        requires stands { StandsForSome self.old }
+        requires stands { StandsForSome C.laws self.old }
         requires there { node < length self.old.plan.nodes }
         requires free { ¬ IsHeldSource self.old node }
-        ensures { Comes node result self.old self.new }
+        ensures { Comes C.laws node result self.old self.new }
     {
         match self.hand_out(node) {
             Claimed::Work(work) => self.finish(node, work, gate),
@@ -158,9 +158,9 @@ impl<C: Calculator> Net<C> {
 
     // Performs and commits a work that is handed out.
     fn finish<G: Gate>(&mut self, node: u32, work: Work<C>, gate: &G) -> Reached
-        requires { IsHandedOut self.old node work }
-        ensures { (work_queue : WorkQueueView) → slice_get self.old.work_queues node ≡ Some work_queue → StandsForSome (with_work self.old node work_queue work)
-            → IsRunning (with_work self.old node work_queue work) → ComesOn node result (with_work self.old node work_queue work) self.new }
+        requires { IsHandedOut C.laws self.old node work }
+        ensures { (work_queue : WorkQueueView) → slice_get self.old.work_queues node ≡ Some work_queue → StandsForSome C.laws (with_work self.old node work_queue work)
+            → IsRunning (with_work self.old node work_queue work) → ComesOn C.laws node result (with_work self.old node work_queue work) self.new }
     {
         let number = work.number();
         match perform(self.alloc, work, gate) {
@@ -174,10 +174,10 @@ impl<C: Calculator> Net<C> {
 
     // Commits a work that is handed out and was performed.
     fn lay(&mut self, node: u32, number: u64, performed: Performed<C>) -> Reached
-        requires { IsPerformedOut self.old node number performed }
-        ensures { (work_queue : WorkQueueView) (work : WorkView) → slice_get self.old.work_queues node ≡ Some work_queue → StandsForSome (with_work self.old node work_queue work)
-            → IsRunning (with_work self.old node work_queue work) → IsPerformed work performed → number ≡ work.number
-            → ComesOn node result (with_work self.old node work_queue work) self.new }
+        requires { IsPerformedOut C.laws self.old node number performed }
+        ensures { (work_queue : WorkQueueView) (work : WorkView) → slice_get self.old.work_queues node ≡ Some work_queue → StandsForSome C.laws (with_work self.old node work_queue work)
+            → IsRunning (with_work self.old node work_queue work) → IsPerformed C.laws work performed → number ≡ work.number
+            → ComesOn C.laws node result (with_work self.old node work_queue work) self.new }
     {
         self.known = false;
         let engine = &mut self.engines[node as usize];

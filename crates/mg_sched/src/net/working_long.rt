@@ -11,11 +11,11 @@ ghost use Rattle.mg_sched.specs.Code.Quiet.{IsAt, OnlyAt};
 
 use super::Net;
 use crate::Hears;
-use mg_calc::{Calculator, Event};
+use mg_calc::{Event, NodeCalculator};
 use mg_edge::Gate;
 use std::alloc::AllocError;
 
-impl<C: Calculator> Net<C> {
+impl<C: NodeCalculator> Net<C> {
     /// Lets a node work off what waits at it, so that all of it goes on at once. A source works once, since what it lays has to go on
     /// before it is known whether it is throttled. Tells whether something was done.
     pub(super) fn work_long<G: Gate, H: Hears>(
@@ -25,11 +25,11 @@ impl<C: Calculator> Net<C> {
         hearer: &mut H,
     ) -> Result<bool, AllocError>
         requires running { IsRunning self.old }
-        requires stands { StandsForSome self.old }
+        requires stands { StandsForSome C.laws self.old }
         requires there { node < length self.old.plan.nodes }
-        ensures becomes { Becomes self.old self.new }
-        ensures heard { OnOk result (Heard H.has_heard hearer.old hearer.new self.old self.new) }
-        ensures heard_some { OnErr result (HeardSome H.has_heard hearer.old hearer.new self.old) }
+        ensures becomes { Becomes C.laws self.old self.new }
+        ensures heard { OnOk result (Heard C.laws H.has_heard hearer.old hearer.new self.old self.new) }
+        ensures heard_some { OnErr result (HeardSome C.laws H.has_heard hearer.old hearer.new self.old) }
         ensures goes { IfOk result (λ did. Goes did self.old self.new) }
         ensures only { OnOk result (OnlyAt node self.old self.new) }
     {
@@ -58,11 +58,11 @@ impl<C: Calculator> Net<C> {
         hearer: &mut H,
     ) -> Result<bool, AllocError>
         requires running { IsRunning self.old }
-        requires stands { StandsForSome self.old }
+        requires stands { StandsForSome C.laws self.old }
         requires there { node < length self.old.plan.nodes }
-        ensures becomes { Becomes self.old self.new }
-        ensures heard { OnOk result (Heard H.has_heard hearer.old hearer.new self.old self.new) }
-        ensures heard_some { OnErr result (HeardSome H.has_heard hearer.old hearer.new self.old) }
+        ensures becomes { Becomes C.laws self.old self.new }
+        ensures heard { OnOk result (Heard C.laws H.has_heard hearer.old hearer.new self.old self.new) }
+        ensures heard_some { OnErr result (HeardSome C.laws H.has_heard hearer.old hearer.new self.old) }
         ensures goes { IfOk result (λ did. Goes did self.old self.new) }
         ensures only { OnOk result (OnlyAt node self.old self.new) }
     {
@@ -79,11 +79,11 @@ impl<C: Calculator> Net<C> {
         hearer: &mut H,
     ) -> Result<bool, AllocError>
         requires running { IsRunning self.old }
-        requires stands { StandsForSome self.old }
+        requires stands { StandsForSome C.laws self.old }
         requires there { node < length self.old.plan.nodes }
-        ensures becomes { Becomes self.old self.new }
-        ensures heard { OnOk result (Heard H.has_heard hearer.old hearer.new self.old self.new) }
-        ensures heard_some { OnErr result (HeardSome H.has_heard hearer.old hearer.new self.old) }
+        ensures becomes { Becomes C.laws self.old self.new }
+        ensures heard { OnOk result (Heard C.laws H.has_heard hearer.old hearer.new self.old self.new) }
+        ensures heard_some { OnErr result (HeardSome C.laws H.has_heard hearer.old hearer.new self.old) }
         ensures goes { IfOk result (λ did. Goes did self.old self.new) }
         ensures only { OnOk result (OnlyAt node self.old self.new) }
     {
@@ -103,14 +103,14 @@ impl<C: Calculator> Net<C> {
         hearer: &mut H,
     ) -> Result<bool, AllocError>
         requires running { IsRunning self.old }
-        requires stands { StandsForSome self.old }
+        requires stands { StandsForSome C.laws self.old }
         requires there { node < length self.old.plan.nodes }
-        ensures becomes { Becomes self.old self.new }
-        ensures heard { OnOk result (Heard H.has_heard hearer.old hearer.new self.old self.new) }
-        ensures heard_some { OnErr result (HeardSome H.has_heard hearer.old hearer.new self.old) }
+        ensures becomes { Becomes C.laws self.old self.new }
+        ensures heard { OnOk result (Heard C.laws H.has_heard hearer.old hearer.new self.old self.new) }
+        ensures heard_some { OnErr result (HeardSome C.laws H.has_heard hearer.old hearer.new self.old) }
         ensures goes { IfOk result (λ did. Goes did self.old self.new) }
         ensures only { OnOk result (OnlyAt node self.old self.new) }
-        ensures rest { IfOk result (λ did. did ≡ false → RestsAt self.new node) }
+        ensures rest { IfOk result (λ did. did ≡ false → RestsAt C.laws self.new node) }
     {
         let worked = self.work_on(node, gate, hearer)?;
         if worked {
@@ -129,14 +129,14 @@ impl<C: Calculator> Net<C> {
         hearer: &mut H,
     ) -> Result<bool, AllocError>
         requires running { IsRunning self.old }
-        requires stands { StandsForSome self.old }
+        requires stands { StandsForSome C.laws self.old }
         requires there { node < length self.old.plan.nodes }
-        ensures becomes { Becomes self.old self.new }
-        ensures heard { OnOk result (Heard H.has_heard hearer.old hearer.new self.old self.new) }
-        ensures heard_some { OnErr result (HeardSome H.has_heard hearer.old hearer.new self.old) }
+        ensures becomes { Becomes C.laws self.old self.new }
+        ensures heard { OnOk result (Heard C.laws H.has_heard hearer.old hearer.new self.old self.new) }
+        ensures heard_some { OnErr result (HeardSome C.laws H.has_heard hearer.old hearer.new self.old) }
         ensures goes { IfOk result (λ did. Goes did self.old self.new) }
         ensures only { OnOk result (OnlyAt node self.old self.new) }
-        ensures rest { IfOk result (λ did. did ≡ false → WorksRest self.new node) }
+        ensures rest { IfOk result (λ did. did ≡ false → WorksRest C.laws self.new node) }
     {
         let worked = self.work_at_once(node, gate, hearer)?;
         if worked {
@@ -154,11 +154,11 @@ impl<C: Calculator> Net<C> {
         hearer: &mut H,
     ) -> Result<bool, AllocError>
         requires running { IsRunning self.old }
-        requires stands { StandsForSome self.old }
+        requires stands { StandsForSome C.laws self.old }
         requires there { node < length self.old.plan.nodes }
-        ensures becomes { Becomes self.old self.new }
-        ensures heard { OnOk result (Heard H.has_heard hearer.old hearer.new self.old self.new) }
-        ensures heard_some { OnErr result (HeardSome H.has_heard hearer.old hearer.new self.old) }
+        ensures becomes { Becomes C.laws self.old self.new }
+        ensures heard { OnOk result (Heard C.laws H.has_heard hearer.old hearer.new self.old self.new) }
+        ensures heard_some { OnErr result (HeardSome C.laws H.has_heard hearer.old hearer.new self.old) }
         ensures goes { IfOk result (λ did. Goes did self.old self.new) }
         ensures only { OnOk result (OnlyAt node self.old self.new) }
         ensures performed { OnOk result (HasNoWork self.new node) }
@@ -177,10 +177,10 @@ impl<C: Calculator> Net<C> {
     fn next_due(&self, node: u32) -> Option<Event>
         requires there { node < length self.now.plan.nodes }
         requires running { IsRunning self.now }
-        requires stands { StandsForSome self.now }
+        requires stands { StandsForSome C.laws self.now }
         ensures event { IfSome result (λ event. IsEventOf self.now event) }
         ensures at { IfSome result (λ event. IsAt self.now.plan event node) }
-        ensures due { IfSome result (λ event. ¬ Acts event Idle self.now self.now) }
+        ensures due { IfSome result (λ event. ¬ Acts C.laws event Idle self.now self.now) }
         ensures works { IfNone result (HasNoWork self.now node) }
         ensures shelf { IfNone result (HasNoShelf self.now node) }
     {
@@ -194,7 +194,7 @@ impl<C: Calculator> Net<C> {
     // The number of the first work of a node that is claimed and not performed.
     pub(super) fn first_claimed(&self, node: u32) -> Option<u64>
         requires there { node < length self.now.plan.nodes }
-        requires stands { StandsForSome self.now }
+        requires stands { StandsForSome C.laws self.now }
         ensures some { IfSome result (λ number. HasWork self.now node number) }
         ensures none { IfNone result (HasNoWork self.now node) }
     {
@@ -205,7 +205,7 @@ impl<C: Calculator> Net<C> {
     pub(super) fn first_performed(&self, node: u32) -> Option<u64>
         requires there { node < length self.now.plan.nodes }
         requires running { IsRunning self.now }
-        requires stands { StandsForSome self.now }
+        requires stands { StandsForSome C.laws self.now }
         ensures some { IfSome result (λ number. HasShelf self.now node number) }
         ensures none { IfNone result (HasNoShelf self.now node) }
     {

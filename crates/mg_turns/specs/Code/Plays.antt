@@ -5,6 +5,7 @@ use lib.ListN.{get_elem?}
 use Rattle.atomic_table.specs.Table.{Me, Step, rest}
 use Rattle.mg_node.specs.Views.{IntakeView, WorkView, EngineView}
 use Rattle.mg_turns.specs.Parts.{PartView, LayoutView, blank_layout, nodes_in, tally_since, an_engine, an_intake, PartGrows, Follows, AgreeParts, IsOutIn, IsMissingIn, source_at, JoinedParts}
+use Rattle.mg_calc.specs.Rules.{Laws}
 use Rattle.mg_calc.specs.declared.edge.Edge.{Edge}
 use Rattle.mg_turns.specs.Turns.{Turn, Sight}
 use Rattle.mg_turns.specs.Rule.{view, doubled, word_of, Sights}
@@ -38,24 +39,24 @@ turn_of_word key word p = record { word = word; tally = word_of key word p / 2; 
 
 -- what is known of a part whose turn is taken: it is what became of the one that was shared, and no less than what the seat saw; it agrees
 -- with the engine whose turn the seat has, the seat's work is out of it, and no more came to it along an edge than is laid there
-pub record Found (word : ℕ) (p : PartView) (v : View) : Type 0 where
-  pub follows : Follows v.key word p
+pub record Found (laws : Laws) (word : ℕ) (p : PartView) (v : View) : Type 0 where
+  pub follows : Follows laws v.key word p
   pub sights : Sights word p v.seen
   pub agree : (n j : ℕ) (t : Turn) → word ≡ 2 * n → n < nodes_in v.key → get_elem? v.turns j ≡ some t → t.word ≡ 2 * n + 1 → AgreeParts t.note p
   pub out : (w : WorkView) → v.work ≡ Some w → 2 * w.node + 1 ≡ word → IsOutIn p w
   pub joined : (k j : ℕ) (e : Edge) (t : Turn) → slice_get v.key.plan.edges k ≡ Some e → word ≡ 2 * e.node → get_elem? v.turns j ≡ some t → t.word ≡ source_at v.key.plan e → JoinedParts t.note e p
 
 -- a seat took the turn of a free word, and its slot with the part
-abbrev pub Took : Sat → ℕ → ℕ → Sat → Type 0
-Took m word r n = (p : PartView) × (n ≡ (turning m.0 (turn_of_word m.0.key word p ∷ m.0.turns), (word, Some p) ∷ m.1)) × Found word p m.0 × (r ≡ word_of m.0.key word p)
+abbrev pub Took : Laws → Sat → ℕ → ℕ → Sat → Type 0
+Took laws m word r n = (p : PartView) × (n ≡ (turning m.0 (turn_of_word m.0.key word p ∷ m.0.turns), (word, Some p) ∷ m.1)) × Found laws word p m.0 × (r ≡ word_of m.0.key word p)
 
 -- a step on a word: the turn of a free word is taken, and a held word is missed
-abbrev pub tried_at : ℕ → Sat → ℕ → Sat → Type 0
-tried_at word m r n = (r % 2 ≡ 0 → Took m word r n) × (r % 2 ≡ 1 → n ≡ (with_miss m.0 word, m.1))
+abbrev pub tried_at : Laws → ℕ → Sat → ℕ → Sat → Type 0
+tried_at laws word m r n = (r % 2 ≡ 0 → Took laws m word r n) × (r % 2 ≡ 1 → n ≡ (with_miss m.0 word, m.1))
 
 -- a step that tries to take the turn of the word at its place; the words stand eight apart
-abbrev pub tried : Play
-tried st = tried_at (st.word / 8)
+abbrev pub tried : Laws → Play
+tried laws st = tried_at laws (st.word / 8)
 
 -- a look at a word: nothing changes at a free word, and a held word is missed
 abbrev pub looked_at : ℕ → Sat → ℕ → Sat → Type 0
@@ -188,26 +189,26 @@ abbrev pub Idle : Sat → Type 0
 Idle m = (0 < m.0.portion) × (length m.0.turns ≡ 0) × (length m.1 ≡ 0)
 
 -- the seat has the turn of the word, and its part p is out of the slot
-abbrev pub HoldsTurn : Sat → ℕ → PartView → Sat → Type 0
-HoldsTurn m word p n = (n ≡ (turning m.0 (turn_of_word m.0.key word p ∷ m.0.turns), (word, None) ∷ m.1)) × Found word p m.0
+abbrev pub HoldsTurn : Laws → Sat → ℕ → PartView → Sat → Type 0
+HoldsTurn laws m word p n = (n ≡ (turning m.0 (turn_of_word m.0.key word p ∷ m.0.turns), (word, None) ∷ m.1)) × Found laws word p m.0
 
 -- the seat took the turn t last, and may give it back with the part p
-pub record MayGiveBack (m : Sat) (word : ℕ) (p : PartView) (t : Turn) (ts : List Turn) : Type 0 where
+pub record MayGiveBack (laws : Laws) (m : Sat) (word : ℕ) (p : PartView) (t : Turn) (ts : List Turn) : Type 0 where
   pub slot : m.1 ≡ (word, None) ∷ rest m.1
   pub turns : m.0.turns ≡ t ∷ ts
   pub word_is : t.word ≡ word
   pub grows : PartGrows t.note p
-  pub follows : Follows m.0.key word p
+  pub follows : Follows laws m.0.key word p
 
 -- a seat may give back a part of which nothing was claimed or laid
-abbrev pub GivesPlainly : Sat → ℕ → PartView → Type 0
-GivesPlainly m word p = (t : Turn) × (ts : List Turn) × MayGiveBack m word p t ts × Like t.note p × Joins t.note p
+abbrev pub GivesPlainly : Laws → Sat → ℕ → PartView → Type 0
+GivesPlainly laws m word p = (t : Turn) × (ts : List Turn) × MayGiveBack laws m word p t ts × Like t.note p × Joins t.note p
 
 -- a seat may give back the intake of node n, whose engine became f; the seat has this work then
-pub record GivesClaim (m : Sat) (n : ℕ) (p f : PartView) (has : Option WorkView) : Type 0 where
+pub record GivesClaim (laws : Laws) (m : Sat) (n : ℕ) (p f : PartView) (has : Option WorkView) : Type 0 where
   pub t : Turn
   pub u : Turn
-  pub gives : MayGiveBack m (2 * n) p t (u ∷ [])
+  pub gives : MayGiveBack laws m (2 * n) p t (u ∷ [])
   pub within : n < nodes_in m.0.key
   pub node : u.word ≡ 2 * n + 1
   pub grew : PartGrows u.note f
@@ -217,25 +218,25 @@ pub record GivesClaim (m : Sat) (n : ℕ) (p f : PartView) (has : Option WorkVie
   pub joins_there : Joins t.note p
 
 -- a seat may give back an intake to which more came along an edge
-pub record GivesBrought (m : Sat) (word : ℕ) (p : PartView) : Type 0 where
+pub record GivesBrought (laws : Laws) (m : Sat) (word : ℕ) (p : PartView) : Type 0 where
   pub k : ℕ
   pub e : Edge
   pub there : slice_get m.0.key.plan.edges k ≡ Some e
   pub node : word ≡ 2 * e.node
   pub t : Turn
   pub u : Turn
-  pub gives : MayGiveBack m word p t (u ∷ [])
+  pub gives : MayGiveBack laws m word p t (u ∷ [])
   pub at_u : u.word ≡ source_at m.0.key.plan e
   pub like : Like t.note p
   pub joined : JoinedParts u.note e p
   pub others : (l : ℕ) (x : Edge) (r : PartView) → l ≢ k → slice_get m.0.key.plan.edges l ≡ Some x → x.node ≡ e.node → JoinedParts r x t.note → JoinedParts r x p
 
 -- a seat may give back an engine to which the seat's work came back
-pub record GivesLaid (m : Sat) (word : ℕ) (p : PartView) : Type 0 where
+pub record GivesLaid (laws : Laws) (m : Sat) (word : ℕ) (p : PartView) : Type 0 where
   pub w : WorkView
   pub node : word ≡ 2 * w.node + 1
   pub t : Turn
-  pub gives : MayGiveBack m word p t []
+  pub gives : MayGiveBack laws m word p t []
   pub within : w.node < nodes_in m.0.key
   pub had : m.0.work ≡ Some w
   pub back : Back t.note p w
@@ -255,12 +256,12 @@ abbrev pub laid_view : View → ℕ → PartView → View
 laid_view v word p = view v.key v.portion v.misses v.splits v.missed (left v.turns) None (saw v word p)
 
 -- a seat took two turns, whose words were r and s
-abbrev pub TakenPair : Sat → ℕ → PartView → ℕ → ℕ → PartView → ℕ → Sat → Type 0
-TakenPair m first p r second q s n = (o : Sat) × HoldsTurn m first p o × HoldsTurn o second q n × (r ≡ word_of m.0.key first p) × (s ≡ word_of m.0.key second q)
+abbrev pub TakenPair : Laws → Sat → ℕ → PartView → ℕ → ℕ → PartView → ℕ → Sat → Type 0
+TakenPair laws m first p r second q s n = (o : Sat) × HoldsTurn laws m first p o × HoldsTurn laws o second q n × (r ≡ word_of m.0.key first p) × (s ≡ word_of m.0.key second q)
 
 -- a seat missed one of two turns, and keeps neither
-abbrev pub MissedPair : Sat → ℕ → ℕ → ℕ → Sat → Type 0
-MissedPair m first second word n = Missed first second word m.0 n.0 × (n.1 ≡ m.1)
+abbrev pub MissedPair : Laws → Sat → ℕ → ℕ → ℕ → Sat → Type 0
+MissedPair laws m first second word n = Missed laws first second word m.0 n.0 × (n.1 ≡ m.1)
 
 -- what is known of the words of a cell that is out: the engine's word had this tally when `laid` sets were laid
 pub record CellWords (key : LayoutView) (node : ℕ) (e : EngineView) (engine_word laid : ℕ) (i : IntakeView) (intake_word : ℕ) : Type 0 where

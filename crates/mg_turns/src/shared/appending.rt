@@ -13,7 +13,7 @@ use crate::held::{Held, Pair, counted};
 use crate::seat::{NetSeat, one_more};
 use crate::tried::Tried;
 use crate::way::Way;
-use mg_calc::{Calculator, Edge};
+use mg_calc::{Edge, NodeCalculator};
 use mg_node::Delivered;
 
 // How many packets a delivery brought.
@@ -33,15 +33,15 @@ fn way_at(ways: &[Way], place: u32) -> Option<&Way>
     ways.get(place as usize)
 }
 
-impl<C: Calculator> SharedNet<C> {
+impl<C: NodeCalculator> SharedNet<C> {
     /// Brings at most 256 packets along the edge of a number, and the bound once all packets are at the port.
     pub fn try_append(&self, seat: &mut NetSeat<C>, number: u32) -> Tried<Delivered>
         requires of { IsSeatOf self.now seat.old }
-        requires some { FitsSome (key_of self.now) }
+        requires some { FitsSome C.laws (key_of self.now) }
         requires edges { EdgesFit (key_of self.now) }
         requires edge { number < length (key_of self.now).plan.edges }
         ensures of { IsSeatOf self.now seat.new }
-        ensures tried { (e : EdgeView) → slice_get (key_of self.now).plan.edges number ≡ Some e → TriesAppend result (key_of self.now).plan e (view_of seat.old) (view_of seat.new) }
+        ensures tried { (e : EdgeView) → slice_get (key_of self.now).plan.edges number ≡ Some e → TriesAppend C.laws result (key_of self.now).plan e (view_of seat.old) (view_of seat.new) }
         ensures keeps { Keeps (view_of seat.old) (view_of seat.new) }
         ensures work { (view_of seat.new).work ≡ (view_of seat.old).work }
 
@@ -74,11 +74,11 @@ impl<C: Calculator> SharedNet<C> {
         source: u32,
     ) -> Tried<Delivered>
         requires of { IsSeatOf self.now seat.old }
-        requires some { FitsSome (key_of self.now) }
+        requires some { FitsSome C.laws (key_of self.now) }
         requires edges { EdgesFit (key_of self.now) }
         requires edge { (slice_get (key_of self.now).plan.edges number ≡ Some edge) × (source ≡ source_at (key_of self.now).plan edge) }
         ensures of { IsSeatOf self.now seat.new }
-        ensures tried { TriesAppend result (key_of self.now).plan edge (view_of seat.old) (view_of seat.new) }
+        ensures tried { TriesAppend C.laws result (key_of self.now).plan edge (view_of seat.old) (view_of seat.new) }
     {
         let node = edge.node;
         let pair = match self.take_pair(&mut seat.seat, source, 2 * node) {

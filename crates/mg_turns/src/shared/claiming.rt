@@ -13,20 +13,20 @@ use crate::held::HeldCell;
 use crate::running::run_sets;
 use crate::seat::{NetSeat, Seat, one_more};
 use crate::tried::Tried;
-use mg_calc::Calculator;
+use mg_calc::NodeCalculator;
 use mg_edge::Gate;
 use mg_node::Claimed;
 use std::alloc::Global;
 
-impl<C: Calculator> SharedNet<C> {
+impl<C: NodeCalculator> SharedNet<C> {
     // Takes both turns of a node, the engine's first, with their parts.
     fn take_cell(&self, seat: &mut Seat<C>, node: u32) -> Result<HeldCell<C>, u32>
         requires of { (seat.old.table_id ≡ self.now.table.shared.table_id) × (seat.old.me.0.key ≡ key_of self.now) }
         requires node { node < self.now.nodes }
         requires idle { (0 < seat.old.me.0.portion) × (length seat.old.me.0.turns ≡ 0) }
         ensures id { seat.new.table_id ≡ seat.old.table_id }
-        ensures taken { MatchResult result (λ c. TakesCell (key_of self.now) seat.old.me node c.engine.value c.engine_word c.laid c.intake.value c.intake_word seat.new.me)
-            (λ word. MissedPair seat.old.me (2 * node + 1) (2 * node) word seat.new.me) }
+        ensures taken { MatchResult result (λ c. TakesCell C.laws (key_of self.now) seat.old.me node c.engine.value c.engine_word c.laid c.intake.value c.intake_word seat.new.me)
+            (λ word. MissedPair C.laws seat.old.me (2 * node + 1) (2 * node) word seat.new.me) }
     {
         let pair = self.take_pair(seat, 2 * node + 1, 2 * node)?;
         Ok(pair.into_cell())
@@ -36,17 +36,17 @@ impl<C: Calculator> SharedNet<C> {
     pub fn try_claim(&self, seat: &mut NetSeat<C>, node: u32) -> Tried<Claimed<C>>
         requires of { IsSeatOf self.now seat.old }
         requires node { node < nodes_in (key_of self.now) }
-        requires some { FitsSome (key_of self.now) }
+        requires some { FitsSome C.laws (key_of self.now) }
         requires free { (view_of seat.old).work ≡ None }
         ensures of { IsSeatOf self.now seat.new }
-        ensures tried { TriesClaim result node (view_of seat.old) (view_of seat.new) }
+        ensures tried { TriesClaim C.laws result node (view_of seat.old) (view_of seat.new) }
         ensures keeps { Keeps (view_of seat.old) (view_of seat.new) }
 
         // What the answer tells, by all that the seat knows.
         ensures tells { ClaimTells result node (view_of seat.old) (view_of seat.new) }
 
         // A work that is handed out is lawful, for every job.
-        ensures lawful { (job : LoggedJob) → Fits job (key_of self.now) → IsLawfulTry job result }
+        ensures lawful { (job : LoggedJob C.laws) → Fits job (key_of self.now) → IsLawfulTry job result }
     {
         let tried = self.claim_cell(seat, node);
         tried
@@ -56,9 +56,9 @@ impl<C: Calculator> SharedNet<C> {
     pub fn try_raise(&self, seat: &mut NetSeat<C>, node: u32) -> Tried<bool>
         requires of { IsSeatOf self.now seat.old }
         requires node { node < nodes_in (key_of self.now) }
-        requires some { FitsSome (key_of self.now) }
+        requires some { FitsSome C.laws (key_of self.now) }
         ensures of { IsSeatOf self.now seat.new }
-        ensures tried { TriesRaise result node (view_of seat.old) (view_of seat.new) }
+        ensures tried { TriesRaise C.laws result node (view_of seat.old) (view_of seat.new) }
         ensures keeps { Keeps (view_of seat.old) (view_of seat.new) }
         ensures work { (view_of seat.new).work ≡ (view_of seat.old).work }
 
@@ -82,10 +82,10 @@ impl<C: Calculator> SharedNet<C> {
     ) -> Tried<u32>
         requires of { IsSeatOf self.now seat.old }
         requires node { node < nodes_in (key_of self.now) }
-        requires some { FitsSome (key_of self.now) }
+        requires some { FitsSome C.laws (key_of self.now) }
         requires free { (view_of seat.old).work ≡ None }
         ensures of { IsSeatOf self.now seat.new }
-        ensures tried { TriesRun result most node (view_of seat.old) (view_of seat.new) }
+        ensures tried { TriesRun C.laws result most node (view_of seat.old) (view_of seat.new) }
         ensures keeps { Keeps (view_of seat.old) (view_of seat.new) }
         ensures work { (view_of seat.new).work ≡ (view_of seat.old).work }
 
@@ -100,11 +100,11 @@ impl<C: Calculator> SharedNet<C> {
     fn claim_cell(&self, seat: &mut NetSeat<C>, node: u32) -> Tried<Claimed<C>>
         requires of { IsSeatOf self.now seat.old }
         requires node { node < nodes_in (key_of self.now) }
-        requires some { FitsSome (key_of self.now) }
+        requires some { FitsSome C.laws (key_of self.now) }
         requires free { (view_of seat.old).work ≡ None }
         ensures of { IsSeatOf self.now seat.new }
-        ensures tried { TriesClaim result node (view_of seat.old) (view_of seat.new) }
-        ensures lawful { (job : LoggedJob) → Fits job (key_of self.now) → IsLawfulTry job result }
+        ensures tried { TriesClaim C.laws result node (view_of seat.old) (view_of seat.new) }
+        ensures lawful { (job : LoggedJob C.laws) → Fits job (key_of self.now) → IsLawfulTry job result }
     {
         let mut cell = match self.take_cell(&mut seat.seat, node) {
             Ok(cell) => cell,
@@ -122,9 +122,9 @@ impl<C: Calculator> SharedNet<C> {
     fn raise_cell(&self, seat: &mut NetSeat<C>, node: u32) -> Tried<bool>
         requires of { IsSeatOf self.now seat.old }
         requires node { node < nodes_in (key_of self.now) }
-        requires some { FitsSome (key_of self.now) }
+        requires some { FitsSome C.laws (key_of self.now) }
         ensures of { IsSeatOf self.now seat.new }
-        ensures tried { TriesRaise result node (view_of seat.old) (view_of seat.new) }
+        ensures tried { TriesRaise C.laws result node (view_of seat.old) (view_of seat.new) }
     {
         let mut cell = match self.take_cell(&mut seat.seat, node) {
             Ok(cell) => cell,
@@ -149,10 +149,10 @@ impl<C: Calculator> SharedNet<C> {
     ) -> Tried<u32>
         requires of { IsSeatOf self.now seat.old }
         requires node { node < nodes_in (key_of self.now) }
-        requires some { FitsSome (key_of self.now) }
+        requires some { FitsSome C.laws (key_of self.now) }
         requires free { (view_of seat.old).work ≡ None }
         ensures of { IsSeatOf self.now seat.new }
-        ensures tried { TriesRun result most node (view_of seat.old) (view_of seat.new) }
+        ensures tried { TriesRun C.laws result most node (view_of seat.old) (view_of seat.new) }
     {
         let mut cell = match self.take_cell(&mut seat.seat, node) {
             Ok(cell) => cell,

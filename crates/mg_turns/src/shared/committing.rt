@@ -12,19 +12,19 @@ use crate::Part;
 use crate::held::{Held, counted};
 use crate::seat::{NetSeat, one_more};
 use crate::tried::{TriedCommit, TriedShelf};
-use mg_calc::Calculator;
+use mg_calc::NodeCalculator;
 use mg_node::Outcome;
 
-impl<C: Calculator> SharedNet<C> {
+impl<C: NodeCalculator> SharedNet<C> {
     /// Commits the work that the seat has. What is ready at the front of the window is laid.
     pub fn try_commit(&self, seat: &mut NetSeat<C>, outcome: Outcome<C>) -> TriedCommit<C>
         requires of { IsSeatOf self.now seat.old }
-        requires some { FitsSome (key_of self.now) }
+        requires some { FitsSome C.laws (key_of self.now) }
         requires has { HasOutcome (view_of seat.old).work outcome.work }
         requires node { outcome.work.node < nodes_in (key_of self.now) }
-        requires lawful { (job : LoggedJob) → Fits job (key_of self.now) → LawfulOutcome job outcome }
+        requires lawful { (job : LoggedJob C.laws) → Fits job (key_of self.now) → LawfulOutcome job outcome }
         ensures of { IsSeatOf self.now seat.new }
-        ensures tried { TriesCommit result outcome (view_of seat.old) (view_of seat.new) }
+        ensures tried { TriesCommit C.laws result outcome (view_of seat.old) (view_of seat.new) }
         ensures keeps { Keeps (view_of seat.old) (view_of seat.new) }
 
         // What the answer tells, by all that the seat knows.
@@ -39,9 +39,9 @@ impl<C: Calculator> SharedNet<C> {
         requires of { IsSeatOf self.now seat.old }
         requires has { HasOutcome (view_of seat.old).work outcome.work }
         requires node { outcome.work.node < nodes_in (key_of self.now) }
-        requires lawful { (job : LoggedJob) → Fits job (key_of self.now) → LawfulOutcome job outcome }
+        requires lawful { (job : LoggedJob C.laws) → Fits job (key_of self.now) → LawfulOutcome job outcome }
         ensures of { IsSeatOf self.now seat.new }
-        ensures tried { TriesShelve result outcome (view_of seat.old) (view_of seat.new) }
+        ensures tried { TriesShelve C.laws result outcome (view_of seat.old) (view_of seat.new) }
         ensures keeps { Keeps (view_of seat.old) (view_of seat.new) }
     {
         let tried = self.shelve_at(seat, outcome);
@@ -51,12 +51,12 @@ impl<C: Calculator> SharedNet<C> {
     // Commits a work, with the turn of its engine.
     fn commit_at(&self, seat: &mut NetSeat<C>, outcome: Outcome<C>) -> TriedCommit<C>
         requires of { IsSeatOf self.now seat.old }
-        requires some { FitsSome (key_of self.now) }
+        requires some { FitsSome C.laws (key_of self.now) }
         requires has { HasOutcome (view_of seat.old).work outcome.work }
         requires node { outcome.work.node < nodes_in (key_of self.now) }
-        requires lawful { (job : LoggedJob) → Fits job (key_of self.now) → LawfulOutcome job outcome }
+        requires lawful { (job : LoggedJob C.laws) → Fits job (key_of self.now) → LawfulOutcome job outcome }
         ensures of { IsSeatOf self.now seat.new }
-        ensures tried { TriesCommit result outcome (view_of seat.old) (view_of seat.new) }
+        ensures tried { TriesCommit C.laws result outcome (view_of seat.old) (view_of seat.new) }
     {
         let word = 2 * outcome.node() + 1;
         let Some(held) = self.take(&mut seat.seat, word) else {
@@ -89,9 +89,9 @@ impl<C: Calculator> SharedNet<C> {
         requires of { IsSeatOf self.now seat.old }
         requires has { HasOutcome (view_of seat.old).work outcome.work }
         requires node { outcome.work.node < nodes_in (key_of self.now) }
-        requires lawful { (job : LoggedJob) → Fits job (key_of self.now) → LawfulOutcome job outcome }
+        requires lawful { (job : LoggedJob C.laws) → Fits job (key_of self.now) → LawfulOutcome job outcome }
         ensures of { IsSeatOf self.now seat.new }
-        ensures tried { TriesShelve result outcome (view_of seat.old) (view_of seat.new) }
+        ensures tried { TriesShelve C.laws result outcome (view_of seat.old) (view_of seat.new) }
     {
         let word = 2 * outcome.node() + 1;
         let Some(held) = self.take(&mut seat.seat, word) else {

@@ -11,7 +11,7 @@ use crate::Part;
 use crate::held::{Held, HeldCell, Pair, counted};
 use crate::rule::{After, Give, Look, Try};
 use crate::seat::Seat;
-use mg_calc::Calculator;
+use mg_calc::NodeCalculator;
 use mg_node::Claimed;
 use std::marker::Brand;
 
@@ -22,7 +22,7 @@ fn place(word: u32) -> usize
     8 * word as usize
 }
 
-impl<C: Calculator> SharedNet<C> {
+impl<C: NodeCalculator> SharedNet<C> {
     // Whether another seat has the turn of a word. Counts a miss if so.
     fn is_held(&self, seat: &mut Seat<C>, word: u32) -> bool
         requires { (seat.old.table_id ≡ self.now.table.shared.table_id) × (word < self.now.size) × (0 < seat.old.me.0.portion) }
@@ -37,7 +37,7 @@ impl<C: Calculator> SharedNet<C> {
     fn try_turn(&self, seat: &mut Seat<C>, word: u32) -> u64
         requires { (seat.old.table_id ≡ self.now.table.shared.table_id) × (word < self.now.size) × (0 < seat.old.me.0.portion) × (has_turn word seat.old.me.0 ≡ 0) }
         ensures id { seat.new.table_id ≡ seat.old.table_id }
-        ensures taken { result % 2 ≡ 0 → Took seat.old.me word result seat.new.me }
+        ensures taken { result % 2 ≡ 0 → Took C.laws seat.old.me word result seat.new.me }
         ensures missed { result % 2 ≡ 1 → seat.new.me ≡ (with_miss seat.old.me.0 word, seat.old.me.1) }
     {
         let found = self.table.shared.fetch_or::<Try>(seat, place(word), 1);
@@ -62,7 +62,7 @@ impl<C: Calculator> SharedNet<C> {
     pub(super) fn take(&self, seat: &mut Seat<C>, word: u32) -> Option<Held<C>>
         requires { (seat.old.table_id ≡ self.now.table.shared.table_id) × (word < self.now.size) × (0 < seat.old.me.0.portion) × (has_turn word seat.old.me.0 ≡ 0) }
         ensures id { seat.new.table_id ≡ seat.old.table_id }
-        ensures taken { MatchOption result (seat.new.me ≡ (with_miss seat.old.me.0 word, seat.old.me.1)) (λ h. HoldsTurn seat.old.me word h.part seat.new.me) }
+        ensures taken { MatchOption result (seat.new.me ≡ (with_miss seat.old.me.0 word, seat.old.me.1)) (λ h. HoldsTurn C.laws seat.old.me word h.part seat.new.me) }
         ensures word { IfSome result (λ h. h.word ≡ word_of seat.old.me.0.key word h.part) }
     {
         let found = self.try_turn(seat, word);
@@ -82,7 +82,7 @@ impl<C: Calculator> SharedNet<C> {
         requires id { (seat.old.table_id ≡ self.now.table.shared.table_id) × (engine < self.now.size) × (intake < self.now.size) × (engine ≢ intake) }
         requires idle { (0 < seat.old.me.0.portion) × (length seat.old.me.0.turns ≡ 0) }
         ensures id { seat.new.table_id ≡ seat.old.table_id }
-        ensures taken { MatchResult result (λ p. TakenPair seat.old.me engine p.engine.part p.engine.word intake p.intake.part p.intake.word seat.new.me) (λ word. MissedPair seat.old.me engine intake word seat.new.me) }
+        ensures taken { MatchResult result (λ p. TakenPair C.laws seat.old.me engine p.engine.part p.engine.word intake p.intake.part p.intake.word seat.new.me) (λ word. MissedPair C.laws seat.old.me engine intake word seat.new.me) }
     {
         let Some(first) = self.take(seat, engine) else {
             return Err(engine);
@@ -108,7 +108,7 @@ impl<C: Calculator> SharedNet<C> {
         requires id { (seat.old.table_id ≡ self.now.table.shared.table_id) × (engine < self.now.size) × (intake < self.now.size) × (engine ≢ intake) }
         requires idle { (0 < seat.old.me.0.portion) × (length seat.old.me.0.turns ≡ 0) }
         ensures id { seat.new.table_id ≡ seat.old.table_id }
-        ensures taken { MatchResult result (λ p. TakenPair seat.old.me engine p.engine.part p.engine.word intake p.intake.part p.intake.word seat.new.me) (λ word. MissedPair seat.old.me engine intake word seat.new.me) }
+        ensures taken { MatchResult result (λ p. TakenPair C.laws seat.old.me engine p.engine.part p.engine.word intake p.intake.part p.intake.word seat.new.me) (λ word. MissedPair C.laws seat.old.me engine intake word seat.new.me) }
     {
         if self.is_held(seat, intake) {
             return Err(intake);
@@ -123,7 +123,7 @@ impl<C: Calculator> SharedNet<C> {
         requires out { seat.old.me.1 ≡ (word, None) ∷ rest seat.old.me.1 }
         requires word { held.word ≡ word_of seat.old.me.0.key word held.part }
         requires turn { HasTurn seat.old.me.0 word held.part }
-        requires part { Follows seat.old.me.0.key word held.part }
+        requires part { Follows C.laws seat.old.me.0.key word held.part }
         requires after { Returns seat.old.me.0 word held.part N.after × GivesTurnBack seat.old.me.0 word held.part N.after }
         ensures id { seat.new.table_id ≡ seat.old.table_id }
         ensures after { seat.new.me ≡ (N.after, rest seat.old.me.1) }
@@ -137,7 +137,7 @@ impl<C: Calculator> SharedNet<C> {
     pub(super) fn give_plain(&self, seat: &mut Seat<C>, word: u32, held: Held<C>)
         requires id { (seat.old.table_id ≡ self.now.table.shared.table_id) × (word < self.now.size) }
         requires word { held.word ≡ word_of seat.old.me.0.key word held.part }
-        requires gives { GivesPlainly seat.old.me word held.part }
+        requires gives { GivesPlainly C.laws seat.old.me word held.part }
         ensures id { seat.new.table_id ≡ seat.old.table_id }
         ensures gave { seat.new.me ≡ (gave seat.old.me.0 word held.part, rest seat.old.me.1) }
     {
@@ -148,7 +148,7 @@ impl<C: Calculator> SharedNet<C> {
     pub(super) fn give_laid(&self, seat: &mut Seat<C>, word: u32, held: Held<C>)
         requires id { (seat.old.table_id ≡ self.now.table.shared.table_id) × (word < self.now.size) }
         requires word { held.word ≡ word_of seat.old.me.0.key word held.part }
-        requires gives { GivesLaid seat.old.me word held.part }
+        requires gives { GivesLaid C.laws seat.old.me word held.part }
         ensures id { seat.new.table_id ≡ seat.old.table_id }
         ensures gave { seat.new.me ≡ (laid_view seat.old.me.0 word held.part, rest seat.old.me.1) }
     {
@@ -159,7 +159,7 @@ impl<C: Calculator> SharedNet<C> {
     pub(super) fn give_brought(&self, seat: &mut Seat<C>, word: u32, held: Held<C>)
         requires id { (seat.old.table_id ≡ self.now.table.shared.table_id) × (word < self.now.size) }
         requires word { held.word ≡ word_of seat.old.me.0.key word held.part }
-        requires gives { GivesBrought seat.old.me word held.part }
+        requires gives { GivesBrought C.laws seat.old.me word held.part }
         ensures id { seat.new.table_id ≡ seat.old.table_id }
         ensures gave { seat.new.me ≡ (gave seat.old.me.0 word held.part, rest seat.old.me.1) }
     {
@@ -179,7 +179,7 @@ impl<C: Calculator> SharedNet<C> {
         requires out { seat.old.me.1 ≡ (2 * node, None) ∷ rest seat.old.me.1 }
         requires word { held.word ≡ word_of seat.old.me.0.key (2 * node) held.part }
         requires turn { HasTurn seat.old.me.0 (2 * node) held.part }
-        requires part { Follows seat.old.me.0.key (2 * node) held.part }
+        requires part { Follows C.laws seat.old.me.0.key (2 * node) held.part }
         requires after { Returns seat.old.me.0 (2 * node) held.part N.after × GivesTurnBack seat.old.me.0 (2 * node) held.part N.after }
         ensures id { seat.new.table_id ≡ seat.old.table_id }
         ensures after { seat.new.me ≡ (N.after, rest seat.old.me.1) }
@@ -197,7 +197,7 @@ impl<C: Calculator> SharedNet<C> {
     )
         requires id { (seat.old.table_id ≡ self.now.table.shared.table_id) × (node < self.now.nodes) }
         requires word { held.word ≡ word_of seat.old.me.0.key (2 * node) held.part }
-        requires gives { GivesClaim seat.old.me node held.part engine.now (has_after claimed.now seat.old.me.0.work) }
+        requires gives { GivesClaim C.laws seat.old.me node held.part engine.now (has_after claimed.now seat.old.me.0.work) }
         ensures id { seat.new.table_id ≡ seat.old.table_id }
         ensures gave { seat.new.me ≡ (claimed_view seat.old.me.0 node held.part engine.now (has_after claimed.now seat.old.me.0.work), rest seat.old.me.1) }
     {
@@ -214,9 +214,9 @@ impl<C: Calculator> SharedNet<C> {
     )
         requires id { (seat.old.table_id ≡ self.now.table.shared.table_id) × (node < self.now.nodes) }
         requires words { CellWords seat.old.me.0.key node cell.engine.value cell.engine_word cell.laid cell.intake.value cell.intake_word }
-        requires gives { GivesClaim seat.old.me node (an_intake cell.intake.value) (an_engine cell.engine.value) (has_after claimed.now seat.old.me.0.work) }
+        requires gives { GivesClaim C.laws seat.old.me node (an_intake cell.intake.value) (an_engine cell.engine.value) (has_after claimed.now seat.old.me.0.work) }
         requires slots { rest seat.old.me.1 ≡ (2 * node + 1, None) ∷ rest (rest seat.old.me.1) }
-        requires follows { Follows seat.old.me.0.key (2 * node + 1) (an_engine cell.engine.value) }
+        requires follows { Follows C.laws seat.old.me.0.key (2 * node + 1) (an_engine cell.engine.value) }
         ensures id { seat.new.table_id ≡ seat.old.table_id }
         ensures gave { seat.new.me ≡ (cell_given seat.old.me.0 node (an_engine cell.engine.value) (an_intake cell.intake.value) (has_after claimed.now seat.old.me.0.work), rest (rest seat.old.me.1)) }
     {

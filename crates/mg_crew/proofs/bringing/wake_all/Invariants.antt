@@ -6,7 +6,7 @@ use Rattle.mg_crew.proofs.bringing.wake_all.Given as goal
 
 abbrev pub invariant-edges : goal.invariant-edges
 invariant-edges g l = record {
-  stays : StaysAtWork l.shop.net.now l.shop.tools.now l.fn.seat l.seat l.place;
+  stays : StaysAtWork g.C.NodeCalculator.laws l.shop.net.now l.shop.tools.now l.fn.seat l.seat l.place;
   there : IfSome l.cursor (λ e. e < l.shop.tools.now.chart.from.edges);
 }
 

@@ -22,24 +22,24 @@ use Rattle.mg_crew.proofs.crew.+crew.Goals as goal
 abbrev captured : Over → Lft → Lft → Lft → Lft → List RattleType
 captured g a b c d =
     Global.the_row
-    ∷ ShrRef (named 0) a (SharedNet.the_row (param 0 g.row.C) g.C.Calculator)
+    ∷ ShrRef (named 0) a (SharedNet.the_row (param 0 g.row.C) g.C.NodeCalculator)
     ∷ ShrRef (named 0) b Tools.the_row
     ∷ ShrRef (named 0) c (param 2 g.row.G)
     ∷ ShrRef (named 0) d (param 1 g.row.R)
-    ∷ NetSeat.the_row (param 0 g.row.C) g.C.Calculator
+    ∷ NetSeat.the_row (param 0 g.row.C) g.C.NodeCalculator
     ∷ Place.the_row
     ∷ u32-field.row
     ∷ []
 
 all_captured : (g : Over) (a b c d : Lft) → IsSend (param 0 g.row.C) → IsSync (param 1 g.row.R) → IsSync (param 2 g.row.G) → AllSend (captured g a b c d)
 all_captured g a b c d calculator handle gate =
-    let net = net_row (param 0 g.row.C) g.C.Calculator calculator in
-    let seat = seat_row (param 0 g.row.C) g.C.Calculator calculator in (
+    let net = net_row (param 0 g.row.C) g.C.NodeCalculator calculator in
+    let seat = seat_row (param 0 g.row.C) g.C.NodeCalculator calculator in (
       (search sendable),
       (shr_send _ a _ net, (shr_send _ b _ tools_row, (shr_send _ c _ gate, (shr_send _ d _ handle, (seat, (place_row, (search sendable, tt))))))),
     )
 
-many : (g : Over) (κs : Lfts 14) → IsSend (param 0 g.row.C) → IsSync (param 1 g.row.R) → IsSync (param 2 g.row.G) → IsSend (Lts.arg-3-1 g.row.C g.row.R g.row.G g.C.laws g.R.laws g.G.laws g.C.Calculator g.C.Calculator-dict g.R.Threads g.R.Threads-dict g.R.Wait g.R.Wait-dict g.G.Gate g.G.Gate-dict g.C.Destruct-dict κs)
+many : (g : Over) (κs : Lfts 14) → IsSend (param 0 g.row.C) → IsSync (param 1 g.row.R) → IsSync (param 2 g.row.G) → IsSend (Lts.arg-3-1 g.row.C g.row.R g.row.G g.C.laws g.R.laws g.G.laws g.C.NodeCalculator g.C.NodeCalculator-dict g.R.Threads g.R.Threads-dict g.R.Wait g.R.Wait-dict g.G.Gate g.G.Gate-dict g.C.Destruct-dict κs)
 many g κs calculator handle gate =
     let a : Lft = κs.1.1.1.1.1.1.0 in
     let b : Lft = κs.1.1.1.1.1.1.1.0 in
@@ -48,9 +48,9 @@ many g κs calculator handle gate =
     let s = closure (captured g a b c d) (all_captured g a b c d calculator handle gate) in
     record { owned = s.owned; leaving = λ _. s.leaving no }
 
-comes_back : (g : Over) (κs : Lfts 14) → IsSend (param 0 g.row.C) → IsSend (Lts.arg-3-3 g.row.C g.row.R g.row.G g.C.laws g.R.laws g.G.laws g.C.Calculator g.C.Calculator-dict g.R.Threads g.R.Threads-dict g.R.Wait g.R.Wait-dict g.G.Gate g.G.Gate-dict g.C.Destruct-dict κs)
+comes_back : (g : Over) (κs : Lfts 14) → IsSend (param 0 g.row.C) → IsSend (Lts.arg-3-3 g.row.C g.row.R g.row.G g.C.laws g.R.laws g.G.laws g.C.NodeCalculator g.C.NodeCalculator-dict g.R.Threads g.R.Threads-dict g.R.Wait g.R.Wait-dict g.G.Gate g.G.Gate-dict g.C.Destruct-dict κs)
 comes_back g κs calculator =
-    let s = seat_row (param 0 g.row.C) g.C.Calculator calculator in
+    let s = seat_row (param 0 g.row.C) g.C.NodeCalculator calculator in
     record { owned = s.owned; leaving = λ _. s.leaving no }
 
 pub join-all-requires-send-F : goal.join-all-requires-send-F

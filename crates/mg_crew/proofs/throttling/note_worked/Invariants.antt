@@ -6,7 +6,7 @@ use Rattle.mg_crew.proofs.throttling.note_worked.Given as goal
 
 abbrev pub invariant-edges : goal.invariant-edges
 invariant-edges g l = record {
-  stays : StaysShared l.shop.net.now l.fn.seat l.seat;
+  stays : StaysShared g.C.NodeCalculator.laws l.shop.net.now l.fn.seat l.seat;
   there : IfSome l.cursor (λ e. e < l.shop.tools.now.chart.into.edges);
 }
 

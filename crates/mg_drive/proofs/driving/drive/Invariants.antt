@@ -13,8 +13,8 @@ invariant-batches g l = record {
   keeps : Keeps l.fn.net.one.net l.net.one.net;
   there : AreThere (g.B.Batches.wants l.ends.batches) l.net.one.net;
   unread : g.B.Batches.reads ≡ false → g.S.Source.told l.input ≡ g.S.Source.told l.fn.input;
-  under_way : (start : Start g.row.B.Denot) → IsUnderWay g.B.Batches.gives g.T.Telling.has_told start l.fn.first (g.S.Source.told l.fn.input) (g.K.Sink.told l.fn.output) l.fn.ends.batches l.fn.ends.telling l.fn.net.one.net
-      → IsUnderWay g.B.Batches.gives g.T.Telling.has_told start l.last (g.S.Source.told l.input) (g.K.Sink.told l.output) l.ends.batches l.ends.telling l.net.one.net;
+  under_way : (start : Start g.row.B.Denot) → IsUnderWay g.C.NodeCalculator.laws (g.B.Batches.gives g.C.NodeCalculator.laws) g.T.Telling.has_told start l.fn.first (g.S.Source.told l.fn.input) (g.K.Sink.told l.fn.output) l.fn.ends.batches l.fn.ends.telling l.fn.net.one.net
+      → IsUnderWay g.C.NodeCalculator.laws (g.B.Batches.gives g.C.NodeCalculator.laws) g.T.Telling.has_told start l.last (g.S.Source.told l.input) (g.K.Sink.told l.output) l.ends.batches l.ends.telling l.net.one.net;
 }
 
 abbrev pub decreases-batches : goal.decreases-batches

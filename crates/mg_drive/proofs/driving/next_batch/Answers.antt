@@ -10,15 +10,15 @@ use Rattle.mg_drive.proofs.StillThere.{read_there, still_there, same_there}
 use Rattle.mg_drive.proofs.driving.next_batch.Goals as goal
 
 pub trim-requires : goal.trim-requires
-trim-requires g c = record { stands = record { job = job_with c.requires.more.start c.requires.more.inputs; stands = c.requires.more.stands } }
+trim-requires g c = record { stands = record { job = job_with g.N.Driven.laws c.requires.more.start c.requires.more.inputs; stands = c.requires.more.stands } }
 
 pub extend-requires : goal.extend-requires
 extend-requires g c =
     let start = c.requires.more.start in
-    let first = job_with start c.requires.more.inputs in
+    let first = job_with g.N.Driven.laws start c.requires.more.inputs in
     let valid = (valid_plan first (g.N.Driven.net c.args.net.now) c.requires.more.stands).plan in
-    let go = c.in_ok-batch.ensures.goes_on start.batches start.plan start.source c.requires.more.inputs (with_none start.plan valid).0 c.requires.more.given c.requires.more.due in
-    record { may = record { first = first; later = job_with start go.all; stands = c.trim.ensures.stands first c.requires.more.stands; goes_on = job_goes_on start.plan c.requires.more.inputs c.in_ok-batch.batch.inputs go.all start.boxes valid go.goes_on } }
+    let go = c.in_ok-batch.ensures.goes_on g.N.Driven.laws start.batches start.plan start.source c.requires.more.inputs (with_none start.plan valid).0 c.requires.more.given c.requires.more.due in
+    record { may = record { first = first; later = job_with g.N.Driven.laws start go.all; stands = c.trim.ensures.stands first c.requires.more.stands; goes_on = job_goes_on start.plan c.requires.more.inputs c.in_ok-batch.batch.inputs go.all start.boxes valid go.goes_on } }
 
 pub returns-in_err-batch-clause-same : goal.returns-in_err-batch-clause-same
 returns-in_err-batch-clause-same g c =
@@ -42,19 +42,19 @@ returns-in_err-extend-clause-keeps g c =
 
 pub returns-clause-goes_on : goal.returns-clause-goes_on
 returns-clause-goes_on g c = λ start inputs given due stands.
-    let first = job_with start inputs in
+    let first = job_with g.N.Driven.laws start inputs in
     let valid = (valid_plan first (g.N.Driven.net c.args.net.now) stands).plan in
-    let go = c.in_ok-batch.ensures.goes_on start.batches start.plan start.source inputs (with_none start.plan valid).0 given due in
+    let go = c.in_ok-batch.ensures.goes_on g.N.Driven.laws start.batches start.plan start.source inputs (with_none start.plan valid).0 given due in
     let on = job_goes_on start.plan inputs c.in_ok-batch.batch.inputs go.all start.boxes valid go.goes_on in
     record {
       all = go.all;
       given = go.given;
       grows = on.grows;
-      stands = c.in_ok-extend.ensures.stands first (job_with start go.all) on (c.trim.ensures.stands first stands);
+      stands = c.in_ok-extend.ensures.stands first (job_with g.N.Driven.laws start go.all) on (c.trim.ensures.stands first stands);
     }
 
 pub returns-clause-fewer : goal.returns-clause-fewer
-returns-clause-fewer g c = c.in_ok-batch.ensures.fewer c.requires.more.start.batches c.requires.more.start.plan c.requires.more.start.source c.requires.more.inputs c.requires.more.given c.requires.more.due
+returns-clause-fewer g c = c.in_ok-batch.ensures.fewer g.N.Driven.laws c.requires.more.start.batches c.requires.more.start.plan c.requires.more.start.source c.requires.more.inputs c.requires.more.given c.requires.more.due
 
 pub returns-clause-taken : goal.returns-clause-taken
 returns-clause-taken g c = c.in_ok-extend.ensures.taken ∙ c.trim.ensures.taken

@@ -13,11 +13,11 @@ abbrev pub invariant-sets : goal.invariant-sets
 invariant-sets g l = record {
   places : length l.set ≡ length (g.N.Driven.net l.net).plan.outputs;
   left : LeavesNodes (g.N.Driven.net l.fn.net) (g.N.Driven.net l.net);
-  stands : (job : LoggedJob) → StandsFor job (g.N.Driven.net l.fn.net) → StandsFor job (g.N.Driven.net l.net);
-  tells : (job : LoggedJob) (first : SinkTold) → StandsFor job (g.N.Driven.net l.fn.net)
+  stands : (job : LoggedJob g.N.Driven.laws) → StandsFor job (g.N.Driven.net l.fn.net) → StandsFor job (g.N.Driven.net l.net);
+  tells : (job : LoggedJob g.N.Driven.laws) (first : SinkTold) → StandsFor job (g.N.Driven.net l.fn.net)
       → IsTold g.T.Telling.has_told job.job first (g.K.Sink.told l.fn.output) (taken_out (g.N.Driven.net l.fn.net)) l.fn.telling
       → IsTold g.T.Telling.has_told job.job first (g.K.Sink.told l.output) (taken_out (g.N.Driven.net l.net)) l.telling;
-  has : (job : LoggedJob) (streams : List (StreamPrefix Plain)) → StandsFor job (g.N.Driven.net l.fn.net) → Solves job streams → HasAllOutputs streams (g.N.Driven.net l.fn.net)
+  has : (job : LoggedJob g.N.Driven.laws) (streams : List (StreamPrefix Plain)) → StandsFor job (g.N.Driven.net l.fn.net) → Solves job streams → HasAllOutputs streams (g.N.Driven.net l.fn.net)
       → HasAllOutputs streams (g.N.Driven.net l.net);
 }
 

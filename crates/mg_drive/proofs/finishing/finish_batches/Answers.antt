@@ -6,12 +6,12 @@ use Rattle.mg_drive.proofs.RunsEnd.{front_whole, rested_of}
 use Rattle.mg_drive.proofs.finishing.finish_batches.Goals as goal
 
 pub wound_up-requires : goal.wound_up-requires
-wound_up-requires g c = record { rested = rested_of g.B.Batches.gives c.args.run.now.plan.now c.args.closing.end (g.N.Driven.net c.args.net.now) c.args.batches.now c.requires.rested }
+wound_up-requires g c = record { rested = rested_of (g.B.Batches.gives g.N.Driven.laws) c.args.run.now.plan.now c.args.closing.end (g.N.Driven.net c.args.net.now) c.args.batches.now c.requires.rested }
 
 pub conclude-requires : goal.conclude-requires
 conclude-requires g c = record {
   tells = c.in_ok-outcomes.ensures.tells;
-  of = of_given g.B.Batches.gives c.args.run.now.plan.now c.args.closing.end (g.N.Driven.net c.args.net.now) c.args.batches.now c.in_ok-outcomes.outcomes c.requires.rested c.in_ok-outcomes.ensures.told;
+  of = (g.N.Driven.laws, of_given (g.B.Batches.gives g.N.Driven.laws) c.args.run.now.plan.now c.args.closing.end (g.N.Driven.net c.args.net.now) c.args.batches.now c.in_ok-outcomes.outcomes c.requires.rested c.in_ok-outcomes.ensures.told);
 }
 
 pub returns-clause-wrote : goal.returns-clause-wrote

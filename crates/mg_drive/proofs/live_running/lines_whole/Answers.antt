@@ -31,7 +31,7 @@ returns-in_err-status-clause-short g c =
     let is = err_from_is_err_and c.from_residual-in_err-status.result c.from_residual-in_err-status.ensures.1 in
     let whole = c.args.run.now.plan.now in
     let devices = told_by g.S.Source.told g.K.Sink.told g.E.Sink.told c.args.devices.now c.run_live.new.devices in
-    let boxes = device (map g.C.Calculator.told c.args.boxes.now.items) (map g.C.Calculator.told c.run_live.new.boxes.items) in
+    let boxes = device (map g.C.NodeCalculator.told c.args.boxes.now.items) (map g.C.NodeCalculator.told c.run_live.new.boxes.items) in
     let new : IsNew (fed c.in_ok-feed.feed) whole = record { graph = c.in_ok-feed.ensures.graph; stands = c.in_ok-feed.ensures.stands; unread = c.in_ok-feed.ensures.unread } in
     rw is.1 (elim c.in_err-status.ensures.short [
       | inl nothing ↦ inl (record {
@@ -51,4 +51,4 @@ returns-in_err-status-clause-short g c =
 pub returns-clause-ran : goal.returns-clause-ran
 returns-clause-ran g c =
     let h = c.in_ok-status.ensures.ran in
-    live_lines c.args.run.now.report c.args.run.now.plan.now c.in_ok-status.status (told_by g.S.Source.told g.K.Sink.told g.E.Sink.told c.args.devices.now c.run_live.new.devices) (device (map g.C.Calculator.told c.args.boxes.now.items) (map g.C.Calculator.told c.run_live.new.boxes.items)) (fed h.batches) h.end h.base h.earlier h.first h.later h.in_turn h.in_order h.run
+    live_lines c.args.run.now.report c.args.run.now.plan.now c.in_ok-status.status (told_by g.S.Source.told g.K.Sink.told g.E.Sink.told c.args.devices.now c.run_live.new.devices) (device (map g.C.NodeCalculator.told c.args.boxes.now.items) (map g.C.NodeCalculator.told c.run_live.new.boxes.items)) (fed h.batches) h.end h.base h.earlier h.first h.later h.in_turn h.in_order h.run

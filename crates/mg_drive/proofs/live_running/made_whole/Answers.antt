@@ -17,7 +17,7 @@ returns-in_err-status-clause-short g c =
     let is = err_from_is_err_and c.from_residual-in_err-status.result c.from_residual-in_err-status.ensures.1 in
     rw is.1 (elim c.in_err-status.ensures.short [
       | inl nothing ↦ inl nothing.1
-      | inr was ↦ inr (short_made c.args.run.now.plan.now c.args.number c.in_ok-pieces.pieces.most was.batches.most (making was.batches.generator) (told_by g.S.Source.told g.K.Sink.told g.E.Sink.told c.args.devices.now c.run_live.new.devices).output (device (map g.C.Calculator.told c.args.boxes.now.items) (map g.C.Calculator.told c.run_live.new.boxes.items))
+      | inr was ↦ inr (short_made c.args.run.now.plan.now c.args.number c.in_ok-pieces.pieces.most was.batches.most (making was.batches.generator) (told_by g.S.Source.told g.K.Sink.told g.E.Sink.told c.args.devices.now c.run_live.new.devices).output (device (map g.C.NodeCalculator.told c.args.boxes.now.items) (map g.C.NodeCalculator.told c.run_live.new.boxes.items))
           was.ended was.base was.earlier was.takens was.streams c.in_ok-pieces.ensures.most
           (of_number_came c.args.run.now.plan.now c.args.number c.in_ok-pieces.pieces.most was.batches.most (making c.in_ok-pieces.pieces.generator) (making was.batches.generator) (end_by was.ended) (was.base ∷ was.earlier) c.in_ok-pieces.ensures.packets was.in_turn) was.so_far was.is_job was.solution was.front was.had)
     ])
@@ -25,5 +25,5 @@ returns-in_err-status-clause-short g c =
 pub returns-clause-ran : goal.returns-clause-ran
 returns-clause-ran g c =
     let h = c.in_ok-status.ensures.ran in
-    live_made c.args.run.now.report c.args.run.now.plan.now c.args.number c.in_ok-pieces.pieces.most h.batches.most (making h.batches.generator) (told_by g.S.Source.told g.K.Sink.told g.E.Sink.told c.args.devices.now c.run_live.new.devices).output (told_by g.S.Source.told g.K.Sink.told g.E.Sink.told c.args.devices.now c.run_live.new.devices).notes (device (map g.C.Calculator.told c.args.boxes.now.items) (map g.C.Calculator.told c.run_live.new.boxes.items)) c.in_ok-status.status h.end h.base h.earlier h.first h.later c.in_ok-pieces.ensures.most
+    live_made c.args.run.now.report c.args.run.now.plan.now c.args.number c.in_ok-pieces.pieces.most h.batches.most (making h.batches.generator) (told_by g.S.Source.told g.K.Sink.told g.E.Sink.told c.args.devices.now c.run_live.new.devices).output (told_by g.S.Source.told g.K.Sink.told g.E.Sink.told c.args.devices.now c.run_live.new.devices).notes (device (map g.C.NodeCalculator.told c.args.boxes.now.items) (map g.C.NodeCalculator.told c.run_live.new.boxes.items)) c.in_ok-status.status h.end h.base h.earlier h.first h.later c.in_ok-pieces.ensures.most
     (of_number_came c.args.run.now.plan.now c.args.number c.in_ok-pieces.pieces.most h.batches.most (making c.in_ok-pieces.pieces.generator) (making h.batches.generator) (End h.end) (h.base ∷ h.earlier) c.in_ok-pieces.ensures.packets h.in_turn) h.in_order h.run

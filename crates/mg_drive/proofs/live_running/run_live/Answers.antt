@@ -23,8 +23,8 @@ pub returns-in_err-status-clause-short : goal.returns-in_err-status-clause-short
 returns-in_err-status-clause-short g c =
     let is = err_from_is_err_and c.from_residual-in_err-status.result c.from_residual-in_err-status.ensures.1 in
     let devices = told_by g.S.Source.told g.K.Sink.told g.E.Sink.told c.args.devices.now c.run_batches.new.devices in
-    let boxes = map g.C.Calculator.told c.args.boxes.now.items in
-    let now = map g.C.Calculator.told c.run_batches.new.boxes.items in
+    let boxes = map g.C.NodeCalculator.told c.args.boxes.now.items in
+    let now = map g.C.NodeCalculator.told c.run_batches.new.boxes.items in
     let reads = ReadsWhere g.B.Batches.is_fresh g.B.Batches.is_due g.B.Batches.reads_on in
     rw is.1 (elim c.in_err-status.ensures.short [
       | inl nothing ↦ inl (
@@ -32,15 +32,15 @@ returns-in_err-status-clause-short g c =
           | inl same ↦ inl same
           | inr read ↦ elim read [
             | inl further ↦ inr (inl further.1)
-            | inr given ↦ inr (inr (live_given g.B.Batches.gives g.B.Batches.came g.B.Batches.is_due c.args.ends.0
+            | inr given ↦ inr (inr (live_given (g.B.Batches.gives g.C.NodeCalculator.laws) (g.B.Batches.came g.C.NodeCalculator.laws) g.B.Batches.is_due c.args.ends.0
                 (record { batches = given.batches.batches; plan = c.args.run.now.plan.now; whole = given.batches.whole.plan.now; nodes = given.batches.whole.nodes.now; streams = given.batches.whole.streams.now; ended = given.batches.end; rested = given.batches.rested; frees = given.batches.nodes.free; takers = given.batches.nodes.takers.items })
                 c.args.parts.core devices.input given.end given.inputs given.given))
           ]
         ],
         nothing.1,
       )
-      | inr was ↦ inr (subst (λ (p : Plan). CoreShort g.B.Batches.came reads g.T.Telling.has_told g.T.Telling.form c.args.ends.0 p devices (device boxes now)) was.given.of.whole_is
-          (live_short g.B.Batches.gives g.B.Batches.came g.B.Batches.is_due reads g.T.Telling.has_told g.T.Telling.form c.args.ends.0
+      | inr was ↦ inr (subst (λ (p : Plan). CoreShort g.C.NodeCalculator.laws (g.B.Batches.came g.C.NodeCalculator.laws) reads g.T.Telling.has_told g.T.Telling.form c.args.ends.0 p devices (device boxes now)) was.given.of.whole_is
+          (live_short (g.B.Batches.gives g.C.NodeCalculator.laws) (g.B.Batches.came g.C.NodeCalculator.laws) g.B.Batches.is_due reads g.T.Telling.has_told g.T.Telling.form c.args.ends.0
           (record { batches = was.batches.batches; plan = c.args.run.now.plan.now; whole = was.batches.whole.plan.now; nodes = was.batches.whole.nodes.now; streams = was.batches.whole.streams.now; ended = was.batches.end; rested = was.batches.rested; frees = was.batches.nodes.free; takers = was.batches.nodes.takers.items })
           c.args.parts.core devices boxes now was.net was.at was.end was.inputs (subst (λ (p : FreePlan). BoxesFit p.core boxes) (sym c.requires.parts) c.requires.boxes) was.given was.last was.stood was.back c.in_err-status.ensures.back was.front))
     ])
@@ -49,8 +49,8 @@ pub returns-clause-ran : goal.returns-clause-ran
 returns-clause-ran g c =
     let h = c.in_ok-status.ensures.ran in
     let devices = told_by g.S.Source.told g.K.Sink.told g.E.Sink.told c.args.devices.now c.run_batches.new.devices in
-    let boxes = device (map g.C.Calculator.told c.args.boxes.now.items) (map g.C.Calculator.told c.run_batches.new.boxes.items) in
-    subst (λ (p : Plan). HasRunLive g.B.Batches.gives g.B.Batches.came g.T.Telling.form c.args.run.now.report c.args.ends.0 p c.in_ok-status.status devices boxes) h.given.of.whole_is
-    (live_ran g.B.Batches.gives g.B.Batches.came g.B.Batches.is_due g.T.Telling.form c.args.run.now.report c.args.ends.0
+    let boxes = device (map g.C.NodeCalculator.told c.args.boxes.now.items) (map g.C.NodeCalculator.told c.run_batches.new.boxes.items) in
+    subst (λ (p : Plan). HasRunLive g.C.NodeCalculator.laws (g.B.Batches.gives g.C.NodeCalculator.laws) (g.B.Batches.came g.C.NodeCalculator.laws) g.T.Telling.form c.args.run.now.report c.args.ends.0 p c.in_ok-status.status devices boxes) h.given.of.whole_is
+    (live_ran (g.B.Batches.gives g.C.NodeCalculator.laws) (g.B.Batches.came g.C.NodeCalculator.laws) g.B.Batches.is_due g.T.Telling.form c.args.run.now.report c.args.ends.0
     (record { batches = h.batches.batches; plan = c.args.run.now.plan.now; whole = h.batches.whole.plan.now; nodes = h.batches.whole.nodes.now; streams = h.batches.whole.streams.now; ended = h.batches.end; rested = h.batches.rested; frees = h.batches.nodes.free; takers = h.batches.nodes.takers.items })
     c.args.parts.core c.in_ok-status.status devices boxes h.end h.inputs h.given h.wrote h.had c.in_ok-status.ensures.back)

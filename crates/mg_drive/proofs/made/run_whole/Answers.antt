@@ -27,9 +27,9 @@ returns-in_err-status-clause-short g c =
     let is = err_from_is_err_and c.from_residual-in_err-status.result c.from_residual-in_err-status.ensures.1 in
     rw is.1 (elim c.in_err-status.ensures.short [
       | inl nothing ↦ inl nothing.1
-      | inr was ↦ inr (pieces_short c.args.run.now.plan.now c.args.number (making was.batches.generator) (told_by g.S.Source.told g.K.Sink.told g.E.Sink.told c.args.devices.now c.run_batches.new.devices).output (map g.C.Calculator.told c.args.boxes.now.items) (map g.C.Calculator.told c.run_batches.new.boxes.items) was.net was.end was.inputs c.requires.boxes
+      | inr was ↦ inr (pieces_short c.args.run.now.plan.now c.args.number (making was.batches.generator) (told_by g.S.Source.told g.K.Sink.told g.E.Sink.told c.args.devices.now c.run_batches.new.devices).output (map g.C.NodeCalculator.told c.args.boxes.now.items) (map g.C.NodeCalculator.told c.run_batches.new.boxes.items) was.net was.end was.inputs c.requires.boxes
           (of_number c.args.run.now.plan.now c.args.number (making c.in_ok-ends.ends.0.generator) (making was.batches.generator) was.end was.inputs c.in_ok-ends.ensures.packets was.given)
-          (stood_is_job (logged c.args.run.now.plan.now was.inputs (map g.C.Calculator.told c.args.boxes.now.items)) was.net was.stood) was.front was.unended was.stood was.back c.in_err-status.ensures.back)
+          (stood_is_job (logged g.C.NodeCalculator.laws c.args.run.now.plan.now was.inputs (map g.C.NodeCalculator.told c.args.boxes.now.items)) was.net was.stood) was.front was.unended was.stood was.back c.in_err-status.ensures.back)
     ])
 
 pub returns-in_err-status-clause-unread : goal.returns-in_err-status-clause-unread
@@ -38,7 +38,7 @@ returns-in_err-status-clause-unread g c = c.in_err-status.ensures.unread refl
 pub returns-clause-ran : goal.returns-clause-ran
 returns-clause-ran g c =
     let h = c.in_ok-status.ensures.ran in
-    pieces_ran c.args.run.now.report c.args.run.now.plan.now c.args.number (making h.batches.generator) (told_by g.S.Source.told g.K.Sink.told g.E.Sink.told c.args.devices.now c.run_batches.new.devices).output (told_by g.S.Source.told g.K.Sink.told g.E.Sink.told c.args.devices.now c.run_batches.new.devices).notes (device (map g.C.Calculator.told c.args.boxes.now.items) (map g.C.Calculator.told c.run_batches.new.boxes.items)) c.in_ok-status.status h.end h.inputs
+    pieces_ran g.C.NodeCalculator.laws c.args.run.now.report c.args.run.now.plan.now c.args.number (making h.batches.generator) (told_by g.S.Source.told g.K.Sink.told g.E.Sink.told c.args.devices.now c.run_batches.new.devices).output (told_by g.S.Source.told g.K.Sink.told g.E.Sink.told c.args.devices.now c.run_batches.new.devices).notes (device (map g.C.NodeCalculator.told c.args.boxes.now.items) (map g.C.NodeCalculator.told c.run_batches.new.boxes.items)) c.in_ok-status.status h.end h.inputs
     (of_number c.args.run.now.plan.now c.args.number (making c.in_ok-ends.ends.0.generator) (making h.batches.generator) (End h.end) h.inputs c.in_ok-ends.ensures.packets h.given) c.in_ok-status.ensures.back h.wrote h.had
 
 pub returns-clause-unread : goal.returns-clause-unread

@@ -7,11 +7,11 @@ use Rattle.mg_drive.proofs.recording.record_events.Goals as goal
 
 pub returns-clause-recorded : goal.returns-clause-recorded
 returns-clause-recorded g c = on_ok_weaker c.hear_run.result (λ recorded first lines put.
-    subst (λ (b : BlockView). HasRecorded first (g.K.Sink.told c.output-1.given.0) b lines [] c.args.net.now.net c.hear_run.new.net.net) (sym (c.blocks-1.given.1 (sym c.hear_run.ensures.same.0)))
-    (subst (λ (s : SinkTold). HasRecorded first s c.hear_run.new.events.blocks.now lines [] c.args.net.now.net c.hear_run.new.net.net) (sym (ap g.K.Sink.told (c.output-1.given.1 (sym c.hear_run.ensures.same.1))))
+    subst (λ (b : BlockView). HasRecorded g.C.NodeCalculator.laws first (g.K.Sink.told c.output-1.given.0) b lines [] c.args.net.now.net c.hear_run.new.net.net) (sym (c.blocks-1.given.1 (sym c.hear_run.ensures.same.0)))
+    (subst (λ (s : SinkTold). HasRecorded g.C.NodeCalculator.laws first s c.hear_run.new.events.blocks.now lines [] c.args.net.now.net c.hear_run.new.net.net) (sym (ap g.K.Sink.told (c.output-1.given.1 (sym c.hear_run.ensures.same.1))))
     (recorded first lines put))) c.hear_run.ensures.recorded
 
 pub returns-clause-short : goal.returns-clause-short
 returns-clause-short g c = on_err_weaker c.hear_run.result (λ recorded first lines put.
-    subst (λ (s : SinkTold). HasRecordedSome first s lines c.args.net.now.net) (sym (ap g.K.Sink.told (c.output-1.given.1 (sym c.hear_run.ensures.same.1))))
+    subst (λ (s : SinkTold). HasRecordedSome g.C.NodeCalculator.laws first s lines c.args.net.now.net) (sym (ap g.K.Sink.told (c.output-1.given.1 (sym c.hear_run.ensures.same.1))))
     (recorded first lines put)) c.hear_run.ensures.short

@@ -8,7 +8,7 @@ use Rattle.mg_drive.proofs.RecordedRuns.{begun_at, some_rested_now, net_traced, 
 use Rattle.mg_drive.proofs.tracing.trace_net.Goals as goal
 
 pub begin-requires : goal.begin-requires
-begin-requires g c = record { stands = record { job = job_of c.args.run.now.plan.now c.requires.made.inputs c.requires.made.boxes; stands = c.requires.made.made.stands } }
+begin-requires g c = record { stands = record { job = job_of g.C.NodeCalculator.laws c.args.run.now.plan.now c.requires.made.inputs c.requires.made.boxes; stands = c.requires.made.made.stands } }
 
 pub returns-in_err-begin-clause-short : goal.returns-in_err-begin-clause-short
 returns-in_err-begin-clause-short g c =
@@ -19,7 +19,7 @@ pub returns-in_err-begin-clause-keeps : goal.returns-in_err-begin-clause-keeps
 returns-in_err-begin-clause-keeps g c = begins_keep c.args.net.now.net c.begin.new.self c.in_err-begin.ensures.begins
 
 pub record_run-requires-clause-stands : goal.record_run-requires-clause-stands
-record_run-requires-clause-stands g c = record { job = job_of c.args.run.now.plan.now c.requires.made.inputs c.requires.made.boxes; stands = c.in_ok-begin.ensures.stands (job_of c.args.run.now.plan.now c.requires.made.inputs c.requires.made.boxes) c.requires.made.made.stands }
+record_run-requires-clause-stands g c = record { job = job_of g.C.NodeCalculator.laws c.args.run.now.plan.now c.requires.made.inputs c.requires.made.boxes; stands = c.in_ok-begin.ensures.stands (job_of g.C.NodeCalculator.laws c.args.run.now.plan.now c.requires.made.inputs c.requires.made.boxes) c.requires.made.made.stands }
 
 pub returns-in_err-text-clause-short : goal.returns-in_err-text-clause-short
 returns-in_err-text-clause-short g c =

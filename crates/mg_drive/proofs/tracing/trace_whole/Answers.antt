@@ -16,7 +16,7 @@ returns-in_err-whole-clause-fronts g c =
     rw is.1 (inl refl)
 
 pub returns-in_err-whole-clause-back : goal.returns-in_err-whole-clause-back
-returns-in_err-whole-clause-back g c = same_back c.args.run.now.plan.now (map g.C.Calculator.told c.args.boxes.now.items) (map g.C.Calculator.told c.args.boxes.now.items) refl
+returns-in_err-whole-clause-back g c = same_back c.args.run.now.plan.now (map g.C.NodeCalculator.told c.args.boxes.now.items) (map g.C.NodeCalculator.told c.args.boxes.now.items) refl
 
 pub returns-in_err-lines-clause-short : goal.returns-in_err-lines-clause-short
 returns-in_err-lines-clause-short g c =
@@ -29,7 +29,7 @@ returns-in_err-lines-clause-fronts g c =
     rw is.1 (inl refl)
 
 pub returns-in_err-lines-clause-back : goal.returns-in_err-lines-clause-back
-returns-in_err-lines-clause-back g c = same_back c.args.run.now.plan.now (map g.C.Calculator.told c.args.boxes.now.items) (map g.C.Calculator.told c.args.boxes.now.items) refl
+returns-in_err-lines-clause-back g c = same_back c.args.run.now.plan.now (map g.C.NodeCalculator.told c.args.boxes.now.items) (map g.C.NodeCalculator.told c.args.boxes.now.items) refl
 
 pub trace_job-requires-clause-job : goal.trace_job-requires-clause-job
 trace_job-requires-clause-job g c = record { plan = c.requires.valid; inputs = c.in_ok-whole.ensures.fits }
@@ -39,7 +39,7 @@ returns-in_err-status-clause-short g c =
     let is = err_from_is_err_and c.from_residual-in_err-status.result c.from_residual-in_err-status.ensures.1 in
     rw is.1 (elim c.in_err-status.ensures.short [
       | inl nothing ↦ inl nothing.0
-      | inr short ↦ short_read c.args.run.now.plan.now c.in_ok-whole.whole.inputs (device (g.S.Source.told c.args.devices.now.input.now) (g.S.Source.told c.read_whole.new.input)) c.in_ok-whole.whole.end (device (g.K.Sink.told c.args.devices.now.output.now) (g.K.Sink.told c.trace_job.new.output)) (device (g.E.Sink.told c.args.devices.now.notes.now) (g.E.Sink.told c.trace_job.new.notes)) (device (map g.C.Calculator.told c.args.boxes.now.items) (map g.C.Calculator.told c.trace_job.new.boxes.items)) c.in_ok-whole.ensures.gathered short
+      | inr short ↦ short_read c.args.run.now.plan.now c.in_ok-whole.whole.inputs (device (g.S.Source.told c.args.devices.now.input.now) (g.S.Source.told c.read_whole.new.input)) c.in_ok-whole.whole.end (device (g.K.Sink.told c.args.devices.now.output.now) (g.K.Sink.told c.trace_job.new.output)) (device (g.E.Sink.told c.args.devices.now.notes.now) (g.E.Sink.told c.trace_job.new.notes)) (device (map g.C.NodeCalculator.told c.args.boxes.now.items) (map g.C.NodeCalculator.told c.trace_job.new.boxes.items)) c.in_ok-whole.ensures.gathered short
     ])
 
 pub returns-in_err-status-clause-fronts : goal.returns-in_err-status-clause-fronts
@@ -48,7 +48,7 @@ returns-in_err-status-clause-fronts g c =
     let input = device (g.S.Source.told c.args.devices.now.input.now) (g.S.Source.told c.read_whole.new.input) in
     rw is.1 (elim c.in_err-status.ensures.short [
       | inl nothing ↦ inl nothing.1
-      | inr short ↦ some_read c.args.run.now.plan.now c.in_ok-whole.whole.inputs input c.in_ok-whole.whole.end _ (map g.C.Calculator.told c.args.boxes.now.items) (map g.C.Calculator.told c.trace_job.new.boxes.items) c.requires.boxes
+      | inr short ↦ some_read c.args.run.now.plan.now c.in_ok-whole.whole.inputs input c.in_ok-whole.whole.end _ (map g.C.NodeCalculator.told c.args.boxes.now.items) (map g.C.NodeCalculator.told c.trace_job.new.boxes.items) c.requires.boxes
           (record { plan = c.requires.valid; inputs = c.in_ok-whole.ensures.fits }) c.in_ok-whole.ensures.gathered short
     ])
 

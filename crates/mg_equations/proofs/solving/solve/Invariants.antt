@@ -1,10 +1,11 @@
 -- The streams are those of a round, the nodes have come to what becomes of them, and each round leaves less room for further ones.
+use Rattle.mg_calc.specs.Rules.{Laws}
 use Rattle.mg_equations.proofs.Changing.{room}
 use Rattle.mg_equations.proofs.SolveSteps.{IsUnderWay}
 use Rattle.mg_equations.proofs.solving.solve.Given as goal
 
 abbrev pub invariant-rounds : goal.invariant-rounds
-invariant-rounds l = IsUnderWay (record { plan = l.plan; inputs = l.inputs }) l.streams.items l.going l.due.items
+invariant-rounds l = (laws : Laws) → IsUnderWay (record { plan = l.plan; inputs = l.inputs; laws = laws }) l.streams.items l.going l.due.items
 
 abbrev pub decreases-rounds : goal.decreases-rounds
 decreases-rounds l = room l.streams.items

@@ -9,7 +9,7 @@ pub run-requires : goal.run-requires
 run-requires g c = may_run _ c.requires
 
 pub returns-in-Ok-clause-performed : goal.returns-in-Ok-clause-performed
-returns-in-Ok-clause-performed g c = subst (λ (p : PerformedView). IsPerformed c.args.work p) (sym c.new.ensures) (performed_well _ _ _ (may_run _ c.requires) c.in-Ok.ensures.ran c.in-Ok.ensures.same)
+returns-in-Ok-clause-performed g c = subst (λ (p : PerformedView). IsPerformed g.C.NodeCalculator.laws c.args.work p) (sym c.new.ensures) (performed_well _ _ _ (may_run _ c.requires) c.in-Ok.ensures.ran c.in-Ok.ensures.same)
 
 pub returns-in-Ok-clause-lawful : goal.returns-in-Ok-clause-lawful
 returns-in-Ok-clause-lawful g c = λ job lawful. subst (λ (p : PerformedView). LawfulPerformed job p) (sym c.new.ensures)

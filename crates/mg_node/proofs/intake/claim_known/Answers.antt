@@ -12,13 +12,13 @@ pub returns-clause-shown : goal.returns-clause-shown
 returns-clause-shown c = rw c.in-Sets.is c.claim_at.ensures.shown
 
 pub returns-clause-holds : goal.returns-clause-holds
-returns-clause-holds c = λ job streams consumer k holds.
+returns-clause-holds c = λ laws job streams consumer k holds.
     (let h = rw c.in-Sets.is at holds in
     let all = claimed_sets job streams consumer k c.in-Sets.inbox c.claim_at.new.self c.claim_at.new.into h.1 c.claim_at.ensures.policy (c.claim_at.ensures.whole k h.1.came h.1.stands) in
     record { holds = (h.0, all.0); few = all.1.0; shows = all.1.1 })
 
 pub returns-clause-grow : goal.returns-clause-grow
-returns-clause-grow c = λ job streams consumer k port holds.
+returns-clause-grow c = λ laws job streams consumer k port holds.
     (let h = rw c.in-Sets.is at holds in
     rw c.in-Sets.is (set_leaves _ ⊤ true c.in-Sets.inbox.policy k c.in-Sets.inbox c.claim_at.new.self h.1.came h.1.stands (c.claim_at.ensures.whole k h.1.came h.1.stands) tt port))
 

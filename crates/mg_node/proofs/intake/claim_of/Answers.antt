@@ -4,13 +4,13 @@ use Rattle.mg_node.proofs.ClaimsLeave.{same_counts, same_bounds}
 use Rattle.mg_node.proofs.intake.claim_of.Goals as goal
 
 pub returns-in-Sets-clause-holds : goal.returns-in-Sets-clause-holds
-returns-in-Sets-clause-holds c = λ job streams consumer k holds.
+returns-in-Sets-clause-holds c = λ laws job streams consumer k holds.
     (let h = rw c.in-Sets.is at holds in
     on_true c.claim.result (λ next. (let all = claimed_sets job streams consumer k c.in-Sets.inbox c.claim.new.self c.claim.new.into h.1 c.claim.ensures.policy next in
     record { holds = (h.0, all.0); few = all.1.0; shows = all.1.1 })) (c.claim.ensures.whole k h.1.came h.1.stands))
 
 pub returns-in-Sets-clause-grow : goal.returns-in-Sets-clause-grow
-returns-in-Sets-clause-grow c = λ job streams consumer k port holds.
+returns-in-Sets-clause-grow c = λ laws job streams consumer k port holds.
     (let h = rw c.in-Sets.is at holds in
     rw c.in-Sets.is (set_leaves _ _ c.claim.result c.in-Sets.inbox.policy k c.in-Sets.inbox c.claim.new.self h.1.came h.1.stands (c.claim.ensures.whole k h.1.came h.1.stands) c.claim.ensures.unchanged port))
 

@@ -2,7 +2,7 @@ use Rattle.mg_node.proofs.Knowing.{engine_there, engine_known}
 use Rattle.mg_node.proofs.laws.engines_are_known.Goals as goal
 
 pub returns-clause-there : goal.returns-clause-there
-returns-clause-there c = engine_there
+returns-clause-there c = λ laws. engine_there
 
 pub returns-clause-known : goal.returns-clause-known
-returns-clause-known c = engine_known
+returns-clause-known c = λ laws. engine_known

@@ -2,4 +2,4 @@ use Rattle.mg_node.proofs.LaidAndCame.{intake_has_reached}
 use Rattle.mg_node.proofs.laws.what_came_is_of_the_solution.Goals as goal
 
 pub returns : goal.returns
-returns c = intake_has_reached
+returns c = λ laws. intake_has_reached

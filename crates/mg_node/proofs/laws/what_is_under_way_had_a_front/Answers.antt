@@ -3,13 +3,13 @@ use Rattle.mg_node.proofs.ClosesHad.{wound_front}
 use Rattle.mg_node.proofs.laws.what_is_under_way_had_a_front.Goals as goal
 
 pub returns-clause-engine : goal.returns-clause-engine
-returns-clause-engine c = engine_front
+returns-clause-engine c = λ laws. engine_front
 
 pub returns-clause-unbegun : goal.returns-clause-unbegun
-returns-clause-unbegun c = unbegun_front
+returns-clause-unbegun c = λ laws. unbegun_front
 
 pub returns-clause-work : goal.returns-clause-work
-returns-clause-work c = work_out_front
+returns-clause-work c = λ laws. work_out_front
 
 pub returns-clause-wound : goal.returns-clause-wound
-returns-clause-wound c = wound_front
+returns-clause-wound c = λ laws. wound_front

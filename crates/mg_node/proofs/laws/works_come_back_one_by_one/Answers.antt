@@ -4,7 +4,7 @@ use Rattle.mg_node.proofs.StaysOut.{shelved_back, unshelved_out}
 use Rattle.mg_node.proofs.laws.works_come_back_one_by_one.Goals as goal
 
 pub returns-clause-committed : goal.returns-clause-committed
-returns-clause-committed c = commits_back
+returns-clause-committed c = λ laws. commits_back
 
 pub returns-clause-committed_set_up : goal.returns-clause-committed_set_up
 returns-clause-committed_set_up c = commits_set_up
@@ -19,7 +19,7 @@ pub returns-clause-shelved_grows : goal.returns-clause-shelved_grows
 returns-clause-shelved_grows c = λ engine outcome. window_grows engine _ engine.idle
 
 pub returns-clause-taken : goal.returns-clause-taken
-returns-clause-taken c = λ job owner number engine engine_now p lawful found taken. unshelved_out job owner engine engine_now number p lawful found taken
+returns-clause-taken c = λ laws job owner number engine engine_now p lawful found taken. unshelved_out job owner engine engine_now number p lawful found taken
 
 pub returns-clause-taken_set_up : goal.returns-clause-taken_set_up
 returns-clause-taken_set_up c = λ found number engine engine_now taken. unshelving_set_up found engine engine_now number taken

@@ -9,7 +9,7 @@ pub returns-in-Did-clause-becomes : goal.returns-in-Did-clause-becomes
 returns-in-Did-clause-becomes g c = becomes_one c.args.event Did _ _ c.requires.event c.in-Did.ensures.acts
 
 pub returns-in-Idle-clause-makes : goal.returns-in-Idle-clause-makes
-returns-in-Idle-clause-makes g c = (subst (λ (n : NetView). Acts c.args.event Idle c.args.net.now n) (c.in-Idle.ensures.idle refl) c.in-Idle.ensures.acts, refl)
+returns-in-Idle-clause-makes g c = (subst (λ (n : NetView). Acts g.C.NodeCalculator.laws c.args.event Idle c.args.net.now n) (c.in-Idle.ensures.idle refl) c.in-Idle.ensures.acts, refl)
 
 pub returns-in-Idle-clause-becomes : goal.returns-in-Idle-clause-becomes
 returns-in-Idle-clause-becomes g c = becomes_one c.args.event Idle _ _ c.requires.event c.in-Idle.ensures.acts

@@ -24,3 +24,13 @@ returns-then-ended-clause-had g c = λ job h.
 pub returns-clause-had : goal.returns-clause-had
 returns-clause-had g c = λ job h.
     had_of job c.tell_outputs.new.net.net c.finish_frozen.new.net.net (c.in_ok-text.ensures.stands job h) (c.in_ok-text.ensures.rested job h) c.in_ok-status-2.ensures.wound.0 c.in_ok-status-2.ensures.wound.1
+
+pub finish-requires : goal.finish-requires
+finish-requires g c =
+    let s = c.requires.stands in
+    record { rested = record { job = s.job; plan_is = s.plan_is; stands = c.in_ok-text.ensures.stands s.job s.stands; has_rested = c.in_ok-text.ensures.rested s.job s.stands } }
+
+pub finish_frozen-requires : goal.finish_frozen-requires
+finish_frozen-requires g c =
+    let s = c.requires.stands in
+    record { rested = record { job = s.job; plan_is = s.plan_is; stands = c.in_ok-text.ensures.stands s.job s.stands; has_rested = c.in_ok-text.ensures.rested s.job s.stands } }

@@ -9,7 +9,7 @@ use Rattle.mg_replay.proofs.replaying.replay_lines.Goals as goal
 pub returns-in-Ok-clause-replayed : goal.returns-in-Ok-clause-replayed
 returns-in-Ok-clause-replayed g c =
     replayed_by c.in-Ok.status c.args.run.now.report c.args.run.now.plan.now (told_by g.S.Source.told g.K.Sink.told g.E.Sink.told c.args.devices.now c.replay_whole.new.devices)
-    (device (map g.C.Calculator.told c.args.boxes.now.items) (map g.C.Calculator.told c.replay_whole.new.boxes.items)) c.in-Ok.ensures.replayed
+    (device (map g.C.NodeCalculator.told c.args.boxes.now.items) (map g.C.NodeCalculator.told c.replay_whole.new.boxes.items)) c.in-Ok.ensures.replayed
 
 pub returns-in-Err-clause-replayed : goal.returns-in-Err-clause-replayed
 returns-in-Err-clause-replayed g c = rw c.note_out_of_memory.ensures.status (

@@ -7,13 +7,13 @@ use Rattle.mg_replay.proofs.Ended.{is_accepted, not_accepted, making_begins, sta
 use Rattle.mg_replay.proofs.replaying.replay_net.Goals as goal
 
 pub begin-requires : goal.begin-requires
-begin-requires g c = record { stands = record { job = job_of c.args.run.now.plan.now c.requires.made.inputs c.requires.made.boxes; stands = c.requires.made.made.stands } }
+begin-requires g c = record { stands = record { job = job_of g.C.NodeCalculator.laws c.args.run.now.plan.now c.requires.made.inputs c.requires.made.boxes; stands = c.requires.made.made.stands } }
 
 pub returns-in_err-begin-clause-some : goal.returns-in_err-begin-clause-some
 returns-in_err-begin-clause-some g c =
     let is = err_from_is_err_and c.from_residual.result c.from_residual.ensures.1 in
     rw is.1 (λ inputs boxes first made same has. short_begun c.args.run.now.plan.now inputs boxes first _ _ _ _ _ c.begin.new.self has refl
-    (stands_still (job_of c.args.run.now.plan.now inputs boxes) c.begin.new.self (c.in_err-begin.ensures.stands (job_of c.args.run.now.plan.now inputs boxes) made.stands)))
+    (stands_still (job_of g.C.NodeCalculator.laws c.args.run.now.plan.now inputs boxes) c.begin.new.self (c.in_err-begin.ensures.stands (job_of g.C.NodeCalculator.laws c.args.run.now.plan.now inputs boxes) made.stands)))
 
 pub returns-in_err-begin-clause-unnoted : goal.returns-in_err-begin-clause-unnoted
 returns-in_err-begin-clause-unnoted g c =
@@ -39,7 +39,7 @@ returns-in_err-end-clause-some g c =
     short_events c.args.run.now.plan.now inputs boxes _ _ _ c.replay_events.new.net
     (c.in_err-end.ensures.opened boxes inputs first
     (making_begins c.args.run.now.plan.now inputs boxes first _ _ _ c.args.net.now.net c.begin.new.self made c.in_ok-begin.ensures.begins c.in_ok-begin.ensures.stands c.in_ok-begin.ensures.running has)) refl
-    (stood_later (job_of c.args.run.now.plan.now inputs boxes) c.begin.new.self c.replay_events.new.net c.in_ok-begin.ensures.running (c.in_ok-begin.ensures.stands (job_of c.args.run.now.plan.now inputs boxes) made.stands) c.in_err-end.ensures.becomes))
+    (stood_later (job_of g.C.NodeCalculator.laws c.args.run.now.plan.now inputs boxes) c.begin.new.self c.replay_events.new.net c.in_ok-begin.ensures.running (c.in_ok-begin.ensures.stands (job_of g.C.NodeCalculator.laws c.args.run.now.plan.now inputs boxes) made.stands) c.in_err-end.ensures.becomes))
 
 pub returns-in_err-end-clause-unnoted : goal.returns-in_err-end-clause-unnoted
 returns-in_err-end-clause-unnoted g c =
@@ -71,8 +71,8 @@ returns-in_err-status-clause-some g c =
     short_accepted c.args.run.now.plan.now inputs boxes c.in_ok-end.end _ _ _ c.accept.new.net.net (is_accepted c.in_ok-end.end (sym c.is_accepted.ensures ∙ c.if-is_accepted.true))
     (c.in_ok-end.ensures.read boxes inputs first (making_begins c.args.run.now.plan.now inputs boxes first _ _ _ c.args.net.now.net c.begin.new.self made c.in_ok-begin.ensures.begins c.in_ok-begin.ensures.stands c.in_ok-begin.ensures.running has))
     (c.in_ok-end.ensures.opened boxes inputs first (making_begins c.args.run.now.plan.now inputs boxes first _ _ _ c.args.net.now.net c.begin.new.self made c.in_ok-begin.ensures.begins c.in_ok-begin.ensures.stands c.in_ok-begin.ensures.running has))
-    (λ streams solution. c.in_err-status.ensures.front (job_of c.args.run.now.plan.now inputs boxes) streams refl (becomes_stands (job_of c.args.run.now.plan.now inputs boxes) c.begin.new.self c.replay_events.new.net c.in_ok-begin.ensures.running (c.in_ok-begin.ensures.stands (job_of c.args.run.now.plan.now inputs boxes) made.stands) c.in_ok-end.ensures.becomes) solution)
-    (c.in_err-status.ensures.stood (job_of c.args.run.now.plan.now inputs boxes) (becomes_stands (job_of c.args.run.now.plan.now inputs boxes) c.begin.new.self c.replay_events.new.net c.in_ok-begin.ensures.running (c.in_ok-begin.ensures.stands (job_of c.args.run.now.plan.now inputs boxes) made.stands) c.in_ok-end.ensures.becomes)))
+    (λ streams solution. c.in_err-status.ensures.front (job_of g.C.NodeCalculator.laws c.args.run.now.plan.now inputs boxes) streams refl (becomes_stands (job_of g.C.NodeCalculator.laws c.args.run.now.plan.now inputs boxes) c.begin.new.self c.replay_events.new.net c.in_ok-begin.ensures.running (c.in_ok-begin.ensures.stands (job_of g.C.NodeCalculator.laws c.args.run.now.plan.now inputs boxes) made.stands) c.in_ok-end.ensures.becomes) solution)
+    (c.in_err-status.ensures.stood (job_of g.C.NodeCalculator.laws c.args.run.now.plan.now inputs boxes) (becomes_stands (job_of g.C.NodeCalculator.laws c.args.run.now.plan.now inputs boxes) c.begin.new.self c.replay_events.new.net c.in_ok-begin.ensures.running (c.in_ok-begin.ensures.stands (job_of g.C.NodeCalculator.laws c.args.run.now.plan.now inputs boxes) made.stands) c.in_ok-end.ensures.becomes)))
 
 pub returns-in_err-status-clause-stood : goal.returns-in_err-status-clause-stood
 returns-in_err-status-clause-stood g c = λ job h. c.in_err-status.ensures.stood job (becomes_stands job c.begin.new.self c.replay_events.new.net c.in_ok-begin.ensures.running (c.in_ok-begin.ensures.stands job h) c.in_ok-end.ensures.becomes)
@@ -84,8 +84,8 @@ pub returns-then-is_accepted-clause-replayed : goal.returns-then-is_accepted-cla
 returns-then-is_accepted-clause-replayed g c = λ inputs boxes first made same has.
     net_accepted c.args.run.now.report c.args.run.now.plan.now inputs boxes c.args.ended c.in_ok-end.end c.in_ok-status.status _ _ _ c.accept.new.net.net (is_accepted c.in_ok-end.end (sym c.is_accepted.ensures ∙ c.if-is_accepted.true)) same
     (c.in_ok-end.ensures.read boxes inputs first (making_begins c.args.run.now.plan.now inputs boxes first _ _ _ c.args.net.now.net c.begin.new.self made c.in_ok-begin.ensures.begins c.in_ok-begin.ensures.stands c.in_ok-begin.ensures.running has))
-    (c.in_ok-status.ensures.wrote (job_of c.args.run.now.plan.now inputs boxes) refl (becomes_stands (job_of c.args.run.now.plan.now inputs boxes) c.begin.new.self c.replay_events.new.net c.in_ok-begin.ensures.running (c.in_ok-begin.ensures.stands (job_of c.args.run.now.plan.now inputs boxes) made.stands) c.in_ok-end.ensures.becomes)) (c.in_ok-status.ensures.had (job_of c.args.run.now.plan.now inputs boxes) (becomes_stands (job_of c.args.run.now.plan.now inputs boxes) c.begin.new.self c.replay_events.new.net c.in_ok-begin.ensures.running (c.in_ok-begin.ensures.stands (job_of c.args.run.now.plan.now inputs boxes) made.stands) c.in_ok-end.ensures.becomes))
-    (c.in_ok-status.ensures.stood (job_of c.args.run.now.plan.now inputs boxes) (becomes_stands (job_of c.args.run.now.plan.now inputs boxes) c.begin.new.self c.replay_events.new.net c.in_ok-begin.ensures.running (c.in_ok-begin.ensures.stands (job_of c.args.run.now.plan.now inputs boxes) made.stands) c.in_ok-end.ensures.becomes))
+    (c.in_ok-status.ensures.wrote (job_of g.C.NodeCalculator.laws c.args.run.now.plan.now inputs boxes) refl (becomes_stands (job_of g.C.NodeCalculator.laws c.args.run.now.plan.now inputs boxes) c.begin.new.self c.replay_events.new.net c.in_ok-begin.ensures.running (c.in_ok-begin.ensures.stands (job_of g.C.NodeCalculator.laws c.args.run.now.plan.now inputs boxes) made.stands) c.in_ok-end.ensures.becomes)) (c.in_ok-status.ensures.had (job_of g.C.NodeCalculator.laws c.args.run.now.plan.now inputs boxes) (becomes_stands (job_of g.C.NodeCalculator.laws c.args.run.now.plan.now inputs boxes) c.begin.new.self c.replay_events.new.net c.in_ok-begin.ensures.running (c.in_ok-begin.ensures.stands (job_of g.C.NodeCalculator.laws c.args.run.now.plan.now inputs boxes) made.stands) c.in_ok-end.ensures.becomes))
+    (c.in_ok-status.ensures.stood (job_of g.C.NodeCalculator.laws c.args.run.now.plan.now inputs boxes) (becomes_stands (job_of g.C.NodeCalculator.laws c.args.run.now.plan.now inputs boxes) c.begin.new.self c.replay_events.new.net c.in_ok-begin.ensures.running (c.in_ok-begin.ensures.stands (job_of g.C.NodeCalculator.laws c.args.run.now.plan.now inputs boxes) made.stands) c.in_ok-end.ensures.becomes))
 
 pub returns-then-is_accepted-clause-stood : goal.returns-then-is_accepted-clause-stood
 returns-then-is_accepted-clause-stood g c = λ job h. c.in_ok-status.ensures.stood job (becomes_stands job c.begin.new.self c.replay_events.new.net c.in_ok-begin.ensures.running (c.in_ok-begin.ensures.stands job h) c.in_ok-end.ensures.becomes)
@@ -103,7 +103,7 @@ pub returns-in_err-status-2-clause-some : goal.returns-in_err-status-2-clause-so
 returns-in_err-status-2-clause-some g c =
     let is = err_from_is_err_and c.from_residual-in_err-status-2.result c.from_residual-in_err-status-2.ensures.1 in
     rw is.1 (λ inputs boxes first made same has.
-    short_events c.args.run.now.plan.now inputs boxes _ _ _ c.refuse.new.net (c.in_ok-end.ensures.opened boxes inputs first (making_begins c.args.run.now.plan.now inputs boxes first _ _ _ c.args.net.now.net c.begin.new.self made c.in_ok-begin.ensures.begins c.in_ok-begin.ensures.stands c.in_ok-begin.ensures.running has)) refl (c.in_err-status-2.ensures.stood (job_of c.args.run.now.plan.now inputs boxes) (becomes_stands (job_of c.args.run.now.plan.now inputs boxes) c.begin.new.self c.replay_events.new.net c.in_ok-begin.ensures.running (c.in_ok-begin.ensures.stands (job_of c.args.run.now.plan.now inputs boxes) made.stands) c.in_ok-end.ensures.becomes)))
+    short_events c.args.run.now.plan.now inputs boxes _ _ _ c.refuse.new.net (c.in_ok-end.ensures.opened boxes inputs first (making_begins c.args.run.now.plan.now inputs boxes first _ _ _ c.args.net.now.net c.begin.new.self made c.in_ok-begin.ensures.begins c.in_ok-begin.ensures.stands c.in_ok-begin.ensures.running has)) refl (c.in_err-status-2.ensures.stood (job_of g.C.NodeCalculator.laws c.args.run.now.plan.now inputs boxes) (becomes_stands (job_of g.C.NodeCalculator.laws c.args.run.now.plan.now inputs boxes) c.begin.new.self c.replay_events.new.net c.in_ok-begin.ensures.running (c.in_ok-begin.ensures.stands (job_of g.C.NodeCalculator.laws c.args.run.now.plan.now inputs boxes) made.stands) c.in_ok-end.ensures.becomes)))
 
 pub returns-in_err-status-2-clause-stood : goal.returns-in_err-status-2-clause-stood
 returns-in_err-status-2-clause-stood g c = λ job h. c.in_err-status-2.ensures.stood job (becomes_stands job c.begin.new.self c.replay_events.new.net c.in_ok-begin.ensures.running (c.in_ok-begin.ensures.stands job h) c.in_ok-end.ensures.becomes)
@@ -115,7 +115,7 @@ pub returns-clause-replayed : goal.returns-clause-replayed
 returns-clause-replayed g c = λ inputs boxes first made same has.
     net_refused c.args.run.now.report c.args.run.now.plan.now inputs boxes c.in_ok-end.end c.in_ok-status-2.status _ _ _ c.refuse.new.net (not_accepted c.in_ok-end.end (sym c.is_accepted.ensures ∙ c.if-is_accepted.false))
     (c.in_ok-end.ensures.read boxes inputs first (making_begins c.args.run.now.plan.now inputs boxes first _ _ _ c.args.net.now.net c.begin.new.self made c.in_ok-begin.ensures.begins c.in_ok-begin.ensures.stands c.in_ok-begin.ensures.running has)) refl
-    c.in_ok-status-2.ensures.wrote (c.in_ok-status-2.ensures.closed (job_of c.args.run.now.plan.now inputs boxes) (becomes_stands (job_of c.args.run.now.plan.now inputs boxes) c.begin.new.self c.replay_events.new.net c.in_ok-begin.ensures.running (c.in_ok-begin.ensures.stands (job_of c.args.run.now.plan.now inputs boxes) made.stands) c.in_ok-end.ensures.becomes)) (c.in_ok-status-2.ensures.stood (job_of c.args.run.now.plan.now inputs boxes) (becomes_stands (job_of c.args.run.now.plan.now inputs boxes) c.begin.new.self c.replay_events.new.net c.in_ok-begin.ensures.running (c.in_ok-begin.ensures.stands (job_of c.args.run.now.plan.now inputs boxes) made.stands) c.in_ok-end.ensures.becomes))
+    c.in_ok-status-2.ensures.wrote (c.in_ok-status-2.ensures.closed (job_of g.C.NodeCalculator.laws c.args.run.now.plan.now inputs boxes) (becomes_stands (job_of g.C.NodeCalculator.laws c.args.run.now.plan.now inputs boxes) c.begin.new.self c.replay_events.new.net c.in_ok-begin.ensures.running (c.in_ok-begin.ensures.stands (job_of g.C.NodeCalculator.laws c.args.run.now.plan.now inputs boxes) made.stands) c.in_ok-end.ensures.becomes)) (c.in_ok-status-2.ensures.stood (job_of g.C.NodeCalculator.laws c.args.run.now.plan.now inputs boxes) (becomes_stands (job_of g.C.NodeCalculator.laws c.args.run.now.plan.now inputs boxes) c.begin.new.self c.replay_events.new.net c.in_ok-begin.ensures.running (c.in_ok-begin.ensures.stands (job_of g.C.NodeCalculator.laws c.args.run.now.plan.now inputs boxes) made.stands) c.in_ok-end.ensures.becomes))
 
 pub returns-clause-stood : goal.returns-clause-stood
 returns-clause-stood g c = λ job h. c.in_ok-status-2.ensures.stood job (becomes_stands job c.begin.new.self c.replay_events.new.net c.in_ok-begin.ensures.running (c.in_ok-begin.ensures.stands job h) c.in_ok-end.ensures.becomes)

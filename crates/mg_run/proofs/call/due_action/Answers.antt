@@ -18,7 +18,7 @@ action_of-requires-clause-each g c =
 
 pub returns-clause-due : goal.returns-clause-due
 returns-clause-due g c =
-    due_by (command c.args.ordered.now.instruction c.args.ordered.now.files.now) c.deref.result.now (outers_told (map g.C.Calculator.told c.args.boxes.now)) (contents_of c.in_ok-contents.contents.items) _ (action_view c.in_ok-action.action)
+    due_by (command c.args.ordered.now.instruction c.args.ordered.now.files.now) c.deref.result.now (outers_told (map g.C.NodeCalculator.told c.args.boxes.now)) (contents_of c.in_ok-contents.contents.items) _ (action_view c.in_ok-action.action)
     (c.deref.ensures.value ∙ c.in_ok-outers.ensures.outers) (subst (λ (outers : List OuterShape). All IsOuterShape outers) (sym c.deref.ensures.value) c.in_ok-outers.ensures.shaped) c.in_ok-contents.ensures.all c.in_ok-action.ensures.due
 
 pub returns-clause-can : goal.returns-clause-can

@@ -5,17 +5,17 @@ use Rattle.mg_run.proofs.Headlines.{came-headline}
 use Rattle.mg_run.proofs.call.run_words.Goals as goal
 
 pub returns-clause-came : goal.returns-clause-came
-returns-clause-came g c = came_apart _ _ _ _ _ _ _ _ _ _ _ _ _ _ (ap g.S.Source.told (c.input-1.given.1 (sym c.do_words.ensures.same.same_input))) (ap g.K.Sink.told (c.output-1.given.1 (sym c.do_words.ensures.same.same_output)))
+returns-clause-came g c = came_apart g.C.NodeCalculator.laws _ _ _ _ _ _ _ _ _ _ _ _ _ _ (ap g.S.Source.told (c.input-1.given.1 (sym c.do_words.ensures.same.same_input))) (ap g.K.Sink.told (c.output-1.given.1 (sym c.do_words.ensures.same.same_output)))
     (ap g.E.Sink.told (c.notes-1.given.1 (sym c.do_words.ensures.same.same_notes))) c.do_words.ensures.came
 
 pub returns-clause-headline : goal.returns-clause-headline
-returns-clause-headline g c = came-headline _ (request_of c.args.words.now) c.do_words.result _ (came_apart _ _ _ _ _ _ _ _ _ _ _ _ _ _ (ap g.S.Source.told (c.input-1.given.1 (sym c.do_words.ensures.same.same_input))) (ap g.K.Sink.told (c.output-1.given.1 (sym c.do_words.ensures.same.same_output)))
+returns-clause-headline g c = came-headline g.C.NodeCalculator.laws _ (request_of c.args.words.now) c.do_words.result _ (came_apart g.C.NodeCalculator.laws _ _ _ _ _ _ _ _ _ _ _ _ _ _ (ap g.S.Source.told (c.input-1.given.1 (sym c.do_words.ensures.same.same_input))) (ap g.K.Sink.told (c.output-1.given.1 (sym c.do_words.ensures.same.same_output)))
     (ap g.E.Sink.told (c.notes-1.given.1 (sym c.do_words.ensures.same.same_notes))) c.do_words.ensures.came)
 
 pub returns-clause-answered : goal.returns-clause-answered
-returns-clause-answered g c = came-answered _ (request_of c.args.words.now) c.do_words.result _ (came_apart _ _ _ _ _ _ _ _ _ _ _ _ _ _ (ap g.S.Source.told (c.input-1.given.1 (sym c.do_words.ensures.same.same_input))) (ap g.K.Sink.told (c.output-1.given.1 (sym c.do_words.ensures.same.same_output)))
+returns-clause-answered g c = came-answered g.C.NodeCalculator.laws _ (request_of c.args.words.now) c.do_words.result _ (came_apart g.C.NodeCalculator.laws _ _ _ _ _ _ _ _ _ _ _ _ _ _ (ap g.S.Source.told (c.input-1.given.1 (sym c.do_words.ensures.same.same_input))) (ap g.K.Sink.told (c.output-1.given.1 (sym c.do_words.ensures.same.same_output)))
     (ap g.E.Sink.told (c.notes-1.given.1 (sym c.do_words.ensures.same.same_notes))) c.do_words.ensures.came)
 
 pub returns-clause-boxes : goal.returns-clause-boxes
-returns-clause-boxes g c = count-of _ _ _ (came-boxes _ (request_of c.args.words.now) c.do_words.result _ (came_apart _ _ _ _ _ _ _ _ _ _ _ _ _ _ (ap g.S.Source.told (c.input-1.given.1 (sym c.do_words.ensures.same.same_input))) (ap g.K.Sink.told (c.output-1.given.1 (sym c.do_words.ensures.same.same_output)))
+returns-clause-boxes g c = count-of _ _ _ (came-boxes g.C.NodeCalculator.laws _ (request_of c.args.words.now) c.do_words.result _ (came_apart g.C.NodeCalculator.laws _ _ _ _ _ _ _ _ _ _ _ _ _ _ (ap g.S.Source.told (c.input-1.given.1 (sym c.do_words.ensures.same.same_input))) (ap g.K.Sink.told (c.output-1.given.1 (sym c.do_words.ensures.same.same_output)))
     (ap g.E.Sink.told (c.notes-1.given.1 (sym c.do_words.ensures.same.same_notes))) c.do_words.ensures.came))

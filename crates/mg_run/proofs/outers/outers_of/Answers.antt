@@ -9,7 +9,7 @@ use Rattle.mg_run.proofs.outers.outers_of.Goals as goal
 pub loop-calculator-preserved : goal.loop-calculator-preserved
 loop-calculator-preserved g c = (
   rw c.in_ok-push.ensures.items
-      (known-more g.C.Calculator.told outer_told c.args.boxes.now c.loop-calculator.outers.items c.loop-calculator.calculator-index c.calculator-item.result c.in_ok-outer_of.field-0
+      (known-more g.C.NodeCalculator.told outer_told c.args.boxes.now c.loop-calculator.outers.items c.loop-calculator.calculator-index c.calculator-item.result c.in_ok-outer_of.field-0
       c.loop-calculator.invariant.0 c.loop-calculator-test.true c.calculator-item.is c.in_ok-outer_of.ensures.outer),
   subst (λ (outers : List OuterShape). All IsOuterShape outers) (sym c.in_ok-push.ensures.items)
       (All-append IsOuterShape c.loop-calculator.outers.items (c.in_ok-outer_of.field-0 ∷ []) c.loop-calculator.invariant.1

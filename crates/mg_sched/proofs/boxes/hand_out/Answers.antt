@@ -5,7 +5,7 @@ use Rattle.mg_sched.proofs.HandedOut.{left_first, left_passed, left_taken, finds
 use Rattle.mg_sched.proofs.boxes.hand_out.Goals as goal
 
 pub loop-node-init : goal.loop-node-init
-loop-node-init g c = (refl, (λ streams all. engines_first c.args.plan.now streams _ _ all), left_first _ _ (all_full g.C.Calculator.told c.args.places.now c.requires.full))
+loop-node-init g c = (refl, (λ streams all. engines_first c.args.plan.now streams _ _ all), left_first _ _ (all_full g.C.NodeCalculator.told c.args.places.now c.requires.full))
 
 pub loop-node-preserved-in_default : goal.loop-node-preserved-in_default
 loop-node-preserved-in_default g c =
@@ -18,7 +18,7 @@ hand_over-requires-clause-there g c =
     let less : c.loop-node.node < length c.args.plan.now.nodes = search rules in
     let there : slice_get c.args.plan.now.nodes c.loop-node.node ≡ Some c.index-as_slice-node.result = read_at _ _ _ _ c.as_slice.ensures less c.index-as_slice-node.is in
     let f = finds _ _ _ _ _ _ c.loop-node.invariant.2 c.requires.valid.boxes c.requires.find there c.in-Some.is in
-    seen_there g.C.Calculator.told c.loop-node.places c.in-Some.number f.told f.lies
+    seen_there g.C.NodeCalculator.told c.loop-node.places c.in-Some.number f.told f.lies
 
 pub hand_over-requires-clause-number : goal.hand_over-requires-clause-number
 hand_over-requires-clause-number g c =

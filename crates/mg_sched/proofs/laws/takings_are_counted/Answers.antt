@@ -11,7 +11,7 @@ pub returns-clause-left : goal.returns-clause-left
 returns-clause-left c = taking_leaves_nodes
 
 pub returns-clause-few : goal.returns-clause-few
-returns-clause-few c = few_taken
+returns-clause-few c = λ laws. few_taken
 
 pub returns-clause-outputs : goal.returns-clause-outputs
-returns-clause-outputs c = outputs_by_default
+returns-clause-outputs c = λ laws. outputs_by_default

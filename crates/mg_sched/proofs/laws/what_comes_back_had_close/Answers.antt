@@ -2,4 +2,4 @@ use Rattle.mg_sched.proofs.ClosedBack.{closed_back}
 use Rattle.mg_sched.proofs.laws.what_comes_back_had_close.Goals as goal
 
 pub returns : goal.returns
-returns c = closed_back
+returns c = λ laws. closed_back

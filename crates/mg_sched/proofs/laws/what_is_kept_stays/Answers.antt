@@ -7,13 +7,13 @@ pub returns-clause-begins : goal.returns-clause-begins
 returns-clause-begins c = begins_keep
 
 pub returns-clause-steps : goal.returns-clause-steps
-returns-clause-steps c = steps_keep
+returns-clause-steps c = λ laws. steps_keep
 
 pub returns-clause-further : goal.returns-clause-further
-returns-clause-further c = extends_keep
+returns-clause-further c = λ laws. extends_keep
 
 pub returns-clause-trims : goal.returns-clause-trims
-returns-clause-trims c = trims_keep
+returns-clause-trims c = λ laws. trims_keep
 
 pub returns-clause-leaves : goal.returns-clause-leaves
 returns-clause-leaves c = λ before now stream number left. leaves_keep before now stream number (ap (λ (v : NetView). v.plan) left) (ap (λ (v : NetView). v.engines) left)

@@ -1,3 +1,4 @@
+use Rattle.mg_route.specs.TableLaws.{table_laws}
 use Rattle.std.proofs.Common.{inl, sym, refl, ◌∙◌}
 use Rattle.mg_test_cells.specs.Cell.{job_of, held_of}
 use Rattle.mg_test_cells.proofs.Making.{solved, made, made_unbegun, made_lawful, sides_none, is_new, begun_none, begun_keeps}
@@ -10,8 +11,8 @@ pub returns-in-Ok-clause-lawful : goal.returns-in-Ok-clause-lawful
 returns-in-Ok-clause-lawful c =
     let m = made c.args.plan.now _ c.in_ok-engine.ensures.there c.in_ok-engine.ensures.fresh in
     let s = solved c.args.plan.now c.args.inputs.now c.requires in
-    c.in-Ok.ensures.lawful (job_of c.args.plan.now c.args.inputs.now) 0 m.node s.0 s.1 m.there
-    (c.in_ok-sides.ensures ∙ sym (sides_none (job_of c.args.plan.now c.args.inputs.now).job m.node m.sides)) (made_lawful c.args.plan.now c.args.inputs.now _ m)
+    c.in-Ok.ensures.lawful (job_of table_laws c.args.plan.now c.args.inputs.now) 0 m.node s.0 s.1 m.there
+    (c.in_ok-sides.ensures ∙ sym (sides_none (job_of table_laws c.args.plan.now c.args.inputs.now).job m.node m.sides)) (made_lawful table_laws c.args.plan.now c.args.inputs.now _ m)
 
 pub returns-in-Ok-clause-none : goal.returns-in-Ok-clause-none
 returns-in-Ok-clause-none c =

@@ -11,7 +11,7 @@ use mir.Syntax.{named}
 use Rattle.std.proofs.Common.{List, [], ◌∷◌}
 use Rattle.std.specs.contracts.alloc.Global as Global
 use Rattle.mg_route.specs.contracts.law_box.LawBox as LawBox
-use Rattle.mg_route.specs.contracts.law_box.LawBoxCalculator.TheImpl as boxes
+use Rattle.mg_route.specs.contracts.law_box.LawBoxNodeCalculator.TheImpl as boxes
 use Rattle.mg_turns.specs.contracts.seat.NetSeat as NetSeat
 use Rattle.mg_turns.specs.contracts.shared.SharedNet as SharedNet
 use Rattle.mg_turns.proofs.Sent.{closure}

@@ -1,5 +1,6 @@
+use Rattle.mg_route.specs.TableLaws.{table_laws}
 use Rattle.mg_workers.specs.Shared.{StaysShared}
 use Rattle.mg_test_turns.proofs.threads.bring_all.Given as goal
 
 abbrev pub invariant-loop-edge : goal.invariant-loop-edge
-invariant-loop-edge l = StaysShared l.net l.initial.seat l.seat
+invariant-loop-edge l = StaysShared table_laws l.net l.initial.seat l.seat

@@ -48,3 +48,13 @@ returns-in-Ended-clause-counts g c = ended_ends g.row.C.Denot c.args.engine.now 
 
 pub returns-in-OutOfMemory-clause-counts : goal.returns-in-OutOfMemory-clause-counts
 returns-in-OutOfMemory-clause-counts g c = no_memory_ends g.row.C.Denot c.args.engine.now c.claim.new.self c.args.intake.now c.claim.new.intake c.in-OutOfMemory.ensures.claims
+
+pub run_work-requires-clause-some : goal.run_work-requires-clause-some
+run_work-requires-clause-some g c =
+    let cell = c.requires in
+    record { job = cell.job; lawful = (c.in-Work.ensures.lawful cell.job cell.number cell.lawful_engine cell.lawful_intake cell.agree).work }
+
+pub run_work-requires-clause-lawful : goal.run_work-requires-clause-lawful
+run_work-requires-clause-lawful g c =
+    let cell = c.requires in
+    record { job = cell.job; number = cell.number; lawful = (c.in-Work.ensures.lawful cell.job cell.number cell.lawful_engine cell.lawful_intake cell.agree).lawful_engine }

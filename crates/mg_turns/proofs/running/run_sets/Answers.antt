@@ -20,5 +20,5 @@ pub returns-then-not-run_set-clause-ran : goal.returns-then-not-run_set-clause-r
 returns-then-not-run_set-clause-ran g c =
     let v = c.loop-done.invariant in
     let less : c.loop-done.done < c.args.most = search rules in
-    let stops : Stops c.loop-done.engine c.run_set.new.engine c.loop-done.intake c.run_set.new.intake = search rules in
+    let stops : Stops g.C.NodeCalculator.laws c.loop-done.engine c.run_set.new.engine c.loop-done.intake c.run_set.new.intake = search rules in
     (c.loop-done.engine, c.loop-done.intake, v.laid, v.rounds, omega (arith, less), inr (less, stops))

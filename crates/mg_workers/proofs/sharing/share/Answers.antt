@@ -21,8 +21,8 @@ pub put_together-requires : goal.put_together-requires
 put_together-requires g c =
     let some = c.requires.stands in
     let same = c.in-None.ensures.unchanged refl in
-    subst (λ (es : List EngineView). AreParts (record { plan = c.apart-plan.result.plan; engines = es; intakes = c.share_parts.new.intakes.items; rest = c.apart-plan.result.rest })) (sym same.0)
-    (subst (λ (is : List IntakeView). AreParts (record { plan = c.apart-plan.result.plan; engines = c.apart-plan.result.engines.items; intakes = is; rest = c.apart-plan.result.rest })) (sym same.1)
+    subst (λ (es : List EngineView). AreParts g.C.NodeCalculator.laws (record { plan = c.apart-plan.result.plan; engines = es; intakes = c.share_parts.new.intakes.items; rest = c.apart-plan.result.rest })) (sym same.0)
+    (subst (λ (is : List IntakeView). AreParts g.C.NodeCalculator.laws (record { plan = c.apart-plan.result.plan; engines = c.apart-plan.result.engines.items; intakes = is; rest = c.apart-plan.result.rest })) (sym same.1)
     (record { job = some.job; parts_of = c.apart-plan.ensures.parts some.job some.stands }))
 
 pub returns-in-Some-clause-shared : goal.returns-in-Some-clause-shared
@@ -33,7 +33,7 @@ returns-in-Some-clause-shared g c =
     let key : key_of c.in-Some.shared ≡ layout_of ps = c.in-Some.ensures.key ∙ ap (λ (p : Plan). layout_by p c.apart-plan.result.engines.items c.apart-plan.result.intakes.items) c.plan.ensures in
     record {
       of = c.in-Some.ensures.seat.0;
-      some = subst (λ (f : LayoutView). FitsSome f) (sym key) (some_fits some.job ps h);
+      some = subst (λ (f : LayoutView). FitsSome g.C.NodeCalculator.laws f) (sym key) (some_fits some.job ps h);
       edges = subst (λ (f : LayoutView). EdgesFit f) (sym key) (edges_fit some.job ps h);
       free = ap (λ (v : View). v.work) c.in-Some.ensures.seat.1;
     }

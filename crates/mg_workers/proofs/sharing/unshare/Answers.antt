@@ -23,7 +23,7 @@ pub put_together-requires : goal.put_together-requires
 put_together-requires g c =
     let k = c.requires.kept in
     let given : PartsView = record { plan = c.kept.inside.plan; engines = c.unweave.new.engines.items; intakes = c.unweave.new.intakes.items; rest = c.kept.inside.rest } in
-    subst (λ (p : PartsView). AreParts p)
+    subst (λ (p : PartsView). AreParts g.C.NodeCalculator.laws p)
     (as_kept c.args.kept given c.unshare-parts.result.items c.kept.inside.engines.items c.kept.inside.intakes.items (sym c.kept.view_is) c.kept.invariant.0 c.kept.invariant.1 c.unweave.ensures.engines c.unweave.ensures.intakes)
     (are_back k.0 k.1 _ _ k.2 _ c.unshare-parts.result.items c.unshare-parts.ensures)
 

@@ -14,7 +14,7 @@ use Rattle.mg_drive.proofs.live.LiveBatches.conclude.Goals as goal
 
 pub outcomes-requires : goal.outcomes-requires
 outcomes-requires g c =
-    let l = c.requires.of.given in
+    let l = c.requires.of.1.given in
     record {
       valid = l.of.valid;
       numbers = l.of.numbers_are;
@@ -25,23 +25,23 @@ outcomes-requires g c =
 
 pub conclude-requires : goal.conclude-requires
 conclude-requires g c =
-    let l = c.requires.of.given in
+    let l = c.requires.of.1.given in
     let whole = c.args.self.now.whole.plan.now in
-    let job : Job = record { plan = c.args.run.now.plan.now; inputs = c.requires.of.inputs } in
-    let told = c.in_ok-outcomes.ensures job c.requires.of.streams l.takens l.of.core_is c.requires.of.tells l.taken in
+    let job : Job = record { plan = c.args.run.now.plan.now; inputs = c.requires.of.1.inputs; laws = c.requires.of.0 } in
+    let told = c.in_ok-outcomes.ensures job c.requires.of.1.streams l.takens l.of.core_is c.requires.of.1.tells l.taken in
     let tells = subst (λ (p : Plan). OutcomesFit p c.args.outcomes) l.of.core_is c.requires.tells in
-    let many = plan_ends whole job c.requires.of.streams c.args.self.now.nodes.free l.takens c.in_ok-outcomes.outcomes told in
+    let many = plan_ends whole job c.requires.of.1.streams c.args.self.now.nodes.free l.takens c.in_ok-outcomes.outcomes told in
     record {
       few = omega (arith, many, tells.many, tells.few, streams_as_many whole l.of.valid);
       many = many;
-      sets = ap length told.sets ∙ sets_long whole.nodes (counts job c.requires.of.streams) (logs_long l.takens);
-      nodes = faults_below whole (faults job c.requires.of.streams) c.in_ok-outcomes.outcomes.faults
-          (subst (λ fs. All (λ fault. fault.node < length (core_of whole).nodes) fs) c.requires.of.tells.faults tells.nodes) told.faults;
+      sets = ap length told.sets ∙ sets_long whole.nodes (counts job c.requires.of.1.streams) (logs_long l.takens);
+      nodes = faults_below whole (faults job c.requires.of.1.streams) c.in_ok-outcomes.outcomes.faults
+          (subst (λ fs. All (λ fault. fault.node < length (core_of whole).nodes) fs) c.requires.of.1.tells.faults tells.nodes) told.faults;
     }
 
 pub returns-clause-wrote : goal.returns-clause-wrote
 returns-clause-wrote g c = λ form job first ends.
-    let l = c.requires.of.given in
+    let l = c.requires.of.1.given in
     let whole = c.args.self.now.whole.plan.now in
     record {
       streams = ends.streams;

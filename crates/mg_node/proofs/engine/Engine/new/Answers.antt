@@ -3,7 +3,7 @@ use Rattle.mg_calc.specs.declared.plan.Plan.{Plan}
 use Rattle.mg_calc.specs.declared.plan_node.PlanNode.{PlanNode}
 use Rattle.mg_calc.specs.Plan.{FlightFits}
 use Rattle.mg_calc.specs.Shape.{IsShapeOf, IsServed}
-use Rattle.mg_node.proofs.Performing.{of_node}
+use Rattle.mg_node.proofs.HeldRules.{of_node}
 use Rattle.mg_node.proofs.Making.{read_at, contexts_made, engine_made, some_same, fresh_unbegun}
 use Rattle.mg_node.proofs.engine.Engine.new.Goals as goal
 

@@ -20,12 +20,12 @@ returns-clause-grows c =
     (taking_grows (record { claimed = c.self.inside.claimed; waits = c.self.inside.waits }) c.claim_of.new.waits (subst (λ (v : IntakeView). SomeJobHasIntake v) (sym c.self.view_is) c.requires.lawful) c.if-not-claim_of.ensures.grow)
 
 pub returns-clause-stays_lawful : goal.returns-clause-stays_lawful
-returns-clause-stays_lawful c = λ job consumer lawful.
+returns-clause-stays_lawful c = λ laws job consumer lawful.
     claim_lawful job consumer (record { claimed = c.self.inside.claimed; waits = c.self.inside.waits }) c.claim_of.new.waits c.claim_of.new.into c.if-not-claim_of.ensures.holds
     (subst (λ (v : IntakeView). LawfulIntake job consumer v) (sym c.self.view_is) lawful)
 
 pub returns-clause-in_solution : goal.returns-clause-in_solution
-returns-clause-in_solution c = λ job consumer streams solves lawful.
+returns-clause-in_solution c = λ laws job consumer streams solves lawful.
     subst (λ (v : IntakeView). HasSet job streams consumer v.claimed c.claim_of.new.into) c.self.view_is
     (claim_shows job consumer streams (record { claimed = c.self.inside.claimed; waits = c.self.inside.waits }) c.claim_of.new.waits c.claim_of.new.into c.if-not-claim_of.ensures.holds solves
     (subst (λ (v : IntakeView). LawfulIntake job consumer v) (sym c.self.view_is) lawful))

@@ -7,10 +7,10 @@ use Rattle.mg_sched.proofs.ActsRun.{acts_run}
 use Rattle.mg_sched.proofs.net.Net.act.Goals as goal
 
 pub returns-clause-running : goal.returns-clause-running
-returns-clause-running g c = acts_run c.args.event c.make.result c.args.self.now c.make.new.self c.requires.running c.make.ensures
+returns-clause-running g c = acts_run g.C.NodeCalculator.laws c.args.event c.make.result c.args.self.now c.make.new.self c.requires.running c.make.ensures
 
 pub returns-clause-stands : goal.returns-clause-stands
 returns-clause-stands g c = λ job stands. acts_stand job c.args.event c.make.result c.args.self.now c.make.new.self c.requires.event c.requires.running stands c.make.ensures
 
 pub returns-clause-idle : goal.returns-clause-idle
-returns-clause-idle g c = λ none. idle_same c.requires.stands.job c.args.event c.args.self.now c.make.new.self c.requires.event c.requires.running c.requires.stands.stands (subst (λ (effect : Effect). Acts c.args.event effect c.args.self.now c.make.new.self) none c.make.ensures)
+returns-clause-idle g c = λ none. idle_same c.requires.stands.job c.args.event c.args.self.now c.make.new.self c.requires.event c.requires.running c.requires.stands.stands (subst (λ (effect : Effect). Acts g.C.NodeCalculator.laws c.args.event effect c.args.self.now c.make.new.self) none c.make.ensures)

@@ -14,13 +14,13 @@ pub returns-in_err-agenda-clause-becomes : goal.returns-in_err-agenda-clause-bec
 returns-in_err-agenda-clause-becomes g c = becomes_same c.args.self.now c.take_agenda.new.self c.in_err-agenda.ensures.same
 
 pub returns-in_err-agenda-clause-heard_some : goal.returns-in_err-agenda-clause-heard_some
-returns-in_err-agenda-clause-heard_some g c = on_err c.from_residual.result (heard_so_far g.H.Hears.has_heard c.args.hearer.now c.args.self.now)
+returns-in_err-agenda-clause-heard_some g c = on_err c.from_residual.result (heard_so_far g.C.NodeCalculator.laws g.H.Hears.has_heard c.args.hearer.now c.args.self.now)
 
 pub rest_by-requires-clause-running : goal.rest_by-requires-clause-running
 rest_by-requires-clause-running g c = subst (λ (v : NetView). IsRunning v) (sym c.in_ok-agenda.ensures.same) c.requires.running
 
 pub rest_by-requires-clause-stands : goal.rest_by-requires-clause-stands
-rest_by-requires-clause-stands g c = subst (λ (v : NetView). StandsForSome v) (sym c.in_ok-agenda.ensures.same) c.requires.stands
+rest_by-requires-clause-stands g c = subst (λ (v : NetView). StandsForSome g.C.NodeCalculator.laws v) (sym c.in_ok-agenda.ensures.same) c.requires.stands
 
 pub rest_by-requires-clause-agenda : goal.rest_by-requires-clause-agenda
 rest_by-requires-clause-agenda g c = subst (λ (v : NetView). IsAgendaOf v.plan c.in_ok-agenda.agenda) (sym c.in_ok-agenda.ensures.same) c.in_ok-agenda.ensures.agenda
@@ -38,10 +38,10 @@ pub returns-in-Ok-clause-becomes : goal.returns-in-Ok-clause-becomes
 returns-in-Ok-clause-becomes g c = becomes_between c.args.self.now c.take_agenda.new.self c.rest_by.new.self c.keep_agenda.new.self c.in_ok-agenda.ensures.same c.keep_agenda.ensures c.in-Ok.ensures.becomes
 
 pub returns-in-Ok-clause-heard : goal.returns-in-Ok-clause-heard
-returns-in-Ok-clause-heard g c = heard_between g.H.Hears.has_heard c.args.hearer.now c.rest_by.new.hearer c.args.self.now c.take_agenda.new.self c.rest_by.new.self c.keep_agenda.new.self c.in_ok-agenda.ensures.same c.keep_agenda.ensures c.in-Ok.ensures.heard
+returns-in-Ok-clause-heard g c = heard_between g.C.NodeCalculator.laws g.H.Hears.has_heard c.args.hearer.now c.rest_by.new.hearer c.args.self.now c.take_agenda.new.self c.rest_by.new.self c.keep_agenda.new.self c.in_ok-agenda.ensures.same c.keep_agenda.ensures c.in-Ok.ensures.heard
 
 pub returns-in-Ok-clause-rest : goal.returns-in-Ok-clause-rest
-returns-in-Ok-clause-rest g c = subst (λ (v : NetView). IsAtRest v) (sym c.keep_agenda.ensures) c.in-Ok.ensures.rest
+returns-in-Ok-clause-rest g c = subst (λ (v : NetView). IsAtRest g.C.NodeCalculator.laws v) (sym c.keep_agenda.ensures) c.in-Ok.ensures.rest
 
 pub keep_agenda-requires-in-Err-clause-agenda : goal.keep_agenda-requires-in-Err-clause-agenda
 keep_agenda-requires-in-Err-clause-agenda g c = agenda_on c.take_agenda.new.self c.rest_by.new.self c.rest_by.new.agenda c.in-Err.ensures.becomes c.in-Err.ensures.agenda
@@ -50,4 +50,4 @@ pub returns-in-Err-clause-becomes : goal.returns-in-Err-clause-becomes
 returns-in-Err-clause-becomes g c = becomes_between c.args.self.now c.take_agenda.new.self c.rest_by.new.self c.keep_agenda-in-Err.new.self c.in_ok-agenda.ensures.same c.keep_agenda-in-Err.ensures c.in-Err.ensures.becomes
 
 pub returns-in-Err-clause-heard_some : goal.returns-in-Err-clause-heard_some
-returns-in-Err-clause-heard_some g c = subst (λ (v : NetView). HeardSome g.H.Hears.has_heard c.args.hearer.now c.rest_by.new.hearer v) c.in_ok-agenda.ensures.same c.in-Err.ensures.heard_some
+returns-in-Err-clause-heard_some g c = subst (λ (v : NetView). HeardSome g.C.NodeCalculator.laws g.H.Hears.has_heard c.args.hearer.now c.rest_by.new.hearer v) c.in_ok-agenda.ensures.same c.in-Err.ensures.heard_some

@@ -19,21 +19,21 @@ carry-requires-clause-there g c =
     omega (arith, less, count, same)
 
 pub carry-requires-clause-stands : goal.carry-requires-clause-stands
-carry-requires-clause-stands g c = subst StandsForSome (sym c.edges.invariant.0) c.requires.stands
+carry-requires-clause-stands g c = subst (StandsForSome g.C.NodeCalculator.laws) (sym c.edges.invariant.0) c.requires.stands
 
 pub carry-requires-clause-running : goal.carry-requires-clause-running
 carry-requires-clause-running g c = subst IsRunning (sym c.edges.invariant.0) c.requires.running
 
 pub edges-preserved : goal.edges-preserved
 edges-preserved g c =
-    edge_more c.in_ok-brought.brought c.args.self.now c.edges.self c.carry.new.self c.edges.edge c.edges.invariant.0 c.edges.invariant.1 c.if-brought.false
+    edge_more g.C.NodeCalculator.laws c.in_ok-brought.brought c.args.self.now c.edges.self c.carry.new.self c.edges.edge c.edges.invariant.0 c.edges.invariant.1 c.if-brought.false
     (edge_finds c.in_ok-brought.brought c.edges.edge _ c.carry.result c.args.self.now c.edges.self c.carry.new.self c.edges.invariant.0 c.requires.running c.requires.stands c.edges-test.true c.edge_count-edge-end.ensures
     c.in_ok-brought.ensures c.carry.ensures)
 
 pub returns-then-brought-clause-finds : goal.returns-then-brought-clause-finds
 returns-then-brought-clause-finds g c =
     some_later c.args.self.now c.edges.self c.edges.invariant.0
-    (found_some c.in_ok-brought.brought (Acts (Deliver c.edges.edge) Idle c.edges.self c.edges.self) c.edges.self c.carry.new.self c.if-brought.true
+    (found_some c.in_ok-brought.brought (Acts g.C.NodeCalculator.laws (Deliver c.edges.edge) Idle c.edges.self c.edges.self) c.edges.self c.carry.new.self c.if-brought.true
     (edge_finds c.in_ok-brought.brought c.edges.edge _ c.carry.result c.args.self.now c.edges.self c.carry.new.self c.edges.invariant.0 c.requires.running c.requires.stands c.edges-test.true c.edge_count-edge-end.ensures
     c.in_ok-brought.ensures c.carry.ensures))
 
@@ -50,4 +50,4 @@ returns-clause-finds g c = (
 )
 
 pub returns-clause-becomes : goal.returns-clause-becomes
-returns-clause-becomes g c = subst (λ (v : NetView). Becomes c.args.self.now v) (sym c.edges.invariant.0) itself
+returns-clause-becomes g c = subst (λ (v : NetView). Becomes g.C.NodeCalculator.laws c.args.self.now v) (sym c.edges.invariant.0) itself

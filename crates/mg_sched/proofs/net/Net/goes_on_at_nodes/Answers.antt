@@ -17,7 +17,7 @@ goes_on_at-requires-clause-there g c =
     omega (arith, less, count, same)
 
 pub goes_on_at-requires-clause-stands : goal.goes_on_at-requires-clause-stands
-goes_on_at-requires-clause-stands g c = subst StandsForSome (sym c.nodes.invariant.0) c.requires.stands
+goes_on_at-requires-clause-stands g c = subst (StandsForSome g.C.NodeCalculator.laws) (sym c.nodes.invariant.0) c.requires.stands
 
 pub goes_on_at-requires-clause-running : goal.goes_on_at-requires-clause-running
 goes_on_at-requires-clause-running g c = subst IsRunning (sym c.nodes.invariant.0) c.requires.running
@@ -28,13 +28,13 @@ nodes-preserved g c =
 
 pub returns-then-goes-clause-finds : goal.returns-then-goes-clause-finds
 returns-then-goes-clause-finds g c =
-    some_later c.args.self.now c.nodes.self c.nodes.invariant.0 (found_some c.in_ok-goes.goes (RestsAt c.nodes.self c.nodes.node) c.nodes.self c.goes_on_at.new.self c.if-goes.true c.in_ok-goes.ensures.finds)
+    some_later c.args.self.now c.nodes.self c.nodes.invariant.0 (found_some c.in_ok-goes.goes (RestsAt g.C.NodeCalculator.laws c.nodes.self c.nodes.node) c.nodes.self c.goes_on_at.new.self c.if-goes.true c.in_ok-goes.ensures.finds)
 
 pub returns-then-goes-clause-becomes : goal.returns-then-goes-clause-becomes
-returns-then-goes-clause-becomes g c = subst (λ (v : NetView). Becomes v c.goes_on_at.new.self) c.nodes.invariant.0 c.in_ok-goes.ensures.becomes
+returns-then-goes-clause-becomes g c = subst (λ (v : NetView). Becomes g.C.NodeCalculator.laws v c.goes_on_at.new.self) c.nodes.invariant.0 c.in_ok-goes.ensures.becomes
 
 pub returns-in_err-goes-clause-becomes : goal.returns-in_err-goes-clause-becomes
-returns-in_err-goes-clause-becomes g c = subst (λ (v : NetView). Becomes v c.goes_on_at.new.self) c.nodes.invariant.0 c.in_err-goes.ensures.becomes
+returns-in_err-goes-clause-becomes g c = subst (λ (v : NetView). Becomes g.C.NodeCalculator.laws v c.goes_on_at.new.self) c.nodes.invariant.0 c.in_err-goes.ensures.becomes
 
 pub returns-clause-finds : goal.returns-clause-finds
 returns-clause-finds g c = (
@@ -43,4 +43,4 @@ returns-clause-finds g c = (
 )
 
 pub returns-clause-becomes : goal.returns-clause-becomes
-returns-clause-becomes g c = subst (λ (v : NetView). Becomes c.args.self.now v) (sym c.nodes.invariant.0) itself
+returns-clause-becomes g c = subst (λ (v : NetView). Becomes g.C.NodeCalculator.laws c.args.self.now v) (sym c.nodes.invariant.0) itself

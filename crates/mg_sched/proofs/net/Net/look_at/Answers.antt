@@ -34,7 +34,7 @@ pub returns-in_err-sent-clause-agenda : goal.returns-in_err-sent-clause-agenda
 returns-in_err-sent-clause-agenda g c = agenda_back c.args.self.now c.look_into.new.self c.look_from.new.agenda c.in_ok-came.ensures.becomes c.in_err-sent.ensures.agenda
 
 pub returns-in_err-sent-clause-heard_some : goal.returns-in_err-sent-clause-heard_some
-returns-in_err-sent-clause-heard_some g c = on_err c.from_residual-in_err-sent.result (heard_then_some g.H.Hears.has_heard c.args.hearer.now c.look_into.new.hearer c.look_from.new.hearer c.args.self.now c.look_into.new.self c.in_ok-came.ensures.heard c.in_err-sent.ensures.heard_some)
+returns-in_err-sent-clause-heard_some g c = on_err c.from_residual-in_err-sent.result (heard_then_some g.C.NodeCalculator.laws g.H.Hears.has_heard c.args.hearer.now c.look_into.new.hearer c.look_from.new.hearer c.args.self.now c.look_into.new.self c.in_ok-came.ensures.heard c.in_err-sent.ensures.heard_some)
 
 pub returns-in_err-worked-clause-becomes : goal.returns-in_err-worked-clause-becomes
 returns-in_err-worked-clause-becomes g c = becomes_trans c.args.self.now c.look_from.new.self c.look_on.new.self (becomes_trans c.args.self.now c.look_into.new.self c.look_from.new.self c.in_ok-came.ensures.becomes c.in_ok-sent.ensures.becomes) c.in_err-worked.ensures.becomes
@@ -43,13 +43,13 @@ pub returns-in_err-worked-clause-agenda : goal.returns-in_err-worked-clause-agen
 returns-in_err-worked-clause-agenda g c = agenda_back c.args.self.now c.look_from.new.self c.look_on.new.agenda (becomes_trans c.args.self.now c.look_into.new.self c.look_from.new.self c.in_ok-came.ensures.becomes c.in_ok-sent.ensures.becomes) c.in_err-worked.ensures.agenda
 
 pub returns-in_err-worked-clause-heard_some : goal.returns-in_err-worked-clause-heard_some
-returns-in_err-worked-clause-heard_some g c = on_err c.from_residual-in_err-worked.result (heard_then_some g.H.Hears.has_heard c.args.hearer.now c.look_from.new.hearer c.look_on.new.hearer c.args.self.now c.look_from.new.self (heard_then g.H.Hears.has_heard c.args.hearer.now c.look_into.new.hearer c.look_from.new.hearer c.args.self.now c.look_into.new.self c.look_from.new.self c.in_ok-came.ensures.heard c.in_ok-sent.ensures.heard) c.in_err-worked.ensures.heard_some)
+returns-in_err-worked-clause-heard_some g c = on_err c.from_residual-in_err-worked.result (heard_then_some g.C.NodeCalculator.laws g.H.Hears.has_heard c.args.hearer.now c.look_from.new.hearer c.look_on.new.hearer c.args.self.now c.look_from.new.self (heard_then g.C.NodeCalculator.laws g.H.Hears.has_heard c.args.hearer.now c.look_into.new.hearer c.look_from.new.hearer c.args.self.now c.look_into.new.self c.look_from.new.self c.in_ok-came.ensures.heard c.in_ok-sent.ensures.heard) c.in_err-worked.ensures.heard_some)
 
 pub returns-clause-becomes : goal.returns-clause-becomes
 returns-clause-becomes g c = becomes_trans c.args.self.now c.look_from.new.self c.look_on.new.self (becomes_trans c.args.self.now c.look_into.new.self c.look_from.new.self c.in_ok-came.ensures.becomes c.in_ok-sent.ensures.becomes) c.in_ok-worked.ensures.becomes
 
 pub returns-clause-heard : goal.returns-clause-heard
-returns-clause-heard g c = heard_then g.H.Hears.has_heard c.args.hearer.now c.look_from.new.hearer c.look_on.new.hearer c.args.self.now c.look_from.new.self c.look_on.new.self (heard_then g.H.Hears.has_heard c.args.hearer.now c.look_into.new.hearer c.look_from.new.hearer c.args.self.now c.look_into.new.self c.look_from.new.self c.in_ok-came.ensures.heard c.in_ok-sent.ensures.heard) c.in_ok-worked.ensures.heard
+returns-clause-heard g c = heard_then g.C.NodeCalculator.laws g.H.Hears.has_heard c.args.hearer.now c.look_from.new.hearer c.look_on.new.hearer c.args.self.now c.look_from.new.self c.look_on.new.self (heard_then g.C.NodeCalculator.laws g.H.Hears.has_heard c.args.hearer.now c.look_into.new.hearer c.look_from.new.hearer c.args.self.now c.look_into.new.self c.look_from.new.self c.in_ok-came.ensures.heard c.in_ok-sent.ensures.heard) c.in_ok-worked.ensures.heard
 
 pub returns-clause-goes : goal.returns-clause-goes
 returns-clause-goes g c = goes_then (c.in_ok-came.came || c.in_ok-sent.sent) c.in_ok-worked.worked c.args.self.now c.look_from.new.self c.look_on.new.self (goes_then c.in_ok-came.came c.in_ok-sent.sent c.args.self.now c.look_into.new.self c.look_from.new.self c.in_ok-came.ensures.goes c.in_ok-sent.ensures.goes) c.in_ok-worked.ensures.goes

@@ -10,7 +10,7 @@ invariant-places g l = record {
   same : l.self ≡ l.fn.self;
   agenda : IsAgendaOf l.fn.self.plan l.agenda;
   rests : RestsBut l.self l.agenda;
-  heard : Heard g.H.Hears.has_heard l.fn.hearer l.hearer l.fn.self l.self;
+  heard : Heard g.C.NodeCalculator.laws g.H.Hears.has_heard l.fn.hearer l.hearer l.fn.self l.self;
 }
 
 abbrev pub decreases-places : goal.decreases-places

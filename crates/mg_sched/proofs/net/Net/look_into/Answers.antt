@@ -9,7 +9,7 @@ pub returns-then-nodes-place-clause-becomes : goal.returns-then-nodes-place-clau
 returns-then-nodes-place-clause-becomes g c = itself
 
 pub returns-then-nodes-place-clause-heard : goal.returns-then-nodes-place-clause-heard
-returns-then-nodes-place-clause-heard g c = heard_none g.H.Hears.has_heard c.args.hearer.now c.args.self.now
+returns-then-nodes-place-clause-heard g c = heard_none g.C.NodeCalculator.laws g.H.Hears.has_heard c.args.hearer.now c.args.self.now
 
 pub returns-then-nodes-place-clause-notes : goal.returns-then-nodes-place-clause-notes
 returns-then-nodes-place-clause-notes g c = notes_same c.args.self.now c.args.self.now c.args.agenda.now c.args.agenda.now refl refl

@@ -8,7 +8,7 @@ pub returns-clause-becomes : goal.returns-clause-becomes
 returns-clause-becomes g c = itself
 
 pub returns-clause-heard : goal.returns-clause-heard
-returns-clause-heard g c = heard_none g.H.Hears.has_heard c.args.hearer.now c.args.self.now
+returns-clause-heard g c = heard_none g.C.NodeCalculator.laws g.H.Hears.has_heard c.args.hearer.now c.args.self.now
 
 pub returns-clause-notes : goal.returns-clause-notes
 returns-clause-notes g c = notes_same c.args.self.now c.args.self.now c.args.agenda.now c.args.agenda.now refl refl

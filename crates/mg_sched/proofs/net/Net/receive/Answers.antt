@@ -18,7 +18,7 @@ ports-init g c = record {
   unchanged = λ isnt. refl;
   notes = notes_same c.args.self.now c.args.self.now c.args.agenda.now c.args.agenda.now refl refl;
   rest = λ isnt port less. absurd (omega (arith, less));
-  heard = heard_none g.H.Hears.has_heard c.args.hearer.now c.args.self.now;
+  heard = heard_none g.C.NodeCalculator.laws g.H.Hears.has_heard c.args.hearer.now c.args.self.now;
 }
 
 pub overflow_add-first : goal.overflow_add-first
@@ -44,17 +44,17 @@ pub returns-in_err-did-clause-agenda : goal.returns-in_err-did-clause-agenda
 returns-in_err-did-clause-agenda g c = agenda_back c.args.self.now c.ports.self c.send_along.new.agenda c.ports.invariant.becomes c.in_err-did.ensures.agenda
 
 pub returns-in_err-did-clause-heard_some : goal.returns-in_err-did-clause-heard_some
-returns-in_err-did-clause-heard_some g c = on_err c.from_residual.result (heard_then_some g.H.Hears.has_heard c.args.hearer.now c.ports.hearer c.send_along.new.hearer c.args.self.now c.ports.self c.ports.invariant.heard c.in_err-did.ensures.heard_some)
+returns-in_err-did-clause-heard_some g c = on_err c.from_residual.result (heard_then_some g.C.NodeCalculator.laws g.H.Hears.has_heard c.args.hearer.now c.ports.hearer c.send_along.new.hearer c.args.self.now c.ports.self c.ports.invariant.heard c.in_err-did.ensures.heard_some)
 
 pub ports-preserved : goal.ports-preserved
 ports-preserved g c = record {
-  heard = heard_then g.H.Hears.has_heard c.args.hearer.now c.ports.hearer c.send_along.new.hearer c.args.self.now c.ports.self c.send_along.new.self c.ports.invariant.heard c.in_ok-did.ensures.heard;
+  heard = heard_then g.C.NodeCalculator.laws g.H.Hears.has_heard c.args.hearer.now c.ports.hearer c.send_along.new.hearer c.args.self.now c.ports.self c.send_along.new.self c.ports.invariant.heard c.in_ok-did.ensures.heard;
   becomes = becomes_trans c.args.self.now c.ports.self c.send_along.new.self c.ports.invariant.becomes c.in_ok-did.ensures.becomes;
   goes = goes_then c.ports.did c.in_ok-did.field-0 c.args.self.now c.ports.self c.send_along.new.self c.ports.invariant.goes c.in_ok-did.ensures.goes;
   agenda = agenda_back c.args.self.now c.ports.self c.send_along.new.agenda c.ports.invariant.becomes c.in_ok-did.ensures.agenda;
   unchanged = both_same c.ports.did c.in_ok-did.field-0 c.args.agenda.now c.ports.agenda c.send_along.new.agenda c.ports.invariant.unchanged c.in_ok-did.ensures.unchanged;
   notes = notes_then c.args.self.now c.args.agenda.now c.ports.self c.ports.agenda c.send_along.new.self c.send_along.new.agenda c.ports.invariant.notes c.in_ok-did.ensures.notes;
-  rest = ports_more c.ports.did c.in_ok-did.field-0 c.first_edge-first.result c.ports.port c.ports.self c.send_along.new.self c.ports.invariant.rest c.in_ok-did.ensures.goes c.in_ok-did.ensures.rest;
+  rest = ports_more g.C.NodeCalculator.laws c.ports.did c.in_ok-did.field-0 c.first_edge-first.result c.ports.port c.ports.self c.send_along.new.self c.ports.invariant.rest c.in_ok-did.ensures.goes c.in_ok-did.ensures.rest;
 }
 
 pub returns-clause-becomes : goal.returns-clause-becomes

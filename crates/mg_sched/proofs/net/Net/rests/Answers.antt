@@ -7,7 +7,7 @@ use Rattle.mg_sched.proofs.net.Net.rests.Goals as goal
 
 pub returns-then-brings-clause-looks : goal.returns-then-brings-clause-looks
 returns-then-brings-clause-looks g c =
-    found_some c.in_ok-brings.brings (EdgesRest c.args.self.now (length c.args.self.now.plan.edges)) c.args.self.now c.goes_along_edges.new.self c.if-brings.true c.in_ok-brings.ensures.finds
+    found_some c.in_ok-brings.brings (EdgesRest g.C.NodeCalculator.laws c.args.self.now (length c.args.self.now.plan.edges)) c.args.self.now c.goes_along_edges.new.self c.if-brings.true c.in_ok-brings.ensures.finds
 
 pub goes_on_at_nodes-requires-clause-running : goal.goes_on_at_nodes-requires-clause-running
 goes_on_at_nodes-requires-clause-running g c = becomes_runs c.args.self.now c.goes_along_edges.new.self c.requires.running c.in_ok-brings.ensures.becomes
@@ -21,8 +21,8 @@ returns-in_err-works-clause-becomes g c = becomes_trans c.args.self.now c.goes_a
 pub returns-then-works-clause-looks : goal.returns-then-works-clause-looks
 returns-then-works-clause-looks g c =
     some_later c.args.self.now c.goes_along_edges.new.self
-    (found_none c.in_ok-brings.brings (EdgesRest c.args.self.now (length c.args.self.now.plan.edges)) c.args.self.now c.goes_along_edges.new.self c.if-brings.false c.in_ok-brings.ensures.finds).0
-    (found_some c.in_ok-works.works (NodesRest c.goes_along_edges.new.self (length c.goes_along_edges.new.self.plan.nodes)) c.goes_along_edges.new.self c.goes_on_at_nodes.new.self c.if-works.true c.in_ok-works.ensures.finds)
+    (found_none g.C.NodeCalculator.laws c.in_ok-brings.brings (EdgesRest g.C.NodeCalculator.laws c.args.self.now (length c.args.self.now.plan.edges)) c.args.self.now c.goes_along_edges.new.self c.if-brings.false c.in_ok-brings.ensures.finds).0
+    (found_some c.in_ok-works.works (NodesRest g.C.NodeCalculator.laws c.goes_along_edges.new.self (length c.goes_along_edges.new.self.plan.nodes)) c.goes_along_edges.new.self c.goes_on_at_nodes.new.self c.if-works.true c.in_ok-works.ensures.finds)
 
 pub returns-then-works-clause-becomes : goal.returns-then-works-clause-becomes
 returns-then-works-clause-becomes g c = becomes_trans c.args.self.now c.goes_along_edges.new.self c.goes_on_at_nodes.new.self c.in_ok-brings.ensures.becomes c.in_ok-works.ensures.becomes

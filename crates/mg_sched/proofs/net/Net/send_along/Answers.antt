@@ -19,10 +19,10 @@ put_consumer-requires-clause-stands g c = becomes_some c.args.self.now c.step.ne
 
 pub returns-then-not-branch-clause-notes : goal.returns-then-not-branch-clause-notes
 returns-then-not-branch-clause-notes g c = notes_idle c.in_ok-step.field-0 c.args.self.now c.step.new.self c.args.agenda.now c.args.agenda.now c.if-not-branch.true
-    (steps_go c.in_ok-step.field-0 (Deliver c.args.edge) c.args.self.now c.step.new.self c.in_ok-step.ensures.steps) refl
+    (steps_go g.C.NodeCalculator.laws c.in_ok-step.field-0 (Deliver c.args.edge) c.args.self.now c.step.new.self c.in_ok-step.ensures.steps) refl
 
 pub returns-then-not-branch-clause-rest : goal.returns-then-not-branch-clause-rest
-returns-then-not-branch-clause-rest g c = λ isnt. idle_rests c.in_ok-step.field-0 (Deliver c.args.edge) c.args.self.now c.step.new.self c.if-not-branch.true c.in_ok-step.ensures.steps
+returns-then-not-branch-clause-rest g c = λ isnt. idle_rests g.C.NodeCalculator.laws c.in_ok-step.field-0 (Deliver c.args.edge) c.args.self.now c.step.new.self c.if-not-branch.true c.in_ok-step.ensures.steps
 
 pub returns-clause-notes : goal.returns-clause-notes
 returns-clause-notes g c = notes_brought c.args.edge c.args.self.now c.step.new.self c.args.agenda.now c.put_consumer.new.agenda c.in_ok-step.ensures.becomes c.requires.there c.in_ok-step.ensures.only c.put_consumer.ensures.touched

@@ -15,8 +15,8 @@ edges-init g c = record {
   unchanged = λ isnt. refl;
   there = edge_within c.args.first c.args.self.now.plan c.args.agenda.now c.requires.agenda c.requires.there;
   notes = notes_same c.args.self.now c.args.self.now c.args.agenda.now c.args.agenda.now refl refl;
-  rest = λ isnt. upto_first c.args.self.now.plan c.args.first c.args.self.now;
-  heard = heard_none g.H.Hears.has_heard c.args.hearer.now c.args.self.now;
+  rest = λ isnt. upto_first g.C.NodeCalculator.laws c.args.self.now.plan c.args.first c.args.self.now;
+  heard = heard_none g.C.NodeCalculator.laws g.H.Hears.has_heard c.args.hearer.now c.args.self.now;
 }
 
 pub send_along-requires-clause-running : goal.send_along-requires-clause-running
@@ -54,13 +54,13 @@ pub edges-preserved : goal.edges-preserved
 edges-preserved g c =
     (let of = agenda_back c.args.self.now c.edges.self c.send_along.new.agenda c.edges.invariant.becomes c.in_ok-did.ensures.agenda in
     record {
-      heard = heard_then g.H.Hears.has_heard c.args.hearer.now c.edges.hearer c.send_along.new.hearer c.args.self.now c.edges.self c.send_along.new.self c.edges.invariant.heard c.in_ok-did.ensures.heard;
+      heard = heard_then g.C.NodeCalculator.laws g.H.Hears.has_heard c.args.hearer.now c.edges.hearer c.send_along.new.hearer c.args.self.now c.edges.self c.send_along.new.self c.edges.invariant.heard c.in_ok-did.ensures.heard;
       becomes = becomes_trans c.args.self.now c.edges.self c.send_along.new.self c.edges.invariant.becomes c.in_ok-did.ensures.becomes;
       goes = goes_then c.edges.did c.in_ok-did.field-0 c.args.self.now c.edges.self c.send_along.new.self c.edges.invariant.goes c.in_ok-did.ensures.goes;
       agenda = of;
       notes = notes_then c.args.self.now c.args.agenda.now c.edges.self c.edges.agenda c.send_along.new.self c.send_along.new.agenda c.edges.invariant.notes c.in_ok-did.ensures.notes;
-      rest = upto_more c.edges.did c.in_ok-did.field-0 c.args.self.now.plan c.args.first c.next_edge-cursor.result c.in-Some.edge c.edges.self c.send_along.new.self
-          (λ isnt. subst (λ (o : Option ℕ). RestUpto c.args.self.now.plan c.args.first o c.edges.self) c.in-Some.is (c.edges.invariant.rest isnt))
+      rest = upto_more g.C.NodeCalculator.laws c.edges.did c.in_ok-did.field-0 c.args.self.now.plan c.args.first c.next_edge-cursor.result c.in-Some.edge c.edges.self c.send_along.new.self
+          (λ isnt. subst (λ (o : Option ℕ). RestUpto g.C.NodeCalculator.laws c.args.self.now.plan c.args.first o c.edges.self) c.in-Some.is (c.edges.invariant.rest isnt))
           (λ place leads. subst (λ (o : Option ℕ). IsFirstFrom c.args.self.now.plan (c.in-Some.edge + 1) place o) (sym c.next_edge-cursor.ensures.next) (of.leads.next place c.in-Some.edge (omega arith) leads))
           c.in_ok-did.ensures.goes c.in_ok-did.ensures.rest;
       unchanged = both_same c.edges.did c.in_ok-did.field-0 c.args.agenda.now c.edges.agenda c.send_along.new.agenda c.edges.invariant.unchanged c.in_ok-did.ensures.unchanged;
@@ -68,7 +68,7 @@ edges-preserved g c =
     })
 
 pub returns-in_err-did-clause-heard_some : goal.returns-in_err-did-clause-heard_some
-returns-in_err-did-clause-heard_some g c = on_err c.from_residual.result (heard_then_some g.H.Hears.has_heard c.args.hearer.now c.edges.hearer c.send_along.new.hearer c.args.self.now c.edges.self c.edges.invariant.heard c.in_err-did.ensures.heard_some)
+returns-in_err-did-clause-heard_some g c = on_err c.from_residual.result (heard_then_some g.C.NodeCalculator.laws g.H.Hears.has_heard c.args.hearer.now c.edges.hearer c.send_along.new.hearer c.args.self.now c.edges.self c.edges.invariant.heard c.in_err-did.ensures.heard_some)
 
 pub returns-clause-rest : goal.returns-clause-rest
-returns-clause-rest g c = λ isnt. upto_last c.args.self.now.plan c.args.first c.edges.self (subst (λ (o : Option ℕ). RestUpto c.args.self.now.plan c.args.first o c.edges.self) c.in_default.is (c.edges.invariant.rest isnt))
+returns-clause-rest g c = λ isnt. upto_last g.C.NodeCalculator.laws c.args.self.now.plan c.args.first c.edges.self (subst (λ (o : Option ℕ). RestUpto g.C.NodeCalculator.laws c.args.self.now.plan c.args.first o c.edges.self) c.in_default.is (c.edges.invariant.rest isnt))

@@ -11,14 +11,14 @@ use Rattle.mg_sched.proofs.net.Net.send_from.Given as goal
 
 abbrev pub invariant-edges : goal.invariant-edges
 invariant-edges g l = record {
-  becomes : Becomes l.fn.self l.self;
+  becomes : Becomes g.C.NodeCalculator.laws l.fn.self l.self;
   goes : Goes l.did l.fn.self l.self;
   agenda : IsAgendaOf l.fn.self.plan l.agenda;
   unchanged : l.did ≡ false → l.agenda ≡ l.fn.agenda;
   there : IfSome l.cursor (λ e. e < length l.fn.self.plan.edges);
   notes : Notes l.fn.self l.fn.agenda l.self l.agenda;
-  rest : l.did ≡ false → RestUpto l.fn.self.plan l.fn.first l.cursor l.self;
-  heard : Heard g.H.Hears.has_heard l.fn.hearer l.hearer l.fn.self l.self;
+  rest : l.did ≡ false → RestUpto g.C.NodeCalculator.laws l.fn.self.plan l.fn.first l.cursor l.self;
+  heard : Heard g.C.NodeCalculator.laws g.H.Hears.has_heard l.fn.hearer l.hearer l.fn.self l.self;
 }
 
 abbrev pub decreases-edges : goal.decreases-edges

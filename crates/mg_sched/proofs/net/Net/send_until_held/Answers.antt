@@ -16,7 +16,7 @@ edges-init g c = record {
   unchanged = λ isnt. refl;
   there = edge_within c.first_edge-cursor.result c.args.self.now.plan c.args.agenda.now c.requires.agenda c.first_edge-cursor.ensures.there;
   notes = notes_same c.args.self.now c.args.self.now c.args.agenda.now c.args.agenda.now refl refl;
-  heard = heard_none g.H.Hears.has_heard c.args.hearer.now c.args.self.now;
+  heard = heard_none g.C.NodeCalculator.laws g.H.Hears.has_heard c.args.hearer.now c.args.self.now;
 }
 
 pub is_held_at-requires-clause-there : goal.is_held_at-requires-clause-there
@@ -72,7 +72,7 @@ pub edges-preserved : goal.edges-preserved
 edges-preserved g c =
     (let of = agenda_back c.args.self.now c.edges.self c.send_along.new.agenda c.edges.invariant.becomes c.in_ok-did.ensures.agenda in
     record {
-      heard = heard_then g.H.Hears.has_heard c.args.hearer.now c.edges.hearer c.send_along.new.hearer c.args.self.now c.edges.self c.send_along.new.self c.edges.invariant.heard c.in_ok-did.ensures.heard;
+      heard = heard_then g.C.NodeCalculator.laws g.H.Hears.has_heard c.args.hearer.now c.edges.hearer c.send_along.new.hearer c.args.self.now c.edges.self c.send_along.new.self c.edges.invariant.heard c.in_ok-did.ensures.heard;
       becomes = becomes_trans c.args.self.now c.edges.self c.send_along.new.self c.edges.invariant.becomes c.in_ok-did.ensures.becomes;
       goes = goes_then c.edges.did c.in_ok-did.field-0 c.args.self.now c.edges.self c.send_along.new.self c.edges.invariant.goes c.in_ok-did.ensures.goes;
       agenda = of;
@@ -93,7 +93,7 @@ pub returns-clause-unchanged : goal.returns-clause-unchanged
 returns-clause-unchanged g c = λ isnt. ap (λ (a : AgendaView). a.ready) c.finish.ensures ∙ ap (λ (a : AgendaView). a.ready) (c.edges.invariant.unchanged isnt)
 
 pub returns-in_err-did-clause-heard_some : goal.returns-in_err-did-clause-heard_some
-returns-in_err-did-clause-heard_some g c = on_err c.from_residual.result (heard_then_some g.H.Hears.has_heard c.args.hearer.now c.edges.hearer c.send_along.new.hearer c.args.self.now c.edges.self c.edges.invariant.heard c.in_err-did.ensures.heard_some)
+returns-in_err-did-clause-heard_some g c = on_err c.from_residual.result (heard_then_some g.C.NodeCalculator.laws g.H.Hears.has_heard c.args.hearer.now c.edges.hearer c.send_along.new.hearer c.args.self.now c.edges.self c.edges.invariant.heard c.in_err-did.ensures.heard_some)
 
 pub returns-then-is_held_at-clause-notes : goal.returns-then-is_held_at-clause-notes
 returns-then-is_held_at-clause-notes g c = notes_more c.args.self.now c.args.agenda.now c.edges.self c.edges.agenda c.hold_at.new.agenda c.edges.invariant.notes c.hold_at.ensures.touched

@@ -10,14 +10,14 @@ use Rattle.mg_sched.proofs.net.Net.send_until_held.Given as goal
 
 abbrev pub invariant-edges : goal.invariant-edges
 invariant-edges g l = record {
-  becomes : Becomes l.fn.self l.self;
+  becomes : Becomes g.C.NodeCalculator.laws l.fn.self l.self;
   goes : Goes l.did l.fn.self l.self;
   agenda : IsAgendaOf l.fn.self.plan l.agenda;
   places : length l.agenda.heads ≡ length l.fn.agenda.heads;
   unchanged : l.did ≡ false → l.agenda ≡ l.fn.agenda;
   there : IfSome l.cursor (λ e. e < length l.fn.self.plan.edges);
   notes : Notes l.fn.self l.fn.agenda l.self l.agenda;
-  heard : Heard g.H.Hears.has_heard l.fn.hearer l.hearer l.fn.self l.self;
+  heard : Heard g.C.NodeCalculator.laws g.H.Hears.has_heard l.fn.hearer l.hearer l.fn.self l.self;
 }
 
 abbrev pub decreases-edges : goal.decreases-edges

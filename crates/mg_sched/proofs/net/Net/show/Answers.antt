@@ -67,7 +67,7 @@ pub returns-then-did_nothing : goal.returns-then-did_nothing
 returns-then-did_nothing g c =
     let at = engine_read _ c.args.self.now c.args.node _ c.self.view_is c.requires.stands c.requires.there c.index_mut.ensures.value in
     let to = intake_read _ c.args.self.now c.args.node _ c.self.view_is c.requires.stands c.requires.there c.index_mut-2.ensures.value in
-    subst (λ (v : NetView). ShowsAt c.args.node c.work_at_once-done.result c.args.self.now v)
+    subst (λ (v : NetView). ShowsAt g.C.NodeCalculator.laws c.args.node c.work_at_once-done.result c.args.self.now v)
     (sym (ap (λ (v : NetView). with_intake (with_engine v c.args.node c.work_at_once-done.new.self) c.args.node c.work_at_once-done.new.intake) c.self.view_is))
     (shows_none c.work_at_once-done.result c.args.node c.args.self.now c.requires.stands c.requires.running c.requires.there c.index_mut.result.now c.work_at_once-done.new.self c.index_mut-2.result.now c.work_at_once-done.new.intake at to
     (sym c.did_nothing.ensures ∙ c.if-did_nothing.true) c.work_at_once-done.ensures.does)

@@ -7,7 +7,7 @@ use Rattle.mg_sched.proofs.RestingPlaces.{kept_agenda, kept_rests}
 use Rattle.mg_sched.proofs.net.Net.take_agenda.Goals as goal
 
 pub made_agenda-requires : goal.made_agenda-requires
-made_agenda-requires g c = subst (λ (v : NetView). StandsForSome v) (sym c.self.view_is) c.requires
+made_agenda-requires g c = subst (λ (v : NetView). StandsForSome g.C.NodeCalculator.laws v) (sym c.self.view_is) c.requires
 
 pub returns-in_default-clause-agenda : goal.returns-in_default-clause-agenda
 returns-in_default-clause-agenda g c = subst (λ (v : NetView). IsAgendaOf v.plan c.in_ok-agenda.agenda) c.self.view_is c.in_ok-agenda.ensures.agenda

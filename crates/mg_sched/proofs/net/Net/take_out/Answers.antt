@@ -23,7 +23,7 @@ pub note_ports-requires-clause-short : goal.note_ports-requires-clause-short
 note_ports-requires-clause-short g c = short_kept _ c.args.self.now c.self.view_is c.requires.stands
 
 pub note_ports-requires-clause-few : goal.note_ports-requires-clause-few
-note_ports-requires-clause-few g c = λ intake port at. few_kept _ c.args.self.now c.len-place.result c.index_mut.result.now c.claim.new.self intake port c.self.view_is c.requires.stands c.len-place.ensures c.index_mut.ensures.value c.claim.ensures.stays_lawful at
+note_ports-requires-clause-few g c = λ intake port at. few_kept _ c.args.self.now c.len-place.result c.index_mut.result.now c.claim.new.self intake port c.self.view_is c.requires.stands c.len-place.ensures c.index_mut.ensures.value (c.claim.ensures.stays_lawful g.C.NodeCalculator.laws) at
 
 pub returns-clause-taken : goal.returns-clause-taken
 returns-clause-taken g c = next_taken _ c.args.self.now c.len-place.result c.index_mut.result.now c.claim.new.self c.claim.new.into c.note_ports.new.self c.self.view_is c.requires.stands c.len-place.ensures c.index_mut.ensures.value
@@ -35,8 +35,8 @@ returns-clause-taken g c = next_taken _ c.args.self.now c.len-place.result c.ind
       ports = c.claim.ensures.ports;
       counts = c.claim.ensures.counts;
       bounds = c.claim.ensures.bounds;
-      stays_lawful = c.claim.ensures.stays_lawful;
-      in_solution = c.if-not-claim.ensures.in_solution;
+      stays_lawful = λ job consumer lawful. c.claim.ensures.stays_lawful _ job consumer lawful;
+      in_solution = λ job consumer streams solves lawful. c.if-not-claim.ensures.in_solution _ job consumer streams solves lawful;
     }) c.note_ports.ensures
 
 pub returns-clause-stands : goal.returns-clause-stands

@@ -67,10 +67,10 @@ returns-clause-trims g c =
     let spared : (s : ℕ) → get_or got s 0 ≡ (if get_or c.self.inside.kept.items s false then 0 else fold min (get_or laid s 0) (came_of c.self.inside.intakes.items c.self.inside.plan.edges s)) =
     λ s. c.spare.ensures.spared s ∙ ap₂ (λ (ks : List Bool) (ns : List ℕ). if get_or ks s false then 0 else get_or ns s 0) c.deref-3.ensures.value low_is
     ∙ ap (λ (n : ℕ). if get_or c.self.inside.kept.items s false then 0 else n) (lowered s) in
-    let all : AllGiven got streams c.self.inside.engines.items (with_items c.self.inside.engines c.give_up.new.engines).items =
-    subst (λ (es : List EngineView). AllGiven got streams c.self.inside.engines.items es) (sym engines_is)
-    (subst (λ (es : List EngineView). AllGiven got streams es c.give_up.new.engines) c.deref_mut-4.ensures.value
-    (subst (λ (ns : List ℕ). AllGiven ns streams c.deref_mut-4.result.now c.give_up.new.engines) got_is c.give_up.ensures)) in
+    let all : AllGiven g.C.NodeCalculator.laws got streams c.self.inside.engines.items (with_items c.self.inside.engines c.give_up.new.engines).items =
+    subst (λ (es : List EngineView). AllGiven g.C.NodeCalculator.laws got streams c.self.inside.engines.items es) (sym engines_is)
+    (subst (λ (es : List EngineView). AllGiven g.C.NodeCalculator.laws got streams es c.give_up.new.engines) c.deref_mut-4.ensures.value
+    (subst (λ (ns : List ℕ). AllGiven g.C.NodeCalculator.laws ns streams c.deref_mut-4.result.now c.give_up.new.engines) got_is c.give_up.ensures)) in
     net_trims _ c.args.self.now _ laid got c.self.view_is c.requires.stands refl are spared all
 
 pub returns-clause-stands : goal.returns-clause-stands
@@ -82,8 +82,8 @@ returns-clause-stands g c =
     let low_is : c.deref_mut-3.result.now ≡ low = c.deref_mut-3.ensures.value ∙ with_items_is (with_items c.self.inside.got laid) low (c.lower.ensures.count ∙ c.deref_mut-2.ensures.len) in
     let got_is : c.deref-4.result.now ≡ got = c.deref-4.ensures.value ∙ with_items_is (with_items (with_items c.self.inside.got laid) low) got (c.spare.ensures.count ∙ c.deref_mut-3.ensures.len) in
     let engines_is : (with_items c.self.inside.engines c.give_up.new.engines).items ≡ c.give_up.new.engines = with_items_is c.self.inside.engines c.give_up.new.engines (c.give_up.ensures.count ∙ c.deref_mut-4.ensures.len) in
-    let all : AllGiven got streams c.self.inside.engines.items (with_items c.self.inside.engines c.give_up.new.engines).items =
-    subst (λ (es : List EngineView). AllGiven got streams c.self.inside.engines.items es) (sym engines_is)
-    (subst (λ (es : List EngineView). AllGiven got streams es c.give_up.new.engines) c.deref_mut-4.ensures.value
-    (subst (λ (ns : List ℕ). AllGiven ns streams c.deref_mut-4.result.now c.give_up.new.engines) got_is c.give_up.ensures)) in
+    let all : AllGiven g.C.NodeCalculator.laws got streams c.self.inside.engines.items (with_items c.self.inside.engines c.give_up.new.engines).items =
+    subst (λ (es : List EngineView). AllGiven g.C.NodeCalculator.laws got streams c.self.inside.engines.items es) (sym engines_is)
+    (subst (λ (es : List EngineView). AllGiven g.C.NodeCalculator.laws got streams es c.give_up.new.engines) c.deref_mut-4.ensures.value
+    (subst (λ (ns : List ℕ). AllGiven g.C.NodeCalculator.laws ns streams c.deref_mut-4.result.now c.give_up.new.engines) got_is c.give_up.ensures)) in
     net_stands _ c.args.self.now _ got c.self.view_is (returns-clause-trims g c) all

@@ -13,7 +13,7 @@ pub turn_over-requires-clause-running : goal.turn_over-requires-clause-running
 turn_over-requires-clause-running g c = subst (λ (v : NetView). IsRunning v) (sym c.in-Other.ensures) c.requires.running
 
 pub turn_over-requires-clause-stands : goal.turn_over-requires-clause-stands
-turn_over-requires-clause-stands g c = subst (λ (v : NetView). StandsForSome v) (sym c.in-Other.ensures) c.requires.stands
+turn_over-requires-clause-stands g c = subst (λ (v : NetView). StandsForSome g.C.NodeCalculator.laws v) (sym c.in-Other.ensures) c.requires.stands
 
 pub turn_over-requires-clause-there : goal.turn_over-requires-clause-there
 turn_over-requires-clause-there g c = subst (λ (v : NetView). c.args.node < length v.plan.nodes) (sym c.in-Other.ensures) c.requires.there
@@ -22,7 +22,7 @@ pub turn_over-requires-clause-free : goal.turn_over-requires-clause-free
 turn_over-requires-clause-free g c = subst (λ (v : NetView). ¬ IsHeldSource v c.args.node) (sym c.in-Other.ensures) (c.if-is_held_source.ensures.not_held refl)
 
 pub returns-in-Other : goal.returns-in-Other
-returns-in-Other g c = subst (λ (v : NetView). Comes c.args.node c.turn_over.result v c.turn_over.new.self) c.in-Other.ensures c.turn_over.ensures
+returns-in-Other g c = subst (λ (v : NetView). Comes g.C.NodeCalculator.laws c.args.node c.turn_over.result v c.turn_over.new.self) c.in-Other.ensures c.turn_over.ensures
 
 pub returns-in-NotReady : goal.returns-in-NotReady
 returns-in-NotReady g c = none_ready _ c.args.node c.args.self.now c.show.new.self c.requires.stands c.requires.running c.requires.there (c.if-is_held_source.ensures.not_held refl) c.in-NotReady.ensures

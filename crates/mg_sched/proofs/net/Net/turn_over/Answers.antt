@@ -6,13 +6,13 @@ use Rattle.mg_sched.proofs.net.Net.turn_over.Goals as goal
 pub finish-requires : goal.finish-requires
 finish-requires g c =
     let work_queue = found c.args.self.now.work_queues c.args.node (work_queue_there c.args.self.now c.args.node c.requires.stands c.requires.there) in
-    handed_out c.args.node c.in-Work.work c.args.self.now c.hand_out.new.self work_queue.0 c.requires.stands c.requires.running c.requires.there c.requires.free c.in-Work.ensures work_queue.1
+    handed_out g.C.NodeCalculator.laws c.args.node c.in-Work.work c.args.self.now c.hand_out.new.self work_queue.0 c.requires.stands c.requires.running c.requires.there c.requires.free c.in-Work.ensures work_queue.1
 
 pub returns-in-Work : goal.returns-in-Work
 returns-in-Work g c =
     let work_queue = found c.args.self.now.work_queues c.args.node (work_queue_there c.args.self.now c.args.node c.requires.stands c.requires.there) in
-    let out = handed_out c.args.node c.in-Work.work c.args.self.now c.hand_out.new.self work_queue.0 c.requires.stands c.requires.running c.requires.there c.requires.free c.in-Work.ensures work_queue.1 in
-    comes c.args.node c.finish.result c.args.self.now _ c.finish.new.self c.requires.there (inr (c.requires.free, hands_work c.args.node c.in-Work.work c.args.self.now c.hand_out.new.self work_queue.0 c.in-Work.ensures work_queue.1))
+    let out = handed_out g.C.NodeCalculator.laws c.args.node c.in-Work.work c.args.self.now c.hand_out.new.self work_queue.0 c.requires.stands c.requires.running c.requires.there c.requires.free c.in-Work.ensures work_queue.1 in
+    comes g.C.NodeCalculator.laws c.args.node c.finish.result c.args.self.now _ c.finish.new.self c.requires.there (inr (c.requires.free, hands_work c.args.node c.in-Work.work c.args.self.now c.hand_out.new.self work_queue.0 c.in-Work.ensures work_queue.1))
     (c.finish.ensures work_queue.0 out.on out.stands out.running)
 
 pub returns-in-Answered : goal.returns-in-Answered

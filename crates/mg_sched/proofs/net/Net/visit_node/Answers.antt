@@ -50,13 +50,13 @@ pub returns-clause-goes : goal.returns-clause-goes
 returns-clause-goes g c = goes_then true c.in_ok-send.field-0 c.args.self.now c.work_long.new.self c.send.new.self (goes_true c.in_ok-work_long.field-0 c.args.self.now c.work_long.new.self c.if-not-branch.false c.in_ok-work_long.ensures.goes) c.in_ok-send.ensures.goes
 
 pub returns-then-is_held_source-clause-heard : goal.returns-then-is_held_source-clause-heard
-returns-then-is_held_source-clause-heard g c = heard_none g.H.Hears.has_heard c.args.hearer.now c.args.self.now
+returns-then-is_held_source-clause-heard g c = heard_none g.C.NodeCalculator.laws g.H.Hears.has_heard c.args.hearer.now c.args.self.now
 
 pub returns-in_err-send-clause-heard_some : goal.returns-in_err-send-clause-heard_some
-returns-in_err-send-clause-heard_some g c = on_err c.from_residual-in_err-send.result (heard_then_some g.H.Hears.has_heard c.args.hearer.now c.work_long.new.hearer c.send.new.hearer c.args.self.now c.work_long.new.self c.in_ok-work_long.ensures.heard c.in_err-send.ensures.heard_some)
+returns-in_err-send-clause-heard_some g c = on_err c.from_residual-in_err-send.result (heard_then_some g.C.NodeCalculator.laws g.H.Hears.has_heard c.args.hearer.now c.work_long.new.hearer c.send.new.hearer c.args.self.now c.work_long.new.self c.in_ok-work_long.ensures.heard c.in_err-send.ensures.heard_some)
 
 pub returns-clause-heard : goal.returns-clause-heard
-returns-clause-heard g c = heard_then g.H.Hears.has_heard c.args.hearer.now c.work_long.new.hearer c.send.new.hearer c.args.self.now c.work_long.new.self c.send.new.self c.in_ok-work_long.ensures.heard c.in_ok-send.ensures.heard
+returns-clause-heard g c = heard_then g.C.NodeCalculator.laws g.H.Hears.has_heard c.args.hearer.now c.work_long.new.hearer c.send.new.hearer c.args.self.now c.work_long.new.self c.send.new.self c.in_ok-work_long.ensures.heard c.in_ok-send.ensures.heard
 
 pub returns-then-is_held_source-clause-notes : goal.returns-then-is_held_source-clause-notes
 returns-then-is_held_source-clause-notes g c = notes_same c.args.self.now c.args.self.now c.args.agenda.now c.hold.new.self refl (ap (λ (a : AgendaView). a.touched) c.hold.ensures.others)

@@ -24,16 +24,16 @@ pub returns-clause-becomes : goal.returns-clause-becomes
 returns-clause-becomes g c = becomes_trans c.args.self.now c.work_on.new.self c.step.new.self c.in_ok-worked.ensures.becomes c.in_ok-raised.ensures.becomes
 
 pub returns-clause-goes : goal.returns-clause-goes
-returns-clause-goes g c = raises_go c.args.node c.in_ok-worked.worked c.in_ok-raised.raised c.args.self.now c.work_on.new.self c.step.new.self c.in_ok-worked.ensures.goes c.if-worked.false c.in_ok-raised.ensures.steps
+returns-clause-goes g c = raises_go g.C.NodeCalculator.laws c.args.node c.in_ok-worked.worked c.in_ok-raised.raised c.args.self.now c.work_on.new.self c.step.new.self c.in_ok-worked.ensures.goes c.if-worked.false c.in_ok-raised.ensures.steps
 
 pub returns-clause-rest : goal.returns-clause-rest
 returns-clause-rest g c = raises_rest c.args.node c.in_ok-worked.worked c.in_ok-raised.raised c.work_on.new.self c.step.new.self c.in_ok-worked.ensures.rest c.if-worked.false c.in_ok-raised.ensures.steps
 
 pub returns-in_err-raised-clause-heard_some : goal.returns-in_err-raised-clause-heard_some
-returns-in_err-raised-clause-heard_some g c = on_err c.from_residual-in_err-raised.result (heard_then_some g.H.Hears.has_heard c.args.hearer.now c.work_on.new.hearer c.step.new.hearer c.args.self.now c.work_on.new.self c.in_ok-worked.ensures.heard c.in_err-raised.ensures.heard_some)
+returns-in_err-raised-clause-heard_some g c = on_err c.from_residual-in_err-raised.result (heard_then_some g.C.NodeCalculator.laws g.H.Hears.has_heard c.args.hearer.now c.work_on.new.hearer c.step.new.hearer c.args.self.now c.work_on.new.self c.in_ok-worked.ensures.heard c.in_err-raised.ensures.heard_some)
 
 pub returns-clause-heard : goal.returns-clause-heard
-returns-clause-heard g c = heard_then g.H.Hears.has_heard c.args.hearer.now c.work_on.new.hearer c.step.new.hearer c.args.self.now c.work_on.new.self c.step.new.self c.in_ok-worked.ensures.heard c.in_ok-raised.ensures.heard
+returns-clause-heard g c = heard_then g.C.NodeCalculator.laws g.H.Hears.has_heard c.args.hearer.now c.work_on.new.hearer c.step.new.hearer c.args.self.now c.work_on.new.self c.step.new.self c.in_ok-worked.ensures.heard c.in_ok-raised.ensures.heard
 
 pub returns-clause-only : goal.returns-clause-only
 returns-clause-only g c = only_then c.args.node c.args.self.now c.work_on.new.self c.step.new.self c.in_ok-worked.ensures.only (c.in_ok-raised.ensures.only c.args.node refl)

@@ -7,7 +7,7 @@ use Rattle.mg_sched.proofs.Touching.{notes_same, notes_then}
 use Rattle.mg_sched.proofs.net.Net.work_off.Goals as goal
 
 pub steps-init : goal.steps-init
-steps-init g c = record { becomes = itself; agenda = c.requires.agenda; notes = notes_same c.args.self.now c.args.self.now c.args.agenda.now c.args.agenda.now refl refl; heard = heard_none g.H.Hears.has_heard c.args.hearer.now c.args.self.now }
+steps-init g c = record { becomes = itself; agenda = c.requires.agenda; notes = notes_same c.args.self.now c.args.self.now c.args.agenda.now c.args.agenda.now refl refl; heard = heard_none g.C.NodeCalculator.laws g.H.Hears.has_heard c.args.hearer.now c.args.self.now }
 
 pub go_on-requires-clause-running : goal.go_on-requires-clause-running
 go_on-requires-clause-running g c = becomes_runs c.args.self.now c.steps.self c.requires.running c.steps.invariant.becomes
@@ -30,7 +30,7 @@ steps-smaller g c = goes_true c.in_ok-go_on.field-0 c.steps.self c.go_on.new.sel
 pub steps-preserved : goal.steps-preserved
 steps-preserved g c = record {
   notes = notes_then c.args.self.now c.args.agenda.now c.steps.self c.steps.agenda c.go_on.new.self c.go_on.new.agenda c.steps.invariant.notes c.in_ok-go_on.ensures.notes;
-  heard = heard_then g.H.Hears.has_heard c.args.hearer.now c.steps.hearer c.go_on.new.hearer c.args.self.now c.steps.self c.go_on.new.self c.steps.invariant.heard c.in_ok-go_on.ensures.heard;
+  heard = heard_then g.C.NodeCalculator.laws g.H.Hears.has_heard c.args.hearer.now c.steps.hearer c.go_on.new.hearer c.args.self.now c.steps.self c.go_on.new.self c.steps.invariant.heard c.in_ok-go_on.ensures.heard;
   becomes = becomes_trans c.args.self.now c.steps.self c.go_on.new.self c.steps.invariant.becomes c.in_ok-go_on.ensures.becomes;
   agenda = agenda_back c.args.self.now c.steps.self c.go_on.new.agenda c.steps.invariant.becomes c.in_ok-go_on.ensures.agenda;
 }
@@ -42,10 +42,10 @@ pub returns-clause-agenda : goal.returns-clause-agenda
 returns-clause-agenda g c = agenda_back c.args.self.now c.steps.self c.go_on.new.agenda c.steps.invariant.becomes c.in_ok-go_on.ensures.agenda
 
 pub returns-in_err-go_on-clause-heard_some : goal.returns-in_err-go_on-clause-heard_some
-returns-in_err-go_on-clause-heard_some g c = on_err c.from_residual.result (heard_then_some g.H.Hears.has_heard c.args.hearer.now c.steps.hearer c.go_on.new.hearer c.args.self.now c.steps.self c.steps.invariant.heard c.in_err-go_on.ensures.heard_some)
+returns-in_err-go_on-clause-heard_some g c = on_err c.from_residual.result (heard_then_some g.C.NodeCalculator.laws g.H.Hears.has_heard c.args.hearer.now c.steps.hearer c.go_on.new.hearer c.args.self.now c.steps.self c.steps.invariant.heard c.in_err-go_on.ensures.heard_some)
 
 pub returns-clause-heard : goal.returns-clause-heard
-returns-clause-heard g c = heard_then g.H.Hears.has_heard c.args.hearer.now c.steps.hearer c.go_on.new.hearer c.args.self.now c.steps.self c.go_on.new.self c.steps.invariant.heard c.in_ok-go_on.ensures.heard
+returns-clause-heard g c = heard_then g.C.NodeCalculator.laws g.H.Hears.has_heard c.args.hearer.now c.steps.hearer c.go_on.new.hearer c.args.self.now c.steps.self c.go_on.new.self c.steps.invariant.heard c.in_ok-go_on.ensures.heard
 
 pub returns-clause-notes : goal.returns-clause-notes
 returns-clause-notes g c = notes_then c.args.self.now c.args.agenda.now c.steps.self c.steps.agenda c.go_on.new.self c.go_on.new.agenda c.steps.invariant.notes c.in_ok-go_on.ensures.notes

@@ -23,24 +23,24 @@ pub returns-clause-becomes : goal.returns-clause-becomes
 returns-clause-becomes g c = becomes_trans c.args.self.now c.work_at_once.new.self c.finish_works.new.self c.in_ok-worked.ensures.becomes c.in_ok-finished.ensures.becomes
 
 pub returns-then-worked-clause-goes : goal.returns-then-worked-clause-goes
-returns-then-worked-clause-goes g c = subst (λ (did : Bool). Steps did (Claim c.args.node) c.args.self.now c.work_at_once.new.self) c.if-worked.true c.in_ok-worked.ensures.steps
+returns-then-worked-clause-goes g c = subst (λ (did : Bool). Steps g.C.NodeCalculator.laws did (Claim c.args.node) c.args.self.now c.work_at_once.new.self) c.if-worked.true c.in_ok-worked.ensures.steps
 
 pub returns-clause-goes : goal.returns-clause-goes
 returns-clause-goes g c =
     goes_then false c.in_ok-finished.finished c.args.self.now c.work_at_once.new.self c.finish_works.new.self
-    (steps_go false (Claim c.args.node) c.args.self.now c.work_at_once.new.self (subst (λ (did : Bool). Steps did (Claim c.args.node) c.args.self.now c.work_at_once.new.self) c.if-worked.false c.in_ok-worked.ensures.steps))
+    (steps_go g.C.NodeCalculator.laws false (Claim c.args.node) c.args.self.now c.work_at_once.new.self (subst (λ (did : Bool). Steps g.C.NodeCalculator.laws did (Claim c.args.node) c.args.self.now c.work_at_once.new.self) c.if-worked.false c.in_ok-worked.ensures.steps))
     c.in_ok-finished.ensures.goes
 
 pub returns-clause-rest : goal.returns-clause-rest
 returns-clause-rest g c =
     works_rest c.args.node c.in_ok-finished.finished c.args.self.now c.work_at_once.new.self c.finish_works.new.self
-    (subst (λ (did : Bool). Steps did (Claim c.args.node) c.args.self.now c.work_at_once.new.self) c.if-worked.false c.in_ok-worked.ensures.steps) c.in_ok-finished.ensures.goes c.in_ok-finished.ensures.performed c.in_ok-finished.ensures.committed
+    (subst (λ (did : Bool). Steps g.C.NodeCalculator.laws did (Claim c.args.node) c.args.self.now c.work_at_once.new.self) c.if-worked.false c.in_ok-worked.ensures.steps) c.in_ok-finished.ensures.goes c.in_ok-finished.ensures.performed c.in_ok-finished.ensures.committed
 
 pub returns-in_err-finished-clause-heard_some : goal.returns-in_err-finished-clause-heard_some
-returns-in_err-finished-clause-heard_some g c = on_err c.from_residual-in_err-finished.result (heard_then_some g.H.Hears.has_heard c.args.hearer.now c.work_at_once.new.hearer c.finish_works.new.hearer c.args.self.now c.work_at_once.new.self c.in_ok-worked.ensures.heard c.in_err-finished.ensures.heard_some)
+returns-in_err-finished-clause-heard_some g c = on_err c.from_residual-in_err-finished.result (heard_then_some g.C.NodeCalculator.laws g.H.Hears.has_heard c.args.hearer.now c.work_at_once.new.hearer c.finish_works.new.hearer c.args.self.now c.work_at_once.new.self c.in_ok-worked.ensures.heard c.in_err-finished.ensures.heard_some)
 
 pub returns-clause-heard : goal.returns-clause-heard
-returns-clause-heard g c = heard_then g.H.Hears.has_heard c.args.hearer.now c.work_at_once.new.hearer c.finish_works.new.hearer c.args.self.now c.work_at_once.new.self c.finish_works.new.self c.in_ok-worked.ensures.heard c.in_ok-finished.ensures.heard
+returns-clause-heard g c = heard_then g.C.NodeCalculator.laws g.H.Hears.has_heard c.args.hearer.now c.work_at_once.new.hearer c.finish_works.new.hearer c.args.self.now c.work_at_once.new.self c.finish_works.new.self c.in_ok-worked.ensures.heard c.in_ok-finished.ensures.heard
 
 pub returns-clause-only : goal.returns-clause-only
 returns-clause-only g c = only_then c.args.node c.args.self.now c.work_at_once.new.self c.finish_works.new.self c.in_ok-worked.ensures.only c.in_ok-finished.ensures.only

@@ -24,13 +24,13 @@ returns-clause-becomes g c = becomes_trans c.args.self.now c.do_works.new.self c
 pub returns-clause-goes : goal.returns-clause-goes
 returns-clause-goes g c =
     goes_then c.in_ok-worked.worked c.in_ok-raised.raised c.args.self.now c.do_works.new.self c.step.new.self c.in_ok-worked.ensures.goes
-    (steps_go c.in_ok-raised.raised (Advance c.args.node) c.do_works.new.self c.step.new.self c.in_ok-raised.ensures.steps)
+    (steps_go g.C.NodeCalculator.laws c.in_ok-raised.raised (Advance c.args.node) c.do_works.new.self c.step.new.self c.in_ok-raised.ensures.steps)
 
 pub returns-in_err-raised-clause-heard_some : goal.returns-in_err-raised-clause-heard_some
-returns-in_err-raised-clause-heard_some g c = on_err c.from_residual-in_err-raised.result (heard_then_some g.H.Hears.has_heard c.args.hearer.now c.do_works.new.hearer c.step.new.hearer c.args.self.now c.do_works.new.self c.in_ok-worked.ensures.heard c.in_err-raised.ensures.heard_some)
+returns-in_err-raised-clause-heard_some g c = on_err c.from_residual-in_err-raised.result (heard_then_some g.C.NodeCalculator.laws g.H.Hears.has_heard c.args.hearer.now c.do_works.new.hearer c.step.new.hearer c.args.self.now c.do_works.new.self c.in_ok-worked.ensures.heard c.in_err-raised.ensures.heard_some)
 
 pub returns-clause-heard : goal.returns-clause-heard
-returns-clause-heard g c = heard_then g.H.Hears.has_heard c.args.hearer.now c.do_works.new.hearer c.step.new.hearer c.args.self.now c.do_works.new.self c.step.new.self c.in_ok-worked.ensures.heard c.in_ok-raised.ensures.heard
+returns-clause-heard g c = heard_then g.C.NodeCalculator.laws g.H.Hears.has_heard c.args.hearer.now c.do_works.new.hearer c.step.new.hearer c.args.self.now c.do_works.new.self c.step.new.self c.in_ok-worked.ensures.heard c.in_ok-raised.ensures.heard
 
 pub returns-clause-only : goal.returns-clause-only
 returns-clause-only g c = only_then c.args.node c.args.self.now c.do_works.new.self c.step.new.self c.in_ok-worked.ensures.only (c.in_ok-raised.ensures.only c.args.node refl)

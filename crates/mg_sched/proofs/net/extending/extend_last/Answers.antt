@@ -15,6 +15,6 @@ returns-then-done-len-clause-unchanged g c =
     let from : length c.args.engines.now - length c.args.pieces.now ≡ length c.args.engines.now - c.len.result = omega (arith, c.len.ensures) in
     let room = c.requires.room in let most = c.extend_each-done.ensures.count in
     shorter_again (length c.args.engines.now - c.len.result) c.args.pieces.now c.as_slice.result.now c.extend_each-done.result c.args.engines.now c.extend_each-done.new.engines c.shorten_each.new.engines c.extend_each-done.ensures.longer
-    (subst (λ (n : ℕ). MayEach n c.args.pieces.now c.args.engines.now) from c.requires.may)
+    (subst (λ (n : ℕ). MayEach g.C.NodeCalculator.laws n c.args.pieces.now c.args.engines.now) from c.requires.may)
     (subst (λ (bounds : List ℕ). AtPlaces (IsBound (length c.args.engines.now - c.len.result) c.args.engines.now) bounds) (sym c.as_slice.ensures.value) c.in_ok-bounds.ensures.bounds)
     (omega (arith, room, most, c.len.ensures)) c.shorten_each.ensures

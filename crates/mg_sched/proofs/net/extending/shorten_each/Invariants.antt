@@ -6,7 +6,7 @@ use Rattle.mg_sched.proofs.net.extending.shorten_each.Given as goal
 
 abbrev pub invariant-loop-left : goal.invariant-loop-left
 invariant-loop-left g l = (l.left ≤ l.fn.count)
-    × ((before : List EngineView) → WereLonger l.fn.from l.fn.pieces l.fn.bounds l.fn.count before l.fn.engines → WereLonger l.fn.from l.fn.pieces l.fn.bounds l.left before l.engines)
+    × ((before : List EngineView) → WereLonger g.C.NodeCalculator.laws l.fn.from l.fn.pieces l.fn.bounds l.fn.count before l.fn.engines → WereLonger g.C.NodeCalculator.laws l.fn.from l.fn.pieces l.fn.bounds l.left before l.engines)
 
 abbrev pub decreases-loop-left : goal.decreases-loop-left
 decreases-loop-left g l = l.left

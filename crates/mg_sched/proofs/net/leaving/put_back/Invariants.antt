@@ -6,5 +6,5 @@ use Rattle.mg_sched.proofs.net.leaving.put_back.Given as goal
 
 abbrev pub invariant-loop-node : goal.invariant-loop-node
 invariant-loop-node g l =
-    with_cells (map (option_map g.C.Calculator.told) l.places) (drop l.node l.fn.plan.nodes) (into_iter_items l.engines) (into_iter_items l.work_queues)
-    ≡ with_cells (map (option_map g.C.Calculator.told) l.fn.places) l.fn.plan.nodes l.fn.engines.items l.fn.work_queues.items
+    with_cells (map (option_map g.C.NodeCalculator.told) l.places) (drop l.node l.fn.plan.nodes) (into_iter_items l.engines) (into_iter_items l.work_queues)
+    ≡ with_cells (map (option_map g.C.NodeCalculator.told) l.fn.places) l.fn.plan.nodes l.fn.engines.items l.fn.work_queues.items

@@ -3,10 +3,10 @@ use Rattle.mg_turns.proofs.Telling.{run_tells}
 use Rattle.mg_turns.proofs.shared.SharedNet.try_run.Goals as goal
 
 pub returns-clause-keeps : goal.returns-clause-keeps
-returns-clause-keeps g c = (let t = c.run_cell-tried in run_keeps t.result c.args.most c.args.node c.args.seat.now.seat.me.0 t.new.seat.seat.me.0 t.ensures.tried)
+returns-clause-keeps g c = (let t = c.run_cell-tried in run_keeps g.C.NodeCalculator.laws t.result c.args.most c.args.node c.args.seat.now.seat.me.0 t.new.seat.seat.me.0 t.ensures.tried)
 
 pub returns-clause-tells : goal.returns-clause-tells
-returns-clause-tells g c = (let t = c.run_cell-tried in run_tells t.result c.args.most c.args.node c.args.seat.now.seat.me.0 t.new.seat.seat.me.0 t.ensures.tried)
+returns-clause-tells g c = (let t = c.run_cell-tried in run_tells g.C.NodeCalculator.laws t.result c.args.most c.args.node c.args.seat.now.seat.me.0 t.new.seat.seat.me.0 t.ensures.tried)
 
 pub returns-clause-work : goal.returns-clause-work
-returns-clause-work g c = (let t = c.run_cell-tried in run_work t.result c.args.most c.args.node c.args.seat.now.seat.me.0 t.new.seat.seat.me.0 t.ensures.tried)
+returns-clause-work g c = (let t = c.run_cell-tried in run_work g.C.NodeCalculator.laws t.result c.args.most c.args.node c.args.seat.now.seat.me.0 t.new.seat.seat.me.0 t.ensures.tried)

@@ -6,7 +6,7 @@ pub fetch_or-found-requires : goal.fetch_or-found-requires
 fetch_or-found-requires g c = rw c.place.ensures (search rules, search rules, tries_apart _ _ _ _ _ (search rules) (search rules) (search rules))
 
 pub returns-clause-taken : goal.returns-clause-taken
-returns-clause-taken g c = (tried_word c.args.word c.args.seat.now.me _ _ (rw (sym c.place.ensures) c.fetch_or-found.ensures.2)).0
+returns-clause-taken g c = (tried_word {laws = g.C.NodeCalculator.laws} c.args.word c.args.seat.now.me _ _ (rw (sym c.place.ensures) c.fetch_or-found.ensures.2)).0
 
 pub returns-clause-missed : goal.returns-clause-missed
-returns-clause-missed g c = (tried_word c.args.word c.args.seat.now.me _ _ (rw (sym c.place.ensures) c.fetch_or-found.ensures.2)).1
+returns-clause-missed g c = (tried_word {laws = g.C.NodeCalculator.laws} c.args.word c.args.seat.now.me _ _ (rw (sym c.place.ensures) c.fetch_or-found.ensures.2)).1

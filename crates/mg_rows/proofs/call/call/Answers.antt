@@ -1,0 +1,7 @@
+-- A calculator by its law may cross threads.
+use denote.Param.Send.{sendable}
+use Rattle.mg_route.proofs.Sent.{law_box}
+use Rattle.mg_rows.proofs.call.call.Goals as goal
+
+pub run_words-status-requires-send-C : goal.run_words-status-requires-send-C
+run_words-status-requires-send-C g c κs = search (law_box, sendable) depth 40 fits 20000

@@ -1,0 +1,2 @@
+mod OfLaw
+pub mod Sent

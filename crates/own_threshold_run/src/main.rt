@@ -1,0 +1,86 @@
+//! A program with calculators of its own: `mg`, but that thresholds are handed in. What it does is what the contract of `mg_run::run_words`
+//! says, with the rules of the thresholds for the nodes that have one.
+#![tactic(auto)]
+
+mod own;
+
+use crate::own::{Own, THRESHOLD};
+use mg_calc::Handed;
+use mg_edge::{FolderStore, ReaderSource, Sink, Source, StillGate, Store, WriterSink};
+use mg_run::{Status, note_out_of_memory, run_words};
+use mg_value::MgText;
+use own_threshold::{Threshold, threshold_box};
+use std::alloc::{AllocError, Global};
+use std::env;
+use std::io::ErrorKind;
+use std::process::ExitCode;
+use std::sync::Wait;
+use std::thread::Threads;
+
+/// The thresholds that are handed in: of each how many numbers it looks at, and the limit. Nodes take them in this order.
+const THRESHOLDS: [(u32, i64); 3] = [(3, 20), (2, 30), (1, 0)];
+
+fn main(rt: HostRuntime) -> ExitCode {
+    let status = match status_of(&rt, &rt) {
+        Ok(status) => status,
+        Err(_) => note_out_of_memory(&mut WriterSink::new(rt.stderr())),
+    };
+    ExitCode::from(status.number())
+}
+
+// Makes the call over the files below the current folder and the standard streams, and returns its status. Its threads come from the
+// runtime that `main` alone has whole.
+fn status_of<R: Threads + Wait + Sync>(
+    threads: &R,
+    rt: &HostRuntime,
+) -> Result<Status, AllocError> {
+    let words = words(rt)?;
+    let Ok(files) = rt.clone() else {
+        return Err(AllocError);
+    };
+    call(
+        threads,
+        rt.alloc(),
+        words.as_slice(),
+        &mut FolderStore::new(files),
+        &mut ReaderSource::new(rt.stdin()),
+        &mut WriterSink::new(rt.stdout()),
+        &mut WriterSink::new(rt.stderr()),
+    )
+}
+
+// Returns the words after the program's name: none where one of them isn't UTF-8, so that they are no command.
+fn words(rt: &HostRuntime) -> Result<Vec<MgText>, AllocError> {
+    let alloc = rt.alloc();
+    let mut words = Vec::new(alloc);
+    match env::args(rt) {
+        Ok(args) => {
+            for word in args.skip(1) {
+                words.push(MgText::from_string(word))?;
+            }
+            Ok(words)
+        }
+        Err(error) if error.kind() == ErrorKind::OutOfMemory => Err(AllocError),
+        Err(_) => Ok(words),
+    }
+}
+
+// Makes the top call over any devices and boxes of its own. The devices' types are parameters for the time of the proof: where they are
+// known, each clause of the top call is written out over them.
+fn call<R: Threads + Wait + Sync, T: Store, S: Source, K: Sink, E: Sink>(
+    threads: &R,
+    alloc: Global,
+    words: &[MgText],
+    store: &mut T,
+    input: &mut S,
+    output: &mut K,
+    notes: &mut E,
+) -> Result<Status, AllocError> {
+    let mut boxes: Vec<Handed<Own, Threshold>> = Vec::new(alloc);
+    for (n, limit) in THRESHOLDS {
+        boxes.push(threshold_box(alloc, THRESHOLD, n, limit)?)?;
+    }
+    Ok(run_words(
+        threads, alloc, words, store, input, output, notes, &mut boxes, &StillGate,
+    ))
+}
