@@ -7,6 +7,3 @@ mod threshold;
 
 pub use boxing::{threshold_box, threshold_law};
 pub use threshold::Threshold;
-
-#[cfg(test)]
-mod tests;

@@ -1,11 +1,11 @@
 //! Rows of numbers, and what comes of them, worked by hand.
 ghost use Rattle.std.specs.Prelude.{◌≡◌, length, IfOk};
 
-use crate::{Threshold, threshold_law};
 use mg_calc::{CalcFault, Calculator, Cause, Emission, GivenList, Law};
 use mg_settled::InputSet;
 use mg_time::Timestamp;
 use mg_value::{MgText, Packet, Payload};
+use own_threshold::{Threshold, threshold_law};
 use std::alloc::Global;
 use std::sync::Arc;
 use std::test::Fail;
@@ -48,7 +48,7 @@ fn shown(emission: &Emission, at: Timestamp) -> char {
     }
 }
 
-// Shows a threshold the set of a word of a row, and writes what comes of it: an emission, or `!` where the payload is of the wrong kind.
+// Shows a threshold the set of a word of a row. Writes its emission, or `!` if the payload is of the wrong kind.
 fn step(alloc: Global, threshold: &mut Threshold, at: Timestamp, word: &str) -> Result<char, Fail> {
     let set = set_of(alloc, at, payload_of(alloc, word)?)?;
     Ok(match threshold.process(alloc, at, &set) {
