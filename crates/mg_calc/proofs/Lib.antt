@@ -26,3 +26,5 @@ pub mod ValidJob
 pub mod EndedInputs
 pub mod NoStall
 pub mod TableRules
+pub mod OwnShapes
+pub mod Sent

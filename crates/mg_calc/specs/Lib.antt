@@ -9,6 +9,7 @@ pub mod Law
 pub mod Laying
 pub mod Meaning
 pub mod Outcome
+pub mod Own
 pub mod Plan
 pub mod Reaching
 pub mod Routing

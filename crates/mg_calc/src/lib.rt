@@ -32,6 +32,7 @@ mod side_packets;
 mod source;
 mod state;
 pub mod state_laws;
+mod stated;
 mod try_clone;
 
 pub use calculator::Calculator;
@@ -63,4 +64,5 @@ pub use side::{Side, SideList, SideValue};
 pub use side_packets::node_sides;
 pub use source::{own_begin, source_step};
 pub use state::State;
+pub use stated::ports;
 pub use try_clone::TryClone;

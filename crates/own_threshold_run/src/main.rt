@@ -1,24 +1,19 @@
-//! A program with calculators of its own: `mg`, but that thresholds are handed in. What it does is what the contract of `mg_run::run_words`
-//! says, with the rules of the thresholds for the nodes that have one.
+//! A program with calculators of its own, which `own` names: `mg`, but that these are handed in. What it does is what the contract of
+//! `mg_run::run_words` says, with their rules for the nodes that have one.
 #![tactic(auto)]
 
 mod own;
 
-use crate::own::{Own, THRESHOLD};
-use mg_calc::Handed;
+use crate::own::own_boxes;
 use mg_edge::{FolderStore, ReaderSource, Sink, Source, StillGate, Store, WriterSink};
 use mg_run::{Status, note_out_of_memory, run_words};
 use mg_value::MgText;
-use own_threshold::{Threshold, threshold_box};
 use std::alloc::{AllocError, Global};
 use std::env;
 use std::io::ErrorKind;
 use std::process::ExitCode;
 use std::sync::Wait;
 use std::thread::Threads;
-
-/// The thresholds that are handed in: of each how many numbers it looks at, and the limit. Nodes take them in this order.
-const THRESHOLDS: [(u32, i64); 3] = [(3, 20), (2, 30), (1, 0)];
 
 fn main(rt: HostRuntime) -> ExitCode {
     let status = match status_of(&rt, &rt) {
@@ -76,10 +71,7 @@ fn call<R: Threads + Wait + Sync, T: Store, S: Source, K: Sink, E: Sink>(
     output: &mut K,
     notes: &mut E,
 ) -> Result<Status, AllocError> {
-    let mut boxes: Vec<Handed<Own, Threshold>> = Vec::new(alloc);
-    for (n, limit) in THRESHOLDS {
-        boxes.push(threshold_box(alloc, THRESHOLD, n, limit)?)?;
-    }
+    let mut boxes = own_boxes(alloc)?;
     Ok(run_words(
         threads, alloc, words, store, input, output, notes, &mut boxes, &StillGate,
     ))

@@ -1,11 +1,11 @@
 //! Rows of numbers, and what comes of them, worked by hand.
 ghost use Rattle.std.specs.Prelude.{◌≡◌, length, IfOk};
 
-use mg_calc::{CalcFault, Calculator, Cause, Emission, GivenList, Law};
+use mg_calc::{CalcFault, Calculator, Cause, Emission, GivenList};
 use mg_settled::InputSet;
 use mg_time::Timestamp;
 use mg_value::{MgText, Packet, Payload};
-use own_threshold::{Threshold, threshold_law};
+use own_threshold::{Threshold, parameters};
 use std::alloc::Global;
 use std::sync::Arc;
 use std::test::Fail;
@@ -103,17 +103,8 @@ fn a_text_is_of_the_wrong_kind(rt: HostRuntime) -> Result<(), Fail> {
 }
 
 #[test]
-fn a_law_has_its_parameters(rt: HostRuntime) -> Result<(), Fail> {
-    let law = threshold_law(rt.alloc(), 7, 3, -10)?;
-    let Law::Stated {
-        number,
-        parameters,
-        offset,
-    } = &law
-    else {
-        return Err(Fail::from("another law"));
-    };
-    assert_eq!(rt; (*number, *offset), (7, Some(0)));
+fn parameters_are_places(rt: HostRuntime) -> Result<(), Fail> {
+    let parameters = parameters(rt.alloc(), 3, -10)?;
     for (place, want) in [(0, 3), (1, -10)] {
         let got = match parameters.place(place) {
             Some(payload) => match **payload {

@@ -1,2 +1,0 @@
-mod OfLaw
-pub mod Sent
