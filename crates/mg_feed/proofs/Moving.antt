@@ -10,7 +10,7 @@ use Rattle.mg_feed.specs.Lines.{with_feed, but_last}
 use Rattle.mg_feed.specs.Accepted.{names_stream}
 use Rattle.mg_feed.specs.Fed.{Fed}
 use Rattle.mg_feed.specs.Ran.{EndCame, MetEnd, late, Spends, Unfailed, ReadFailed, FailedBy}
-use Rattle.mg_feed.specs.Batch.{EndsAs, HasReadBatch, naming}
+use Rattle.mg_feed.specs.Batch.{EndsAs, CutsAt, HasReadBatch, naming}
 use Rattle.mg_feed.specs.Code.Moves.{Grows, TookLine, Moved, Stopped, weight}
 use Rattle.mg_feed.specs.declared.feed_end.FeedEnd.{FeedEnd}
 use Rattle.mg_feed.specs.declared.feed_end.FeedEnd.TheVariants.{Ended, Failed, Refused, OutOfMemory}
@@ -198,20 +198,39 @@ but_last-push (x ∷ z ∷ xs) y = ap (λ l. x ∷ l) (but_last-push (z ∷ xs) 
 pub short-push : (most : ℕ) (taken : List (List ℕ)) (line : List ℕ) → naming taken < most → IsShort most (taken ++ line ∷ [])
 short-push most taken line few = inr (rw (but_last-push taken line) few)
 
-pub batch-more : (most : ℕ) (first now : SourceTold) (a b : Fed) (came : List ℕ) (taken : List (List ℕ)) → Moved first now a b came taken → naming taken ≡ most → IsShort most taken
-    → HasReadBatch most More first now a b
-batch-more most first now a b came taken m full short = record {
+-- a full batch is cut as it may be
+full-cut : (early : Bool) (most : ℕ) (taken : List (List ℕ)) → naming taken ≡ most → IsShort most taken → CutsAt early More most taken
+full-cut true most taken full short = λ some. subst (λ (n : ℕ). 0 < n) (sym full) some
+full-cut false most taken full short = (full, short)
+
+end-cut : (early : Bool) (end : FeedEnd) (most : ℕ) (taken : List (List ℕ)) → naming taken < most → CutsAt early (End end) most taken
+end-cut true end most taken few = tt
+end-cut false end most taken few = few
+
+batch-cut : (early : Bool) (most : ℕ) (first now : SourceTold) (a b : Fed) (came : List ℕ) (taken : List (List ℕ)) → Moved first now a b came taken → CutsAt early More most taken
+    → HasReadBatch early most More first now a b
+batch-cut early most first now a b came taken m cut = record {
   came = came;
   taken = taken;
   gave = m.gave;
   number = m.number;
-  filled = (full, short);
+  filled = cut;
   accepted = λ start past lines gone c. (m.grows start past lines gone c, tt);
 }
 
-pub batch-stop : (most : ℕ) (end : FeedEnd) (first before now : SourceTold) (a b c : Fed) (came : List ℕ) (taken : List (List ℕ))
-    → Moved first before a b came taken → Stopped end before now b c → naming taken < most → HasReadBatch most (End end) first now a c
-batch-stop most end first before now a b c came taken m s few =
+pub batch-more : (early : Bool) (most : ℕ) (first now : SourceTold) (a b : Fed) (came : List ℕ) (taken : List (List ℕ)) → Moved first now a b came taken → naming taken ≡ most → IsShort most taken
+    → HasReadBatch early most More first now a b
+batch-more early most first now a b came taken m full short = batch-cut early most first now a b came taken m (full-cut early most taken full short)
+
+-- a batch that ends early has a line that names a stream
+pub batch-early : (early : Bool) (most : ℕ) (first now : SourceTold) (a b : Fed) (came : List ℕ) (taken : List (List ℕ)) → Moved first now a b came taken → early ≡ true → 0 < naming taken
+    → HasReadBatch early most More first now a b
+batch-early early most first now a b came taken m is some =
+    batch-cut early most first now a b came taken m (subst (λ (e : Bool). CutsAt e More most taken) (sym is) (λ _. some))
+
+pub batch-stop : (early : Bool) (most : ℕ) (end : FeedEnd) (first before now : SourceTold) (a b c : Fed) (came : List ℕ) (taken : List (List ℕ))
+    → Moved first before a b came taken → Stopped end before now b c → naming taken < most → HasReadBatch early most (End end) first now a c
+batch-stop early most end first before now a b c came taken m s few =
     let grows : Grows a c came taken = subst (λ (f : Fed). Grows a f came taken) (sym s.same) m.grows in
     let graph : c.view.graph ≡ a.view.graph = ap (λ f. f.view.graph) s.same ∙ m.graph in
     record {
@@ -219,7 +238,7 @@ batch-stop most end first before now a b c came taken m s few =
       taken = taken;
       gave = subst (λ (l : List ℕ). Gave first.left now.left l) (append-nil came) (gave-then first.left before.left now.left came [] m.gave s.gave);
       number = ap (λ f. f.view.lines) s.same ∙ m.number;
-      filled = few;
+      filled = end-cut early end most taken few;
       accepted = λ start past lines gone it.
           let now_it = grows start past lines gone it in
           (now_it, subst (λ (g : GraphInputs). EndsAs end g start (past ++ came) (lines ++ taken) c.read.ended) graph (s.ends start (past ++ came) (lines ++ taken) gone now_it));

@@ -1,5 +1,5 @@
 -- What a call that reads lines from a source leaves, by how it ended.
-use Rattle.std.specs.Prelude.{◌≡◌, ◌≢◌, ◌<◌, ◌⊎◌, ◌+◌, ⊤, ℕ, List, [], ◌++◌, length, count_by, Bool, true, None, Some}
+use Rattle.std.specs.Prelude.{◌≡◌, ◌≢◌, ◌<◌, ◌⊎◌, ◌+◌, ⊤, ℕ, List, [], ◌++◌, length, count_by, Bool, true, false, None, Some}
 use Rattle.mg_value.specs.Payload.{Plain}
 use Rattle.mg_value.specs.Packet.{Stamped}
 use Rattle.mg_edge.specs.Edge.{SourceTold}
@@ -61,6 +61,12 @@ abbrev pub Fills : BatchEnd → ℕ → List (List ℕ) → Type 0
 Fills More most taken = (naming taken ≡ most) × ((taken ≡ []) ⊎ (naming (but_last taken) < most))
 Fills (End end) most taken = naming taken < most
 
+-- How a batch is cut: it has as many lines as it may; or, where it may end early, a line that names a stream.
+abbrev pub CutsAt : Bool → BatchEnd → ℕ → List (List ℕ) → Type 0
+CutsAt false end most taken = Fills end most taken
+CutsAt true More most taken = 0 < most → 0 < naming taken
+CutsAt true (End end) most taken = ⊤
+
 -- what the end of a batch says of all bytes that came, and of the lines that were accepted of them
 abbrev pub BatchEndsAs : BatchEnd → GraphInputs → List (List ℕ) → List ℕ → List (List ℕ) → Bool → Type 0
 BatchEndsAs More graph first came lines ended = ⊤
@@ -81,12 +87,13 @@ abbrev pub idle_by : BatchEnd → Bool → ℕ
 idle_by More ended = late ended
 idle_by (End end) ended = 1
 
--- A call that reads a batch: these bytes came, and it took these lines of the bytes that were kept and of those that came.
-pub record HasReadBatch (most : ℕ) (end : BatchEnd) (before now : SourceTold) (old new : Fed) : Type 0 where
+-- A call that reads a batch, which may end early or not: these bytes came, and it took these lines of the bytes that were kept and of
+-- those that came.
+pub record HasReadBatch (early : Bool) (most : ℕ) (end : BatchEnd) (before now : SourceTold) (old new : Fed) : Type 0 where
   pub came : List ℕ
   pub taken : List (List ℕ)
   pub gave : Gave before.left now.left came
   pub number : new.view.lines ≡ old.view.lines + length taken
-  pub filled : Fills end most taken
+  pub filled : CutsAt early end most taken
   pub accepted : (first : List (List ℕ)) (past : List ℕ) (lines : List (List ℕ)) (gone : List (List (Stamped Plain))) → Came first past lines gone old
       → Came first (past ++ came) (lines ++ taken) gone new × BatchEndsAs end old.view.graph first (past ++ came) (lines ++ taken) new.read.ended

@@ -32,7 +32,7 @@ impl Drop for Feed {
 }
 
 impl Feed {
-    ghost use Rattle.std.specs.Prelude.{◌≡◌, ◌≢◌, ◌≤◌, [], ◌∷◌, ◌++◌, false, ℕ, List, None, Some, OnOk, OnErr, IfOk, IfErr, length};
+    ghost use Rattle.std.specs.Prelude.{◌≡◌, ◌≢◌, ◌≤◌, [], ◌∷◌, ◌++◌, false, ℕ, List, None, Some, OnOk, OnErr, IfOk, IfErr, MatchOption, length};
     ghost use Rattle.mg_value.specs.Payload.{Plain};
     ghost use Rattle.mg_value.specs.Packet.{Stamped};
     ghost use Rattle.mg_feed.specs.Graph.{inputs_of};
@@ -124,7 +124,7 @@ impl Feed {
         ensures small { length (fed self.new).read.kept ≤ most_kept }
         ensures graph { (seen self.new).graph ≡ (seen self.old).graph }
     {
-        match self.read_batch(source, u32::MAX) {
+        match self.read_batch(source, u32::MAX, false) {
             BatchEnd::More => unreachable!(),
             BatchEnd::End(end) => end,
         }
@@ -133,8 +133,11 @@ impl Feed {
     /// Reads a source until `most` lines that name a stream were taken, or to its end, its first fault or the first line that
     /// isn't good. What was read behind the last of these lines is kept for the next call. Once the source answered `End`
     /// it isn't read again.
-    pub fn read_batch<S: Source>(&mut self, source: &mut S, most: u32) -> BatchEnd
-        ensures read { HasReadBatch most result (S.told source.old) (S.told source.new) (fed self.old) (fed self.new) }
+    ///
+    /// With `early` the batch also ends, after its last whole line, where it has a line that names a stream and the last read gave fewer
+    /// bytes than were asked for. The source then has nothing more for now.
+    pub fn read_batch<S: Source>(&mut self, source: &mut S, most: u32, early: bool) -> BatchEnd
+        ensures read { HasReadBatch early most result (S.told source.old) (S.told source.new) (fed self.old) (fed self.new) }
         ensures end { MetEnd (fed self.old).read.ended (fed self.new).read.ended (S.told source.old) (S.told source.new) }
         ensures fault { BatchFailedBy result (S.told source.old) (S.told source.new) }
         ensures cause { BatchHasCause result }
@@ -145,7 +148,11 @@ impl Feed {
     {
         let mut naming = 0;
         'lines: while naming < most {
-            match self.step(source) {
+            let end = self.reader.line_end();
+            if early && naming > 0 && end.is_none() && self.reader.is_drained() {
+                return BatchEnd::More;
+            }
+            match self.step(source, end) {
                 Step::Line(named) => naming += u32::from(named),
                 Step::Read => {}
                 Step::Stop(end) => return BatchEnd::End(end),
@@ -154,11 +161,12 @@ impl Feed {
         BatchEnd::More
     }
 
-    // Takes the next line of what was read, or reads on.
-    fn step<S: Source>(&mut self, source: &mut S) -> Step
+    // Takes the next line of what was read, whose line feed is at `end` in what is left of the block, or reads on where there is none.
+    fn step<S: Source>(&mut self, source: &mut S, end: Option<usize>) -> Step
+        requires { MatchOption end (NoFeed (left_of self.old.reader)) (EndsLine (left_of self.old.reader)) }
         ensures { Stepped result (S.told source.old) (S.told source.new) (fed self.old) (fed self.new) }
     {
-        match self.reader.line_end() {
+        match end {
             Some(end) => self.next_line(end),
             None => self.read_on(source),
         }

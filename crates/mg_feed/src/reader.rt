@@ -66,6 +66,11 @@ impl Reader {
         line_end(self.left())
     }
 
+    /// Whether the last read gave fewer bytes than were asked for, and the source hasn't ended.
+    pub fn is_drained(&self) -> bool {
+        self.filled < self.block.len() && !self.ended
+    }
+
     /// Whether bytes of the next line are held.
     pub fn has_cut(&self) -> bool
         ensures { result ≡ false → self.now.cut.items ≡ [] }

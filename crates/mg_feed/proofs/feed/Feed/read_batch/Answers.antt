@@ -1,7 +1,7 @@
 use Rattle.std.proofs.Common.{[], ◌++◌, List, ℕ, refl, subst, arith, inl, append-nil}
 use Rattle.mg_feed.specs.FeedSeen.{fed}
 use Rattle.mg_feed.specs.Code.Moves.{Moved}
-use Rattle.mg_feed.proofs.Moving.{moved-same, moved-then, moved-on, byte-small, reads-stop, batch-more, batch-stop}
+use Rattle.mg_feed.proofs.Moving.{moved-same, moved-then, moved-on, byte-small, reads-stop, batch-more, batch-early, batch-stop}
 use Rattle.mg_feed.proofs.feed.Feed.read_batch.Goals as goal
 
 pub lines-init : goal.lines-init
@@ -38,12 +38,12 @@ lines-preserved g c =
 pub returns-in-Stop-clause-read : goal.returns-in-Stop-clause-read
 returns-in-Stop-clause-read g c =
     let (came, taken, moved, count, short) = c.lines.invariant.moved in
-    batch-stop c.args.most c.in-Stop.end _ _ _ _ _ _ came taken moved c.in-Stop.ensures (omega (arith, count, c.lines-test.true))
+    batch-stop c.args.early c.args.most c.in-Stop.end _ _ _ _ _ _ came taken moved c.in-Stop.ensures (omega (arith, count, c.lines-test.true))
 
 pub returns-clause-read : goal.returns-clause-read
 returns-clause-read g c =
     let (came, taken, moved, count, short) = c.lines.invariant.moved in
-    batch-more c.args.most _ _ _ _ came taken moved (omega (arith, count, c.lines-test.false, c.lines.invariant.within)) short
+    batch-more c.args.early c.args.most _ _ _ _ came taken moved (omega (arith, count, c.lines-test.false, c.lines.invariant.within)) short
 
 pub returns-in-Stop-clause-reads : goal.returns-in-Stop-clause-reads
 returns-in-Stop-clause-reads g c =
@@ -52,5 +52,15 @@ returns-in-Stop-clause-reads g c =
 
 pub returns-clause-reads : goal.returns-clause-reads
 returns-clause-reads g c =
+    let (came, taken, moved, count, short) = c.lines.invariant.moved in
+    moved.spent
+
+pub returns-then-is_drained-clause-read : goal.returns-then-is_drained-clause-read
+returns-then-is_drained-clause-read g c =
+    let (came, taken, moved, count, short) = c.lines.invariant.moved in
+    batch-early c.args.early c.args.most _ _ _ _ came taken moved c.if-early.true (omega (arith, count, c.if-naming-gt0.true))
+
+pub returns-then-is_drained-clause-reads : goal.returns-then-is_drained-clause-reads
+returns-then-is_drained-clause-reads g c =
     let (came, taken, moved, count, short) = c.lines.invariant.moved in
     moved.spent
