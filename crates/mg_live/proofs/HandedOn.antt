@@ -36,12 +36,12 @@ take_more_at [] i x at = absurd (none-some x at)
 take_more_at (y ∷ xs) zero x at = ap (λ (z : _). z ∷ []) (same_Some y x at)
 take_more_at (y ∷ xs) (suc i) x at = ap (λ l. y ∷ l) (take_more_at xs i x at)
 
-map_at : {X Y : Type 0} (f : X → Y) (xs : List X) (i : ℕ) (x : X) → slice_get xs i ≡ Some x → slice_get (map f xs) i ≡ Some (f x)
+pub map_at : {X Y : Type 0} (f : X → Y) (xs : List X) (i : ℕ) (x : X) → slice_get xs i ≡ Some x → slice_get (map f xs) i ≡ Some (f x)
 map_at f [] i x at = absurd (none-some x at)
 map_at f (y ∷ xs) zero x at = ap (λ z. Some (f z)) (same_Some y x at)
 map_at f (y ∷ xs) (suc i) x at = map_at f xs i x at
 
-out_at : (frees : List FreeNode) (takens : List Taken) (i : ℕ) (free : FreeNode) (taken : Taken) → slice_get frees i ≡ Some free → slice_get takens i ≡ Some taken → slice_get (outputs_so_far frees takens) i ≡ Some (output_so_far free taken)
+pub out_at : (frees : List FreeNode) (takens : List Taken) (i : ℕ) (free : FreeNode) (taken : Taken) → slice_get frees i ≡ Some free → slice_get takens i ≡ Some taken → slice_get (outputs_so_far frees takens) i ≡ Some (output_so_far free taken)
 out_at [] takens i free taken at at_taken = absurd (none-some free at)
 out_at (f ∷ frees) [] i free taken at at_taken = absurd (none-some taken at_taken)
 out_at (f ∷ frees) (t ∷ takens) zero free taken at at_taken = ap₂ (λ (x : FreeNode) (y : Taken). Some (output_so_far x y)) (same_Some f free at) (same_Some t taken at_taken)
@@ -52,7 +52,7 @@ take_set [] i now = refl
 take_set (t ∷ takers) zero now = refl
 take_set (t ∷ takers) (suc i) now = ap (λ (l : List ℕ). t.state.rest.handed ∷ l) (take_set takers i now)
 
-put_there : (takers : List Taker) (i : ℕ) (now : Taker) → i < length takers → slice_get (set takers i now) i ≡ Some now
+pub put_there : (takers : List Taker) (i : ℕ) (now : Taker) → i < length takers → slice_get (set takers i now) i ≡ Some now
 put_there [] i now less = absurd (omega (arith, less))
 put_there (t ∷ takers) zero now less = refl
 put_there (t ∷ takers) (suc i) now less = put_there takers i now (omega (arith, less))
@@ -62,7 +62,7 @@ get_there [] i less = absurd (omega (arith, less))
 get_there (x ∷ xs) zero less = (x, refl)
 get_there (x ∷ xs) (suc i) less = get_there xs i (omega (arith, less))
 
-put_taken : (frees : List FreeNode) (takens : List Taken) (takers : List Taker) (i : ℕ) (old now : Taker) → slice_get takers i ≡ Some old → ((free : FreeNode) (taken : Taken) → HasTaken free taken old → HasTaken free taken now)
+pub put_taken : (frees : List FreeNode) (takens : List Taken) (takers : List Taker) (i : ℕ) (old now : Taker) → slice_get takers i ≡ Some old → ((free : FreeNode) (taken : Taken) → HasTaken free taken old → HasTaken free taken now)
     → HaveTaken frees takens takers → HaveTaken frees takens (set takers i now)
 put_taken frees takens takers i old now at keeps h = record {
   takers_long = length-set takers i now ∙ h.takers_long;
@@ -102,7 +102,7 @@ one_handed frees takens before takers front pieces more piece i old now at same 
     }
 
 -- All of them.
-outs_long : (frees : List FreeNode) (takens : List Taken) → length takens ≡ length frees → length (outputs_so_far frees takens) ≡ length frees
+pub outs_long : (frees : List FreeNode) (takens : List Taken) → length takens ≡ length frees → length (outputs_so_far frees takens) ≡ length frees
 outs_long [] [] long = refl
 outs_long [] (t ∷ takens) long = absurd (omega (arith, long))
 outs_long (f ∷ frees) [] long = absurd (omega (arith, long))

@@ -29,7 +29,7 @@ get_other (z ∷ xs) zero (suc k) x other = refl
 get_other (z ∷ xs) (suc i) zero x other = refl
 get_other (z ∷ xs) (suc i) (suc k) x other = get_other xs i k x (λ same. other (ap suc same))
 
-get_there : {X : Type 0} (xs : List X) (i : ℕ) → i < length xs → (x : X) × (slice_get xs i ≡ Some x)
+pub get_there : {X : Type 0} (xs : List X) (i : ℕ) → i < length xs → (x : X) × (slice_get xs i ≡ Some x)
 get_there [] i less = absurd (omega (arith, less))
 get_there (x ∷ xs) zero less = (x, refl)
 get_there (x ∷ xs) (suc i) less = get_there xs i (omega (arith, less))
@@ -65,13 +65,13 @@ one_did streams frees takens place free taken false false at at_taken d s = λ k
 
 -- All of them.
 
-turns_long : (streams : List (StreamPrefix Plain)) (frees : List FreeNode) (takens : List Taken) → length takens ≡ length frees → length (turns_of streams frees takens) ≡ length frees
+pub turns_long : (streams : List (StreamPrefix Plain)) (frees : List FreeNode) (takens : List Taken) → length takens ≡ length frees → length (turns_of streams frees takens) ≡ length frees
 turns_long streams [] [] long = refl
 turns_long streams [] (t ∷ takens) long = absurd (omega (arith, long))
 turns_long streams (f ∷ frees) [] long = absurd (omega (arith, long))
 turns_long streams (f ∷ frees) (t ∷ takens) long = ap suc (turns_long streams frees takens (omega (arith, long)))
 
-turn_at : (streams : List (StreamPrefix Plain)) (frees : List FreeNode) (takens : List Taken) (i : ℕ) (free : FreeNode) (now : Taken) → slice_get frees i ≡ Some free → slice_get (turns_of streams frees takens) i ≡ Some now
+pub turn_at : (streams : List (StreamPrefix Plain)) (frees : List FreeNode) (takens : List Taken) (i : ℕ) (free : FreeNode) (now : Taken) → slice_get frees i ≡ Some free → slice_get (turns_of streams frees takens) i ≡ Some now
     → (taken : Taken) × (slice_get takens i ≡ Some taken) × (now ≡ turn streams free taken)
 turn_at streams [] takens i free now at at_now = absurd (none-some free at)
 turn_at streams (f ∷ frees) [] i free now at at_now = absurd (none-some now at_now)
@@ -90,7 +90,7 @@ all_turned streams frees takens before now count h long all had = record {
       subst (λ (t : Taken). HasTaken free t taker) (sym old.2) (had place free old.0 taker (omega (arith, within, all)) at old.1 at_taker);
 }
 
-same_all : (streams : List (StreamPrefix Plain)) (frees : List FreeNode) (takens : List Taken) → length takens ≡ length frees
+pub same_all : (streams : List (StreamPrefix Plain)) (frees : List FreeNode) (takens : List Taken) → length takens ≡ length frees
     → ((place : ℕ) (free : FreeNode) (taken : Taken) → slice_get frees place ≡ Some free → slice_get takens place ≡ Some taken → turn streams free taken ≡ taken) → turns_of streams frees takens ≡ takens
 same_all streams [] [] long same = refl
 same_all streams [] (t ∷ takens) long same = absurd (omega (arith, long))
@@ -98,7 +98,7 @@ same_all streams (f ∷ frees) [] long same = absurd (omega (arith, long))
 same_all streams (f ∷ frees) (t ∷ takens) long same =
     ap₂ (λ (x : Taken) (xs : List Taken). x ∷ xs) (same zero f t refl refl) (same_all streams frees takens (omega (arith, long)) (λ place free taken at at_taken. same (suc place) free taken at at_taken))
 
-differs : (streams : List (StreamPrefix Plain)) (frees : List FreeNode) (takens : List Taken) (i : ℕ) (free : FreeNode) (taken : Taken) → slice_get frees i ≡ Some free → slice_get takens i ≡ Some taken → turns_of streams frees takens ≡ takens
+pub differs : (streams : List (StreamPrefix Plain)) (frees : List FreeNode) (takens : List Taken) (i : ℕ) (free : FreeNode) (taken : Taken) → slice_get frees i ≡ Some free → slice_get takens i ≡ Some taken → turns_of streams frees takens ≡ takens
     → turn streams free taken ≡ taken
 differs streams [] takens i free taken at at_taken same = absurd (none-some free at)
 differs streams (f ∷ frees) [] i free taken at at_taken same = absurd (none-some taken at_taken)
@@ -186,7 +186,7 @@ last_there [] x y (suc i) is e = absurd (none-some y e)
 last_there (z ∷ xs) x y zero is e = absurd (omega (arith, is))
 last_there (z ∷ xs) x y (suc i) is e = last_there xs x y i (omega (arith, is)) e
 
-early_there : {X : Type 0} (xs : List X) (x : X) (i : ℕ) → i < length xs → slice_get (xs ++ x ∷ []) i ≡ slice_get xs i
+pub early_there : {X : Type 0} (xs : List X) (x : X) (i : ℕ) → i < length xs → slice_get (xs ++ x ∷ []) i ≡ slice_get xs i
 early_there [] x i less = absurd (omega (arith, less))
 early_there (z ∷ xs) x zero less = refl
 early_there (z ∷ xs) x (suc i) less = early_there xs x i (omega (arith, less))

@@ -4,5 +4,6 @@ pub mod CoreReads
 pub mod Following
 pub mod InTurn
 pub mod HandedOn
+pub mod Places
 pub mod RestTaken
 pub mod Endings

@@ -101,3 +101,29 @@ pub record MayRound {S : Type 0} (are : S → List (StreamPrefix Plain) → Type
   pub have_taken : HaveTaken frees takens takers
   pub may : MayAllTurn streams frees takens
   pub can_read : (place : ℕ) (free : FreeNode) (taken : Taken) → slice_get frees place ≡ Some free → slice_get takens place ≡ Some taken → CanRead has_from read free taken
+
+-- Places.
+
+-- numbers each of which is higher than those before it
+abbrev pub AreRising : List ℕ → Type 0
+AreRising numbers = (i j number other : ℕ) → i < j → slice_get numbers i ≡ Some number → slice_get numbers j ≡ Some other → number < other
+
+-- a number isn't among others
+abbrev pub IsNoneOf : List ℕ → ℕ → Type 0
+IsNoneOf numbers number = (i : ℕ) → ¬ (slice_get numbers i ≡ Some number)
+
+-- the places of a list at which something was done: at all others it is as it was
+pub record DidAt {X : Type 0} (places : List ℕ) (before after : List X) : Type 0 where
+  pub rising : AreRising places
+  pub within : (i place : ℕ) → slice_get places i ≡ Some place → place < length before
+  pub did : (i place : ℕ) (x y : X) → slice_get places i ≡ Some place → slice_get before place ≡ Some x → slice_get after place ≡ Some y → ¬ (y ≡ x)
+  pub others : (place : ℕ) (x y : X) → IsNoneOf places place → slice_get before place ≡ Some x → slice_get after place ≡ Some y → y ≡ x
+
+-- the streams at some places, each without its first packets, by their numbers
+pub record ArePiecesAt (places : List ℕ) (pieces : List (StreamPrefix Plain)) (counts : List ℕ) (streams : List (StreamPrefix Plain)) : Type 0 where
+  pub as_many : length pieces ≡ length places
+  pub each : (i place count : ℕ) (s : StreamPrefix Plain) → slice_get places i ≡ Some place → slice_get counts place ≡ Some count → slice_get streams place ≡ Some s → slice_get pieces i ≡ Some (piece_behind count s)
+
+-- at all places but some all packets of the streams are counted
+abbrev pub AreCountedBut : List ℕ → List ℕ → List (StreamPrefix Plain) → Type 0
+AreCountedBut places counts streams = (place count : ℕ) (s : StreamPrefix Plain) → IsNoneOf places place → slice_get counts place ≡ Some count → slice_get streams place ≡ Some s → count ≡ length s.packets

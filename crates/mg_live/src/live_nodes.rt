@@ -1,14 +1,15 @@
-ghost use Rattle.std.specs.Prelude.{◌≡◌, ◌<◌, List, Some, IfOk, OnOk, length, map, replicate, slice_get};
+ghost use Rattle.std.specs.Prelude.{◌≡◌, ◌<◌, ℕ, List, Some, IfOk, OnOk, length, map, replicate, slice_get};
 ghost use Rattle.mg_value.specs.Payload.{Plain};
 ghost use Rattle.mg_settled.specs.Prefix.{StreamPrefix};
 ghost use Rattle.mg_free.specs.declared.node.FreeNode.{FreeNode as FreeNodeView};
 ghost use Rattle.mg_free.specs.Rounds.{Taken};
 ghost use Rattle.mg_live.specs.declared.taker.Taker.{Taker as TakerView};
-ghost use Rattle.mg_live.specs.Takes.{HaveTaken, MayRound, Did, turns_of, nothing_taken, handed_of, outputs_so_far, pieces_behind, told};
+ghost use Rattle.mg_live.specs.Takes.{HaveTaken, MayRound, turns_of, nothing_taken, handed_of, outputs_so_far, told, AreRising, DidAt, ArePiecesAt, AreCountedBut};
 
 use crate::{Arrived, Streams, Taker};
 use mg_free::{FreeNode, FreeNodeList};
 use mg_settled::{Prefix, PrefixList};
+use mg_value::NumberList;
 use std::alloc::{AllocError, Global};
 
 /// The free nodes of a graph that runs, each with its taker.
@@ -30,22 +31,27 @@ fn takers_of(alloc: Global, frees: &[FreeNode]) -> Result<Vec<Taker>, AllocError
     Ok(takers)
 }
 
-// Makes a round: each free node has its turn, in order. Returns whether one of them did something.
+// Makes a round: each of the `count` free nodes has its turn, in order. Returns the places of those that did something.
 fn round<S: Streams>(
+    alloc: Global,
     frees: &[FreeNode],
+    count: u32,
     takers: &mut [Taker],
     streams: &S,
-) -> Result<bool, AllocError>
-    requires { MayRound S.are S.has_from streams.now frees.now takers.old }
+) -> Result<Vec<u32>, AllocError>
+    requires count { count ≡ length frees.now }
+    requires may { MayRound S.are S.has_from streams.now frees.now takers.old }
     ensures taken { (ss : List (StreamPrefix Plain)) (takens : List Taken) → S.are streams.now ss → HaveTaken frees.now takens takers.old
         → OnOk result (HaveTaken frees.now (turns_of ss frees.now takens) takers.new) }
     ensures did { (ss : List (StreamPrefix Plain)) (takens : List Taken) → S.are streams.now ss → HaveTaken frees.now takens takers.old
-        → IfOk result (λ did. Did did takens (turns_of ss frees.now takens)) }
+        → IfOk result (λ did. DidAt did.items takens (turns_of ss frees.now takens)) }
     ensures handed { handed_of takers.new ≡ handed_of takers.old }
 {
-    let mut did = false;
-    for place in 0..frees.len() {
-        did |= takers[place].turn(&frees[place], streams)?;
+    let mut did = Vec::new(alloc);
+    for place in 0..count {
+        if takers[place as usize].turn(&frees[place as usize], streams)? {
+            did.push(place)?;
+        }
     }
     Ok(did)
 }
@@ -58,17 +64,19 @@ fn log_at(takers: &[Taker], place: usize) -> &[Arrived]
     takers[place].log()
 }
 
-// Returns for each free node what was laid on its output since it was last handed on.
-fn hand_on(alloc: Global, takers: &mut [Taker]) -> Result<Vec<Prefix>, AllocError>
+// Returns for each of some free nodes what was laid on its output since it was last handed on.
+fn hand_on(alloc: Global, takers: &mut [Taker], places: &[u32]) -> Result<Vec<Prefix>, AllocError>
+    requires rising { AreRising places.now }
+    requires within { (i place : ℕ) → slice_get places.now i ≡ Some place → place < length takers.old }
     ensures pieces { (frees : List FreeNodeView) (takens : List Taken) → HaveTaken frees takens takers.old
-        → IfOk result (λ pieces. pieces.items ≡ pieces_behind (handed_of takers.old) (outputs_so_far frees takens)) }
+        → IfOk result (λ pieces. ArePiecesAt places.now pieces.items (handed_of takers.old) (outputs_so_far frees takens)) }
     ensures taken { (frees : List FreeNodeView) (takens : List Taken) → HaveTaken frees takens takers.old → OnOk result (HaveTaken frees takens takers.new) }
-    ensures handed { (frees : List FreeNodeView) (takens : List Taken) → HaveTaken frees takens takers.old
+    ensures handed { (frees : List FreeNodeView) (takens : List Taken) → HaveTaken frees takens takers.old → AreCountedBut places.now (handed_of takers.old) (outputs_so_far frees takens)
         → OnOk result (handed_of takers.new ≡ map (λ s. length s.packets) (outputs_so_far frees takens)) }
 {
     let mut pieces = Vec::new(alloc);
-    for place in 0..takers.len() {
-        pieces.push(takers[place].hand_on()?)?;
+    for i in 0..places.len() {
+        pieces.push(takers[places[i] as usize].hand_on()?)?;
     }
     Ok(pieces)
 }
@@ -84,33 +92,46 @@ impl LiveNodes {
         Ok(LiveNodes { free, takers })
     }
 
-    /// Makes a round, in streams of a graph that can go no further: each free node has its turn, in order. Returns whether one of them did
-    /// something. The cost grows with the ports of the free nodes and the packets that they take. After an error some free nodes may
+    /// Makes a round, in streams of a graph that can go no further: each free node has its turn, in order. Returns the places of those that
+    /// did something. The cost grows with the ports of the free nodes and the packets that they take. After an error some free nodes may
     /// have had their turns.
-    pub fn round<S: Streams>(&mut self, streams: &S) -> Result<bool, AllocError>
+    pub fn round<S: Streams>(
+        &mut self,
+        alloc: Global,
+        streams: &S,
+    ) -> Result<NumberList, AllocError>
         requires { MayRound S.are S.has_from streams.now self.old.free self.old.takers.items }
         ensures free { self.new.free ≡ self.old.free }
         ensures taken { (ss : List (StreamPrefix Plain)) (takens : List Taken) → S.are streams.now ss → HaveTaken self.old.free takens self.old.takers.items
             → OnOk result (HaveTaken self.old.free (turns_of ss self.old.free takens) self.new.takers.items) }
         ensures did { (ss : List (StreamPrefix Plain)) (takens : List Taken) → S.are streams.now ss → HaveTaken self.old.free takens self.old.takers.items
-            → IfOk result (λ did. Did did takens (turns_of ss self.old.free takens)) }
+            → IfOk result (λ did. DidAt did takens (turns_of ss self.old.free takens)) }
         ensures handed { handed_of self.new.takers.items ≡ handed_of self.old.takers.items }
     {
-        let did = round(self.free.as_slice(), &mut self.takers, streams)?;
-        Ok(did)
+        let count = self.free.len();
+        let did = round(
+            alloc,
+            self.free.as_slice(),
+            count,
+            &mut self.takers,
+            streams,
+        )?;
+        Ok(NumberList::from_vec(did)?)
     }
 
-    /// Returns what was laid on the outputs of the free nodes since it was last handed on, as further input of the core's last graph
-    /// inputs: a piece for each free node, in order.
-    pub fn hand_on(&mut self, alloc: Global) -> Result<PrefixList, AllocError>
+    /// Returns what was laid on the outputs of some free nodes since it was last handed on, a piece for each, by their rising places. No
+    /// other free node costs anything.
+    pub fn hand_on(&mut self, alloc: Global, places: &[u32]) -> Result<PrefixList, AllocError>
+        requires rising { AreRising places.now }
+        requires within { (i place : ℕ) → slice_get places.now i ≡ Some place → place < length self.old.takers.items }
         ensures free { self.new.free ≡ self.old.free }
         ensures pieces { (takens : List Taken) → HaveTaken self.old.free takens self.old.takers.items
-            → IfOk result (λ pieces. pieces ≡ pieces_behind (handed_of self.old.takers.items) (outputs_so_far self.old.free takens)) }
+            → IfOk result (λ pieces. ArePiecesAt places.now pieces (handed_of self.old.takers.items) (outputs_so_far self.old.free takens)) }
         ensures taken { (takens : List Taken) → HaveTaken self.old.free takens self.old.takers.items → OnOk result (HaveTaken self.old.free takens self.new.takers.items) }
-        ensures handed { (takens : List Taken) → HaveTaken self.old.free takens self.old.takers.items
+        ensures handed { (takens : List Taken) → HaveTaken self.old.free takens self.old.takers.items → AreCountedBut places.now (handed_of self.old.takers.items) (outputs_so_far self.old.free takens)
             → OnOk result (handed_of self.new.takers.items ≡ map (λ s. length s.packets) (outputs_so_far self.old.free takens)) }
     {
-        let pieces = hand_on(alloc, &mut self.takers)?;
+        let pieces = hand_on(alloc, &mut self.takers, places)?;
         Ok(PrefixList::from_vec(pieces)?)
     }
 

@@ -43,7 +43,7 @@ solved {laws} job is =
     (it.0, record { is_job = is; solution = it.1 })
 
 -- the solution's stream of a graph input is what was handed in
-handed_in : {laws : Laws} (job : LoggedJob laws) (streams : List (StreamPrefix Plain)) (input : ℕ) → Solves job streams → input < length job.job.inputs.streams → get_or streams input empty_prefix ≡ get_or job.job.inputs.streams input empty_prefix
+pub handed_in : {laws : Laws} (job : LoggedJob laws) (streams : List (StreamPrefix Plain)) (input : ℕ) → Solves job streams → input < length job.job.inputs.streams → get_or streams input empty_prefix ≡ get_or job.job.inputs.streams input empty_prefix
 handed_in {laws} job streams input solves less =
     let s = found job.job.inputs.streams input less in
     get_or_from_slice_get streams input s.0 empty_prefix (ap (λ (ss : List (StreamPrefix Plain)). slice_get ss input) (sym solves.solution.meets) ∙ get_first job.job.inputs.streams _ input s.0 s.1)

@@ -14,7 +14,7 @@ use Rattle.mg_sched.proofs.Finding.{found, put_here, put_long}
 use Rattle.mg_sched.proofs.WoundNets.{order_of}
 
 -- equal lists are equal at each place
-same_places : {X : Type 0} (xs ys : List X) → length xs ≡ length ys → ((i : ℕ) → slice_get xs i ≡ slice_get ys i) → xs ≡ ys
+pub same_places : {X : Type 0} (xs ys : List X) → length xs ≡ length ys → ((i : ℕ) → slice_get xs i ≡ slice_get ys i) → xs ≡ ys
 same_places [] [] long same = refl
 same_places [] (y ∷ ys) long same = absurd (omega (arith, long))
 same_places (x ∷ xs) [] long same = absurd (omega (arith, long))

@@ -48,6 +48,7 @@ pub mod RestingLooks
 pub mod IdleStays
 pub mod WoundNets
 pub mod LaidPieces
+pub mod LaidAt
 pub mod ExtendedNets
 pub mod RestingEdges
 pub mod RestingNodes
@@ -72,6 +73,7 @@ pub mod Sweeping
 pub mod RestingFinds
 pub mod RestingPlaces
 pub mod TouchedOutside
+pub mod ExtendedAt
 pub mod LeftEngines
 pub mod LeftPerform
 pub mod LeftCommit

@@ -3,6 +3,7 @@ pub mod WorkQueues
 pub mod Tables
 pub mod Made
 pub mod Longer
+pub mod LongerAt
 pub mod Outputs
 pub mod Agendas
 pub mod AtLimits

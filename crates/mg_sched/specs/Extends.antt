@@ -1,5 +1,5 @@
 -- How a net goes on with further input: what comes of each graph input stands behind what came before, and nothing else changes.
-use Rattle.std.specs.Prelude.{◌≡◌, ℕ, ◌+◌, ◌-◌, ◌<◌, List, [], ◌++◌, false, length, replicate, Some, slice_get, slice_index_or}
+use Rattle.std.specs.Prelude.{◌≡◌, ℕ, ◌+◌, ◌-◌, ◌<◌, ◌≤◌, List, [], ◌++◌, false, length, replicate, Some, slice_get, slice_index_or}
 use Rattle.mg_value.specs.Payload.{Plain}
 use Rattle.mg_settled.specs.Prefix.{StreamPrefix, empty_prefix}
 use Rattle.mg_calc.specs.Rules.{Laws}
@@ -36,3 +36,31 @@ pub record Extends (more : Inputs) (before now : NetView) : Type 0 where
   pub nodes : (place : ℕ) → place < length before.plan.nodes → slice_get now.engines place ≡ slice_get before.engines place
   pub inputs : (input : ℕ) (engine : EngineView) (piece : StreamPrefix Plain) → slice_get before.engines (length before.plan.nodes + input) ≡ Some engine
       → slice_get more.streams input ≡ Some piece → slice_get now.engines (length before.plan.nodes + input) ≡ Some (extended engine piece)
+
+-- Further input of some graph inputs alone.
+
+-- numbers each of which is higher than those before it
+abbrev pub AreRising : List ℕ → Type 0
+AreRising numbers = (i j number other : ℕ) → i < j → slice_get numbers i ≡ Some number → slice_get numbers j ≡ Some other → number < other
+
+-- nothing new stands in a piece that comes behind a prefix: it has no packet, and its bound is no higher
+pub record BringsNothing (s piece : StreamPrefix Plain) : Type 0 where
+  pub packets : piece.packets ≡ []
+  pub bound : piece.bound ≤ s.bound
+
+-- Further input comes to some graph inputs alone, by their numbers, a piece for each. What it has for any other brings nothing new there
+-- behind what came so far.
+pub record ComesAt (inputs : List ℕ) (pieces so_far : List (StreamPrefix Plain)) (more : Inputs) : Type 0 where
+  pub rising : AreRising inputs
+  pub as_many : length pieces ≡ length inputs
+  pub given : (i input : ℕ) (piece : StreamPrefix Plain) → slice_get inputs i ≡ Some input → slice_get pieces i ≡ Some piece → slice_get more.streams input ≡ Some piece
+  pub others : (input : ℕ) (piece : StreamPrefix Plain) → slice_get more.streams input ≡ Some piece → ((i : ℕ) → ¬ (slice_get inputs i ≡ Some input)) → BringsNothing (slice_index_or so_far input empty_prefix) piece
+
+-- a net may go on with pieces for some graph inputs: it stands for a job that does
+pub record MayGoOnAt (laws : Laws) (inputs : List ℕ) (pieces : List (StreamPrefix Plain)) (net : NetView) : Type 0 where
+  pub more : Inputs
+  pub first : LoggedJob laws
+  pub later : LoggedJob laws
+  pub stands : StandsFor first net
+  pub goes_on : GoesOnWith more first later
+  pub comes : ComesAt inputs pieces first.job.inputs.streams more

@@ -3,7 +3,7 @@ ghost use Rattle.mg_calc.specs.Plan.{IsValid, HasEachOnce};
 ghost use Rattle.mg_ready.specs.Ready.{none_ready, IsIn, IsEmpty, IsHighest, ChangesOnly};
 ghost use Rattle.mg_calc.specs.declared.edge.Edge.{Edge};
 ghost use Rattle.mg_sched.specs.Places.{source_of};
-ghost use Rattle.mg_sched.specs.Code.Quiet.{WakesLast, Touches, OfKept};
+ghost use Rattle.mg_sched.specs.Code.Quiet.{WakesLast, WakesAt, Touches, OfKept};
 ghost use Rattle.mg_sched.specs.Code.Agendas.{LeadOn, AreLeads, IsAgendaOf, waiting_in, touched_in, priorities};
 
 use crate::sources::source_of;
@@ -203,6 +203,16 @@ pub(crate) fn wake_last(kept: &mut Option<Agenda>, count: u32)
     }
 }
 
+/// Wakes the places of some graph inputs in an agenda, if there is one. The place of the first graph input is `from`.
+pub(crate) fn wake_some(kept: &mut Option<Agenda>, from: u32, inputs: &[u32])
+    requires { IfSome kept.old (λ a. (i input : ℕ) → slice_get inputs.now i ≡ Some input → from + input < length a.heads) }
+    ensures { OfKept (WakesAt from inputs.now) kept.old kept.new }
+{
+    if let Some(agenda) = kept {
+        agenda.wake_at(from, inputs);
+    }
+}
+
 /// Notes in an agenda, if there is one, that the parts of a place have changed.
 pub(crate) fn touch(kept: &mut Option<Agenda>, place: u32)
     requires { IfSome kept.old (λ a. place ≤ length a.heads) }
@@ -278,6 +288,18 @@ impl Agenda {
         let first = end - count;
         for place in first..end {
             self.wake(place);
+        }
+    }
+
+    /// Wakes the places of some graph inputs, whose parts have changed outside of a sweep. The place of the first graph input is `from`.
+    pub(crate) fn wake_at(&mut self, from: u32, inputs: &[u32])
+        requires { (i input : ℕ) → slice_get inputs.now i ≡ Some input → from + input < length self.old.heads }
+        ensures { WakesAt from inputs.now self.old self.new }
+    {
+        let end = self.count();
+        let _ = end;
+        for i in 0..inputs.len() {
+            self.wake(from + inputs[i]);
         }
     }
 

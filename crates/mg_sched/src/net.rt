@@ -3,6 +3,7 @@ mod beginning;
 mod carrying;
 mod claiming;
 mod extending;
+mod extending_some;
 mod joining;
 mod keeping;
 mod leaving;

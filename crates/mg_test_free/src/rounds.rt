@@ -111,12 +111,12 @@ fn ready(alloc: Global, law: FreeLaw, given: &Given) -> Result<LiveNodes, Fail>
 }
 
 // Makes rounds until one does nothing, and fails after ten.
-fn run(live: &mut LiveNodes, given: &Given) -> Result<(), Fail>
+fn run(alloc: Global, live: &mut LiveNodes, given: &Given) -> Result<(), Fail>
     requires { IsReady live.old.free live.old.takers.items given.now.streams }
     ensures { OnOk result (IsReady live.new.free live.new.takers.items given.now.streams) }
 {
     'rounds: for _ in 0..10 {
-        if !live.round(given)? {
+        if live.round(alloc, given)?.is_empty() {
             return Ok(());
         }
     }
@@ -142,7 +142,10 @@ fn stream_in(alloc: Global, text: &str) -> Result<Prefix, Fail> {
 }
 
 fn show_handed(text: &mut String, alloc: Global, live: &mut LiveNodes) -> Result<(), Fail> {
-    for piece in live.hand_on(alloc)?.as_slice() {
+    if live.len() != 1 {
+        return Err(Fail::from("no single node"));
+    }
+    for piece in live.hand_on(alloc, &[0])?.as_slice() {
         for packet in piece.packets.as_slice() {
             write!(text, "{} ", text_of(alloc, packet.at)?)?;
         }
@@ -189,7 +192,7 @@ impl Calls for Turning {
     fn answer(&mut self, alloc: Global, call: &str) -> Result<String, Fail> {
         let (law, given) = read_call(alloc, call)?;
         let mut live = ready(alloc, law, &given)?;
-        run(&mut live, &given)?;
+        run(alloc, &mut live, &given)?;
         show(alloc, &mut live)
     }
 }

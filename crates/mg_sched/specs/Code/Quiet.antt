@@ -92,6 +92,14 @@ pub record WakesLast (count : ℕ) (before now : AgendaView) : Type 0 where
   pub grows : (place : ℕ) → IsIn before.touched place → IsIn now.touched place
   pub woken : (place : ℕ) → place < length before.heads → length before.heads ≤ place + count → IsIn now.touched place
 
+-- the places of some graph inputs are touched, where that of the first one is `from`
+pub record WakesAt (from : ℕ) (inputs : List ℕ) (before now : AgendaView) : Type 0 where
+  pub heads : length now.heads ≡ length before.heads
+  pub starts : now.starts ≡ before.starts
+  pub links : now.links ≡ before.links
+  pub grows : (place : ℕ) → IsIn before.touched place → IsIn now.touched place
+  pub woken : (i input : ℕ) → slice_get inputs i ≡ Some input → IsIn now.touched (from + input)
+
 -- one place is touched
 pub record Touches (place : ℕ) (before now : AgendaView) : Type 0 where
   pub heads : length now.heads ≡ length before.heads

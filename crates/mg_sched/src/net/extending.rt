@@ -36,7 +36,7 @@ fn bounds_of<C: NodeCalculator>(
 }
 
 // Extends the engine at a place.
-fn extend_at<C: NodeCalculator>(
+pub(super) fn extend_at<C: NodeCalculator>(
     engines: &mut [Engine<C>],
     place: usize,
     piece: &Prefix,
@@ -71,7 +71,7 @@ fn extend_each<C: NodeCalculator>(
 }
 
 // Takes a piece back from the engine at a place.
-fn shorten_at<C: NodeCalculator>(
+pub(super) fn shorten_at<C: NodeCalculator>(
     engines: &mut [Engine<C>],
     place: usize,
     piece: &Prefix,
@@ -142,9 +142,9 @@ impl<C: NodeCalculator> Net<C> {
         Ok(())
     }
 
-    /// Goes on with further input of the last graph inputs alone, a piece for each of them. Nothing comes to the graph inputs before
-    /// them, and they cost nothing.
-    pub fn extend_last(&mut self, pieces: &PrefixList) -> Result<(), AllocError>
+    // Goes on with further input of the last graph inputs alone, a piece for each of them. Nothing comes to the graph inputs before
+    // them, and they cost nothing.
+    fn extend_last(&mut self, pieces: &PrefixList) -> Result<(), AllocError>
         requires may { MayGoOnWith C.laws (for_last (length self.old.plan.inputs) pieces.now) self.old }
         ensures extends { OnOk result (Extends (for_last (length self.old.plan.inputs) pieces.now) self.old self.new) }
         ensures unchanged { OnErr result (self.new ≡ self.old) }

@@ -103,7 +103,7 @@ impl<C: NodeCalculator> Net<C> {
     /// to where the net is now; at want of memory it may end before a step that was made only in part.
     ///
     /// A packet costs what the steps on its way cost. At its end a sweep looks over the whole net, unless nothing but `extend`,
-    /// `extend_last`, `keep` and `take_out` has changed it since the last sweep, which came to rest. Then it begins with the graph inputs
+    /// `extend_some`, `keep` and `take_out` has changed it since the last sweep, which came to rest. Then it begins with the graph inputs
     /// that were extended, and looks over these, the collector and the places of its own steps alone. The first sweep takes memory for the
     /// agenda that is kept, and so does the first one after the net was put together of its parts.
     pub fn sweep<G: Gate, H: Hears>(&mut self, gate: &G, hearer: &mut H) -> Result<(), AllocError>
