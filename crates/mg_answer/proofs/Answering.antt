@@ -35,20 +35,21 @@ use Rattle.mg_answer.specs.declared.status.Status.TheVariants.{Good, StoreFault,
 use Rattle.mg_answer.proofs.Writing.{front-sent, put-sent}
 use Rattle.mg_answer.proofs.Gathering.{read-came}
 use Rattle.mg_answer.proofs.Telling.{open-stalled, bounds-told}
+use Rattle.mg_answer.specs.declared.run.Reporting.{Reporting}
 
 -- The answer --
 
 abbrev plain_job : Laws → Plan → Inputs → Job
 plain_job laws plan inputs = record { plan = plan; inputs = inputs; laws = laws }
 
-abbrev told : Laws → Bool → Plan → Inputs → FeedEnd → List (StreamPrefix Plain) → RunAnswer
+abbrev told : Laws → Reporting → Plan → Inputs → FeedEnd → List (StreamPrefix Plain) → RunAnswer
 told laws report plan inputs end streams = answer_of (by_lines report) (plain_job laws plan inputs) end streams
 
-abbrev failed : Laws → Bool → Plan → Inputs → FeedEnd → List (StreamPrefix Plain) → List ℕ
+abbrev failed : Laws → Reporting → Plan → Inputs → FeedEnd → List (StreamPrefix Plain) → List ℕ
 failed laws report plan inputs end streams = failed_notes (by_lines report) (plain_job laws plan inputs) end streams
 
 -- an answer of the job is that of the plan over what was read
-abbrev is-answer : (laws : Laws) (report : Bool) (plan : Plan) (inputs : Inputs) (end : FeedEnd) (read : Read) (streams : List (StreamPrefix Plain)) → inputs ≡ inputs_by (inputs_of plan) read → end ≡ read.end
+abbrev is-answer : (laws : Laws) (report : Reporting) (plan : Plan) (inputs : Inputs) (end : FeedEnd) (read : Read) (streams : List (StreamPrefix Plain)) → inputs ≡ inputs_by (inputs_of plan) read → end ≡ read.end
     → IsSolution (plain_job laws plan inputs) streams → IsAnswer laws report plan read (told laws report plan inputs end streams)
 is-answer laws report plan inputs end read streams is ended solution = record {
   streams = streams;
@@ -56,7 +57,7 @@ is-answer laws report plan inputs end read streams is ended solution = record {
   is = ap (λ (i : Inputs). answer_of (by_lines report) (plain_job laws plan i) end streams) is ∙ ap (λ (e : FeedEnd). answer_of (by_lines report) (job_of laws plan read) e streams) ended;
 }
 
-ran-all : (laws : Laws) (report : Bool) (plan : Plan) (input : Device SourceTold) (end : FeedEnd) (inputs : Inputs) (status : Status) (output notes : Device SinkTold) (streams : List (StreamPrefix Plain))
+ran-all : (laws : Laws) (report : Reporting) (plan : Plan) (input : Device SourceTold) (end : FeedEnd) (inputs : Inputs) (status : Status) (output notes : Device SinkTold) (streams : List (StreamPrefix Plain))
     → GatheredInputs (inputs_of plan) input end inputs → IsSolution (plain_job laws plan inputs) streams
     → Meets (told laws report plan inputs end streams) status output notes → RanAll laws report plan status (run_devices input output notes)
 ran-all laws report plan input end inputs status output notes streams gathered solution wrote = record {
@@ -67,7 +68,7 @@ ran-all laws report plan input end inputs status output notes streams gathered s
   met = record { text = wrote.text; noted = wrote.noted; told = wrote.told };
 }
 
-ran-short : (laws : Laws) (report : Bool) (plan : Plan) (input : Device SourceTold) (end : FeedEnd) (inputs : Inputs) (output notes : Device SinkTold) (streams : List (StreamPrefix Plain))
+ran-short : (laws : Laws) (report : Reporting) (plan : Plan) (input : Device SourceTold) (end : FeedEnd) (inputs : Inputs) (output notes : Device SinkTold) (streams : List (StreamPrefix Plain))
     → GatheredInputs (inputs_of plan) input end inputs → IsSolution (plain_job laws plan inputs) streams
     → MetShort (told laws report plan inputs end streams) (failed laws report plan inputs end streams) output notes → RanShort laws report plan (run_devices input output notes)
 ran-short laws report plan input end inputs output notes streams gathered solution wrote = record {
@@ -99,7 +100,7 @@ no-want plan input (Failed lines) fs ns came read by is = cc
 no-want plan input (Refused line cause) fs ns came read by is = cc
 no-want plan input no_lines fs ns came read by is = absurd by
 
-ran-by : (laws : Laws) (report : Bool) (plan : Plan) (input : Device SourceTold) (end : FeedEnd) (inputs : Inputs) (status : Status) (output notes : Device SinkTold) (streams : List (StreamPrefix Plain))
+ran-by : (laws : Laws) (report : Reporting) (plan : Plan) (input : Device SourceTold) (end : FeedEnd) (inputs : Inputs) (status : Status) (output notes : Device SinkTold) (streams : List (StreamPrefix Plain))
     → GatheredInputs (inputs_of plan) input end inputs → IsSolution (plain_job laws plan inputs) streams
     → WroteBy status (told laws report plan inputs end streams) (failed laws report plan inputs end streams) output notes → Ran laws report plan status (run_devices input output notes)
 ran-by laws report plan input end inputs Good output notes streams gathered solution by = ran-all laws report plan input end inputs Good output notes streams gathered solution by
@@ -116,11 +117,11 @@ ran-by laws report plan input end inputs OutOfMemory output notes streams gather
     absurd (no-want plan input gathered.read.end fs (stalled streams) gathered.came.came gathered.read gathered.came.by
     (by.told ∙ ap (λ (e : FeedEnd). status_of e fs (stalled streams)) gathered.ended))
 
-pub ran-wrote : (laws : Laws) (report : Bool) (plan : Plan) (input : Device SourceTold) (end : FeedEnd) (inputs : Inputs) (status : Status) (output notes : Device SinkTold)
+pub ran-wrote : (laws : Laws) (report : Reporting) (plan : Plan) (input : Device SourceTold) (end : FeedEnd) (inputs : Inputs) (status : Status) (output notes : Device SinkTold)
     → GatheredInputs (inputs_of plan) input end inputs → Wrote (by_lines report) (plain_job laws plan inputs) end status output notes → Ran laws report plan status (run_devices input output notes)
 ran-wrote laws report plan input end inputs status output notes gathered wrote = ran-by laws report plan input end inputs status output notes wrote.streams gathered wrote.solution wrote.by
 
-pub ran-out : (laws : Laws) (report : Bool) (plan : Plan) (input : Device SourceTold) (end : FeedEnd) (inputs : Inputs) (output : Device SinkTold)
+pub ran-out : (laws : Laws) (report : Reporting) (plan : Plan) (input : Device SourceTold) (end : FeedEnd) (inputs : Inputs) (output : Device SinkTold)
     → GatheredInputs (inputs_of plan) input end inputs → WroteSome (plain_job laws plan inputs) output → Untouched output ⊎ TookSome laws plan input output
 ran-out laws report plan input end inputs output gathered (inl untouched) = inl untouched
 ran-out laws report plan input end inputs output gathered (inr wrote) = inr (took-some laws plan input end inputs output wrote.streams gathered wrote.solution wrote.front)
@@ -199,7 +200,7 @@ wrote-frozen telling job streams status result written noted output notes soluti
 }
 
 -- what is said of outcomes that a job's streams tell, where these streams stalled
-said-by : (status : Status) (plan : Plan) (end : FeedEnd) (outcomes : Outcomes) (ns : List ℕ) (report : Bool) (job : Job) (streams : List (StreamPrefix Plain)) → job.plan ≡ plan
+said-by : (status : Status) (plan : Plan) (end : FeedEnd) (outcomes : Outcomes) (ns : List ℕ) (report : Reporting) (job : Job) (streams : List (StreamPrefix Plain)) → job.plan ≡ plan
     → TellsOf job streams outcomes → told_notes status report plan end outcomes ns ≡ notes_by status job.plan end (faults job streams) (bounds_of streams) ns ++ asked_report report (report_of job streams)
 said-by status plan end outcomes ns report job streams plan_is tells =
     let bounds : end_bounds outcomes.ends.items ≡ bounds_of streams = ap end_bounds tells.ends ∙ bounds-told streams in
@@ -217,7 +218,7 @@ sent-of plan view view' written before now flush none written_is form job stream
     (put-sent view'.failed first now view'.kept (output_in form plan streams) none (flush first (output_in form plan streams) put)))
 
 -- the same, where the text was put, and the outcomes tell the rest
-pub wrote-told : (plan : Plan) (end : FeedEnd) (outcomes : Outcomes) (ns : List ℕ) (report : Bool) (view view' : TextView) (status result : Status) (written noted : Bool) (bytes said : List ℕ)
+pub wrote-told : (plan : Plan) (end : FeedEnd) (outcomes : Outcomes) (ns : List ℕ) (report : Reporting) (view view' : TextView) (status result : Status) (written noted : Bool) (bytes said : List ℕ)
     (before now notes_before notes_now : SinkTold) → ((first : SinkTold) (text : List ℕ) → HasPut first before view text → HasPut first now view' text)
     → (view'.failed ≡ false → view'.kept ≡ []) → written ≡ not view'.failed → ns ≡ open_numbers outcomes.ends.items
     → status ≡ (if written then status_of end outcomes.faults ns else WriteFault)
@@ -237,7 +238,7 @@ wrote-told plan end outcomes ns report view view' status result written noted by
     (sent-of plan view view' written before now flush none written_is form job streams first plan_is put)
     (subst (λ (l : List ℕ). Sent noted notes_before notes_now l) noted_is sent) result_is
 
-pub wrote-told-frozen : (plan : Plan) (outcomes : Outcomes) (report : Bool) (view view' : TextView) (status result : Status) (written noted : Bool) (bytes said : List ℕ)
+pub wrote-told-frozen : (plan : Plan) (outcomes : Outcomes) (report : Reporting) (view view' : TextView) (status result : Status) (written noted : Bool) (bytes said : List ℕ)
     (before now notes_before notes_now : SinkTold) → ((first : SinkTold) (text : List ℕ) → HasPut first before view text → HasPut first now view' text)
     → (view'.failed ≡ false → view'.kept ≡ []) → written ≡ not view'.failed
     → status ≡ (if written then status_of Ended outcomes.faults [] else WriteFault)
@@ -253,7 +254,7 @@ wrote-told-frozen plan outcomes report view view' status result written noted by
     (subst (λ (l : List ℕ). Sent noted notes_before notes_now l) (bytes_is ∙ said_is ∙ said-by status plan Ended outcomes [] report job streams plan_is tells) sent) result_is
 
 -- and of whatever text was put
-pub wrote-so : (plan : Plan) (end : FeedEnd) (outcomes : Outcomes) (ns : List ℕ) (report : Bool) (view view' : TextView) (status result : Status) (written noted : Bool) (bytes said : List ℕ)
+pub wrote-so : (plan : Plan) (end : FeedEnd) (outcomes : Outcomes) (ns : List ℕ) (report : Reporting) (view view' : TextView) (status result : Status) (written noted : Bool) (bytes said : List ℕ)
     (before now notes_before notes_now : SinkTold) → ((first : SinkTold) (text : List ℕ) → HasPut first before view text → HasPut first now view' text)
     → (view'.failed ≡ false → view'.kept ≡ []) → written ≡ not view'.failed → ns ≡ open_numbers outcomes.ends.items
     → status ≡ (if written then status_of end outcomes.faults ns else WriteFault)
@@ -273,13 +274,13 @@ wrote-so plan end outcomes ns report view view' status result written noted byte
 -- What follows --
 
 -- the status of an answer is told by how the input ended
-told-by : (laws : Laws) (report : Bool) (plan : Plan) (status : Status) (all : RunDevices) (ran : RanAll laws report plan status all)
+told-by : (laws : Laws) (report : Reporting) (plan : Plan) (status : Status) (all : RunDevices) (ran : RanAll laws report plan status all)
     → (fs : List Fault) × (ns : List ℕ) × (status ≡ status_of ran.read.end fs ns)
 told-by laws report plan status all ran =
     (faults (job_of laws plan ran.read) ran.is.streams, stalled ran.is.streams, ran.met.told ∙ ap (λ (a : RunAnswer). a.status) ran.is.is)
 
 -- the input was read, unless memory ran out
-pub ran-read : (laws : Laws) (report : Bool) (plan : Plan) (status : Status) (all : RunDevices) → Ran laws report plan status all → status ≢ OutOfMemory → (read : Read) × CameTo (inputs_of plan) all.input read
+pub ran-read : (laws : Laws) (report : Reporting) (plan : Plan) (status : Status) (all : RunDevices) → Ran laws report plan status all → status ≢ OutOfMemory → (read : Read) × CameTo (inputs_of plan) all.input read
 ran-read laws report plan Good all ran some = (ran.read, ran.input)
 ran-read laws report plan LineRefused all ran some = (ran.read, ran.input)
 ran-read laws report plan StoreFault all ran some = (ran.read, ran.input)
@@ -292,7 +293,7 @@ ran-read laws report plan WriteFault all ran some = (ran.read, ran.input)
 ran-read laws report plan OutOfMemory all ran some = absurd (some refl)
 
 -- it was read once, also where memory ran out
-pub ran-once : (laws : Laws) (report : Bool) (plan : Plan) (status : Status) (all : RunDevices) → Ran laws report plan status all → ReadSome (inputs_of plan) all.input
+pub ran-once : (laws : Laws) (report : Reporting) (plan : Plan) (status : Status) (all : RunDevices) → Ran laws report plan status all → ReadSome (inputs_of plan) all.input
 ran-once laws report plan Good all ran = read-came (inputs_of plan) all.input ran.read ran.input
 ran-once laws report plan LineRefused all ran = read-came (inputs_of plan) all.input ran.read ran.input
 ran-once laws report plan StoreFault all ran = read-came (inputs_of plan) all.input ran.read ran.input
@@ -321,7 +322,7 @@ end-by (Refused line cause) status fs ns graph input came read is (inr (inr (inl
 end-by (Refused line cause) status fs ns graph input came read is (inr (inr (inr e))) by = absurd e
 end-by no_lines status fs ns graph input came read is one by = absurd by
 
-all-ended : (laws : Laws) (report : Bool) (plan : Plan) (status : Status) (all : RunDevices) → RanAll laws report plan status all → IsOneOf status ended_statuses → EndCame all.input.before all.input.now
+all-ended : (laws : Laws) (report : Reporting) (plan : Plan) (status : Status) (all : RunDevices) → RanAll laws report plan status all → IsOneOf status ended_statuses → EndCame all.input.before all.input.now
 all-ended laws report plan status all ran one =
     let told = told-by laws report plan status all ran in
     end-by ran.read.end status told.0 told.1 (inputs_of plan) all.input ran.input.came ran.read told.2 one ran.input.by
@@ -336,7 +337,7 @@ no-one status (inr e) (inr (inl f)) = cc
 no-one status (inr e) (inr (inr (inl f))) = cc
 no-one status (inr e) (inr (inr (inr f))) = f
 
-pub ran-ended : (laws : Laws) (report : Bool) (plan : Plan) (status : Status) (all : RunDevices) → Ran laws report plan status all → IsOneOf status ended_statuses → EndCame all.input.before all.input.now
+pub ran-ended : (laws : Laws) (report : Reporting) (plan : Plan) (status : Status) (all : RunDevices) → Ran laws report plan status all → IsOneOf status ended_statuses → EndCame all.input.before all.input.now
 ran-ended laws report plan Good all ran one = all-ended laws report plan Good all ran one
 ran-ended laws report plan LineRefused all ran one = all-ended laws report plan LineRefused all ran one
 ran-ended laws report plan StoreFault all ran one = all-ended laws report plan StoreFault all ran one
@@ -369,12 +370,12 @@ failed-by (Failed lines) status fs ns before now graph input came read is un by 
 failed-by (Refused line cause) status fs ns before now graph input came read is un by risen = absurd (steady-risen before.faults now.faults un.steady risen)
 failed-by no_lines status fs ns before now graph input came read is un by risen = absurd by
 
-all-risen : (laws : Laws) (report : Bool) (plan : Plan) (status : Status) (all : RunDevices) → RanAll laws report plan status all → HasRisen all.input.before.faults all.input.now.faults → IsOneOf status read_statuses
+all-risen : (laws : Laws) (report : Reporting) (plan : Plan) (status : Status) (all : RunDevices) → RanAll laws report plan status all → HasRisen all.input.before.faults all.input.now.faults → IsOneOf status read_statuses
 all-risen laws report plan status all ran risen =
     let told = told-by laws report plan status all ran in
     failed-by ran.read.end status told.0 told.1 all.input.before all.input.now (inputs_of plan) all.input ran.input.came ran.read told.2 ran.input.faults ran.input.by risen
 
-pub read-risen : (laws : Laws) (report : Bool) (plan : Plan) (status : Status) (all : RunDevices) → Ran laws report plan status all → HasRisen all.input.before.faults all.input.now.faults → IsOneOf status read_statuses
+pub read-risen : (laws : Laws) (report : Reporting) (plan : Plan) (status : Status) (all : RunDevices) → Ran laws report plan status all → HasRisen all.input.before.faults all.input.now.faults → IsOneOf status read_statuses
 read-risen laws report plan Good all ran risen = all-risen laws report plan Good all ran risen
 read-risen laws report plan LineRefused all ran risen = all-risen laws report plan LineRefused all ran risen
 read-risen laws report plan StoreFault all ran risen = all-risen laws report plan StoreFault all ran risen
@@ -389,11 +390,11 @@ read-risen laws report plan OutOfMemory all ran risen = inr (inr (inl refl))
 abbrev pub WriteRisen : RunDevices → Type 0
 WriteRisen all = HasRisen all.output.before.faults all.output.now.faults ⊎ HasRisen all.notes.before.faults all.notes.now.faults
 
-write-steady : (laws : Laws) (report : Bool) (plan : Plan) (status : Status) (all : RunDevices) → RanAll laws report plan status all → WriteRisen all → ⊥
+write-steady : (laws : Laws) (report : Reporting) (plan : Plan) (status : Status) (all : RunDevices) → RanAll laws report plan status all → WriteRisen all → ⊥
 write-steady laws report plan status all ran (inl risen) = steady-risen _ _ ran.met.text.steady risen
 write-steady laws report plan status all ran (inr risen) = steady-risen _ _ ran.met.noted.steady risen
 
-pub write-risen : (laws : Laws) (report : Bool) (plan : Plan) (status : Status) (all : RunDevices) → Ran laws report plan status all → WriteRisen all → IsOneOf status (WriteFault ∷ OutOfMemory ∷ [])
+pub write-risen : (laws : Laws) (report : Reporting) (plan : Plan) (status : Status) (all : RunDevices) → Ran laws report plan status all → WriteRisen all → IsOneOf status (WriteFault ∷ OutOfMemory ∷ [])
 write-risen laws report plan Good all ran risen = absurd (write-steady laws report plan Good all ran risen)
 write-risen laws report plan LineRefused all ran risen = absurd (write-steady laws report plan LineRefused all ran risen)
 write-risen laws report plan StoreFault all ran risen = absurd (write-steady laws report plan StoreFault all ran risen)
@@ -429,7 +430,7 @@ whole-read graph input read bytes came is un =
     let gave : Gave (Some bytes) input.now.left came.came = subst (λ (o : Option (List ℕ)). Gave o input.now.left came.came) is came.gave in
     whole-by read.end graph input came.came bytes gave.0 read is gave.1 gave.2 came.by came.faults un
 
-all-answered : (laws : Laws) (report : Bool) (plan : Plan) (status : Status) (all : RunDevices) → RanAll laws report plan status all → NoneFailed all → IsAnswered laws report plan status all
+all-answered : (laws : Laws) (report : Reporting) (plan : Plan) (status : Status) (all : RunDevices) → RanAll laws report plan status all → NoneFailed all → IsAnswered laws report plan status all
 all-answered laws report plan status all ran none = by all.input.before.left refl
   where
     by : (o : Option (List ℕ)) → all.input.before.left ≡ o → IfSome o (λ bytes. (answer : RunAnswer) × AnswersEnded laws report plan bytes answer × Meets answer status all.output all.notes)
@@ -440,14 +441,14 @@ all-answered laws report plan status all ran none = by all.input.before.left ref
       ran.met,
     )
 
-short-failed : (laws : Laws) (report : Bool) (plan : Plan) (all : RunDevices) → RanShort laws report plan all → NoneFailed all → ⊥
+short-failed : (laws : Laws) (report : Reporting) (plan : Plan) (all : RunDevices) → RanShort laws report plan all → NoneFailed all → ⊥
 short-failed laws report plan all ran none = by ran.short.rose
   where
     by : Rose all.output.before.faults all.output.now.faults ⊎ Rose all.notes.before.faults all.notes.now.faults → ⊥
     by (inl rose) = rose-unrisen _ _ rose none.output
     by (inr rose) = rose-unrisen _ _ rose none.notes
 
-pub ran-answered : (laws : Laws) (report : Bool) (plan : Plan) (status : Status) (all : RunDevices) → Ran laws report plan status all → NoneFailed all → status ≢ OutOfMemory → IsAnswered laws report plan status all
+pub ran-answered : (laws : Laws) (report : Reporting) (plan : Plan) (status : Status) (all : RunDevices) → Ran laws report plan status all → NoneFailed all → status ≢ OutOfMemory → IsAnswered laws report plan status all
 ran-answered laws report plan Good all ran none some = all-answered laws report plan Good all ran none
 ran-answered laws report plan LineRefused all ran none some = all-answered laws report plan LineRefused all ran none
 ran-answered laws report plan StoreFault all ran none some = all-answered laws report plan StoreFault all ran none

@@ -1,5 +1,5 @@
 -- Where lines of different streams change places, and all are good either way, the answer is the same.
-use Rattle.std.proofs.Common.{◌≡◌, ℕ, Bool, List, [], ◌∷◌, ◌++◌, sym, ap, subst, ◌∙◌}
+use Rattle.std.proofs.Common.{◌≡◌, ℕ, List, [], ◌∷◌, ◌++◌, sym, ap, subst, ◌∙◌}
 use Rattle.mg_calc.specs.declared.plan.Plan.{Plan}
 use Rattle.mg_calc.specs.Equations.{Job}
 use Rattle.mg_calc.specs.Rules.{Laws}
@@ -13,6 +13,7 @@ use Rattle.mg_feed.specs.declared.feed_end.FeedEnd.TheVariants.{Ended}
 use Rattle.mg_feed.proofs.Accepting.{judged-good}
 use Rattle.mg_feed.proofs.ChangingPlaces.{places_changed}
 use Rattle.mg_answer.specs.Answer.{by_lines, Read, RunAnswer, end_by, ended_input, is_ended, IsAnswerOf, IsAnswer, AnswersEnded}
+use Rattle.mg_answer.specs.declared.run.Reporting.{Reporting}
 
 -- what an input came to whose lines are all good
 abbrev all_read : List (List ℕ) → Read
@@ -27,7 +28,7 @@ reads_all graph input good =
 abbrev state_job : Laws → Plan → State → Job
 state_job laws plan given = record { plan = plan; inputs = record { streams = ended_streams (is_ended Ended) given.streams; sides = given.sides; ended = is_ended Ended }; laws = laws }
 
-pub same_answer : (laws : Laws) (report : Bool) (plan : Plan) (input other : List ℕ) (front back : List (List ℕ)) (first second : List ℕ) (answer : RunAnswer)
+pub same_answer : (laws : Laws) (report : Reporting) (plan : Plan) (input other : List ℕ) (front back : List (List ℕ)) (first second : List ℕ) (answer : RunAnswer)
     → all_lines input ≡ front ++ first ∷ second ∷ back → all_lines other ≡ front ++ second ∷ first ∷ back → AreApart first second
     → AllGood (inputs_of plan) [] (all_lines input) → AllGood (inputs_of plan) [] (all_lines other) → AnswersEnded laws report plan input answer → AnswersEnded laws report plan other answer
 same_answer laws report plan input other front back first second answer is also apart good good_too answers =

@@ -1,5 +1,5 @@
 -- What a run over packets that are made came to, by its status, and what follows of it.
-use Rattle.std.proofs.Common.{◌≡◌, ◌≢◌, ◌<◌, ◌^◌, length, ◌⊎◌, inl, inr, ℕ, Bool, List, [], ◌∷◌, refl}
+use Rattle.std.proofs.Common.{◌≡◌, ◌≢◌, ◌<◌, ◌^◌, length, ◌⊎◌, inl, inr, ℕ, List, [], ◌∷◌, refl}
 use Rattle.mg_edge.specs.Edge.{Rose}
 use Rattle.mg_value.specs.Payload.{Plain}
 use Rattle.mg_value.specs.declared.policy.Policy.TheVariants.{Default}
@@ -24,17 +24,18 @@ use Rattle.mg_answer.specs.declared.status.Status.TheVariants.{Good, StoreFault,
 use Rattle.mg_answer.proofs.Answering.{WriteRisen, steady-risen, rose-unrisen}
 use Rattle.mg_answer.proofs.OneAnswer.{answer-of}
 use Rattle.mg_answer.proofs.Telling.{solved-prefixes}
+use Rattle.mg_answer.specs.declared.run.Reporting.{Reporting}
 
 -- there is an answer
-pub answer-generated : (laws : Laws) (report : Bool) (plan : Plan) (number : ℕ) → IsJob (generated_job laws plan number) → (answer : RunAnswer) × AnswersGenerated laws report plan number answer
+pub answer-generated : (laws : Laws) (report : Reporting) (plan : Plan) (number : ℕ) → IsJob (generated_job laws plan number) → (answer : RunAnswer) × AnswersGenerated laws report plan number answer
 answer-generated laws report plan number is = answer-of (by_summary report) (generated_job laws plan number) Ended is
 
 -- What was written --
 
-abbrev Written : Laws → Bool → Plan → ℕ → Status → RunDevices → Type 0
+abbrev Written : Laws → Reporting → Plan → ℕ → Status → RunDevices → Type 0
 Written laws report plan number status all = Wrote (by_summary report) (generated_job laws plan number) Ended status all.output all.notes
 
-wrote-answer : (laws : Laws) (report : Bool) (plan : Plan) (number : ℕ) (status : Status) (all : RunDevices) → (wrote : Written laws report plan number status all)
+wrote-answer : (laws : Laws) (report : Reporting) (plan : Plan) (number : ℕ) (status : Status) (all : RunDevices) → (wrote : Written laws report plan number status all)
     → Meets (answer_of (by_summary report) (generated_job laws plan number) Ended wrote.streams) status all.output all.notes → GeneratedAll laws report plan number status all
 wrote-answer laws report plan number status all wrote by = record {
   answer = answer_of (by_summary report) (generated_job laws plan number) Ended wrote.streams;
@@ -42,7 +43,7 @@ wrote-answer laws report plan number status all wrote by = record {
   met = record { text = by.text; noted = by.noted; told = by.told };
 }
 
-wrote-short : (laws : Laws) (report : Bool) (plan : Plan) (number : ℕ) (status : Status) (all : RunDevices) → (wrote : Written laws report plan number status all)
+wrote-short : (laws : Laws) (report : Reporting) (plan : Plan) (number : ℕ) (status : Status) (all : RunDevices) → (wrote : Written laws report plan number status all)
     → MetShort (answer_of (by_summary report) (generated_job laws plan number) Ended wrote.streams) (failed_notes (by_summary report) (generated_job laws plan number) Ended wrote.streams) all.output all.notes → GeneratedShort laws report plan number all
 wrote-short laws report plan number status all wrote by = record {
   answer = answer_of (by_summary report) (generated_job laws plan number) Ended wrote.streams;
@@ -56,7 +57,7 @@ no-want [] [] is = cc
 no-want [] (n ∷ ns) is = cc
 no-want (f ∷ fs) ns is = cc
 
-pub generated-ran : (laws : Laws) (report : Bool) (plan : Plan) (number : ℕ) (status : Status) (all : RunDevices) → Written laws report plan number status all → RanGenerated laws report plan number status all
+pub generated-ran : (laws : Laws) (report : Reporting) (plan : Plan) (number : ℕ) (status : Status) (all : RunDevices) → Written laws report plan number status all → RanGenerated laws report plan number status all
 generated-ran laws report plan number Good all wrote = wrote-answer laws report plan number Good all wrote wrote.by
 generated-ran laws report plan number LineRefused all wrote = wrote-answer laws report plan number LineRefused all wrote wrote.by
 generated-ran laws report plan number StoreFault all wrote = wrote-answer laws report plan number StoreFault all wrote wrote.by
@@ -70,13 +71,13 @@ generated-ran laws report plan number OutOfMemory all wrote = absurd (no-want (f
 
 -- What follows --
 
-abbrev pub MetGenerated : Laws → Bool → Plan → ℕ → Status → RunDevices → Type 0
+abbrev pub MetGenerated : Laws → Reporting → Plan → ℕ → Status → RunDevices → Type 0
 MetGenerated laws report plan number status all = (answer : RunAnswer) × AnswersGenerated laws report plan number answer × Meets answer status all.output all.notes
 
-all-met : (laws : Laws) (report : Bool) (plan : Plan) (number : ℕ) (status : Status) (all : RunDevices) → GeneratedAll laws report plan number status all → MetGenerated laws report plan number status all
+all-met : (laws : Laws) (report : Reporting) (plan : Plan) (number : ℕ) (status : Status) (all : RunDevices) → GeneratedAll laws report plan number status all → MetGenerated laws report plan number status all
 all-met laws report plan number status all ran = (ran.answer, ran.is, ran.met)
 
-short-failed : (laws : Laws) (report : Bool) (plan : Plan) (number : ℕ) (all : RunDevices) → GeneratedShort laws report plan number all
+short-failed : (laws : Laws) (report : Reporting) (plan : Plan) (number : ℕ) (all : RunDevices) → GeneratedShort laws report plan number all
     → Unrisen all.output.before.faults all.output.now.faults → Unrisen all.notes.before.faults all.notes.now.faults → ⊥
 short-failed laws report plan number all ran output notes = by ran.short.rose
   where
@@ -84,7 +85,7 @@ short-failed laws report plan number all ran output notes = by ran.short.rose
     by (inl rose) = rose-unrisen _ _ rose output
     by (inr rose) = rose-unrisen _ _ rose notes
 
-pub generated-answered : (laws : Laws) (report : Bool) (plan : Plan) (number : ℕ) (status : Status) (all : RunDevices) → RanGenerated laws report plan number status all
+pub generated-answered : (laws : Laws) (report : Reporting) (plan : Plan) (number : ℕ) (status : Status) (all : RunDevices) → RanGenerated laws report plan number status all
     → Unrisen all.output.before.faults all.output.now.faults → Unrisen all.notes.before.faults all.notes.now.faults → status ≢ OutOfMemory → MetGenerated laws report plan number status all
 generated-answered laws report plan number Good all ran output notes some = all-met laws report plan number Good all ran
 generated-answered laws report plan number LineRefused all ran output notes some = all-met laws report plan number LineRefused all ran
@@ -97,11 +98,11 @@ generated-answered laws report plan number ReadFault all ran output notes some =
 generated-answered laws report plan number WriteFault all ran output notes some = absurd (short-failed laws report plan number all ran output notes)
 generated-answered laws report plan number OutOfMemory all ran output notes some = absurd (some refl)
 
-write-steady : (laws : Laws) (report : Bool) (plan : Plan) (number : ℕ) (status : Status) (all : RunDevices) → GeneratedAll laws report plan number status all → WriteRisen all → ⊥
+write-steady : (laws : Laws) (report : Reporting) (plan : Plan) (number : ℕ) (status : Status) (all : RunDevices) → GeneratedAll laws report plan number status all → WriteRisen all → ⊥
 write-steady laws report plan number status all ran (inl risen) = steady-risen _ _ ran.met.text.steady risen
 write-steady laws report plan number status all ran (inr risen) = steady-risen _ _ ran.met.noted.steady risen
 
-pub generated-risen : (laws : Laws) (report : Bool) (plan : Plan) (number : ℕ) (status : Status) (all : RunDevices) → RanGenerated laws report plan number status all → WriteRisen all
+pub generated-risen : (laws : Laws) (report : Reporting) (plan : Plan) (number : ℕ) (status : Status) (all : RunDevices) → RanGenerated laws report plan number status all → WriteRisen all
     → IsOneOf status (WriteFault ∷ OutOfMemory ∷ [])
 generated-risen laws report plan number Good all ran risen = absurd (write-steady laws report plan number Good all ran risen)
 generated-risen laws report plan number LineRefused all ran risen = absurd (write-steady laws report plan number LineRefused all ran risen)

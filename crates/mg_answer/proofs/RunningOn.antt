@@ -1,5 +1,5 @@
 -- What a run that writes as it goes came to, by its status, and what follows of it.
-use Rattle.std.proofs.Common.{◌≡◌, ◌≢◌, ◌⊎◌, inl, inr, Bool, [], ◌∷◌, refl, sym, ◌∙◌}
+use Rattle.std.proofs.Common.{◌≡◌, ◌≢◌, ◌⊎◌, inl, inr, [], ◌∷◌, refl, sym, ◌∙◌}
 use Rattle.mg_calc.specs.declared.plan.Plan.{Plan}
 use Rattle.mg_calc.specs.Meaning.{faults, stalled}
 use Rattle.mg_calc.specs.Rules.{Laws}
@@ -13,10 +13,11 @@ use Rattle.mg_answer.specs.Ran.{CameTo, RanAll, RanShort, RanOn, Ran, IsAnswered
 use Rattle.mg_answer.specs.declared.status.Status.{Status}
 use Rattle.mg_answer.specs.declared.status.Status.TheVariants.{Good, StoreFault, Usage, GraphRefused, LineRefused, NodeFault, Stalled, ReadFault, WriteFault, OutOfMemory}
 use Rattle.mg_answer.proofs.Answering.{no-want, WriteRisen, read_statuses, ran-read, ran-ended, ran-answered, read-risen, write-risen}
+use Rattle.mg_answer.specs.declared.run.Reporting.{Reporting}
 
 -- What was written --
 
-wrote-answer : (laws : Laws) (report : Bool) (plan : Plan) (read : Read) (status : Status) (all : RunDevices) → CameTo (inputs_of plan) all.input read
+wrote-answer : (laws : Laws) (report : Reporting) (plan : Plan) (read : Read) (status : Status) (all : RunDevices) → CameTo (inputs_of plan) all.input read
     → (wrote : Wrote (by_lines report) (job_of laws plan read) read.end status all.output all.notes)
     → Meets (answer_of (by_lines report) (job_of laws plan read) read.end wrote.streams) status all.output all.notes → RanAll laws report plan status all
 wrote-answer laws report plan read status all came wrote by = record {
@@ -27,7 +28,7 @@ wrote-answer laws report plan read status all came wrote by = record {
   met = record { text = by.text; noted = by.noted; told = by.told };
 }
 
-wrote-short : (laws : Laws) (report : Bool) (plan : Plan) (read : Read) (status : Status) (all : RunDevices) → CameTo (inputs_of plan) all.input read
+wrote-short : (laws : Laws) (report : Reporting) (plan : Plan) (read : Read) (status : Status) (all : RunDevices) → CameTo (inputs_of plan) all.input read
     → (wrote : Wrote (by_lines report) (job_of laws plan read) read.end status all.output all.notes)
     → MetShort (answer_of (by_lines report) (job_of laws plan read) read.end wrote.streams) (failed_notes (by_lines report) (job_of laws plan read) read.end wrote.streams) all.output all.notes → RanShort laws report plan all
 wrote-short laws report plan read status all came wrote by = record {
@@ -38,7 +39,7 @@ wrote-short laws report plan read status all came wrote by = record {
   short = by;
 }
 
-pub written-ran : (laws : Laws) (report : Bool) (plan : Plan) (read : Read) (all : RunDevices) (status : Status) → CameTo (inputs_of plan) all.input read
+pub written-ran : (laws : Laws) (report : Reporting) (plan : Plan) (read : Read) (all : RunDevices) (status : Status) → CameTo (inputs_of plan) all.input read
     → Wrote (by_lines report) (job_of laws plan read) read.end status all.output all.notes → RanOn laws report plan status all
 written-ran laws report plan read all Good came wrote = wrote-answer laws report plan read Good all came wrote wrote.by
 written-ran laws report plan read all LineRefused came wrote = wrote-answer laws report plan read LineRefused all came wrote wrote.by
@@ -55,7 +56,7 @@ written-ran laws report plan read all OutOfMemory came wrote =
 -- What follows --
 
 -- unless memory ran out, such a run is one that has the whole answer at its end
-ran-whole : (laws : Laws) (report : Bool) (plan : Plan) (status : Status) (all : RunDevices) → RanOn laws report plan status all → status ≢ OutOfMemory → Ran laws report plan status all
+ran-whole : (laws : Laws) (report : Reporting) (plan : Plan) (status : Status) (all : RunDevices) → RanOn laws report plan status all → status ≢ OutOfMemory → Ran laws report plan status all
 ran-whole laws report plan Good all ran some = ran
 ran-whole laws report plan LineRefused all ran some = ran
 ran-whole laws report plan StoreFault all ran some = ran
@@ -79,10 +80,10 @@ is-want ReadFault = inr (λ is. cc)
 is-want WriteFault = inr (λ is. cc)
 is-want OutOfMemory = inl refl
 
-pub on-read : (laws : Laws) (report : Bool) (plan : Plan) (status : Status) (all : RunDevices) → RanOn laws report plan status all → status ≢ OutOfMemory → (read : Read) × CameTo (inputs_of plan) all.input read
+pub on-read : (laws : Laws) (report : Reporting) (plan : Plan) (status : Status) (all : RunDevices) → RanOn laws report plan status all → status ≢ OutOfMemory → (read : Read) × CameTo (inputs_of plan) all.input read
 on-read laws report plan status all ran some = ran-read laws report plan status all (ran-whole laws report plan status all ran some) some
 
-pub on-ended : (laws : Laws) (report : Bool) (plan : Plan) (status : Status) (all : RunDevices) → RanOn laws report plan status all → IsOneOf status (Good ∷ NodeFault ∷ Stalled ∷ []) → EndCame all.input.before all.input.now
+pub on-ended : (laws : Laws) (report : Reporting) (plan : Plan) (status : Status) (all : RunDevices) → RanOn laws report plan status all → IsOneOf status (Good ∷ NodeFault ∷ Stalled ∷ []) → EndCame all.input.before all.input.now
 on-ended laws report plan status all ran (inl is) = ran-ended laws report plan status all (ran-whole laws report plan status all ran (λ want. let apart : Good ≡ OutOfMemory = sym is ∙ want in cc)) (inl is)
 on-ended laws report plan status all ran (inr (inl is)) =
     ran-ended laws report plan status all (ran-whole laws report plan status all ran (λ want. let apart : NodeFault ≡ OutOfMemory = sym is ∙ want in cc)) (inr (inl is))
@@ -90,16 +91,16 @@ on-ended laws report plan status all ran (inr (inr (inl is))) =
     ran-ended laws report plan status all (ran-whole laws report plan status all ran (λ want. let apart : Stalled ≡ OutOfMemory = sym is ∙ want in cc)) (inr (inr (inl is)))
 on-ended laws report plan status all ran (inr (inr (inr none))) = absurd none
 
-pub on-answered : (laws : Laws) (report : Bool) (plan : Plan) (status : Status) (all : RunDevices) → RanOn laws report plan status all → NoneFailed all → status ≢ OutOfMemory → IsAnswered laws report plan status all
+pub on-answered : (laws : Laws) (report : Reporting) (plan : Plan) (status : Status) (all : RunDevices) → RanOn laws report plan status all → NoneFailed all → status ≢ OutOfMemory → IsAnswered laws report plan status all
 on-answered laws report plan status all ran none some = ran-answered laws report plan status all (ran-whole laws report plan status all ran some) none some
 
-pub on-read-risen : (laws : Laws) (report : Bool) (plan : Plan) (status : Status) (all : RunDevices) → RanOn laws report plan status all → HasRisen all.input.before.faults all.input.now.faults → IsOneOf status read_statuses
+pub on-read-risen : (laws : Laws) (report : Reporting) (plan : Plan) (status : Status) (all : RunDevices) → RanOn laws report plan status all → HasRisen all.input.before.faults all.input.now.faults → IsOneOf status read_statuses
 on-read-risen laws report plan status all ran risen = elim (is-want status) [
   | inl want ↦ inr (inr (inl want))
   | inr some ↦ read-risen laws report plan status all (ran-whole laws report plan status all ran some) risen
 ]
 
-pub on-write-risen : (laws : Laws) (report : Bool) (plan : Plan) (status : Status) (all : RunDevices) → RanOn laws report plan status all → WriteRisen all → IsOneOf status (WriteFault ∷ OutOfMemory ∷ [])
+pub on-write-risen : (laws : Laws) (report : Reporting) (plan : Plan) (status : Status) (all : RunDevices) → RanOn laws report plan status all → WriteRisen all → IsOneOf status (WriteFault ∷ OutOfMemory ∷ [])
 on-write-risen laws report plan status all ran risen = elim (is-want status) [
   | inl want ↦ inr (inl want)
   | inr some ↦ write-risen laws report plan status all (ran-whole laws report plan status all ran some) risen

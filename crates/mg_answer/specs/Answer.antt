@@ -23,6 +23,7 @@ use Rattle.mg_answer.specs.Told.{status_of}
 use Rattle.mg_answer.specs.Notes.{notes_of}
 use Rattle.mg_answer.specs.declared.status.Status.{Status}
 use Rattle.mg_answer.specs.declared.status.Status.TheVariants.{WriteFault}
+use Rattle.mg_answer.specs.declared.run.Reporting.{Reporting}
 
 -- The input --
 
@@ -88,15 +89,15 @@ pub data OutputForm : Type 0 where
 
 pub record Telling : Type 0 where
   pub form : OutputForm
-  pub report : Bool
+  pub report : Reporting
 
-abbrev pub by_lines : Bool → Telling
+abbrev pub by_lines : Reporting → Telling
 by_lines report = record { form = packet_lines; report = report }
 
-abbrev pub by_summary : Bool → Telling
+abbrev pub by_summary : Reporting → Telling
 by_summary report = record { form = totals; report = report }
 
-abbrev pub by_text : List ℕ → Bool → Telling
+abbrev pub by_text : List ℕ → Reporting → Telling
 by_text text report = record { form = in_place text; report = report }
 
 -- the output text by which the streams of a plan are told in a form
@@ -134,17 +135,17 @@ pub record IsAnswerOf (telling : Telling) (job : Job) (end : FeedEnd) (answer : 
   pub is : answer ≡ answer_of telling job end streams
 
 -- the answer of a graph over an input that came to this, with a report or without
-abbrev pub IsAnswer : Laws → Bool → Plan → Read → RunAnswer → Type 0
+abbrev pub IsAnswer : Laws → Reporting → Plan → Read → RunAnswer → Type 0
 IsAnswer laws report plan read answer = IsAnswerOf (by_lines report) (job_of laws plan read) read.end answer
 
 -- the answer of a graph over an input that ended after these bytes
-abbrev pub AnswersEnded : Laws → Bool → Plan → List ℕ → RunAnswer → Type 0
+abbrev pub AnswersEnded : Laws → Reporting → Plan → List ℕ → RunAnswer → Type 0
 AnswersEnded laws report plan bytes answer = IsAnswer laws report plan (ended_input (inputs_of plan) bytes) answer
 
 -- the answer of a graph over an input of which a read failed after these bytes
-abbrev pub AnswersCut : Laws → Bool → Plan → List ℕ → RunAnswer → Type 0
+abbrev pub AnswersCut : Laws → Reporting → Plan → List ℕ → RunAnswer → Type 0
 AnswersCut laws report plan bytes answer = IsAnswer laws report plan (cut_input (inputs_of plan) bytes) answer
 
 -- the answer of a graph over a number of packets that are made: its output is a summary
-abbrev pub AnswersGenerated : Laws → Bool → Plan → ℕ → RunAnswer → Type 0
+abbrev pub AnswersGenerated : Laws → Reporting → Plan → ℕ → RunAnswer → Type 0
 AnswersGenerated laws report plan number answer = IsAnswerOf (by_summary report) (generated_job laws plan number) Ended answer

@@ -1,5 +1,5 @@
 -- What a run tells in its notes and in its report, and the answer that this makes.
-use Rattle.std.specs.Prelude.{◌≡◌, ℕ, Bool, List, [], ◌++◌, map}
+use Rattle.std.specs.Prelude.{◌≡◌, ℕ, List, [], ◌++◌, map}
 use Rattle.mg_value.specs.Payload.{Plain}
 use Rattle.mg_settled.specs.Prefix.{StreamPrefix}
 use Rattle.mg_calc.specs.declared.plan.Plan.{Plan}
@@ -14,6 +14,7 @@ use Rattle.mg_answer.specs.Report.{report_by, asked_report, end_bounds, open_num
 use Rattle.mg_answer.specs.declared.outcomes.Outcomes.{Outcomes}
 use Rattle.mg_answer.specs.declared.status.Status.{Status}
 use Rattle.mg_answer.specs.declared.status.Status.TheVariants.{WriteFault}
+use Rattle.mg_answer.specs.declared.run.Reporting.{Reporting}
 
 -- the outcomes tell these streams of a job: its nodes' faults, how many sets each node was shown, and how far each stream has come; no node
 -- is free
@@ -25,14 +26,14 @@ pub record TellsOf (job : Job) (streams : List (StreamPrefix Plain)) (outcomes :
 
 -- The notes of a run that ends with a status and in which these streams stalled: the lines of the arrivals at free nodes stand behind the
 -- others, and then comes the report where it is asked for.
-abbrev pub told_notes : Status → Bool → Plan → FeedEnd → Outcomes → List ℕ → List ℕ
+abbrev pub told_notes : Status → Reporting → Plan → FeedEnd → Outcomes → List ℕ → List ℕ
 told_notes status report plan end outcomes stalled =
     notes_by status plan end outcomes.faults (end_bounds outcomes.ends.items) stalled
     ++ outcomes.arrivals.items
     ++ asked_report report (report_by plan outcomes.sets outcomes.ends.items)
 
 -- the answer of a run by its outcomes, whose output is this text
-abbrev pub told_answer : Bool → Plan → FeedEnd → Outcomes → List ℕ → RunAnswer
+abbrev pub told_answer : Reporting → Plan → FeedEnd → Outcomes → List ℕ → RunAnswer
 told_answer report plan end outcomes text = record {
   output = text;
   notes = told_notes (status_of end outcomes.faults (open_numbers outcomes.ends.items)) report plan end outcomes (open_numbers outcomes.ends.items);
@@ -40,5 +41,5 @@ told_answer report plan end outcomes text = record {
 }
 
 -- the notes of a run, by its outcomes, in which a write of the output failed
-abbrev pub told_failed : Bool → Plan → FeedEnd → Outcomes → List ℕ
+abbrev pub told_failed : Reporting → Plan → FeedEnd → Outcomes → List ℕ
 told_failed report plan end outcomes = told_notes WriteFault report plan end outcomes (open_numbers outcomes.ends.items)

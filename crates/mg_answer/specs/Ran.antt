@@ -22,6 +22,7 @@ use Rattle.mg_answer.specs.Devices.{Device, RunDevices, Untouched, TookFront, To
 use Rattle.mg_answer.specs.Wrote.{Meets, MetShort}
 use Rattle.mg_answer.specs.declared.status.Status.{Status}
 use Rattle.mg_answer.specs.declared.status.Status.TheVariants.{WriteFault, OutOfMemory}
+use Rattle.mg_answer.specs.declared.run.Reporting.{Reporting}
 
 -- The input --
 
@@ -56,7 +57,7 @@ pub record ReadSome (graph : GraphInputs) (input : Device SourceTold) : Type 0 w
 -- The run --
 
 -- The run wrote the answer over what its input came to, and ended with its status.
-pub record RanAll (laws : Laws) (report : Bool) (plan : Plan) (status : Status) (devices : RunDevices) : Type 0 where
+pub record RanAll (laws : Laws) (report : Reporting) (plan : Plan) (status : Status) (devices : RunDevices) : Type 0 where
   pub read : Read
   pub input : CameTo (inputs_of plan) devices.input read
   pub answer : RunAnswer
@@ -64,7 +65,7 @@ pub record RanAll (laws : Laws) (report : Bool) (plan : Plan) (status : Status) 
   pub met : Meets answer status devices.output devices.notes
 
 -- A write failed, after the input was read; what was written is of the answer over what the input came to.
-pub record RanShort (laws : Laws) (report : Bool) (plan : Plan) (devices : RunDevices) : Type 0 where
+pub record RanShort (laws : Laws) (report : Reporting) (plan : Plan) (devices : RunDevices) : Type 0 where
   pub read : Read
   pub input : CameTo (inputs_of plan) devices.input read
   pub answer : RunAnswer
@@ -84,7 +85,7 @@ abbrev pub RanOut : Laws → Plan → RunDevices → Type 0
 RanOut laws plan devices = Untouched devices.output ⊎ TookSome laws plan devices.input devices.output
 
 -- A run ended with this status. Where memory ran out the notes say that alone, and what was read of the input was read once.
-abbrev pub Ran : Laws → Bool → Plan → Status → RunDevices → Type 0
+abbrev pub Ran : Laws → Reporting → Plan → Status → RunDevices → Type 0
 Ran laws report plan WriteFault devices = RanShort laws report plan devices
 Ran laws report plan OutOfMemory devices = RanOut laws plan devices × TookNotes devices.notes memory_note × ReadSome (inputs_of plan) devices.input
 Ran laws report plan status devices = RanAll laws report plan status devices
@@ -97,26 +98,26 @@ RanShortOf laws plan devices =
     → IsSolution (job_of laws plan (ended_input (inputs_of plan) bytes)) streams → TookFront devices.output (output_text_of plan streams))
 
 -- A run that writes as it goes ended with this status.
-abbrev pub RanOn : Laws → Bool → Plan → Status → RunDevices → Type 0
+abbrev pub RanOn : Laws → Reporting → Plan → Status → RunDevices → Type 0
 RanOn laws report plan WriteFault devices = RanShort laws report plan devices
 RanOn laws report plan OutOfMemory devices = RanShortOf laws plan devices × TookNotes devices.notes memory_note
 RanOn laws report plan status devices = RanAll laws report plan status devices
 
 -- Where the input tells its bytes, the run wrote the answer over an input that ends after them.
-abbrev pub IsAnswered : Laws → Bool → Plan → Status → RunDevices → Type 0
+abbrev pub IsAnswered : Laws → Reporting → Plan → Status → RunDevices → Type 0
 IsAnswered laws report plan status devices =
     IfSome devices.input.before.left (λ bytes. (answer : RunAnswer) × AnswersEnded laws report plan bytes answer × Meets answer status devices.output devices.notes)
 
 -- A run over packets that are made --
 
 -- The run wrote the answer over the packets that are made.
-pub record GeneratedAll (laws : Laws) (report : Bool) (plan : Plan) (number : ℕ) (status : Status) (devices : RunDevices) : Type 0 where
+pub record GeneratedAll (laws : Laws) (report : Reporting) (plan : Plan) (number : ℕ) (status : Status) (devices : RunDevices) : Type 0 where
   pub answer : RunAnswer
   pub is : AnswersGenerated laws report plan number answer
   pub met : Meets answer status devices.output devices.notes
 
 -- A write failed in a run over packets that are made; what was written is of the answer over these.
-pub record GeneratedShort (laws : Laws) (report : Bool) (plan : Plan) (number : ℕ) (devices : RunDevices) : Type 0 where
+pub record GeneratedShort (laws : Laws) (report : Reporting) (plan : Plan) (number : ℕ) (devices : RunDevices) : Type 0 where
   pub answer : RunAnswer
   pub is : AnswersGenerated laws report plan number answer
   pub short : MetShort answer (failed_notes (by_summary report) (generated_job laws plan number) Ended is.streams) devices.output devices.notes
@@ -128,7 +129,7 @@ pub record GeneratedSome (laws : Laws) (plan : Plan) (number : ℕ) (output : De
   pub front : TookFront output (summary_of plan streams)
 
 -- A run over a number of packets that are made ended with this status.
-abbrev pub RanGenerated : Laws → Bool → Plan → ℕ → Status → RunDevices → Type 0
+abbrev pub RanGenerated : Laws → Reporting → Plan → ℕ → Status → RunDevices → Type 0
 RanGenerated laws report plan number WriteFault devices = GeneratedShort laws report plan number devices
 RanGenerated laws report plan number OutOfMemory devices = GeneratedSome laws plan number devices.output × TookNotes devices.notes memory_note
 RanGenerated laws report plan number status devices = GeneratedAll laws report plan number status devices

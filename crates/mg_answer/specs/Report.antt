@@ -1,5 +1,5 @@
 -- The report: how far each node and each stream has come.
-use Rattle.std.specs.Prelude.{ℕ, ◌==◌, not, Bool, List, [], ◌++◌, map, filter, codes, decimal, if◌then◌else◌}
+use Rattle.std.specs.Prelude.{ℕ, ◌==◌, not, List, [], ◌++◌, map, filter, codes, decimal, if◌then◌else◌}
 use Rattle.std.specs.List.{flat_map}
 use Rattle.mg_time.specs.Time.{done}
 use Rattle.mg_time.specs.Text.{time_text}
@@ -13,6 +13,7 @@ use Rattle.mg_calc.specs.Meaning.{numbered, counts}
 use Rattle.mg_answer.specs.Shown.{escaped}
 use Rattle.mg_answer.specs.Text.{name_of}
 use Rattle.mg_answer.specs.Notes.{label_of}
+use Rattle.mg_answer.specs.declared.run.Reporting.{Reporting}
 
 -- the numbers of the streams that haven't ended, where the list tells how far each stream has come
 abbrev pub open_numbers : List StreamEnd → List ℕ
@@ -41,5 +42,9 @@ abbrev pub report_of : Job → List (StreamPrefix Plain) → List ℕ
 report_of job streams = report_by job.plan (counts job streams) (map end_of streams)
 
 -- the report where it is asked for, and else nothing
-abbrev pub asked_report : Bool → List ℕ → List ℕ
-asked_report asked report = if asked then report else []
+abbrev pub asked_report : Reporting → List ℕ → List ℕ
+asked_report asked report = if asked.counts then report else []
+
+-- the lines of arrivals where they are asked for, and else nothing
+abbrev pub asked_arrivals : Reporting → List ℕ → List ℕ
+asked_arrivals asked lines = if asked.arrivals then lines else []

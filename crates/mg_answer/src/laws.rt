@@ -32,6 +32,7 @@ ghost use Rattle.mg_answer.specs.Status.{IsOneOf};
 ghost use Rattle.mg_answer.specs.Ran.{CameTo, RanOn, RanGenerated, IsAnswered};
 ghost use Rattle.mg_answer.specs.declared.status.Status.{Status};
 ghost use Rattle.mg_answer.specs.declared.status.Status.TheVariants.{Good, NodeFault, Stalled, ReadFault, WriteFault, OutOfMemory};
+ghost use Rattle.mg_answer.specs.declared.run.Reporting.{Reporting};
 
 /// What good lines give the graph of a valid plan, which may have free nodes, fits the plan: a prefix for each input, by the rule of
 /// streams, and a place for each side packet.
@@ -48,20 +49,20 @@ pub fn generated_packets_fit()
 /// A valid plan's graph has one answer over any bytes, whether the input ended after them or a read failed, and one over any number of
 /// packets that are made.
 pub fn there_is_one_answer()
-    ensures ended { (laws : Laws) (report : Bool) (plan : Plan) (bytes : List ℕ) → IsValid plan → (answer : RunAnswer) × AnswersEnded laws report plan bytes answer }
-    ensures cut { (laws : Laws) (report : Bool) (plan : Plan) (bytes : List ℕ) → IsValid plan → (answer : RunAnswer) × AnswersCut laws report plan bytes answer }
-    ensures generated { (laws : Laws) (report : Bool) (plan : Plan) (number : ℕ) → IsValid plan → number < 2 ^ 32 → (answer : RunAnswer) × AnswersGenerated laws report plan number answer }
+    ensures ended { (laws : Laws) (report : Reporting) (plan : Plan) (bytes : List ℕ) → IsValid plan → (answer : RunAnswer) × AnswersEnded laws report plan bytes answer }
+    ensures cut { (laws : Laws) (report : Reporting) (plan : Plan) (bytes : List ℕ) → IsValid plan → (answer : RunAnswer) × AnswersCut laws report plan bytes answer }
+    ensures generated { (laws : Laws) (report : Reporting) (plan : Plan) (number : ℕ) → IsValid plan → number < 2 ^ 32 → (answer : RunAnswer) × AnswersGenerated laws report plan number answer }
     ensures one { (telling : Telling) (job : Job) (end : FeedEnd) (answer other : RunAnswer) → IsAnswerOf telling job end answer → IsAnswerOf telling job end other → answer ≡ other }
 {}
 
 /// Where each line is good, no node fails and no stream stalls, the answer over an input that ends well is a good one: all of the output
 /// text, and no note but the report where it is asked for. Packets that are made have no line.
 pub fn what_has_no_fault_is_good()
-    ensures read { (laws : Laws) (report : Bool) (plan : Plan) (bytes : List ℕ) (streams : List (StreamPrefix Plain)) (answer : RunAnswer)
+    ensures read { (laws : Laws) (report : Reporting) (plan : Plan) (bytes : List ℕ) (streams : List (StreamPrefix Plain)) (answer : RunAnswer)
         → let job = job_of laws plan (ended_input (inputs_of plan) bytes) in IsSolution job streams
         → first_refused_after (inputs_of plan) [] (all_lines bytes) ≡ None → faults job streams ≡ [] → stalled streams ≡ []
         → AnswersEnded laws report plan bytes answer → answer ≡ record { output = output_text_of plan streams; notes = asked_report report (report_of job streams); status = Good } }
-    ensures generated { (laws : Laws) (report : Bool) (plan : Plan) (number : ℕ) (streams : List (StreamPrefix Plain)) (answer : RunAnswer)
+    ensures generated { (laws : Laws) (report : Reporting) (plan : Plan) (number : ℕ) (streams : List (StreamPrefix Plain)) (answer : RunAnswer)
         → let job = generated_job laws plan number in IsSolution job streams → faults job streams ≡ [] → stalled streams ≡ []
         → AnswersGenerated laws report plan number answer → answer ≡ record { output = summary_of plan streams; notes = asked_report report (report_of job streams); status = Good } }
 {}
@@ -81,15 +82,15 @@ pub fn the_front_of_the_text()
 /// end, its first line that isn't good, or its first fault, and where no device failed the run wrote the answer; where it went
 /// well, or a node failed or a stream never closed, the input's end was met. No fault of a device hides behind another status.
 pub fn runs_that_write_as_they_go()
-    ensures read { (laws : Laws) (report : Bool) (plan : Plan) (status : Status) (devices : RunDevices) → RanOn laws report plan status devices → status ≢ OutOfMemory
+    ensures read { (laws : Laws) (report : Reporting) (plan : Plan) (status : Status) (devices : RunDevices) → RanOn laws report plan status devices → status ≢ OutOfMemory
         → (read : Read) × CameTo (inputs_of plan) devices.input read }
-    ensures ended { (laws : Laws) (report : Bool) (plan : Plan) (status : Status) (devices : RunDevices) → RanOn laws report plan status devices → IsOneOf status (Good ∷ NodeFault ∷ Stalled ∷ [])
+    ensures ended { (laws : Laws) (report : Reporting) (plan : Plan) (status : Status) (devices : RunDevices) → RanOn laws report plan status devices → IsOneOf status (Good ∷ NodeFault ∷ Stalled ∷ [])
         → EndCame devices.input.before devices.input.now }
-    ensures answered { (laws : Laws) (report : Bool) (plan : Plan) (status : Status) (devices : RunDevices) → RanOn laws report plan status devices → NoneFailed devices → status ≢ OutOfMemory
+    ensures answered { (laws : Laws) (report : Reporting) (plan : Plan) (status : Status) (devices : RunDevices) → RanOn laws report plan status devices → NoneFailed devices → status ≢ OutOfMemory
         → IsAnswered laws report plan status devices }
-    ensures read_rose { (laws : Laws) (report : Bool) (plan : Plan) (status : Status) (devices : RunDevices) → RanOn laws report plan status devices
+    ensures read_rose { (laws : Laws) (report : Reporting) (plan : Plan) (status : Status) (devices : RunDevices) → RanOn laws report plan status devices
         → HasRisen devices.input.before.faults devices.input.now.faults → IsOneOf status (ReadFault ∷ WriteFault ∷ OutOfMemory ∷ []) }
-    ensures write_rose { (laws : Laws) (report : Bool) (plan : Plan) (status : Status) (devices : RunDevices) → RanOn laws report plan status devices
+    ensures write_rose { (laws : Laws) (report : Reporting) (plan : Plan) (status : Status) (devices : RunDevices) → RanOn laws report plan status devices
         → HasRisen devices.output.before.faults devices.output.now.faults ⊎ HasRisen devices.notes.before.faults devices.notes.now.faults
         → IsOneOf status (WriteFault ∷ OutOfMemory ∷ []) }
 {}
@@ -97,10 +98,10 @@ pub fn runs_that_write_as_they_go()
 /// What follows where a run over packets that are made ended with a status: unless memory ran out, it wrote the answer where neither
 /// the output nor the notes failed, and no fault of them hides behind another status.
 pub fn runs_over_generated_packets()
-    ensures answered { (laws : Laws) (report : Bool) (plan : Plan) (number : ℕ) (status : Status) (devices : RunDevices) → RanGenerated laws report plan number status devices
+    ensures answered { (laws : Laws) (report : Reporting) (plan : Plan) (number : ℕ) (status : Status) (devices : RunDevices) → RanGenerated laws report plan number status devices
         → Unrisen devices.output.before.faults devices.output.now.faults → Unrisen devices.notes.before.faults devices.notes.now.faults → status ≢ OutOfMemory
         → (answer : RunAnswer) × AnswersGenerated laws report plan number answer × Meets answer status devices.output devices.notes }
-    ensures write_rose { (laws : Laws) (report : Bool) (plan : Plan) (number : ℕ) (status : Status) (devices : RunDevices) → RanGenerated laws report plan number status devices
+    ensures write_rose { (laws : Laws) (report : Reporting) (plan : Plan) (number : ℕ) (status : Status) (devices : RunDevices) → RanGenerated laws report plan number status devices
         → HasRisen devices.output.before.faults devices.output.now.faults ⊎ HasRisen devices.notes.before.faults devices.notes.now.faults
         → IsOneOf status (WriteFault ∷ OutOfMemory ∷ []) }
 {}
@@ -108,9 +109,9 @@ pub fn runs_over_generated_packets()
 /// Where an input came to some lines and an end, and the answer over these was written with a status, a run that writes as it goes has
 /// ended with that status; and so has a run over packets that are made, where the answer over them was written.
 pub fn what_is_written_ran()
-    ensures read { (laws : Laws) (report : Bool) (plan : Plan) (read : Read) (devices : RunDevices) (status : Status) → CameTo (inputs_of plan) devices.input read
+    ensures read { (laws : Laws) (report : Reporting) (plan : Plan) (read : Read) (devices : RunDevices) (status : Status) → CameTo (inputs_of plan) devices.input read
         → Wrote (by_lines report) (job_of laws plan read) read.end status devices.output devices.notes → RanOn laws report plan status devices }
-    ensures generated { (laws : Laws) (report : Bool) (plan : Plan) (number : ℕ) (devices : RunDevices) (status : Status)
+    ensures generated { (laws : Laws) (report : Reporting) (plan : Plan) (number : ℕ) (devices : RunDevices) (status : Status)
         → Wrote (by_summary report) (generated_job laws plan number) ends.Ended status devices.output devices.notes → RanGenerated laws report plan number status devices }
 {}
 
@@ -146,7 +147,7 @@ pub fn texts_grow()
 /// Lines of different streams may change places: where two that stand one behind the other name different streams, and all lines are good
 /// in either order, the answer is the same.
 pub fn lines_of_different_streams_answer_the_same()
-    ensures { (laws : Laws) (report : Bool) (plan : Plan) (input other : List ℕ) (front back : List (List ℕ)) (first second : List ℕ) (answer : RunAnswer)
+    ensures { (laws : Laws) (report : Reporting) (plan : Plan) (input other : List ℕ) (front back : List (List ℕ)) (first second : List ℕ) (answer : RunAnswer)
         → all_lines input ≡ front ++ first ∷ second ∷ back → all_lines other ≡ front ++ second ∷ first ∷ back → AreApart first second
         → AllGood (inputs_of plan) [] (all_lines input) → AllGood (inputs_of plan) [] (all_lines other)
         → AnswersEnded laws report plan input answer → AnswersEnded laws report plan other answer }

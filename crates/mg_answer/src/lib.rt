@@ -37,7 +37,7 @@ pub use output_summary::OutputSummary;
 pub use output_text::OutputText;
 pub use pieces::put_number;
 pub use reading::{WholeInput, read_whole};
-pub use run::Run;
+pub use run::{Reporting, Run};
 pub use shown::put_shown;
 pub use solving::solve_input;
 pub use status::Status;

@@ -4,6 +4,7 @@ ghost use Rattle.std.specs.List.{flat_map};
 ghost use Rattle.mg_calc.specs.Meaning.{numbered};
 ghost use Rattle.mg_answer.specs.Report.{node_line, stream_line, report_by, asked_report};
 
+use crate::Reporting;
 use crate::pieces::{label_at, put, put_number, put_time};
 use crate::set_lines::stream_name;
 use crate::shown::put_shown;
@@ -14,7 +15,7 @@ use std::alloc::AllocError;
 /// Puts the report at a text's end, where it is asked for.
 pub fn put_asked(
     text: &mut Vec<u8>,
-    asked: bool,
+    asked: Reporting,
     plan: &Plan,
     sets: &[u64],
     ends: &[StreamEnd],
@@ -24,7 +25,7 @@ pub fn put_asked(
     requires few { length ends.now < 2 ^ 32 }
     ensures { OnOk result (text.new.items ≡ text.old.items ++ asked_report asked (report_by plan.now sets.now ends.now)) }
 {
-    if !asked {
+    if !asked.counts {
         return Ok(());
     }
     put_report(text, plan, sets, ends)

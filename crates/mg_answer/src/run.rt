@@ -1,6 +1,15 @@
 use mg_calc::Plan;
 use std::alloc::Global;
 
+/// What the notes of a run tell beside what went wrong.
+#[derive(Clone, Copy, Debug, PartialEq, Eq)]
+pub struct Reporting {
+    /// Whether the report stands behind the notes: what each node counts, and how far each stream has come.
+    pub counts: bool,
+    /// Whether there is a line for each arrival at a free node.
+    pub arrivals: bool,
+}
+
 /// A run of a graph that is asked for.
 #[derive(Clone, Copy)]
 pub struct Run<'a> {
@@ -8,6 +17,6 @@ pub struct Run<'a> {
     pub alloc: Global,
     /// The graph that is run.
     pub plan: &'a Plan,
-    /// Whether a report stands behind the notes.
-    pub report: bool,
+    /// What the notes tell beside what went wrong.
+    pub report: Reporting,
 }

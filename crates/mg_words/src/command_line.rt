@@ -49,7 +49,8 @@ fn with_flags<'a>(alloc: Global, command: Command<'a>) -> Result<Command<'a>, Al
 {
     command
         .arg(flag(alloc, "no-queue-limit"))?
-        .arg(flag(alloc, "report"))
+        .arg(flag(alloc, "report"))?
+        .arg(flag(alloc, "no-arrivals"))
 }
 
 // Returns an argument that is a word which has to be there.

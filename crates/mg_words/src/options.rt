@@ -21,6 +21,8 @@ pub struct Options {
     pub no_queue_limit: bool,
     /// Whether the notes end with a report.
     pub report: bool,
+    /// Whether the notes tell no arrivals at free nodes.
+    pub no_arrivals: bool,
 }
 
 impl Options {
@@ -34,6 +36,7 @@ impl Options {
             number: number_of(matches, "number"),
             no_queue_limit: flag_of(matches, "no-queue-limit"),
             report: flag_of(matches, "report"),
+            no_arrivals: flag_of(matches, "no-arrivals"),
         }
     }
 

@@ -51,6 +51,8 @@ pub struct Instruction {
     pub number: u32,
     /// Whether the notes of a run or a solution end with a report.
     pub report: bool,
+    /// Whether the notes of a run tell the arrivals at free nodes.
+    pub arrivals: bool,
 }
 
 /// What the words of a command line ask for.
@@ -150,6 +152,7 @@ fn ordered(verb: Option<Verb>, options: Options) -> Option<Instruction>
             workers: options.workers,
             number: options.number.unwrap_or(0),
             report: options.report,
+            arrivals: !options.no_arrivals,
         }),
         None => None,
     }
