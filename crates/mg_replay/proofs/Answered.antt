@@ -22,6 +22,7 @@ use Rattle.mg_answer.specs.Status.{IsOneOf}
 use Rattle.mg_answer.specs.declared.status.Status.{Status}
 use Rattle.mg_answer.specs.declared.status.Status.TheVariants.{Good, StoreFault, Usage, GraphRefused, LineRefused, NodeFault, Stalled, ReadFault, WriteFault, OutOfMemory}
 use Rattle.mg_answer.proofs.Answering.{WriteRisen, ended_statuses, read_statuses, no-one, steady-risen, one-unrisen, rose-unrisen, none-left}
+use Rattle.mg_answer.specs.declared.run.Reporting.{Reporting}
 use Rattle.mg_replay.specs.Replay.{CameAs, FailsAs, LinesComeTo, WasRead}
 use Rattle.mg_replay.specs.Note.{trace_note, trace_status, WroteNote}
 use Rattle.mg_replay.specs.Replayed.{job_over, AnswersJob, AnswersEnd, AnswersTrace, WroteJob, WroteEnd, Replayed, ReplayedBy}
@@ -54,7 +55,7 @@ end_status (Refused line cause) fs ns = LineRefused
 end_status (Failed lines) fs ns = ReadFault
 
 -- what was written is an answer's
-record EndMet (laws : Laws) (end : TraceEnd) (report : Bool) (plan : Plan) (job : Option Inputs) (status : Status) (output notes : Device SinkTold) : Type 0 where
+record EndMet (laws : Laws) (end : TraceEnd) (report : Reporting) (plan : Plan) (job : Option Inputs) (status : Status) (output notes : Device SinkTold) : Type 0 where
   answer : RunAnswer
   is : AnswersEnd laws end report plan job answer
   fs : List Fault
@@ -62,7 +63,7 @@ record EndMet (laws : Laws) (end : TraceEnd) (report : Bool) (plan : Plan) (job 
   says : answer.status ≡ end_status end fs ns
   met : MetOr answer status output notes
 
-job_met : {laws : Laws} (ended report : Bool) (plan : Plan) (inputs : Inputs) (status : Status) (output notes : Device SinkTold) → inputs.ended ≡ ended → WroteJob ended report (job_over laws plan inputs) status output notes
+job_met : {laws : Laws} (ended : Bool) (report : Reporting) (plan : Plan) (inputs : Inputs) (status : Status) (output notes : Device SinkTold) → inputs.ended ≡ ended → WroteJob ended report (job_over laws plan inputs) status output notes
     → EndMet laws Accepted report plan (Some inputs) status output notes
 job_met {laws} true report plan inputs status output notes is wrote =
     let job : Job = job_over laws plan inputs in
@@ -98,7 +99,7 @@ note_met : (end : TraceEnd) (status : Status) (output notes : Device SinkTold) �
 note_met end status output notes untouched (inl whole) = inr (record { text = took_nothing output untouched; noted = whole.1; told = whole.0 })
 note_met end status output notes untouched (inr part) = inl (part.0, inr part.1.rose)
 
-end_met : {laws : Laws} (end : TraceEnd) (report : Bool) (plan : Plan) (job : Option Inputs) (status : Status) (output notes : Device SinkTold) → WroteEnd laws end report plan job status output notes
+end_met : {laws : Laws} (end : TraceEnd) (report : Reporting) (plan : Plan) (job : Option Inputs) (status : Status) (output notes : Device SinkTold) → WroteEnd laws end report plan job status output notes
     → EndMet laws end report plan job status output notes
 end_met {laws} Accepted report plan None status output notes wrote = absurd wrote
 end_met {laws} Accepted report plan (Some inputs) status output notes wrote = job_met inputs.ended report plan inputs status output notes refl wrote
@@ -110,7 +111,7 @@ end_met {laws} (Failed lines) report plan job status output notes wrote =
 -- The call --
 
 -- memory ran out, or all lines were read
-out_or : {laws : Laws} (status : Status) (report : Bool) (plan : Plan) (all : RunDevices) (boxes : Device (List BoxTold)) → ReplayedBy laws status report plan all boxes → (status ≡ OutOfMemory) ⊎ Replayed laws report plan status all boxes
+out_or : {laws : Laws} (status : Status) (report : Reporting) (plan : Plan) (all : RunDevices) (boxes : Device (List BoxTold)) → ReplayedBy laws status report plan all boxes → (status ≡ OutOfMemory) ⊎ Replayed laws report plan status all boxes
 out_or {laws} Good report plan all boxes ran = inr ran
 out_or {laws} StoreFault report plan all boxes ran = inr ran
 out_or {laws} Usage report plan all boxes ran = inr ran
@@ -145,7 +146,7 @@ other_out : (status : Status) → (status ≡ StoreFault) ⊎ (status ≡ Usage)
 other_out status (inl store) is = cc
 other_out status (inr usage) is = cc
 
-pub replayed_otherwise : (laws : Laws) (status : Status) (report : Bool) (plan : Plan) (all : RunDevices) (boxes : Device (List BoxTold)) → (status ≡ StoreFault) ⊎ (status ≡ Usage) → ReplayedBy laws status report plan all boxes → ⊥
+pub replayed_otherwise : (laws : Laws) (status : Status) (report : Reporting) (plan : Plan) (all : RunDevices) (boxes : Device (List BoxTold)) → (status ≡ StoreFault) ⊎ (status ≡ Usage) → ReplayedBy laws status report plan all boxes → ⊥
 replayed_otherwise laws status report plan all boxes other ran = by (out_or status report plan all boxes ran)
   where
     by : (status ≡ OutOfMemory) ⊎ Replayed laws report plan status all boxes → ⊥
@@ -171,7 +172,7 @@ ended_by laws (Failed lines) status fs ns plan boxes input came job is (inr (inl
 ended_by laws (Failed lines) status fs ns plan boxes input came job is (inr (inr (inl e))) by = cc
 ended_by laws (Failed lines) status fs ns plan boxes input came job is (inr (inr (inr e))) by = absurd e
 
-pub replayed_ended : (laws : Laws) (report : Bool) (plan : Plan) (status : Status) (all : RunDevices) (boxes : Device (List BoxTold)) → ReplayedBy laws status report plan all boxes → IsOneOf status ended_statuses
+pub replayed_ended : (laws : Laws) (report : Reporting) (plan : Plan) (status : Status) (all : RunDevices) (boxes : Device (List BoxTold)) → ReplayedBy laws status report plan all boxes → IsOneOf status ended_statuses
     → EndCame all.input.before all.input.now
 replayed_ended laws report plan status all boxes ran one = by (out_or status report plan all boxes ran)
   where
@@ -191,7 +192,7 @@ failed_read Accepted status fs ns before now is un risen = absurd (steady-risen 
 failed_read (Refused line cause) status fs ns before now is un risen = absurd (steady-risen before.faults now.faults un.steady risen)
 failed_read (Failed lines) status fs ns before now is un risen = inl is
 
-pub replayed_read_risen : (laws : Laws) (report : Bool) (plan : Plan) (status : Status) (all : RunDevices) (boxes : Device (List BoxTold)) → ReplayedBy laws status report plan all boxes → HasRisen all.input.before.faults all.input.now.faults
+pub replayed_read_risen : (laws : Laws) (report : Reporting) (plan : Plan) (status : Status) (all : RunDevices) (boxes : Device (List BoxTold)) → ReplayedBy laws status report plan all boxes → HasRisen all.input.before.faults all.input.now.faults
     → IsOneOf status read_statuses
 replayed_read_risen laws report plan status all boxes ran risen = by (out_or status report plan all boxes ran)
   where
@@ -208,7 +209,7 @@ met_unrisen : (answer : RunAnswer) (status : Status) (all : RunDevices) → Meet
 met_unrisen answer status all met (inl risen) = steady-risen _ _ met.text.steady risen
 met_unrisen answer status all met (inr risen) = steady-risen _ _ met.noted.steady risen
 
-pub replayed_write_risen : (laws : Laws) (report : Bool) (plan : Plan) (status : Status) (all : RunDevices) (boxes : Device (List BoxTold)) → ReplayedBy laws status report plan all boxes → WriteRisen all
+pub replayed_write_risen : (laws : Laws) (report : Reporting) (plan : Plan) (status : Status) (all : RunDevices) (boxes : Device (List BoxTold)) → ReplayedBy laws status report plan all boxes → WriteRisen all
     → IsOneOf status (WriteFault ∷ OutOfMemory ∷ [])
 replayed_write_risen laws report plan status all boxes ran risen = by (out_or status report plan all boxes ran)
   where
@@ -239,14 +240,14 @@ comes_to {laws} end plan boxes input bytes job read is un =
     let gave : Gave (Some bytes) input.now.left read.came = subst (λ (o : Option (List ℕ)). Gave o input.now.left read.came) is read.gave in
     comes_by laws end plan boxes input read.came bytes gave.0 job is gave.1 gave.2 read.by read.faults un
 
-abbrev AnswersBytes : Laws → Option (List ℕ) → Bool → Plan → List BoxTold → Status → Device SinkTold → Device SinkTold → Type 0
+abbrev AnswersBytes : Laws → Option (List ℕ) → Reporting → Plan → List BoxTold → Status → Device SinkTold → Device SinkTold → Type 0
 AnswersBytes laws left report plan boxes status output notes = IfSome left (λ bytes. (answer : RunAnswer) × AnswersTrace laws report plan boxes (all_lines bytes) answer × Meets answer status output notes)
 
 none_rose : (all : RunDevices) → NoneFailed all → Rose all.output.before.faults all.output.now.faults ⊎ Rose all.notes.before.faults all.notes.now.faults → ⊥
 none_rose all none (inl rose) = rose-unrisen _ _ rose none.output
 none_rose all none (inr rose) = rose-unrisen _ _ rose none.notes
 
-pub replayed_answered : (laws : Laws) (report : Bool) (plan : Plan) (status : Status) (all : RunDevices) (boxes : Device (List BoxTold)) → ReplayedBy laws status report plan all boxes → NoneFailed all → status ≢ OutOfMemory
+pub replayed_answered : (laws : Laws) (report : Reporting) (plan : Plan) (status : Status) (all : RunDevices) (boxes : Device (List BoxTold)) → ReplayedBy laws status report plan all boxes → NoneFailed all → status ≢ OutOfMemory
     → IfSome all.input.before.left (λ bytes. (answer : RunAnswer) × AnswersTrace laws report plan boxes.before (all_lines bytes) answer × Meets answer status all.output all.notes)
 replayed_answered laws report plan status all boxes ran none some = by (out_or status report plan all boxes ran)
   where

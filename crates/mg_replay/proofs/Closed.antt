@@ -1,5 +1,5 @@
 -- What a recorded run that isn't accepted leaves of the calculators that were handed in.
-use Rattle.std.proofs.Common.{◌≡◌, inl, inr, ℕ, Bool, List, ◌++◌, length, Some, option_map, slice_get, refl, sym, ap, ◌∙◌, subst}
+use Rattle.std.proofs.Common.{◌≡◌, inl, inr, ℕ, List, ◌++◌, length, Some, option_map, slice_get, refl, sym, ap, ◌∙◌, subst}
 use Rattle.mg_value.specs.Payload.{Plain}
 use Rattle.mg_settled.specs.Prefix.{StreamPrefix}
 use Rattle.mg_calc.specs.Rules.{Laws}
@@ -12,6 +12,7 @@ use Rattle.mg_calc.specs.declared.plan_node.PlanNode.{PlanNode}
 use Rattle.mg_calc.specs.Told.{BoxTold}
 use Rattle.mg_answer.specs.Devices.{device, RunDevices, Untouched}
 use Rattle.mg_answer.specs.declared.status.Status.{Status}
+use Rattle.mg_answer.specs.declared.run.Reporting.{Reporting}
 use Rattle.mg_node.specs.Views.{EngineView}
 use Rattle.mg_node.specs.Job.{LoggedJob}
 use Rattle.mg_node.specs.Had.{HadClose}
@@ -28,7 +29,7 @@ use Rattle.mg_drive.specs.Batches.{logged}
 use Rattle.mg_drive.specs.Leaves.{first_calls, IsRelatedAt}
 use Rattle.mg_drive.proofs.Jobs.{valid_plan, plan_stood}
 use Rattle.mg_drive.proofs.BoxesBack.{box_at, log_was, all_had_now}
-use Rattle.mg_drive.proofs.FrontsBack.{none_had, fronts_now}
+use Rattle.mg_drive.proofs.FrontsBack.{none_had, kept_now, state_kept}
 use Rattle.mg_replay.specs.Leaves.{HadAClose, HadCloses}
 use Rattle.mg_replay.specs.Replayed.{job_over, HadEnd}
 use Rattle.mg_replay.specs.Reading.{BeginsWithJob}
@@ -70,7 +71,8 @@ closed_at : {laws : Laws} (plan : Plan) (inputs : Inputs) (boxes : List BoxTold)
     → (IsOuter node.law → (told : BoxTold) × (slice_get (given_back net) place ≡ Some told) × HadClose (job_of laws plan inputs boxes) streams node told) → IsRelatedAt place (HadAClose (job_over laws plan inputs) streams node) (device boxes (given_back net))
 closed_at {laws} plan inputs boxes net streams number place node fit there has closed =
     let box = box_at plan boxes number place node fit there has in
-    let back = closed (subst IsOuter box.2.fits.same_law box.2.outer) in
+    let outer : IsOuter node.law = subst IsOuter box.2.fits.same_law box.2.outer in
+    let back = closed outer in
     let front = back.2.front in
     record {
       before = box.0;
@@ -78,13 +80,17 @@ closed_at {laws} plan inputs boxes net streams number place node fit there has c
       was = box.1;
       is = back.1;
       holds = record {
-        front = record {
-          count = front.count;
-          close = front.close;
-          opened = front.opened;
-          log = front.log ∙ ap (option_map (λ (calls : List Call). calls ++ first_calls (job_over laws plan inputs) streams node front.count front.close)) (log_was (job_of laws plan inputs boxes) boxes place node box.0 refl has box.1);
-          law = front.fits.same_law ∙ sym box.2.fits.same_law;
-          shape = front.fits.same_shape ∙ sym box.2.fits.same_shape;
+        keeps = record {
+          front = record {
+            count = front.count;
+            close = front.close;
+            opened = front.opened;
+            log = front.log ∙ ap (option_map (λ (calls : List Call). calls ++ first_calls (job_over laws plan inputs) streams node front.count front.close)) (log_was (job_of laws plan inputs boxes) boxes place node box.0 refl has box.1);
+            law = front.fits.same_law ∙ sym box.2.fits.same_law;
+            shape = front.fits.same_shape ∙ sym box.2.fits.same_shape;
+          };
+          unopened = λ none. front.unopened none place box.0 has box.1;
+          state = λ shown is. front.state shown is ∙ state_kept (job_over laws plan inputs) streams node shown front.close outer;
         };
         begun = back.2.begun;
         closed = back.2.closed;
@@ -105,7 +111,7 @@ had_now laws Accepted plan inputs boxes now net fit back had = all_had_now (logg
 had_now laws (Refused line cause) plan inputs boxes now net fit back had = all_closed plan inputs boxes now net fit back had
 had_now laws (Failed lines) plan inputs boxes now net fit back had = all_closed plan inputs boxes now net fit back had
 
-pub job_replayed : {laws : Laws} (report : Bool) (plan : Plan) (inputs : Inputs) (boxes handed now : List BoxTold) (status : Status) (devices : RunDevices) (net : NetView) → BoxesFit plan boxes → handed ≡ boxes → now ≡ given_back net
+pub job_replayed : {laws : Laws} (report : Reporting) (plan : Plan) (inputs : Inputs) (boxes handed now : List BoxTold) (status : Status) (devices : RunDevices) (net : NetView) → BoxesFit plan boxes → handed ≡ boxes → now ≡ given_back net
     → NetReplayed laws report plan inputs handed status devices net → JobReplayed laws report plan inputs status devices (device boxes now)
 job_replayed {laws} report plan inputs boxes handed now status devices net fit same back h =
     let k : NetReplayed laws report plan inputs boxes status devices net = subst (λ (bs : List BoxTold). NetReplayed laws report plan inputs bs status devices net) same h in
@@ -118,7 +124,7 @@ job_short {laws} plan inputs boxes handed now devices net fit same back h =
     record {
       took = k.took;
       opened = k.opened;
-      fronts = fronts_now boxes now (logged laws plan inputs boxes) net fit refl k.stood (valid_plan (job_of laws plan inputs boxes) k.stood.before k.stood.stands) back;
+      fronts = kept_now boxes now (logged laws plan inputs boxes) net fit refl k.stood (valid_plan (job_of laws plan inputs boxes) k.stood.before k.stood.stands) back;
     }
 
 -- no net was made

@@ -33,6 +33,7 @@ use Rattle.mg_answer.specs.Devices.{Device, device, RunDevices, run_devices, Unt
 use Rattle.mg_answer.specs.declared.status.Status.{Status}
 use Rattle.mg_answer.specs.declared.status.Status.TheVariants.{Good, StoreFault, Usage, GraphRefused, LineRefused, NodeFault, Stalled, ReadFault, WriteFault, OutOfMemory}
 use Rattle.mg_answer.proofs.Fitting.{inputs-fit}
+use Rattle.mg_answer.specs.declared.run.Reporting.{Reporting}
 use Rattle.mg_node.specs.Job.{LoggedJob}
 use Rattle.mg_sched.specs.Views.{NetView}
 use Rattle.mg_sched.specs.StandsFor.{StandsFor, StandsForSome, IsRunning}
@@ -41,7 +42,6 @@ use Rattle.mg_sched.specs.Sweeps.{Becomes}
 use Rattle.mg_sched.specs.Taking.{taken_out}
 use Rattle.mg_sched.specs.Made.{IsMade, job_of}
 use Rattle.mg_sched.specs.GivesBack.{StoodFor}
-use Rattle.mg_sched.proofs.Solved.{solved}
 use Rattle.mg_sched.proofs.Becoming.{becomes_stands, becomes_taken}
 use Rattle.mg_drive.specs.Code.Ending.{HadAllOf}
 use Rattle.mg_drive.specs.Nets.{Keeps}
@@ -189,7 +189,7 @@ not_accepted Accepted is = λ same. cc
 not_accepted (Refused line cause) is = λ same. cc
 not_accepted (Failed lines) is = λ same. cc
 
-pub net_accepted : {laws : Laws} (report : Bool) (plan : Plan) (inputs : Inputs) (boxes : List BoxTold) (ended : Bool) (end : TraceEnd) (status : Status) (input : Device SourceTold) (output notes : Device SinkTold) (net : NetView) → end ≡ Accepted → ended ≡ inputs.ended
+pub net_accepted : {laws : Laws} (report : Reporting) (plan : Plan) (inputs : Inputs) (boxes : List BoxTold) (ended : Bool) (end : TraceEnd) (status : Status) (input : Device SourceTold) (output notes : Device SinkTold) (net : NetView) → end ≡ Accepted → ended ≡ inputs.ended
     → WasRead laws plan boxes input (Some inputs) end → WroteJob ended report (job_over laws plan inputs) status output notes → HadAllOf (job_of laws plan inputs boxes) net → StoodFor (job_of laws plan inputs boxes) net
     → NetReplayed laws report plan inputs boxes status (run_devices input output notes) net
 net_accepted {laws} report plan inputs boxes ended end status input output notes net is same read wrote had stood = record {
@@ -200,7 +200,7 @@ net_accepted {laws} report plan inputs boxes ended end status input output notes
   stood = stood;
 }
 
-pub net_refused : {laws : Laws} (report : Bool) (plan : Plan) (inputs : Inputs) (boxes : List BoxTold) (end : TraceEnd) (status : Status) (input : Device SourceTold) (output notes : Device SinkTold) (net : NetView) → end ≢ Accepted
+pub net_refused : {laws : Laws} (report : Reporting) (plan : Plan) (inputs : Inputs) (boxes : List BoxTold) (end : TraceEnd) (status : Status) (input : Device SourceTold) (output notes : Device SinkTold) (net : NetView) → end ≢ Accepted
     → WasRead laws plan boxes input (Some inputs) end → Untouched output → WroteNote end status notes → ClosedAllOf (job_of laws plan inputs boxes) net → StoodFor (job_of laws plan inputs boxes) net
     → NetReplayed laws report plan inputs boxes status (run_devices input output notes) net
 net_refused {laws} report plan inputs boxes Accepted status input output notes net other read untouched wrote had stood = absurd (other refl)
@@ -225,17 +225,21 @@ short_accepted {laws} plan inputs boxes end input output notes net is read opene
 
 -- The call --
 
-pub of_job : {laws : Laws} (report : Bool) (plan : Plan) (inputs : Inputs) (status : Status) (devices : RunDevices) (boxes : Device (List BoxTold)) → JobReplayed laws report plan inputs status devices boxes → Replayed laws report plan status devices boxes
+pub of_job : {laws : Laws} (report : Reporting) (plan : Plan) (inputs : Inputs) (status : Status) (devices : RunDevices) (boxes : Device (List BoxTold)) → JobReplayed laws report plan inputs status devices boxes → Replayed laws report plan status devices boxes
 of_job {laws} report plan inputs status devices boxes h = record { job = Some inputs; end = h.end; read = h.read; wrote = h.wrote; had = h.had }
 
-pub of_short : {laws : Laws} (plan : Plan) (inputs : Inputs) (devices : RunDevices) (boxes : Device (List BoxTold)) → IsJob (job_over laws plan inputs) → JobShort laws plan inputs devices boxes → ReplayedSome laws plan devices boxes
-of_short {laws} plan inputs devices boxes is h = record {
+pub of_short : {laws : Laws} (plan : Plan) (inputs : Inputs) (devices : RunDevices) (boxes : Device (List BoxTold)) → JobShort laws plan inputs devices boxes → ReplayedSome laws plan devices boxes
+of_short {laws} plan inputs devices boxes h = inr (record {
+  inputs = inputs;
+  opened = h.opened;
+  streams = h.fronts.streams;
+  solution = h.fronts.solution;
   took = elim h.took [
     | inl untouched ↦ inl untouched
-    | inr took ↦ inr (let found = solved (record { job = job_over laws plan inputs; boxes = []; same = refl }) is in record { inputs = inputs; read = took.0; streams = found.0; solution = found.1.solution; front = took.1 found.0 found.1.solution })
+    | inr took ↦ inr (took.0, took.1 h.fronts.streams h.fronts.solution)
   ];
-  had = inr (record { inputs = inputs; opened = h.opened; fronts = h.fronts });
-}
+  each = h.fronts.each;
+})
 
 -- the lines ended before the job was told
 never_accepted : (plan : Plan) (lines : List (List ℕ)) → StopsEarly plan lines Accepted → ⊥
@@ -245,7 +249,7 @@ never_accepted plan lines s = by s.tail s.stops
     by [] is = absurd cc
     by (line ∷ more) is = absurd (let e = is.1.2 in cc)
 
-pub of_early : {laws : Laws} (report : Bool) (plan : Plan) (end : TraceEnd) (status : Status) (input : Device SourceTold) (output notes : Device SinkTold) (boxes : List BoxTold) → WasRead laws plan boxes input None end → Untouched output → WroteNote end status notes
+pub of_early : {laws : Laws} (report : Reporting) (plan : Plan) (end : TraceEnd) (status : Status) (input : Device SourceTold) (output notes : Device SinkTold) (boxes : List BoxTold) → WasRead laws plan boxes input None end → Untouched output → WroteNote end status notes
     → Replayed laws report plan status (run_devices input output notes) (device boxes boxes)
 of_early {laws} report plan Accepted status input output notes boxes read untouched wrote = absurd (never_accepted plan _ read.by.1)
 of_early {laws} report plan (Refused line cause) status input output notes boxes read untouched wrote = record { job = None; end = Refused line cause; read = read; wrote = (untouched, wrote); had = refl }
@@ -258,7 +262,7 @@ no_want [] [] is = cc
 no_want [] (n ∷ ns) is = cc
 no_want (f ∷ fs) ns is = cc
 
-job_wants_none : (ended report : Bool) (job : Job) (output notes : Device SinkTold) → WroteJob ended report job OutOfMemory output notes → ⊥
+job_wants_none : (ended : Bool) (report : Reporting) (job : Job) (output notes : Device SinkTold) → WroteJob ended report job OutOfMemory output notes → ⊥
 job_wants_none true report job output notes wrote = no_want (faults job wrote.streams) (stalled wrote.streams) wrote.by.told
 job_wants_none false report job output notes wrote = no_want (faults job wrote.streams) [] wrote.by.told
 
@@ -268,13 +272,13 @@ note_wants_none (Refused line cause) notes (inl whole) = absurd (let e = whole.0
 note_wants_none (Failed lines) notes (inl whole) = absurd (let e = whole.0 in cc)
 note_wants_none end notes (inr part) = absurd (let e = part.0 in cc)
 
-wants_none : (laws : Laws) (end : TraceEnd) (report : Bool) (plan : Plan) (job : Option Inputs) (output notes : Device SinkTold) → WroteEnd laws end report plan job OutOfMemory output notes → ⊥
+wants_none : (laws : Laws) (end : TraceEnd) (report : Reporting) (plan : Plan) (job : Option Inputs) (output notes : Device SinkTold) → WroteEnd laws end report plan job OutOfMemory output notes → ⊥
 wants_none laws Accepted report plan None output notes wrote = wrote
 wants_none laws Accepted report plan (Some inputs) output notes wrote = job_wants_none inputs.ended report (job_over laws plan inputs) output notes wrote
 wants_none laws (Refused line cause) report plan job output notes wrote = note_wants_none (Refused line cause) notes wrote.1
 wants_none laws (Failed lines) report plan job output notes wrote = note_wants_none (Failed lines) notes wrote.1
 
-pub replayed_by : {laws : Laws} (status : Status) (report : Bool) (plan : Plan) (devices : RunDevices) (boxes : Device (List BoxTold)) → Replayed laws report plan status devices boxes → ReplayedBy laws status report plan devices boxes
+pub replayed_by : {laws : Laws} (status : Status) (report : Reporting) (plan : Plan) (devices : RunDevices) (boxes : Device (List BoxTold)) → Replayed laws report plan status devices boxes → ReplayedBy laws status report plan devices boxes
 replayed_by {laws} Good report plan devices boxes h = h
 replayed_by {laws} StoreFault report plan devices boxes h = h
 replayed_by {laws} Usage report plan devices boxes h = h

@@ -7,14 +7,15 @@ use Rattle.mg_calc.specs.Equations.{Job, IsSolution}
 use Rattle.mg_calc.specs.Told.{BoxTold}
 use Rattle.mg_answer.specs.Devices.{Device}
 use Rattle.mg_node.specs.Had.{FailsToOpen}
-use Rattle.mg_drive.specs.Leaves.{HadAFront, IsRelatedAt}
+use Rattle.mg_drive.specs.Leaves.{KeepsAFront, IsRelatedAt}
 
 -- A calculator was opened and closed: its log, where it tells one, grew by a front of the calls that its node has in a solution, Open and
 -- perhaps a Process for each of the first sets that the node is shown, and by Close behind them. Where Open fails it grew by that alone.
+-- The calculator keeps what its node has come to after these calls.
 pub record HadAClose (job : Job) (streams : List (StreamPrefix Plain)) (node : PlanNode) (before now : BoxTold) : Type 0 where
-  pub front : HadAFront job streams node before now
-  pub begun : 1 ≤ front.count
-  pub closed : ((front.close ≡ true) × ¬ FailsToOpen job streams node) ⊎ ((front.close ≡ false) × FailsToOpen job streams node)
+  pub keeps : KeepsAFront job streams node before now
+  pub begun : 1 ≤ keeps.front.count
+  pub closed : ((keeps.front.close ≡ true) × ¬ FailsToOpen job streams node) ⊎ ((keeps.front.close ≡ false) × FailsToOpen job streams node)
 
 -- Each calculator that a node uses was opened and closed, in the solution of a job.
 pub record HadCloses (job : Job) (boxes : Device (List BoxTold)) : Type 0 where

@@ -1,11 +1,12 @@
 -- What a call that makes a recorded run again came to, by its status.
-use Rattle.std.specs.Prelude.{◌≡◌, ◌⊎◌, ℕ, Bool, true, false, List, [], Option, None, Some}
+use Rattle.std.specs.Prelude.{◌≡◌, ◌⊎◌, ℕ, Bool, true, false, List, [], Option, None, Some, slice_get}
 use Rattle.mg_edge.specs.Edge.{SourceTold, SinkTold}
 use Rattle.mg_value.specs.Payload.{Plain}
 use Rattle.mg_settled.specs.Prefix.{StreamPrefix}
 use Rattle.mg_calc.specs.Rules.{Laws}
 use Rattle.mg_calc.specs.declared.inputs.Inputs.{Inputs}
 use Rattle.mg_calc.specs.declared.plan.Plan.{Plan}
+use Rattle.mg_calc.specs.declared.plan_node.PlanNode.{PlanNode}
 use Rattle.mg_calc.specs.Equations.{Job, IsSolution}
 use Rattle.mg_calc.specs.Told.{BoxTold}
 use Rattle.mg_feed.specs.declared.feed_end.FeedEnd.TheVariants.{Ended}
@@ -17,7 +18,8 @@ use Rattle.mg_answer.specs.Wrote.{Wrote}
 use Rattle.mg_answer.specs.Devices.{Device, RunDevices, Untouched, TookFront, TookNotes}
 use Rattle.mg_answer.specs.declared.status.Status.{Status}
 use Rattle.mg_answer.specs.declared.status.Status.TheVariants.{OutOfMemory}
-use Rattle.mg_drive.specs.Leaves.{HadCallsOf, HadFronts}
+use Rattle.mg_answer.specs.declared.run.Reporting.{Reporting}
+use Rattle.mg_drive.specs.Leaves.{HadCallsOf, IsRelatedAt, KeepsAFront}
 use Rattle.mg_replay.specs.Replay.{LinesComeTo, WasRead}
 use Rattle.mg_replay.specs.Note.{trace_note, trace_status, WroteNote}
 use Rattle.mg_replay.specs.Reading.{BeginsWithJob}
@@ -32,19 +34,19 @@ job_over laws plan inputs = record { plan = plan; inputs = inputs; laws = laws }
 -- The answer --
 
 -- The answer of a job is that of a run of it where its input ended well, and else that of a frozen job.
-abbrev pub AnswersJob : Bool → Bool → Job → RunAnswer → Type 0
+abbrev pub AnswersJob : Bool → Reporting → Job → RunAnswer → Type 0
 AnswersJob true report job answer = IsAnswerOf (by_lines report) job Ended answer
 AnswersJob false report job answer = IsFrozenAnswer (by_lines report) job answer
 
 -- The answer to lines that come to this: that of the job, where they are accepted; and otherwise nothing but the one note.
-abbrev pub AnswersEnd : Laws → TraceEnd → Bool → Plan → Option Inputs → RunAnswer → Type 0
+abbrev pub AnswersEnd : Laws → TraceEnd → Reporting → Plan → Option Inputs → RunAnswer → Type 0
 AnswersEnd laws Accepted report plan None answer = ⊥
 AnswersEnd laws Accepted report plan (Some inputs) answer = AnswersJob inputs.ended report (job_over laws plan inputs) answer
 AnswersEnd laws (Refused line cause) report plan job answer = answer ≡ record { output = []; notes = trace_note (Refused line cause); status = trace_status (Refused line cause) }
 AnswersEnd laws (Failed lines) report plan job answer = answer ≡ record { output = []; notes = trace_note (Failed lines); status = trace_status (Failed lines) }
 
 -- The answer to a recorded run of these lines.
-pub record AnswersTrace (laws : Laws) (report : Bool) (plan : Plan) (boxes : List BoxTold) (lines : List (List ℕ)) (answer : RunAnswer) : Type 0 where
+pub record AnswersTrace (laws : Laws) (report : Reporting) (plan : Plan) (boxes : List BoxTold) (lines : List (List ℕ)) (answer : RunAnswer) : Type 0 where
   pub job : Option Inputs
   pub end : TraceEnd
   pub comes : LinesComeTo laws plan boxes lines job end
@@ -53,12 +55,12 @@ pub record AnswersTrace (laws : Laws) (report : Bool) (plan : Plan) (boxes : Lis
 -- What was written --
 
 -- What was written of a job: that of a run of it where its input ended well, and else that of a frozen job.
-abbrev pub WroteJob : Bool → Bool → Job → Status → Device SinkTold → Device SinkTold → Type 0
+abbrev pub WroteJob : Bool → Reporting → Job → Status → Device SinkTold → Device SinkTold → Type 0
 WroteJob true report job status output notes = Wrote (by_lines report) job Ended status output notes
 WroteJob false report job status output notes = WroteFrozen (by_lines report) job status output notes
 
 -- For an accepted run the answer of its job was written, and for any other nothing but the one note.
-abbrev pub WroteEnd : Laws → TraceEnd → Bool → Plan → Option Inputs → Status → Device SinkTold → Device SinkTold → Type 0
+abbrev pub WroteEnd : Laws → TraceEnd → Reporting → Plan → Option Inputs → Status → Device SinkTold → Device SinkTold → Type 0
 WroteEnd laws Accepted report plan None status output notes = ⊥
 WroteEnd laws Accepted report plan (Some inputs) status output notes = WroteJob inputs.ended report (job_over laws plan inputs) status output notes
 WroteEnd laws (Refused line cause) report plan job status output notes = Untouched output × WroteNote (Refused line cause) status notes
@@ -67,7 +69,8 @@ WroteEnd laws (Failed lines) report plan job status output notes = Untouched out
 -- The calculators --
 
 -- Behind an accepted run each calculator that a node uses had all calls of its node. Behind any other, where the nodes were begun, each was
--- opened, shown some of the first sets, perhaps none, and closed; where they weren't, none had a call.
+-- opened, shown some of the first sets, perhaps none, and closed, and keeps what its node has come to by then; where they weren't, none had
+-- a call.
 abbrev pub HadEnd : Laws → TraceEnd → Plan → Option Inputs → Device (List BoxTold) → Type 0
 HadEnd laws Accepted plan None boxes = ⊥
 HadEnd laws Accepted plan (Some inputs) boxes = HadCallsOf (job_over laws plan inputs) boxes
@@ -79,34 +82,33 @@ HadEnd laws (Failed lines) plan (Some inputs) boxes = HadCloses (job_over laws p
 -- The call --
 
 -- A recorded run was read as far as it goes, and what is due then was done.
-pub record Replayed (laws : Laws) (report : Bool) (plan : Plan) (status : Status) (devices : RunDevices) (boxes : Device (List BoxTold)) : Type 0 where
+pub record Replayed (laws : Laws) (report : Reporting) (plan : Plan) (status : Status) (devices : RunDevices) (boxes : Device (List BoxTold)) : Type 0 where
   pub job : Option Inputs
   pub end : TraceEnd
   pub read : WasRead laws plan boxes.before devices.input job end
   pub wrote : WroteEnd laws end report plan job status devices.output devices.notes
   pub had : HadEnd laws end plan job boxes
 
--- Memory ran out while the text of an accepted run was written, and the output took a front of it.
-pub record TookOutput (laws : Laws) (plan : Plan) (boxes : List BoxTold) (input : Device SourceTold) (output : Device SinkTold) : Type 0 where
-  pub inputs : Inputs
-  pub read : WasRead laws plan boxes input (Some inputs) Accepted
-  pub streams : List (StreamPrefix Plain)
-  pub solution : IsSolution (job_over laws plan inputs) streams
-  pub front : TookFront output (output_text_of plan streams)
+-- The lines came to an accepted run, and the output took a front of the text that the streams make.
+abbrev pub TookOutput : Laws → Plan → Inputs → List (StreamPrefix Plain) → List BoxTold → Device SourceTold → Device SinkTold → Type 0
+TookOutput laws plan inputs streams boxes input output = WasRead laws plan boxes input (Some inputs) Accepted × TookFront output (output_text_of plan streams)
 
--- The lines of a job were read, and each calculator had a front of the calls that it has in the solution of that job.
-pub record HadSomeCalls (laws : Laws) (plan : Plan) (input : Device SourceTold) (boxes : Device (List BoxTold)) : Type 0 where
+-- Memory ran out once the lines of a job were read. In one solution of that job the output took nothing, or, where the run is accepted, a
+-- front of its text; and each calculator had a front of its calls, and keeps what its node has come to after these.
+pub record ReplayedShort (laws : Laws) (plan : Plan) (input : Device SourceTold) (output : Device SinkTold) (boxes : Device (List BoxTold)) : Type 0 where
   pub inputs : Inputs
   pub opened : BeginsWithJob plan input inputs
-  pub fronts : HadFronts (job_over laws plan inputs) boxes
+  pub streams : List (StreamPrefix Plain)
+  pub solution : IsSolution (job_over laws plan inputs) streams
+  pub took : Untouched output ⊎ TookOutput laws plan inputs streams boxes.before input output
+  pub each : (number place : ℕ) (node : PlanNode) → slice_get plan.nodes number ≡ Some node → node.box_number ≡ Some place
+      → IsRelatedAt place (KeepsAFront (job_over laws plan inputs) streams node) boxes
 
--- Memory ran out: nothing was written, or a front of the text of an accepted run; and no calculator had a call, or each had a front of its
--- calls.
-pub record ReplayedSome (laws : Laws) (plan : Plan) (devices : RunDevices) (boxes : Device (List BoxTold)) : Type 0 where
-  pub took : Untouched devices.output ⊎ TookOutput laws plan boxes.before devices.input devices.output
-  pub had : Untouched boxes ⊎ HadSomeCalls laws plan devices.input boxes
+-- Memory ran out: nothing was written and no calculator had a call, or the lines of a job were read.
+abbrev pub ReplayedSome : Laws → Plan → RunDevices → Device (List BoxTold) → Type 0
+ReplayedSome laws plan devices boxes = (Untouched devices.output × Untouched boxes) ⊎ ReplayedShort laws plan devices.input devices.output boxes
 
 -- A call ended with this status. Where memory ran out the notes say that alone.
-abbrev pub ReplayedBy : Laws → Status → Bool → Plan → RunDevices → Device (List BoxTold) → Type 0
+abbrev pub ReplayedBy : Laws → Status → Reporting → Plan → RunDevices → Device (List BoxTold) → Type 0
 ReplayedBy laws OutOfMemory report plan devices boxes = ReplayedSome laws plan devices boxes × TookNotes devices.notes memory_note
 ReplayedBy laws status report plan devices boxes = Replayed laws report plan status devices boxes

@@ -19,6 +19,7 @@ use Rattle.mg_sched.specs.StandsFor.{StandsFor}
 use Rattle.mg_answer.specs.Text.{output_text_of}
 use Rattle.mg_answer.specs.Devices.{Device, device, RunDevices, Untouched, TookFront}
 use Rattle.mg_answer.specs.declared.status.Status.{Status}
+use Rattle.mg_answer.specs.declared.run.Reporting.{Reporting}
 use Rattle.mg_drive.specs.Leaves.{HadFronts}
 use Rattle.mg_drive.specs.Code.Ending.{HadAllOf}
 use Rattle.mg_replay.specs.Replay.{WasRead}
@@ -57,7 +58,7 @@ HadBy {laws} (Refused line cause) job net = ClosedAllOf job net
 HadBy {laws} (Failed lines) job net = ClosedAllOf job net
 
 -- A recorded run was made again on this net, and what is due at its end was written.
-pub record NetReplayed (laws : Laws) (report : Bool) (plan : Plan) (inputs : Inputs) (boxes : List BoxTold) (status : Status) (devices : RunDevices) (net : NetView) : Type 0 where
+pub record NetReplayed (laws : Laws) (report : Reporting) (plan : Plan) (inputs : Inputs) (boxes : List BoxTold) (status : Status) (devices : RunDevices) (net : NetView) : Type 0 where
   pub end : TraceEnd
   pub read : WasRead laws plan boxes devices.input (Some inputs) end
   pub wrote : WroteEnd laws end report plan (Some inputs) status devices.output devices.notes
@@ -77,7 +78,7 @@ pub record NetShort (laws : Laws) (plan : Plan) (inputs : Inputs) (boxes : List 
   pub stood : StoodFor (job_of laws plan inputs boxes) net
 
 -- A recorded run of a job was made again, with what is due at its end and with the calls that the calculators had.
-pub record JobReplayed (laws : Laws) (report : Bool) (plan : Plan) (inputs : Inputs) (status : Status) (devices : RunDevices) (boxes : Device (List BoxTold)) : Type 0 where
+pub record JobReplayed (laws : Laws) (report : Reporting) (plan : Plan) (inputs : Inputs) (status : Status) (devices : RunDevices) (boxes : Device (List BoxTold)) : Type 0 where
   pub end : TraceEnd
   pub read : WasRead laws plan boxes.before devices.input (Some inputs) end
   pub wrote : WroteEnd laws end report plan (Some inputs) status devices.output devices.notes

@@ -13,7 +13,7 @@ returns-in-Ok-clause-replayed g c =
 
 pub returns-in-Err-clause-replayed : goal.returns-in-Err-clause-replayed
 returns-in-Err-clause-replayed g c = rw c.note_out_of_memory.ensures.status (
-  record { took = c.in-Err.ensures.some.took; had = c.in-Err.ensures.some.had },
+  c.in-Err.ensures.some,
   noted-then (g.E.Sink.told c.args.devices.now.notes.now) (g.E.Sink.told c.replay_whole.new.devices.notes.now) (g.E.Sink.told c.note_out_of_memory.new.notes) memory_note c.in-Err.ensures.unnoted
       c.note_out_of_memory.ensures.noted,
 )

@@ -23,7 +23,6 @@ pub returns-in_err-status-in-Job-clause-some : goal.returns-in_err-status-in-Job
 returns-in_err-status-in-Job-clause-some g c =
     let is = err_from_is_err_and c.from_residual-in_err-status-in-Job.result c.from_residual-in_err-status-in-Job.ensures.1 in
     rw is.1 (of_short c.args.run.now.plan.now c.into_inputs-inputs.result _ _
-    (is_job g.C.NodeCalculator.laws c.args.run.now.plan.now c.in-Job.ended (g.S.Source.told c.args.devices.now.input.now) (g.S.Source.told c.read_job.new.input) (reading c.read_job.new.lines) (number_of c.read_job.new.lines) (seen c.read_job.new.feed) c.into_inputs-inputs.result c.requires.valid (subst (λ (o : Opened). Opens g.C.NodeCalculator.laws o c.args.run.now.plan.now (g.S.Source.told c.args.devices.now.input.now) (g.S.Source.told c.read_job.new.input) (reading c.read_job.new.lines) (number_of c.read_job.new.lines) (seen c.read_job.new.feed)) c.in-Job.is (c.in_ok-opened.ensures g.C.NodeCalculator.laws c.args.run.now.plan.now (g.S.Source.told c.args.devices.now.input.now) (opening_none c.args.run.now.plan.now (g.S.Source.told c.args.devices.now.input.now) (reading c.in_ok-lines.lines) (number_of c.in_ok-lines.lines) (seen c.in_ok-feed.feed) c.in_ok-lines.ensures.unread c.in_ok-lines.ensures.none c.in_ok-feed.ensures.graph c.in_ok-feed.ensures.stands))) c.into_inputs-inputs.ensures.streams c.into_inputs-inputs.ensures.sides c.into_inputs-inputs.ensures.ended)
     (c.in_err-status-in-Job.ensures.some (g.S.Source.told c.args.devices.now.input.now)
     (has_inputs c.args.run.now.plan.now c.in-Job.ended (g.S.Source.told c.args.devices.now.input.now) (g.S.Source.told c.read_job.new.input) (reading c.read_job.new.lines) (number_of c.read_job.new.lines) (seen c.read_job.new.feed) c.into_inputs-inputs.result (subst (λ (o : Opened). Opens g.C.NodeCalculator.laws o c.args.run.now.plan.now (g.S.Source.told c.args.devices.now.input.now) (g.S.Source.told c.read_job.new.input) (reading c.read_job.new.lines) (number_of c.read_job.new.lines) (seen c.read_job.new.feed)) c.in-Job.is (c.in_ok-opened.ensures g.C.NodeCalculator.laws c.args.run.now.plan.now (g.S.Source.told c.args.devices.now.input.now) (opening_none c.args.run.now.plan.now (g.S.Source.told c.args.devices.now.input.now) (reading c.in_ok-lines.lines) (number_of c.in_ok-lines.lines) (seen c.in_ok-feed.feed) c.in_ok-lines.ensures.unread c.in_ok-lines.ensures.none c.in_ok-feed.ensures.graph c.in_ok-feed.ensures.stands))) c.into_inputs-inputs.ensures.streams c.into_inputs-inputs.ensures.sides c.into_inputs-inputs.ensures.ended)))
 
