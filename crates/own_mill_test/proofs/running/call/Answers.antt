@@ -1,0 +1,5 @@
+use Rattle.mg_calc.proofs.Sent.{sent}
+use Rattle.own_mill_test.proofs.running.call.Goals as goal
+
+pub run_words-requires-send-C : goal.run_words-requires-send-C
+run_words-requires-send-C g c κs = search sent depth 60 fits 50000

@@ -1,0 +1,10 @@
+//! The tests of mills: graphs of them come to the same for each number of workers. There is nothing else here, so that no other crate is
+//! proved a second time with its tests.
+#![tactic(auto)]
+
+#[cfg(test)]
+mod outcomes;
+#[cfg(test)]
+mod own;
+#[cfg(test)]
+mod running;
