@@ -15,7 +15,7 @@ use Rattle.mg_feed.specs.Stands.{HasAccepted, nothing_taken, taken_with, packets
 use Rattle.mg_feed.specs.Fed.{Fed, Reading}
 use Rattle.mg_feed.specs.Ran.{MetEnd, late, Spends, Unfailed, ReadFailed}
 use Rattle.mg_feed.specs.Once.{StopsInTime}
-use Rattle.mg_feed.specs.Batch.{EndsAs, Fills, naming, HasReadBatch, BatchEndsAs, BatchFailedBy, idle_by}
+use Rattle.mg_feed.specs.Batch.{EndsAs, CutsAt, naming, HasReadBatch, BatchEndsAs, BatchFailedBy, idle_by}
 use Rattle.mg_feed.specs.declared.feed_end.FeedEnd.TheVariants.{Ended, Failed, Refused, OutOfMemory}
 use Rattle.mg_feed.specs.declared.feed_end.BatchEnd.{BatchEnd}
 use Rattle.mg_feed.specs.declared.feed_end.BatchEnd.TheVariants.{More, End}
@@ -70,25 +70,26 @@ reads_on (End end) plan first before now mid fed graph past came lines taken som
 )
 
 -- a batch that may have more behind it has lines
-fills_some : (end : BatchEnd) (most : ℕ) (taken : List (List ℕ)) → 0 < most → Fills end most taken → IsMore end → 0 < naming taken
-fills_some More most taken some fills more = subst (λ (n : ℕ). 0 < n) (sym fills.0) some
-fills_some (End end) most taken some fills more = absurd more
+cut_some : (early : Bool) (end : BatchEnd) (most : ℕ) (taken : List (List ℕ)) → 0 < most → CutsAt early end most taken → IsMore end → 0 < naming taken
+cut_some true More most taken some cut more = cut some
+cut_some false More most taken some cut more = subst (λ (n : ℕ). 0 < n) (sym cut.0) some
+cut_some early (End end) most taken some cut more = absurd more
 
-pub batch_read : (plan : Plan) (first before now : SourceTold) (most : ℕ) (end : BatchEnd) (old mid new : Fed) (inputs : Inputs) (b : Bool) (past : List ℕ) (lines : List (List ℕ))
+pub batch_read : (early : Bool) (plan : Plan) (first before now : SourceTold) (most : ℕ) (end : BatchEnd) (old mid new : Fed) (inputs : Inputs) (b : Bool) (past : List ℕ) (lines : List (List ℕ))
     → 0 < most → most ≡ batch_size → HadMemory end → IsRead plan first More before old past lines
-    → HasReadBatch most end before now old mid → MetEnd old.read.ended mid.read.ended before now → BatchFailedBy end before now
+    → HasReadBatch early most end before now old mid → MetEnd old.read.ended mid.read.ended before now → BatchFailedBy end before now
     → Spends (late old.read.ended) (idle_by end mid.read.ended) before.left now.left before.reads now.reads → mid.view.lines ≤ most_lines → mid.view.graph ≡ old.view.graph
     → b ≡ has_ended end → inputs.streams ≡ ended_streams b mid.view.given.streams → inputs.sides ≡ mid.view.given.sides → inputs.ended ≡ b
     → ((ls : List (List ℕ)) (gone : List (List (Stamped Plain))) → HasAccepted ls gone mid.view → HasAccepted ls (taken_with gone mid.view.given.streams) new.view)
-    → new.view.graph ≡ mid.view.graph → new.read ≡ mid.read → HasBatch plan first end inputs now new past lines
-batch_read plan first before now most end old mid new inputs b past lines some most_is had was read met failed spent few mid_graph is_b streams sides ended takes new_graph new_read =
+    → new.view.graph ≡ mid.view.graph → new.read ≡ mid.read → HasBatch early plan first end inputs now new past lines
+batch_read early plan first before now most end old mid new inputs b past lines some most_is had was read met failed spent few mid_graph is_b streams sides ended takes new_graph new_read =
     let both = read.accepted [] past lines (packets_of (given_by (inputs_of plan) lines).streams) was.came in
     let came = both.0 in
     let graph : mid.view.graph ≡ inputs_of plan = mid_graph ∙ was.graph in
     let all = lines ++ read.taken in
     let taken_is : taken_with (packets_of (given_by (inputs_of plan) lines).streams) mid.view.given.streams ≡ packets_of (given_by (inputs_of plan) all).streams =
     taken-all all (packets_of (given_by (inputs_of plan) lines).streams) mid.view came.stands ∙ ap (λ (g : GraphInputs). packets_of (given_by g all).streams) graph in
-    let naming_some = fills_some end most read.taken some read.filled in
+    let naming_some = cut_some early end most read.taken some read.filled in
     record {
       came = read.came;
       more = read.taken;
@@ -111,7 +112,7 @@ batch_read plan first before now most end old mid new inputs b past lines some m
       longer = λ more. let few_named = naming-few read.taken in let some_named = naming_some more in omega (arith, length-append lines read.taken, few_named, some_named);
       named = λ more. naming-names (inputs_of plan) lines read.taken (naming_some more);
       few = subst (λ (n : ℕ). n ≤ most_lines) came.stands.number few;
-      filled = subst (λ (n : ℕ). Fills end n read.taken) most_is read.filled;
+      filled = subst (λ (n : ℕ). CutsAt early end n read.taken) most_is read.filled;
     }
 
 -- A call that reads on --
@@ -154,10 +155,10 @@ one_idle More ended left reads = spends-late ended left reads
 one_idle (End end) ended left reads = spends-same 1 left reads
 
 -- where the source had not ended
-further : (most : ℕ) (end : BatchEnd) (plan : Plan) (first before now : SourceTold) (old mid : Fed) (past : List ℕ) (lines : List (List ℕ)) → HasReadBatch most end before now old mid → BatchFailedBy end before now
+further : (early : Bool) (most : ℕ) (end : BatchEnd) (plan : Plan) (first before now : SourceTold) (old mid : Fed) (past : List ℕ) (lines : List (List ℕ)) → HasReadBatch early most end before now old mid → BatchFailedBy end before now
     → Spends (late old.read.ended) (idle_by end mid.read.ended) before.left now.left before.reads now.reads → mid.view.graph ≡ old.view.graph → old.read.ended ≡ false
     → IsRead plan first More before old past lines → HasReadOn plan first before now old.read.ended past
-further most end plan first before now old mid past lines read failed spent same not_ended was =
+further early most end plan first before now old mid past lines read failed spent same not_ended was =
     let both = read.accepted [] past lines (packets_of (given_by (inputs_of plan) lines).streams) was.came in
     let spent_all = spends-then 0 (late old.read.ended) (idle_by end mid.read.ended) first.left before.left now.left first.reads before.reads now.reads was.spent spent in
     record {
@@ -180,20 +181,20 @@ not_again : (now_ended : Bool) (before now : SourceTold) → MetEnd true now_end
 not_again true before now same = same
 not_again false before now met = absurd met
 
-read_or_not : (most : ℕ) (end : BatchEnd) (plan : Plan) (first before now : SourceTold) (old mid : Fed) (past : List ℕ) (lines : List (List ℕ)) → HasReadBatch most end before now old mid
+read_or_not : (early : Bool) (most : ℕ) (end : BatchEnd) (plan : Plan) (first before now : SourceTold) (old mid : Fed) (past : List ℕ) (lines : List (List ℕ)) → HasReadBatch early most end before now old mid
     → MetEnd old.read.ended mid.read.ended before now → BatchFailedBy end before now
     → Spends (late old.read.ended) (idle_by end mid.read.ended) before.left now.left before.reads now.reads → mid.view.graph ≡ old.view.graph
     → IsRead plan first More before old past lines → (old.read.ended ≡ true) ⊎ (old.read.ended ≡ false) → HasReadOn plan first before now old.read.ended past
-read_or_not most end plan first before now old mid past lines read met failed spent same was (inl ended) =
+read_or_not early most end plan first before now old mid past lines read met failed spent same was (inl ended) =
     subst (λ (s : SourceTold). HasReadOn plan first before s old.read.ended past) (sym (not_again mid.read.ended before now (subst (λ (b : Bool). MetEnd b mid.read.ended before now) ended met)))
     (none_further plan first before old past lines was)
-read_or_not most end plan first before now old mid past lines read met failed spent same was (inr not_ended) =
-    further most end plan first before now old mid past lines read failed spent same not_ended was
+read_or_not early most end plan first before now old mid past lines read met failed spent same was (inr not_ended) =
+    further early most end plan first before now old mid past lines read failed spent same not_ended was
 
-pub reads_further : (most : ℕ) (end : BatchEnd) (before now : SourceTold) (old mid : Fed) → HasReadBatch most end before now old mid → MetEnd old.read.ended mid.read.ended before now → BatchFailedBy end before now
+pub reads_further : (early : Bool) (most : ℕ) (end : BatchEnd) (before now : SourceTold) (old mid : Fed) → HasReadBatch early most end before now old mid → MetEnd old.read.ended mid.read.ended before now → BatchFailedBy end before now
     → Spends (late old.read.ended) (idle_by end mid.read.ended) before.left now.left before.reads now.reads → mid.view.graph ≡ old.view.graph → (plan : Plan) (first : SourceTold) → ReadsOn old plan first before now
-reads_further most end before now old mid read met failed spent same plan first = λ past lines was.
-    read_or_not most end plan first before now old mid past lines read met failed spent same was (cases_Bool old.read.ended)
+reads_further early most end before now old mid read met failed spent same plan first = λ past lines was.
+    read_or_not early most end plan first before now old mid past lines read met failed spent same was (cases_Bool old.read.ended)
 
 -- The first batch --
 
@@ -202,8 +203,8 @@ inputs_from : (inputs : Inputs) (ss : List (StreamPrefix Plain)) (sides : List (
 inputs_from inputs ss sides ended a b c = λ i. record { streams = a i; sides = b i; ended = c i }
 
 -- what the first batch hands on is all that its lines gave
-pub first_read : (plan : Plan) (first : SourceTold) (end : BatchEnd) (inputs : Inputs) (now : SourceTold) (fed : Fed) → HasBatch plan first end inputs now fed [] [] → LinesGave fed plan first now end inputs
-first_read plan first end inputs now fed batch =
+pub first_read : (early : Bool) (plan : Plan) (first : SourceTold) (end : BatchEnd) (inputs : Inputs) (now : SourceTold) (fed : Fed) → HasBatch early plan first end inputs now fed [] [] → LinesGave fed plan first now end inputs
+first_read early plan first end inputs now fed batch =
     let graph = inputs_of plan in
     let stands : HasAccepted batch.more (nothing_taken batch.view.graph) batch.view = subst (λ (g : GraphInputs). HasAccepted batch.more (nothing_taken g) batch.view) (sym batch.graph)
     (subst (λ (gone : List (List (Stamped Plain))). HasAccepted batch.more gone batch.view) (none_given graph) batch.stands) in
@@ -219,6 +220,6 @@ first_read plan first end inputs now fed batch =
       named = batch.named;
     }
 
-pub first_inputs : (plan : Plan) (first : SourceTold) (end : BatchEnd) (inputs : Inputs) (now : SourceTold) (fed : Fed) → (batch : HasBatch plan first end inputs now fed [] []) → inputs ≡ inputs_at (inputs_of plan) batch.more (has_ended end)
+pub first_inputs : (early : Bool) (plan : Plan) (first : SourceTold) (end : BatchEnd) (inputs : Inputs) (now : SourceTold) (fed : Fed) → (batch : HasBatch early plan first end inputs now fed [] []) → inputs ≡ inputs_at (inputs_of plan) batch.more (has_ended end)
 unfolding first_read
-first_inputs plan first end inputs now fed batch = (first_read plan first end inputs now fed batch).inputs_are
+first_inputs early plan first end inputs now fed batch = (first_read early plan first end inputs now fed batch).inputs_are

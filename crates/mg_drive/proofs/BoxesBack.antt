@@ -1,5 +1,5 @@
 -- What a run leaves of the calculators that were handed in.
-use Rattle.std.proofs.Common.{◌≡◌, ◌<◌, inl, inr, ℕ, Bool, List, ◌++◌, length, All, Option, Some, None, IfSome, IsSomeAnd, Result, Ok, Err, IfOk, OnErr, slice_get, option_map, option_and_then, refl, sym, ap, ◌∙◌, subst, arith}
+use Rattle.std.proofs.Common.{◌≡◌, ◌<◌, inl, inr, ℕ, List, ◌++◌, length, All, Option, Some, None, IfSome, IsSomeAnd, Result, Ok, Err, IfOk, OnErr, slice_get, option_map, option_and_then, refl, sym, ap, ◌∙◌, subst, arith}
 use Rattle.std.proofs.lemmas.Option.{slice_get_cases}
 use Rattle.mg_edge.specs.Edge.{SourceTold}
 use Rattle.mg_calc.specs.Rules.{Laws}
@@ -19,14 +19,15 @@ use Rattle.mg_sched.proofs.PlanEdges.{all_at}
 use Rattle.mg_sched.proofs.HadBack.{count_back as as_many_back, unused_is_back, unused_lies}
 use Rattle.mg_answer.specs.Answer.{OutputForm}
 use Rattle.mg_answer.specs.declared.status.Status.{Status}
+use Rattle.mg_answer.specs.declared.run.Reporting.{Reporting}
 use Rattle.mg_edge.specs.Edge.{SinkTold}
 use Rattle.mg_drive.specs.Leaves.{HadCallsOf}
 use Rattle.mg_drive.specs.Nets.{Keeps}
 use Rattle.mg_drive.specs.Batches.{logged}
-use Rattle.mg_drive.specs.Code.Running.{Giving, ReadingOn, TellingSets, Start, job_with, IsShort}
-use Rattle.mg_drive.specs.Code.Ending.{HadAllOf, CalculatorsCameBack, StoodWith, Writing, HasEnded, HasRunBatches, WasShort}
+use Rattle.mg_drive.specs.Code.Running.{Giving, ReadingOn, TellingSets, Start, start_of, job_with, IsShort}
+use Rattle.mg_drive.specs.Code.Ending.{HadAllOf, CalculatorsCameBack, StoodWith, WasMade, Writing, HasEnded, HasRunBatches, WasShort}
 use Rattle.mg_drive.proofs.Jobs.{plan_stood}
-use Rattle.mg_drive.proofs.RunsEnd.{start_of}
+use Rattle.mg_drive.proofs.Looping.{keeps_itself, keeps_on}
 
 -- One that no node uses --
 
@@ -116,6 +117,20 @@ came_back_then {laws} plan inputs boxes handed now made net same is keeps stood 
     subst (λ (bs : List BoxTold). CalculatorsCameBack plan boxes bs) (sym back)
     (came_back plan inputs boxes made net (subst (λ (bs : List BoxTold). IsMade laws plan inputs bs made) same is) keeps stood)
 
+-- the plan of a net that was made
+pub made_plan : {laws : Laws} (plan : Plan) (boxes : List BoxTold) (net : NetView) → WasMade laws plan boxes net → net.plan ≡ plan
+made_plan {laws} plan boxes net w = w.keeps.plan ∙ plan_stood (made_job laws plan w.inputs boxes) w.made w.is_made.stands
+
+pub just_made : {laws : Laws} (plan : Plan) (inputs : Inputs) (boxes : List BoxTold) (net : NetView) → IsMade laws plan inputs boxes net → WasMade laws plan boxes net
+just_made {laws} plan inputs boxes net is = record { inputs = inputs; made = net; is_made = is; keeps = keeps_itself net }
+
+pub made_still : {laws : Laws} (plan : Plan) (boxes : List BoxTold) (net now : NetView) → Keeps net now → WasMade laws plan boxes net → WasMade laws plan boxes now
+made_still {laws} plan boxes net now keeps w = record { inputs = w.inputs; made = w.made; is_made = w.is_made; keeps = keeps_on w.made net now w.keeps keeps }
+
+-- what was made comes back
+pub made_back : {laws : Laws} (plan : Plan) (boxes now : List BoxTold) (net later : NetView) → WasMade laws plan boxes net → Keeps net later → StoodWith laws boxes later → now ≡ given_back later → CalculatorsCameBack plan boxes now
+made_back {laws} plan boxes now net later w keeps stood back = came_back_then plan w.inputs boxes boxes now w.made later refl w.is_made (keeps_on w.made net later w.keeps keeps) stood back
+
 -- what isn't called comes back as it was
 pub same_back : (plan : Plan) (boxes now : List BoxTold) → now ≡ boxes → CalculatorsCameBack plan boxes now
 same_back plan boxes now same = record { count = ap length same; unused = λ place none. ap (λ (l : List BoxTold). slice_get l place) same }
@@ -127,7 +142,13 @@ pub either : {X E P : Type 0} (r : Result X E) → IfOk r (λ x. P) → OnErr r 
 either (Ok x) one other = one
 either (Err e) one other = other
 
-pub stood_ended : {laws : Laws} {B : Type 0} (gives : Giving B) (writes : Writing B) (form : OutputForm) (report : Bool) (start : Start B) (status : Status) (source : SourceTold) (sink : SinkTold) (notes : Device SinkTold) (net : NetView) → HasEnded laws gives writes form report start status source sink notes net
+pub if_ok_at : {X E : Type 0} (r : Result X E) (x : X) (P : X → Type 0) → r ≡ Ok x → IfOk r P → P x
+if_ok_at {X} {E} r x P is h = subst (λ (s : Result X E). IfOk s P) is h
+
+pub on_err_at : {X E : Type 0} (r : Result X E) (e : E) (P : Type 0) → r ≡ Err e → OnErr r P → P
+on_err_at {X} {E} r e P is h = subst (λ (s : Result X E). OnErr s P) is h
+
+pub stood_ended : {laws : Laws} {B : Type 0} (gives : Giving B) (writes : Writing B) (form : OutputForm) (report : Reporting) (start : Start B) (status : Status) (source : SourceTold) (sink : SinkTold) (notes : Device SinkTold) (net : NetView) → HasEnded laws gives writes form report start status source sink notes net
     → StoodWith laws start.boxes net
 stood_ended {laws} {B} gives writes form report start status source sink notes net h = record { job = job_with laws start h.inputs; stood = h.stood; boxes_are = refl }
 
@@ -135,7 +156,7 @@ pub stood_short : {laws : Laws} {B T : Type 0} (gives : Giving B) (reads_on : Re
 stood_short {laws} {B} {T} gives reads_on has_told form start source sink net h = record { job = job_with laws start h.inputs; stood = h.stood; boxes_are = refl }
 
 -- a net that has ended was run
-pub run_ended : {laws : Laws} {B : Type 0} (gives : Giving B) (writes : Writing B) (form : OutputForm) (report : Bool) (plan : Plan) (boxes now : List BoxTold) (began : B) (source later : SourceTold) (first sink : SinkTold) (notes : Device SinkTold) (status : Status) (net : NetView) → BoxesFit plan boxes
+pub run_ended : {laws : Laws} {B : Type 0} (gives : Giving B) (writes : Writing B) (form : OutputForm) (report : Reporting) (plan : Plan) (boxes now : List BoxTold) (began : B) (source later : SourceTold) (first sink : SinkTold) (notes : Device SinkTold) (status : Status) (net : NetView) → BoxesFit plan boxes
     → now ≡ given_back net → HasEnded laws gives writes form report (start_of plan boxes source first began) status later sink notes net
     → HasRunBatches laws gives writes form report began plan status (run_devices (device source later) (device first sink) notes) (device boxes now)
 run_ended {laws} {B} gives writes form report plan boxes now began source later first sink notes status net fit back h = record {

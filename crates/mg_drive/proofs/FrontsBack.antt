@@ -1,8 +1,10 @@
 -- What a run leaves of the calculators that were handed in where memory ran out: a front of their calls.
-use Rattle.std.proofs.Common.{◌≡◌, ◌⊎◌, inl, ℕ, suc, List, [], ◌∷◌, ◌++◌, length, map, append-nil, Bool, true, false, Option, Some, None, slice_get, option_map, if◌then◌else◌, refl, sym, ap, ◌∙◌, subst, arith}
-use Rattle.std.proofs.Math.Seq.{take-length}
+use Rattle.std.proofs.Common.{◌≡◌, ◌≤◌, ◌⊎◌, inl, ℕ, suc, List, [], ◌∷◌, ◌++◌, length, map, append-nil, Bool, false, Option, Some, None, slice_get, option_map, if◌then◌else◌, refl, sym, ap, ◌∙◌, subst, arith}
+use Rattle.std.proofs.Math.Nat.{min-le_left}
+use Rattle.std.proofs.lemmas.List.{length-map, length-take, take_all}
 use Rattle.mg_value.specs.Payload.{Plain}
 use Rattle.mg_settled.specs.Prefix.{StreamPrefix}
+use Rattle.mg_settled.specs.Settled.{settled_sets}
 use Rattle.mg_calc.specs.Rules.{Laws}
 use Rattle.mg_calc.specs.declared.call.Call.{Call}
 use Rattle.mg_calc.specs.declared.call.Call.TheVariants.{Begun, Shown, Finished}
@@ -14,9 +16,10 @@ use Rattle.mg_calc.specs.declared.plan_node.PlanNode.{PlanNode}
 use Rattle.mg_calc.specs.Shape.{IsOuter}
 use Rattle.mg_calc.specs.Told.{BoxTold}
 use Rattle.mg_calc.specs.Outcome.{Failure, Outcome}
-use Rattle.mg_calc.specs.Equations.{Job, IsJob, IsSolution, outcome_of, rules_at}
-use Rattle.mg_calc.specs.Meaning.{shown_sets, last_call, log_of}
+use Rattle.mg_calc.specs.Equations.{Job, IsJob, inputs_of, outcome_of, rules_at}
+use Rattle.mg_calc.specs.Meaning.{count_of, shown_sets, last_call, log_of}
 use Rattle.mg_answer.specs.Devices.{Device, device}
+use Rattle.mg_node.specs.Had.{opens_well, had_close, state_by}
 use Rattle.mg_node.specs.Job.{LoggedJob, Solves}
 use Rattle.mg_node.specs.Batches.{Grows}
 use Rattle.mg_node.proofs.Stages.{outer_stage}
@@ -27,10 +30,14 @@ use Rattle.mg_sched.specs.GivesBack.{given_back, StoodFor}
 use Rattle.mg_sched.proofs.CountedBack.{knows_back}
 use Rattle.mg_sched.proofs.FrontsBack.{front_back}
 use Rattle.mg_sched.proofs.Solved.{solved}
-use Rattle.mg_drive.specs.Leaves.{first_calls, KeepsAFront, IsRelatedAt, HadCallsOf, HadFronts}
+use Rattle.mg_drive.specs.Leaves.{first_calls, kept_by, KeepsAFront, IsRelatedAt, HadCallsOf, HadFronts}
 use Rattle.mg_drive.proofs.BoxesBack.{box_at, log_was}
 
 -- Calculators of a net --
+
+-- what a node's calculator keeps, by what its node has come to
+pub state_kept : (job : Job) (streams : List (StreamPrefix Plain)) (node : PlanNode) (shown : ℕ) (close : Bool) → IsOuter node.law → state_by job streams node shown close ≡ kept_by job streams node shown close
+state_kept job streams node shown close outer = ap (λ (o : Outcome). if close then kept_after ((rules_at job node).finish o.state) o.state else o.state) (outer_stage node.law job streams node shown outer)
 
 -- one comes back with a front of its calls
 kept_front : {laws : Laws} (boxes : List BoxTold) (job later : LoggedJob laws) (net : NetView) (streams : List (StreamPrefix Plain)) (number place : ℕ) (node : PlanNode) → BoxesFit later.job.plan boxes → later.boxes ≡ boxes → StoodFor job net
@@ -54,19 +61,13 @@ kept_front {laws} boxes job later net streams number place node fit same stood m
           shape = back.2.fits.same_shape ∙ sym box.2.fits.same_shape;
         };
         unopened = λ none. back.2.unopened none place box.0 has (ap (λ (bs : List BoxTold). slice_get bs place) same ∙ box.1);
-        state = λ shown is. back.2.state shown is ∙ ap (λ (o : Outcome). if back.2.close then kept_after ((rules_at later.job node).finish o.state) o.state else o.state) (outer_stage node.law later.job streams node shown outer);
+        state = λ shown is. back.2.state shown is ∙ state_kept later.job streams node shown back.2.close outer;
       };
     }
 
 -- and so does each, in the solution of a job that the net's is or that goes on from it
-pub record KeptFronts (job : Job) (boxes : Device (List BoxTold)) : Type 0 where
-  pub streams : List (StreamPrefix Plain)
-  pub solution : IsSolution job streams
-  pub each : (number place : ℕ) (node : PlanNode) → slice_get job.plan.nodes number ≡ Some node → node.box_number ≡ Some place
-      → IsRelatedAt place (KeepsAFront job streams node) boxes
-
 pub kept_fronts : {laws : Laws} (boxes : List BoxTold) (job later : LoggedJob laws) (net : NetView) → BoxesFit later.job.plan boxes → later.boxes ≡ boxes → StoodFor job net → job.job.plan ≡ later.job.plan → (later ≡ job) ⊎ Grows job later
-    → IsJob later.job → KeptFronts later.job (device boxes (given_back net))
+    → IsJob later.job → HadFronts later.job (device boxes (given_back net))
 kept_fronts {laws} boxes job later net fit handed stood same more is =
     let found = solved later is in
     record {
@@ -75,21 +76,9 @@ kept_fronts {laws} boxes job later net fit handed stood same more is =
       each = λ number place node there has. kept_front boxes job later net found.0 number place node fit handed stood more ((knows_back job net stood).plan ∙ same) found.1 there has;
     }
 
-pub kept_now : {laws : Laws} (boxes now : List BoxTold) (job : LoggedJob laws) (net : NetView) → BoxesFit job.job.plan boxes → job.boxes ≡ boxes → StoodFor job net → IsJob job.job → now ≡ given_back net → KeptFronts job.job (device boxes now)
+pub kept_now : {laws : Laws} (boxes now : List BoxTold) (job : LoggedJob laws) (net : NetView) → BoxesFit job.job.plan boxes → job.boxes ≡ boxes → StoodFor job net → IsJob job.job → now ≡ given_back net → HadFronts job.job (device boxes now)
 kept_now {laws} boxes now job net fit handed stood is back =
-    subst (λ (bs : List BoxTold). KeptFronts job.job (device boxes bs)) (sym back) (kept_fronts boxes job job net fit handed stood refl (inl refl) is)
-
--- of what they keep nothing is said
-pub fronts_now : {laws : Laws} (boxes now : List BoxTold) (job : LoggedJob laws) (net : NetView) → BoxesFit job.job.plan boxes → job.boxes ≡ boxes → StoodFor job net → IsJob job.job → now ≡ given_back net → HadFronts job.job (device boxes now)
-fronts_now {laws} boxes now job net fit handed stood is back =
-    let kept = kept_now boxes now job net fit handed stood is back in
-    record {
-      streams = kept.streams;
-      solution = kept.solution;
-      each = λ number place node there has.
-          (let at = kept.each number place node there has in
-          record { before = at.before; now = at.now; was = at.was; is = at.is; holds = at.holds.front });
-    }
+    subst (λ (bs : List BoxTold). HadFronts job.job (device boxes bs)) (sym back) (kept_fronts boxes job job net fit handed stood refl (inl refl) is)
 
 -- Calculators that had none of their calls, or all --
 
@@ -111,60 +100,63 @@ none_had job boxes is fit =
             now = box.0;
             was = box.1;
             is = box.1;
-            holds = record { count = 0; close = false; opened = λ closed. absurd cc; log = none_more box.0.log; law = refl; shape = refl };
+            holds = record {
+              front = record { count = 0; close = false; opened = λ closed. absurd cc; log = none_more box.0.log; law = refl; shape = refl };
+              unopened = λ none. refl;
+              state = λ shown is. absurd cc;
+            };
           });
     }
-
--- whether Close is the last of a node's calls
-abbrev pub closes_at : Phase → Bool
-closes_at Open = false
-closes_at (SourceCall number) = true
-closes_at (Process at) = true
-closes_at Close = true
-
-abbrev pub closes : Option Failure → Bool
-closes None = true
-closes (Some failure) = closes_at failure.phase
 
 abbrev finish : Bool → List Call
 finish close = if close then Finished ∷ [] else []
 
-last_at : (phase : Phase) (cause : Cause) → last_call (Some (record { phase = phase; cause = cause })) ≡ finish (closes_at phase)
+last_at : (phase : Phase) (cause : Cause) → last_call (Some (record { phase = phase; cause = cause })) ≡ finish (opens_well phase)
 last_at Open cause = refl
 last_at (SourceCall number) cause = refl
 last_at (Process at) cause = refl
 last_at Close cause = refl
 
-last_is : (fault : Option Failure) → last_call fault ≡ finish (closes fault)
+last_is : (fault : Option Failure) → last_call fault ≡ finish (had_close fault)
 last_is None = refl
 last_is (Some failure) = last_at failure.phase failure.cause
 
 -- all of a node's calls are a front of them
-pub all_first : (job : Job) (streams : List (StreamPrefix Plain)) (node : PlanNode) → log_of job streams node ≡ first_calls job streams node (suc (length (map (λ e. Shown e.at e.set) (shown_sets job streams node)))) (closes (outcome_of job streams node).fault)
+pub all_first : (job : Job) (streams : List (StreamPrefix Plain)) (node : PlanNode) → log_of job streams node ≡ first_calls job streams node (suc (count_of job streams node)) (had_close (outcome_of job streams node).fault)
 all_first job streams node =
-    let shown : List Call = map (λ e. Shown e.at e.set) (shown_sets job streams node) in
+    let sets = shown_sets job streams node in
+    let shown : List Call = map (λ e. Shown e.at e.set) sets in
     let fault = (outcome_of job streams node).fault in
-    ap (λ (last : List Call). (Begun ∷ shown) ++ last) (last_is fault) ∙ ap (λ (calls : List Call). calls ++ finish (closes fault)) (sym (take-length (Begun ∷ shown)))
+    let few : length sets ≤ count_of job streams node = subst (λ (n : ℕ). n ≤ count_of job streams node) (sym (length-take (count_of job streams node) (settled_sets node.policy (inputs_of streams node)))) (min-le_left (count_of job streams node) (length (settled_sets node.policy (inputs_of streams node)))) in
+    let long : length shown ≤ count_of job streams node = subst (λ (n : ℕ). n ≤ count_of job streams node) (sym (length-map sets (λ e. Shown e.at e.set))) few in
+    ap (λ (last : List Call). (Begun ∷ shown) ++ last) (last_is fault) ∙ ap (λ (calls : List Call). (Begun ∷ calls) ++ finish (had_close fault)) (sym (take_all (count_of job streams node) shown long))
 
 -- so those that had all had a front
-abbrev pub all_are_fronts : (job : Job) (boxes : Device (List BoxTold)) → HadCallsOf job boxes → HadFronts job boxes
-all_are_fronts job boxes had = record {
+pub all_are_fronts : (job : Job) (boxes : Device (List BoxTold)) → BoxesFit job.plan boxes.before → HadCallsOf job boxes → HadFronts job boxes
+all_are_fronts job boxes fit had = record {
   streams = had.streams;
   solution = had.solution;
   each = λ number place node there has.
       (let at = had.each number place node there has in
+      let box = box_at job.plan boxes.before number place node fit there has in
+      let close = had_close (outcome_of job had.streams node).fault in
       record {
         before = at.before;
         now = at.now;
         was = at.was;
         is = at.is;
         holds = record {
-          count = suc (length (map (λ e. Shown e.at e.set) (shown_sets job had.streams node)));
-          close = closes (outcome_of job had.streams node).fault;
-          opened = λ closed. omega arith;
-          log = at.holds.log ∙ ap (λ (more : List Call). option_map (λ (calls : List Call). calls ++ more) at.before.log) (all_first job had.streams node);
-          law = at.holds.law;
-          shape = at.holds.shape;
+          front = record {
+            count = suc (count_of job had.streams node);
+            close = close;
+            opened = λ closed. omega arith;
+            log = at.holds.log ∙ ap (λ (more : List Call). option_map (λ (calls : List Call). calls ++ more) at.before.log) (all_first job had.streams node);
+            law = at.holds.law;
+            shape = at.holds.shape;
+          };
+          unopened = λ none. absurd cc;
+          state = λ shown is. at.holds.state ∙ (let same : count_of job had.streams node ≡ shown = omega (arith, is) in ap (λ (n : ℕ). state_by job had.streams node n close) same)
+              ∙ state_kept job had.streams node shown close (subst IsOuter box.2.fits.same_law box.2.outer);
         };
       });
 }

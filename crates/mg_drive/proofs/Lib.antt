@@ -24,6 +24,7 @@ pub mod LiveBatches
 pub mod LiveWants
 pub mod LiveMade
 pub mod LiveRounds
+pub mod RoundComes
 pub mod LiveTells
 pub mod LiveEnds
 pub mod LiveRan

@@ -24,7 +24,7 @@ use Rattle.mg_answer.specs.Answer.{Read, inputs_by}
 use Rattle.mg_answer.proofs.Fitting.{inputs-fit}
 use Rattle.mg_node.specs.Extending.{joined}
 use Rattle.mg_drive.specs.Batches.{IsMore, IsFirst, InputsGoOn, BatchesGoOn}
-use Rattle.mg_drive.specs.Code.Lines.{has_ended, inputs_at, batch_size, HasBatch, LinesGave, lines_of, given_after, LinesCame, lines_left}
+use Rattle.mg_drive.specs.Code.Lines.{has_ended, inputs_at, batch_size, HasBatch, LinesGave, lines_of, given_after, LinesCame, NewestGave, lines_left}
 use Rattle.mg_drive.proofs.BatchesRead.{first_read, first_inputs}
 
 -- What lines give --
@@ -53,17 +53,17 @@ fits_lines plan lines ended valid good =
     inputs-fit plan (read_at lines ended) (inputs_at (graph_of plan) lines ended) valid
     (subst (λ (ls : List (List ℕ)). AllGood (graph_of plan) [] ls) (sym (lines_at lines ended)) good) (inputs_same (graph_of plan) lines ended)
 
-good_lines : (plan : Plan) (first now : SourceTold) (end : BatchEnd) (inputs : Inputs) (fed : Fed) (past : List ℕ) (lines : List (List ℕ))
-    (batch : HasBatch plan first end inputs now fed past lines) → AllGood (graph_of plan) [] (lines ++ batch.more)
-good_lines plan first now end inputs fed past lines batch = subst (λ (g : GraphInputs). AllGood g [] (lines ++ batch.more)) batch.graph batch.stands.good
+good_lines : (early : Bool) (plan : Plan) (first now : SourceTold) (end : BatchEnd) (inputs : Inputs) (fed : Fed) (past : List ℕ) (lines : List (List ℕ))
+    (batch : HasBatch early plan first end inputs now fed past lines) → AllGood (graph_of plan) [] (lines ++ batch.more)
+good_lines early plan first now end inputs fed past lines batch = subst (λ (g : GraphInputs). AllGood g [] (lines ++ batch.more)) batch.graph batch.stands.good
 
 -- the inputs go on with the batch
-pub goes_on : (plan : Plan) (first now : SourceTold) (end : BatchEnd) (inputs : Inputs) (fed : Fed) (past : List ℕ) (lines : List (List ℕ)) → IsValidWithFree plan
-    → (given_by (graph_of plan) lines).named ≡ true → (batch : HasBatch plan first end inputs now fed past lines)
+pub goes_on : (early : Bool) (plan : Plan) (first now : SourceTold) (end : BatchEnd) (inputs : Inputs) (fed : Fed) (past : List ℕ) (lines : List (List ℕ)) → IsValidWithFree plan
+    → (given_by (graph_of plan) lines).named ≡ true → (batch : HasBatch early plan first end inputs now fed past lines)
     → InputsGoOn plan (inputs_at (graph_of plan) lines false) inputs (inputs_at (graph_of plan) (lines ++ batch.more) (has_ended end))
-goes_on plan first now end inputs fed past lines valid named batch =
+goes_on early plan first now end inputs fed past lines valid named batch =
     let graph = graph_of plan in
-    let good = good_lines plan first now end inputs fed past lines batch in
+    let good = good_lines early plan first now end inputs fed past lines batch in
     let stands : HasAccepted (lines ++ batch.more) (packets_of (given_by batch.view.graph lines).streams) batch.view =
     subst (λ (g : GraphInputs). HasAccepted (lines ++ batch.more) (packets_of (given_by g lines).streams) batch.view) (sym batch.graph) batch.stands in
     let count : length batch.view.given.streams ≡ length (given_by graph lines).streams =
@@ -88,10 +88,10 @@ goes_on plan first now end inputs fed past lines valid named batch =
 -- What a feed gives --
 
 -- the first batch
-pub first_lines : (plan : Plan) (before now : SourceTold) (end : BatchEnd) (inputs : Inputs) (fed : Fed) → IsValidWithFree plan → HasBatch plan before end inputs now fed [] []
+pub first_lines : (early : Bool) (plan : Plan) (before now : SourceTold) (end : BatchEnd) (inputs : Inputs) (fed : Fed) → IsValidWithFree plan → HasBatch early plan before end inputs now fed [] []
     → IsFirst (LinesGave fed plan before now) plan end inputs
-first_lines plan before now end inputs fed valid batch =
-    let gave = first_read plan before end inputs now fed batch in
+first_lines early plan before now end inputs fed valid batch =
+    let gave = first_read early plan before end inputs now fed batch in
     let good : AllGood (graph_of plan) [] gave.lines = subst (λ (g : GraphInputs). AllGood g [] gave.lines) gave.is_read.graph gave.is_read.came.stands.good in
     record {
       given = gave;
@@ -99,9 +99,9 @@ first_lines plan before now end inputs fed valid batch =
     }
 
 -- a batch more
-pub more_lines : (plan : Plan) (first before now : SourceTold) (end : BatchEnd) (inputs so_far : Inputs) (old fed : Fed) → IsValidWithFree plan → (gave : LinesGave old plan first before More so_far)
-    → HasBatch plan first end inputs now fed gave.past gave.lines → BatchesGoOn (LinesGave fed plan first now end) plan so_far inputs
-more_lines plan first before now end inputs so_far old fed valid gave batch = record {
+pub more_lines : (early : Bool) (plan : Plan) (first before now : SourceTold) (end : BatchEnd) (inputs so_far : Inputs) (old fed : Fed) → IsValidWithFree plan → (gave : LinesGave old plan first before More so_far)
+    → HasBatch early plan first end inputs now fed gave.past gave.lines → BatchesGoOn (LinesGave fed plan first now end) plan so_far inputs
+more_lines early plan first before now end inputs so_far old fed valid gave batch = record {
   all = inputs_at (graph_of plan) (gave.lines ++ batch.more) (has_ended end);
   given = record {
     past = gave.past ++ batch.came;
@@ -111,15 +111,15 @@ more_lines plan first before now end inputs so_far old fed valid gave batch = re
     named = batch.named;
   };
   goes_on = subst (λ (i : Inputs). InputsGoOn plan i inputs (inputs_at (graph_of plan) (gave.lines ++ batch.more) (has_ended end))) (sym gave.inputs_are)
-      (goes_on plan first now end inputs fed gave.past gave.lines valid (gave.named tt) batch);
+      (goes_on early plan first now end inputs fed gave.past gave.lines valid (gave.named tt) batch);
 }
 
 -- Batches in turn --
 
-pub first_lines_came : (plan : Plan) (before now : SourceTold) (end : BatchEnd) (inputs : Inputs) (fed : Fed) → IsValidWithFree plan → HasBatch plan before end inputs now fed [] []
+pub first_lines_came : (plan : Plan) (before now : SourceTold) (end : BatchEnd) (inputs : Inputs) (fed : Fed) → IsValidWithFree plan → HasBatch false plan before end inputs now fed [] []
     → IsFirst (λ end inputs. LinesGave fed plan before now end inputs × LinesCame fed plan before now end (inputs ∷ [])) plan end inputs
 first_lines_came plan before now end inputs fed valid batch =
-    let first = first_lines plan before now end inputs fed valid batch in
+    let first = first_lines false plan before now end inputs fed valid batch in
     record {
       given = (
         first.given,
@@ -128,7 +128,7 @@ first_lines_came plan before now end inputs fed valid batch =
           newest = batch.more;
           earlier = [];
           is_read = batch.is_read;
-          history_is = ap (λ (i : Inputs). i ∷ []) (first_inputs plan before end inputs now fed batch);
+          history_is = ap (λ (i : Inputs). i ∷ []) (first_inputs false plan before end inputs now fed batch);
           filled = batch.filled;
           all_filled = All-from_recursion (Fills More batch_size) [] tt;
           named = batch.named;
@@ -141,7 +141,7 @@ same_head : (a b : Inputs) (xs ys : List Inputs) → a ∷ xs ≡ b ∷ ys → (
 same_head a b xs ys same = (ap (λ (l : List Inputs). slice_index_or l 0 a) same, ap (λ (l : List Inputs). drop 1 l) same)
 
 pub more_lines_came : (plan : Plan) (first before now : SourceTold) (end : BatchEnd) (inputs so_far : Inputs) (earlier : List Inputs) (old fed : Fed) → IsValidWithFree plan → (came : LinesCame old plan first before More (so_far ∷ earlier))
-    → HasBatch plan first end inputs now fed came.past (lines_of (came.newest ∷ came.earlier)) → BatchesGoOn (λ all. LinesGave fed plan first now end all × LinesCame fed plan first now end (all ∷ so_far ∷ earlier)) plan so_far inputs
+    → HasBatch false plan first end inputs now fed came.past (lines_of (came.newest ∷ came.earlier)) → BatchesGoOn (λ all. LinesGave fed plan first now end all × LinesCame fed plan first now end (all ∷ so_far ∷ earlier)) plan so_far inputs
 more_lines_came plan first before now end inputs so_far earlier old fed valid came batch =
     let lines = lines_of (came.newest ∷ came.earlier) in
     let heads = same_head so_far (inputs_at (graph_of plan) lines false) earlier (given_after (graph_of plan) came.earlier) came.history_is in
@@ -167,13 +167,27 @@ more_lines_came plan first before now end inputs so_far earlier old fed valid ca
         },
       );
       goes_on = subst (λ (i : Inputs). InputsGoOn plan i inputs (inputs_at (graph_of plan) (lines ++ batch.more) (has_ended end))) (sym heads.0)
-          (goes_on plan first now end inputs fed came.past lines valid (came.named tt) batch);
+          (goes_on false plan first now end inputs fed came.past lines valid (came.named tt) batch);
     }
 
+-- Batches in turn, of which the newest alone is told --
+
+pub first_newest : (plan : Plan) (before now : SourceTold) (end : BatchEnd) (inputs : Inputs) (fed : Fed) → IsValidWithFree plan → HasBatch true plan before end inputs now fed [] []
+    → IsFirst (λ end inputs. LinesGave fed plan before now end inputs × NewestGave fed plan before now end (inputs ∷ [])) plan end inputs
+first_newest plan before now end inputs fed valid batch =
+    let first = first_lines true plan before now end inputs fed valid batch in
+    record { given = (first.given, first.given); fits = first.fits }
+
+pub more_newest : (plan : Plan) (first before now : SourceTold) (end : BatchEnd) (inputs so_far : Inputs) (earlier : List Inputs) (old fed : Fed) → IsValidWithFree plan → (gave : LinesGave old plan first before More so_far)
+    → HasBatch true plan first end inputs now fed gave.past gave.lines → BatchesGoOn (λ all. LinesGave fed plan first now end all × NewestGave fed plan first now end (all ∷ so_far ∷ earlier)) plan so_far inputs
+more_newest plan first before now end inputs so_far earlier old fed valid gave batch =
+    let more = more_lines true plan first before now end inputs so_far old fed valid gave batch in
+    record { all = more.all; given = (more.given, more.given); goes_on = more.goes_on }
+
 -- leaves fewer to come
-pub fewer_lines : (plan : Plan) (first before now : SourceTold) (end : BatchEnd) (inputs so_far : Inputs) (old fed : Fed) (gave : LinesGave old plan first before More so_far)
-    → HasBatch plan first end inputs now fed gave.past gave.lines → IsMore end → lines_left fed < lines_left old
-fewer_lines plan first before now end inputs so_far old fed gave batch more =
+pub fewer_lines : (early : Bool) (plan : Plan) (first before now : SourceTold) (end : BatchEnd) (inputs so_far : Inputs) (old fed : Fed) (gave : LinesGave old plan first before More so_far)
+    → HasBatch early plan first end inputs now fed gave.past gave.lines → IsMore end → lines_left fed < lines_left old
+fewer_lines early plan first before now end inputs so_far old fed gave batch more =
     let was = gave.is_read.came.stands.number in
     let is = batch.is_read.came.stands.number in
     let less = batch.longer more in

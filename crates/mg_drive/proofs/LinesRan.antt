@@ -37,6 +37,7 @@ use Rattle.mg_answer.proofs.Writing.{front-on, put-front, nothing-put}
 use Rattle.mg_answer.proofs.Gathering.{came-by, read-none, read-came}
 use Rattle.mg_answer.proofs.LongerTexts.{texts-grow}
 use Rattle.mg_answer.proofs.Fitting.{accepted-fit}
+use Rattle.mg_answer.specs.declared.run.Reporting.{Reporting}
 use Rattle.mg_node.specs.Job.{LoggedJob, Solves}
 use Rattle.mg_node.specs.Batches.{Grows}
 use Rattle.mg_sched.specs.Views.{NetView}
@@ -47,14 +48,14 @@ use Rattle.mg_sched.proofs.Solved.{solved}
 use Rattle.mg_sched.proofs.OutputsTaken.{outputs_by_default}
 use Rattle.mg_drive.specs.Batches.{IsMore, logged}
 use Rattle.mg_drive.specs.Told.{HasLines}
-use Rattle.mg_drive.specs.Leaves.{HadCallsOf}
+use Rattle.mg_drive.specs.Leaves.{HadCallsOf, HadFronts}
 use Rattle.mg_drive.specs.OneRun.{CalculatorsCameBack, OneRun, OneShort, OneReading, ShortAtEnd, ShortBefore}
 use Rattle.mg_drive.specs.Code.Running.{IsToldSome, FrontIn}
 use Rattle.mg_drive.specs.Code.Lines.{inputs_at, HasReadOn, ReadsOn, IsNew, LinesGave}
 use Rattle.mg_drive.proofs.Jobs.{valid_plan}
 use Rattle.mg_drive.proofs.BatchesRead.{nothing_read, none_further}
 use Rattle.mg_drive.proofs.LinesGoOn.{not_ended}
-use Rattle.mg_drive.proofs.FrontsBack.{KeptFronts, kept_fronts, kept_now}
+use Rattle.mg_drive.proofs.FrontsBack.{kept_fronts, kept_now}
 use Rattle.mg_drive.proofs.OneRuns.{one_run, one_short}
 
 -- The text --
@@ -131,13 +132,13 @@ goes_on_to {laws} plan handed lines more bytes valid named is =
     }
 
 fronts_more : {laws : Laws} (plan : Plan) (first at : SourceTold) (fed : Fed) (inputs : Inputs) (boxes now : List BoxTold) (net : NetView) → BoxesFit plan boxes → (gave : LinesGave fed plan first at More inputs) (rest : List ℕ) → IsValid plan
-    → (fed.read.ended ≡ true → rest ≡ []) → StoodFor (logged laws plan inputs boxes) net → now ≡ given_back net → KeptFronts (job_of laws plan (ended_input (inputs_of plan) (gave.past ++ rest))) (device boxes now)
+    → (fed.read.ended ≡ true → rest ≡ []) → StoodFor (logged laws plan inputs boxes) net → now ≡ given_back net → HadFronts (job_of laws plan (ended_input (inputs_of plan) (gave.past ++ rest))) (device boxes now)
 fronts_more {laws} plan first at fed inputs boxes now net fit u rest valid fits stood back =
     let bytes = u.past ++ rest in
     let front = lines_in_front plan first at fed inputs u rest fits in
     let grows = goes_on_to plan boxes u.lines front.0 bytes valid (u.named tt) front.1 in
     let then : StoodFor (logged laws plan (inputs_at (inputs_of plan) u.lines false) boxes) net = subst (λ (i : Inputs). StoodFor (logged laws plan i boxes) net) u.inputs_are stood in
-    subst (λ (bs : List BoxTold). KeptFronts (job_of laws plan (ended_input (inputs_of plan) bytes)) (device boxes bs)) (sym back)
+    subst (λ (bs : List BoxTold). HadFronts (job_of laws plan (ended_input (inputs_of plan) bytes)) (device boxes bs)) (sym back)
     (kept_fronts boxes (logged laws plan (inputs_at (inputs_of plan) u.lines false) boxes) (record { job = job_of laws plan (ended_input (inputs_of plan) bytes); boxes = boxes; same = refl }) net fit refl then refl (inr grows) grows.is_job)
 
 -- The input came to its end --
@@ -152,7 +153,7 @@ came_at plan first at fed end inputs u =
     })
 
 -- the run was of that
-pub lines_ran : {laws : Laws} (report : Bool) (plan : Plan) (devices : RunDevices) (boxes : Device (List BoxTold)) (status : Status) (fed : Fed) (end : FeedEnd) (inputs : Inputs) → LinesGave fed plan devices.input.before devices.input.now (End end) inputs
+pub lines_ran : {laws : Laws} (report : Reporting) (plan : Plan) (devices : RunDevices) (boxes : Device (List BoxTold)) (status : Status) (fed : Fed) (end : FeedEnd) (inputs : Inputs) → LinesGave fed plan devices.input.before devices.input.now (End end) inputs
     → CalculatorsCameBack plan boxes.before boxes.now → Wrote (by_lines report) (record { plan = plan; inputs = inputs; laws = laws }) end status devices.output devices.notes → HadCallsOf (record { plan = plan; inputs = inputs; laws = laws }) boxes
     → OneReading laws report plan status devices boxes
 lines_ran {laws} report plan devices boxes status fed end inputs u back wrote had = record {

@@ -13,6 +13,7 @@ use Rattle.mg_free.specs.Core.{is_free, stream_number}
 use Rattle.mg_free.specs.Rounds.{Taken}
 use Rattle.mg_settled.specs.Ends.{end_of}
 use Rattle.mg_answer.specs.declared.outcomes.Outcomes.{Outcomes}
+use Rattle.mg_answer.specs.declared.run.Reporting.{Reporting}
 use Rattle.mg_drive.specs.Live.{LiveTells, first_of, sets_by}
 
 pub sets_long : (nodes : List PlanNode) (sets arrivals : List ℕ) → length (sets_by nodes sets arrivals) ≡ length nodes
@@ -23,6 +24,6 @@ sets_long (node ∷ nodes) sets arrivals = one (is_free node) (sets_long nodes s
     one true free core = ap suc free
     one false free core = ap suc core
 
-pub plan_ends : (whole : Plan) (job : Job) (streams : List (StreamPrefix Plain)) (frees : List FreeNode) (takens : List Taken) (outcomes : Outcomes) → LiveTells whole job streams frees takens outcomes → length outcomes.ends.items ≡ length whole.streams
-plan_ends whole job streams frees takens outcomes t =
+pub plan_ends : (report : Reporting) (whole : Plan) (job : Job) (streams : List (StreamPrefix Plain)) (frees : List FreeNode) (takens : List Taken) (outcomes : Outcomes) → LiveTells report whole job streams frees takens outcomes → length outcomes.ends.items ≡ length whole.streams
+plan_ends report whole job streams frees takens outcomes t =
     ap length t.ends ∙ length-map (numbers (length whole.streams)) (λ s. end_of (stream_of streams (stream_number whole s))) ∙ length-range_with_len 0 (length whole.streams)

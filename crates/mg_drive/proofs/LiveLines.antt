@@ -1,5 +1,5 @@
 -- The lines of an input in batches, as a feed took them one after the other.
-use Rattle.std.proofs.Common.{◌≡◌, ◌<◌, ◌⊎◌, inl, inr, ℕ, List, [], ◌∷◌, ◌++◌, reverse, All, Bool, false, Option, None, Some, refl, sym, ap, ◌∙◌, subst, append-nil}
+use Rattle.std.proofs.Common.{◌≡◌, ◌<◌, ◌⊎◌, inl, inr, ℕ, List, [], ◌∷◌, ◌++◌, reverse, All, false, Option, None, Some, refl, sym, ap, ◌∙◌, subst, append-nil}
 use Rattle.std.specs.List.{AllByRecursion}
 use Rattle.std.proofs.lemmas.List.{append_assoc, reverse-append}
 use Rattle.std.proofs.lemmas.List.Elements.{recursion_from_All}
@@ -25,6 +25,7 @@ use Rattle.mg_answer.specs.Answer.{packet_lines, is_ended, Read, ended_input}
 use Rattle.mg_answer.specs.Devices.{Device, device, RunDevices}
 use Rattle.mg_answer.specs.Ran.{CameTo}
 use Rattle.mg_answer.specs.declared.status.Status.{Status}
+use Rattle.mg_answer.specs.declared.run.Reporting.{Reporting}
 use Rattle.mg_drive.specs.InBatches.{inputs_at, batch_size, InBatches, last, more, come_after}
 use Rattle.mg_drive.specs.Batches.{IsMore, logged}
 use Rattle.mg_drive.specs.Leaves.{KeepsAFront}
@@ -71,7 +72,7 @@ abbrev gave_as : (whole : Plan) (first at : SourceTold) (fed : Fed) (end : Batch
     → LinesGave fed whole first at end (inputs_at (inputs_of whole) (lines_of came.earlier ++ came.newest) (has_ended end))
 gave_as whole first at fed end base earlier came = record { past = came.past; lines = lines_of came.earlier ++ came.newest; is_read = came.is_read; inputs_are = refl; named = came.named }
 
-pub live_lines : {laws : Laws} (report : Bool) (whole : Plan) (status : Status) (devices : RunDevices) (boxes : Device (List BoxTold)) (fed : Fed) (end : FeedEnd) (base : Inputs) (earlier : List Inputs) (first : Inputs) (later : List Inputs)
+pub live_lines : {laws : Laws} (report : Reporting) (whole : Plan) (status : Status) (devices : RunDevices) (boxes : Device (List BoxTold)) (fed : Fed) (end : FeedEnd) (base : Inputs) (earlier : List Inputs) (first : Inputs) (later : List Inputs)
     → LinesCame fed whole devices.input.before devices.input.now (End end) (base ∷ earlier) → reverse (base ∷ earlier) ≡ first ∷ later → OneLive laws packet_lines report whole first later end status devices.output devices.notes boxes
     → OneLiveReading laws report whole status devices boxes
 live_lines {laws} report whole status devices boxes fed end base earlier first later came order run =

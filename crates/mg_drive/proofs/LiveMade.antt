@@ -1,5 +1,5 @@
 -- Runs of a plan with free nodes over packets that are made.
-use Rattle.std.proofs.Common.{◌≡◌, ◌≤◌, ◌⊎◌, ℕ, Bool, false, map, List, [], ◌∷◌, drop, slice_index_or, reverse, Option, sym, ap, ◌∙◌, subst, append-nil}
+use Rattle.std.proofs.Common.{◌≡◌, ◌≤◌, ◌⊎◌, ℕ, false, map, List, [], ◌∷◌, drop, slice_index_or, reverse, Option, sym, ap, ◌∙◌, subst, append-nil}
 use Rattle.mg_edge.specs.Edge.{SinkTold}
 use Rattle.mg_value.specs.Payload.{Plain}
 use Rattle.mg_settled.specs.Prefix.{StreamPrefix}
@@ -19,6 +19,7 @@ use Rattle.mg_live.specs.SoFar.{SoFar}
 use Rattle.mg_answer.specs.Answer.{totals, generated_job}
 use Rattle.mg_answer.specs.Devices.{Device}
 use Rattle.mg_answer.specs.declared.status.Status.{Status}
+use Rattle.mg_answer.specs.declared.run.Reporting.{Reporting}
 use Rattle.mg_drive.specs.Batches.{logged}
 use Rattle.mg_drive.specs.Leaves.{KeepsAFront}
 use Rattle.mg_drive.specs.OneRun.{AllHad}
@@ -35,7 +36,7 @@ one_piece : (whole : Plan) (number most now : ℕ) (m : Making) (end : BatchEnd)
 one_piece whole number most now m end history le came =
     came.history_is ∙ ap (λ (earlier : List ℕ). came.inputs ∷ map (λ made. made_inputs (inputs_of whole) made false) earlier) (came.at_once le).0
 
-pub live_made : {laws : Laws} (report : Bool) (whole : Plan) (number most now : ℕ) (m : Making) (output notes : Device SinkTold) (boxes : Device (List BoxTold)) (status : Status) (end : FeedEnd) (base : Inputs) (earlier : List Inputs) (first : Inputs) (later : List Inputs)
+pub live_made : {laws : Laws} (report : Reporting) (whole : Plan) (number most now : ℕ) (m : Making) (output notes : Device SinkTold) (boxes : Device (List BoxTold)) (status : Status) (end : FeedEnd) (base : Inputs) (earlier : List Inputs) (first : Inputs) (later : List Inputs)
     → number ≤ most → HaveComeInPieces whole number most now m (End end) (base ∷ earlier) → reverse (base ∷ earlier) ≡ first ∷ later → OneLive laws totals report whole first later end status output notes boxes
     → OneLiveMade laws report whole number status output notes boxes
 live_made {laws} report whole number most now m output notes boxes status end base earlier first later le came order run =

@@ -1,5 +1,5 @@
 -- A run of a core over batches of its plan, once it is over, is one of the plan.
-use Rattle.std.proofs.Common.{◌≡◌, ◌⊎◌, inl, inr, None, ℕ, slice_get, Bool, List, [], ◌∷◌, ◌++◌, reverse, Option, Some, refl, sym, ap, ◌∙◌, subst, drop, slice_index_or}
+use Rattle.std.proofs.Common.{◌≡◌, ◌⊎◌, inl, inr, None, ℕ, slice_get, List, [], ◌∷◌, ◌++◌, reverse, Option, Some, refl, sym, ap, ◌∙◌, subst, drop, slice_index_or}
 use Rattle.std.specs.List.{AllZip}
 use Rattle.std.proofs.lemmas.List.{reverse-append}
 use Rattle.mg_edge.specs.Edge.{SourceTold}
@@ -26,10 +26,11 @@ use Rattle.mg_answer.specs.Devices.{Device, device, RunDevices}
 use Rattle.mg_answer.specs.Outcomes.{told_answer, told_failed}
 use Rattle.mg_answer.specs.Wrote.{WroteBy}
 use Rattle.mg_answer.specs.declared.status.Status.{Status}
+use Rattle.mg_answer.specs.declared.run.Reporting.{Reporting}
 use Rattle.mg_sched.specs.Views.{NetView}
 use Rattle.mg_sched.specs.Made.{BoxesFit}
 use Rattle.mg_sched.specs.GivesBack.{given_back, StoodFor}
-use Rattle.mg_drive.specs.Leaves.{HadItsCalls, KeepsAFront, IsRelatedAt, HadCallsOf}
+use Rattle.mg_drive.specs.Leaves.{HadItsCalls, KeepsAFront, IsRelatedAt, HadCallsOf, HadFronts}
 use Rattle.mg_drive.specs.OneRun.{CalculatorsCameBack, AllHad}
 use Rattle.mg_drive.specs.Batches.{Giving, Coming, Due, IsMore, logged}
 use Rattle.mg_drive.specs.Live.{LiveTells}
@@ -37,7 +38,7 @@ use Rattle.mg_drive.specs.Code.Live.{LiveView, LiveGives, LiveWrote, end_by}
 use Rattle.mg_drive.specs.Code.Running.{ReadingOn, TellingSets, IsToldSome, FrontIn}
 use Rattle.mg_drive.specs.Code.Ending.{HasGiven}
 use Rattle.mg_drive.specs.Code.LiveRunning.{HasRunLive, CoreShort}
-use Rattle.mg_drive.proofs.FrontsBack.{KeptFronts, kept_now}
+use Rattle.mg_drive.proofs.FrontsBack.{kept_now}
 use Rattle.mg_drive.proofs.LinesRan.{stood_is_job}
 
 -- the last of some batches is the one that stands last
@@ -83,7 +84,7 @@ had_in job streams boxes solution back had = record {
 abbrev OutputsAre : List FreeNode → List Taken → List (StreamPrefix Plain) → Type 0
 OutputsAre frees takens streams = AllZip (λ free taken. output_so_far free taken ≡ output_of free.law (free_inputs streams free) taken.log) frees takens
 
-pub live_ran : {laws : Laws} {B : Type 0} (gives : Giving B) (came : Coming B) (is_due : Due B) (form : OutputForm) (report : Bool) (began : B) (live : LiveView B) (core : Plan) (status : Status) (devices : RunDevices) (boxes : Device (List BoxTold)) (end : FeedEnd) (inputs : Inputs)
+pub live_ran : {laws : Laws} {B : Type 0} (gives : Giving B) (came : Coming B) (is_due : Due B) (form : OutputForm) (report : Reporting) (began : B) (live : LiveView B) (core : Plan) (status : Status) (devices : RunDevices) (boxes : Device (List BoxTold)) (end : FeedEnd) (inputs : Inputs)
     → (l : LiveGives laws gives came is_due began live core devices.input.before devices.input.now (End end) inputs) → LiveWrote live.whole live.frees live.takers form report (job_in laws core inputs) end status devices.output devices.notes
     → HadCallsOf (job_in laws core inputs) boxes → CalculatorsCameBack core boxes.before boxes.now → HasRunLive laws gives came form report began live.whole status devices boxes
 live_ran {laws} {B} gives came is_due form report began live core status devices boxes end inputs l w had back =
@@ -116,8 +117,8 @@ live_ran {laws} {B} gives came is_due form report began live core status devices
           logs = subst (λ (ss : List (StreamPrefix Plain)). AreLawful ss split.free l.takens) streams_are come.logs;
           outputs = subst (OutputsAre split.free l.takens) streams_are come.outputs;
           live = w.live;
-          tells = subst (λ (fs : List FreeNode). LiveTells live.whole (core_job laws split (last_batch first later) l.takens) w.streams fs l.takens w.live) l.of.frees_are
-              (subst (λ (j : Job). LiveTells live.whole j w.streams live.frees l.takens w.live) same (w.tells l.takens l.taken));
+          tells = subst (λ (fs : List FreeNode). LiveTells report live.whole (core_job laws split (last_batch first later) l.takens) w.streams fs l.takens w.live) l.of.frees_are
+              (subst (λ (j : Job). LiveTells report live.whole j w.streams live.frees l.takens w.live) same (w.tells l.takens l.taken));
         };
         wrote = subst (λ (p : Plan). WroteBy status (told_answer report live.whole end w.live (output_in form p w.streams)) (told_failed report live.whole end w.live) devices.output devices.notes) l.of.core_is w.by;
         had = subst (HadIn boxes w.streams) same (had_in (job_in laws core inputs) w.streams boxes w.solution back had);
@@ -126,7 +127,7 @@ live_ran {laws} {B} gives came is_due form report began live core status devices
 
 -- Memory ran out --
 
-kept_in : (job : Job) (boxes : Device (List BoxTold)) → CalculatorsCameBack job.plan boxes.before boxes.now → (had : KeptFronts job boxes) → AllHad job.plan (KeepsAFront job had.streams) boxes
+kept_in : (job : Job) (boxes : Device (List BoxTold)) → CalculatorsCameBack job.plan boxes.before boxes.now → (had : HadFronts job boxes) → AllHad job.plan (KeepsAFront job had.streams) boxes
 kept_in job boxes back had = record { back = back; used = had.each }
 
 more_none : (ended : Option FeedEnd) → ended ≡ None → IsMore (end_by ended)

@@ -1,5 +1,5 @@
 -- Rounds of free nodes beside a net that has come to rest.
-use Rattle.std.proofs.Common.{◌≡◌, ◌<◌, ◌≤◌, ◌+◌, ◌-◌, ◌*◌, ◌^◌, ℕ, zero, suc, Bool, true, false, cond, List, [], ◌∷◌, ◌++◌, length, length-append, map, replicate, Option, Some, None, slice_get, refl, sym, ap, ◌∙◌, subst, arith, inl, inr}
+use Rattle.std.proofs.Common.{◌≡◌, ◌<◌, ◌≤◌, ◌+◌, ◌-◌, ◌*◌, ◌^◌, ◌==◌, not, ℕ, zero, suc, Bool, true, false, cond, List, [], ◌∷◌, ◌++◌, length, length-append, map, replicate, Option, Some, None, slice_get, refl, sym, ap, ◌∙◌, subst, arith, inl, inr, ne_eqb}
 use Rattle.std.proofs.lemmas.Bool.{cases_lt}
 use Rattle.std.proofs.lemmas.List.{length-map}
 use Rattle.std.proofs.lemmas.List.Sums.{sum_by-cons}
@@ -35,8 +35,9 @@ use Rattle.mg_free.specs.Turns.{taken_by, taken_by_all}
 use Rattle.mg_free.proofs.Turning.{turns_rise, arrived-both}
 use Rattle.mg_free.proofs.WellTaken.{left_none}
 use Rattle.mg_live.specs.declared.taker.Taker.{Taker}
-use Rattle.mg_live.specs.Takes.{told, HasTaken, HaveTaken, MayAllTurn, MayRound, Did, turns_of, handed_of, outputs_so_far, pieces_behind}
+use Rattle.mg_live.specs.Takes.{told, HasTaken, HaveTaken, MayAllTurn, MayRound, Did, turns_of, handed_of, outputs_so_far, pieces_behind, DidAt}
 use Rattle.mg_live.specs.SoFar.{goes, HaveCome}
+use Rattle.mg_live.proofs.Places.{did_where}
 use Rattle.mg_live.proofs.Following.{is_job, round_goes_on, may_all_turn}
 use Rattle.mg_drive.specs.Nets.{HasRested, AreThere, AreRead}
 use Rattle.mg_drive.specs.Batches.{Giving, Coming, Due, InputsGoOn, BatchesGoOn, logged}
@@ -263,7 +264,7 @@ extends_behind : (ss us vs : List (StreamPrefix Plain)) → AreExtendedBy (ss ++
 extends_behind [] us vs e = e
 extends_behind (s ∷ ss) us vs e = extends_behind ss us vs e.1
 
-newest_fits : (plan : Plan) (inputs : Inputs) (earlier : List Inputs) → HaveCome plan (inputs ∷ earlier) → InputsFit plan inputs
+pub newest_fits : (plan : Plan) (inputs : Inputs) (earlier : List Inputs) → HaveCome plan (inputs ∷ earlier) → InputsFit plan inputs
 newest_fits plan inputs [] h = h
 newest_fits plan inputs (before ∷ earlier) h = h.0
 
@@ -322,6 +323,13 @@ live_round {laws} {B} gives came is_due began live core first source last so_far
       goes_on = subst (λ (i : Inputs). InputsGoOn core i more (core_inputs split l.base after)) (sym l.inputs_are)
           (subst (λ (p : Plan). InputsGoOn p (core_inputs split l.base l.takens) more (core_inputs split l.base after)) (sym l.of.core_is) all);
     }
+
+-- Places at which something was done --
+
+pub some_did : (streams : List (StreamPrefix Plain)) (frees : List FreeNode) (takens : List Taken) (takers : List Taker) (places : List ℕ) (did : Bool) → HaveTaken frees takens takers → did ≡ not (length places == 0) → DidAt places takens (turns_of streams frees takens)
+    → Did did takens (turns_of streams frees takens)
+some_did streams frees takens takers [] did h is at = did_where streams frees takens [] did h.takens_long (λ yes. absurd (let no : true ≡ false = sym yes ∙ is in cc)) (λ no. refl) at
+some_did streams frees takens takers (p ∷ places) did h is at = did_where streams frees takens (p ∷ places) did h.takens_long (λ yes. omega arith) (λ no. absurd (let yes : false ≡ true = sym no ∙ is ∙ ap not (ne_eqb (length (p ∷ places)) 0 (λ e. omega (arith, e))) in cc)) at
 
 -- The free nodes are the same --
 

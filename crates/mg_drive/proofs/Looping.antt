@@ -22,29 +22,26 @@ use Rattle.mg_sched.specs.GivesBack.{StoodFor}
 use Rattle.mg_sched.specs.Taking.{taken_out, settled_outputs, HasAllOutputs, LeavesNodes}
 use Rattle.mg_sched.proofs.Becoming.{becomes_plan, becomes_spare}
 use Rattle.mg_sched.proofs.OutputsTaken.{all_come_at_rest}
-use Rattle.mg_sched.specs.Extends.{GoesOnWith, MayGoOnWith, Extends, for_last}
+use Rattle.mg_sched.specs.Extends.{GoesOnWith, ComesAt, MayGoOnAt, Extends}
 use Rattle.mg_drive.specs.Nets.{Keeps, Wanted, AreRead}
 use Rattle.mg_drive.specs.Batches.{Due, IsMore, IsAsGiven, SomeGiven, GoesOnward}
 use Rattle.mg_drive.specs.declared.batches.Onward.{Onward}
 use Rattle.mg_drive.specs.declared.batches.Onward.TheVariants.{Round, Next, End as Over}
-use Rattle.mg_drive.specs.Code.Running.{Giving, ReadingOn, TellingSets, Start, job_with, IsTold, IsToldSome, IsSomeTold, IsUnderWay, IsSomeMore, WentOn, HasRested, IsAllTaken, RunIsOver, IsShort}
+use Rattle.mg_drive.specs.declared.driving.Step.{Step}
+use Rattle.mg_drive.specs.declared.driving.Step.TheVariants.{On as GoesOn, Over as IsOver}
+use Rattle.mg_drive.specs.Code.Running.{Giving, ReadingOn, TellingSets, Start, job_with, IsTold, IsToldSome, IsSomeTold, IsUnderWay, IsSomeMore, WentOn, HasRested, IsAllTaken, RunIsOver, HasStepped, steps_left, LeavesFewer, IsShort}
 use Rattle.mg_drive.proofs.TakingSets.{told_same, told_some}
 use Rattle.mg_drive.proofs.Jobs.{valid_plan, job_goes_on, told_of_later}
 
 -- Measure --
 
--- how many more batches there may be
-abbrev pub batches_left : BatchEnd → ℕ → ℕ
-batches_left More left = left + 1
-batches_left (End end) left = 0
-
-pub fewer_rounds : (last : BatchEnd) (old new : ℕ) → last ≡ More → new < old → batches_left last new < batches_left last old
+pub fewer_rounds : (last : BatchEnd) (old new : ℕ) → last ≡ More → new < old → steps_left last new < steps_left last old
 fewer_rounds More old new is less = omega (arith, less)
 fewer_rounds (End end) old new is less = absurd cc
 
-pub fewer_batches : (last next : BatchEnd) (old new : ℕ) → last ≡ More → (IsMore next → new < old) → batches_left next new < batches_left last old
-fewer_batches last More old new is falls = subst (λ (e : BatchEnd). new + 1 < batches_left e old) (sym is) (let less = falls tt in omega (arith, less))
-fewer_batches last (End end) old new is falls = subst (λ (e : BatchEnd). 0 < batches_left e old) (sym is) (omega arith)
+pub fewer_batches : (last next : BatchEnd) (old new : ℕ) → last ≡ More → (IsMore next → new < old) → steps_left next new < steps_left last old
+fewer_batches last More old new is falls = subst (λ (e : BatchEnd). new + 1 < steps_left e old) (sym is) (let less = falls tt in omega (arith, less))
+fewer_batches last (End end) old new is falls = subst (λ (e : BatchEnd). 0 < steps_left e old) (sym is) (omega arith)
 
 -- What is kept --
 
@@ -155,42 +152,44 @@ Onwards laws {B} gives is_due wants last source batches batches_now now onward =
     (began : B) (plan : Plan) (first source_is : SourceTold) (so_far : Inputs) → IsAsGiven laws gives began plan first source_is last so_far now batches → GoesOnward gives is_due wants began plan first source_is last so_far now batches_now onward
 
 -- by further input that comes before the next batch
-pub round_may : {laws : Laws} {B T : Type 0} (gives : Giving B) (is_due : Due B) (wants : B → List Wanted) (has_told : TellingSets T) (start : Start B) (last : BatchEnd) (source : SourceTold) (sink : SinkTold) (batches batches_now : B) (telling : T) (net now : NetView) (onward : Onward) (pieces : List (StreamPrefix Plain)) → onward ≡ Round pieces
+pub round_may : {laws : Laws} {B T : Type 0} (gives : Giving B) (is_due : Due B) (wants : B → List Wanted) (has_told : TellingSets T) (start : Start B) (last : BatchEnd) (source : SourceTold) (sink : SinkTold) (batches batches_now : B) (telling : T) (net now : NetView) (onward : Onward) (inputs : List ℕ) (pieces : List (StreamPrefix Plain)) → onward ≡ Round inputs pieces
     → ((job : LoggedJob laws) → StandsFor job net → StandsFor job now) → ((job : LoggedJob laws) → StandsFor job net → HasRested job now × IsAllTaken job now)
-    → Onwards laws gives is_due wants last source batches batches_now now onward → IsUnderWay laws gives has_told start last source sink batches telling net → MayGoOnWith laws (for_last (length now.plan.inputs) pieces) now
-round_may {laws} {B} {T} gives is_due wants has_told start last source sink batches batches_now telling net now onward pieces is keeps rests on u =
+    → Onwards laws gives is_due wants last source batches batches_now now onward → IsUnderWay laws gives has_told start last source sink batches telling net → MayGoOnAt laws inputs pieces now
+round_may {laws} {B} {T} gives is_due wants has_told start last source sink batches batches_now telling net now onward inputs pieces is keeps rests on u =
     let given = as_given gives has_told start last source sink batches telling net now keeps rests u in
     let g = subst (λ (o : Onward). GoesOnward gives is_due wants start.batches start.plan start.source source last u.inputs now batches_now o) is (on start.batches start.plan start.source source u.inputs given) in
     record {
+      more = g.1.more;
       first = job_with laws start u.inputs;
-      later = job_with laws start g.1.all;
+      later = job_with laws start g.1.goes.all;
       stands = given.stands;
-      goes_on = job_goes_on start.plan u.inputs (for_last (length now.plan.inputs) pieces) g.1.all start.boxes given.valid g.1.goes_on;
+      goes_on = job_goes_on start.plan u.inputs g.1.more g.1.goes.all start.boxes given.valid g.1.goes.goes_on;
+      comes = g.1.comes;
     }
 
-pub round_is_more : {laws : Laws} {B T : Type 0} (gives : Giving B) (is_due : Due B) (wants : B → List Wanted) (has_told : TellingSets T) (start : Start B) (last : BatchEnd) (source : SourceTold) (sink : SinkTold) (batches batches_now : B) (telling : T) (net now : NetView) (onward : Onward) (pieces : List (StreamPrefix Plain)) → onward ≡ Round pieces
+pub round_is_more : {laws : Laws} {B T : Type 0} (gives : Giving B) (is_due : Due B) (wants : B → List Wanted) (has_told : TellingSets T) (start : Start B) (last : BatchEnd) (source : SourceTold) (sink : SinkTold) (batches batches_now : B) (telling : T) (net now : NetView) (onward : Onward) (inputs : List ℕ) (pieces : List (StreamPrefix Plain)) → onward ≡ Round inputs pieces
     → ((job : LoggedJob laws) → StandsFor job net → StandsFor job now) → ((job : LoggedJob laws) → StandsFor job net → HasRested job now × IsAllTaken job now)
     → Onwards laws gives is_due wants last source batches batches_now now onward → IsUnderWay laws gives has_told start last source sink batches telling net → last ≡ More
-round_is_more {laws} {B} {T} gives is_due wants has_told start last source sink batches batches_now telling net now onward pieces is keeps rests on u =
+round_is_more {laws} {B} {T} gives is_due wants has_told start last source sink batches batches_now telling net now onward inputs pieces is keeps rests on u =
     (subst (λ (o : Onward). GoesOnward gives is_due wants start.batches start.plan start.source source last u.inputs now batches_now o) is
     (on start.batches start.plan start.source source u.inputs (as_given gives has_told start last source sink batches telling net now keeps rests u))).0
 
-pub round_goes_on : {laws : Laws} {B T : Type 0} (gives : Giving B) (is_due : Due B) (wants : B → List Wanted) (has_told : TellingSets T) (start : Start B) (last : BatchEnd) (source : SourceTold) (sink later : SinkTold) (batches batches_now : B) (telling telling_now : T) (net now after : NetView) (onward : Onward) (pieces : List (StreamPrefix Plain)) → onward ≡ Round pieces
+pub round_goes_on : {laws : Laws} {B T : Type 0} (gives : Giving B) (is_due : Due B) (wants : B → List Wanted) (has_told : TellingSets T) (start : Start B) (last : BatchEnd) (source : SourceTold) (sink later : SinkTold) (batches batches_now : B) (telling telling_now : T) (net now after : NetView) (onward : Onward) (inputs : List ℕ) (pieces : List (StreamPrefix Plain)) → onward ≡ Round inputs pieces
     → ((job : LoggedJob laws) → StandsFor job net → StandsFor job now)
     → ((job : LoggedJob laws) (first : SinkTold) → StandsFor job net → IsTold has_told job.job first sink (taken_out net) telling → IsTold has_told job.job first later (taken_out now) telling_now)
     → ((job : LoggedJob laws) → StandsFor job net → HasRested job now × IsAllTaken job now)
     → Onwards laws gives is_due wants last source batches batches_now now onward
-    → ((first later : LoggedJob laws) → GoesOnWith (for_last (length now.plan.inputs) pieces) first later → StandsFor first now → StandsFor later after) → taken_out after ≡ taken_out now
+    → ((more : Inputs) (first later : LoggedJob laws) → ComesAt inputs pieces first.job.inputs.streams more → GoesOnWith more first later → StandsFor first now → StandsFor later after) → taken_out after ≡ taken_out now
     → IsUnderWay laws gives has_told start last source sink batches telling net → IsUnderWay laws gives has_told start last source later batches_now telling_now after
-round_goes_on {laws} {B} {T} gives is_due wants has_told start last source sink later batches batches_now telling telling_now net now after onward pieces is keeps tells rests on extends same u =
+round_goes_on {laws} {B} {T} gives is_due wants has_told start last source sink later batches batches_now telling telling_now net now after onward inputs pieces is keeps tells rests on extends same u =
     let given = as_given gives has_told start last source sink batches telling net now keeps rests u in
     let g = subst (λ (o : Onward). GoesOnward gives is_due wants start.batches start.plan start.source source last u.inputs now batches_now o) is (on start.batches start.plan start.source source u.inputs given) in
-    let goes = job_goes_on start.plan u.inputs (for_last (length now.plan.inputs) pieces) g.1.all start.boxes given.valid g.1.goes_on in
+    let goes = job_goes_on start.plan u.inputs g.1.more g.1.goes.all start.boxes given.valid g.1.goes.goes_on in
     record {
-      inputs = g.1.all;
-      given = subst (λ (e : BatchEnd). gives start.batches batches_now start.plan start.source source e g.1.all) (sym g.0) g.1.given;
-      stands = extends (job_with laws start u.inputs) (job_with laws start g.1.all) goes given.stands;
-      is_told = told_of_later has_told (job_with laws start u.inputs) (job_with laws start g.1.all) start.sink later now after telling_now given.stands goes.grows same (tells (job_with laws start u.inputs) start.sink u.stands u.is_told);
+      inputs = g.1.goes.all;
+      given = subst (λ (e : BatchEnd). gives start.batches batches_now start.plan start.source source e g.1.goes.all) (sym g.0) g.1.goes.given;
+      stands = extends g.1.more (job_with laws start u.inputs) (job_with laws start g.1.goes.all) g.1.comes goes given.stands;
+      is_told = told_of_later has_told (job_with laws start u.inputs) (job_with laws start g.1.goes.all) start.sink later now after telling_now given.stands goes.grows same (tells (job_with laws start u.inputs) start.sink u.stands u.is_told);
     }
 
 -- the input has ended, and the net has rested
@@ -295,3 +294,16 @@ short_more {laws} {B} {T} gives reads_on has_told form start source later sink b
       front = inl (told_some has_told job start.sink sink (taken_out net) telling u.is_told);
       unended = λ _. told_some has_told job start.sink sink (taken_out net) telling u.is_told;
     }
+
+-- After a step --
+
+pub stepped_on : {laws : Laws} {B T : Type 0} (gives : Giving B) (has_told : TellingSets T) (start : Start B) (step : Step) (end : BatchEnd) (source : SourceTold) (sink : SinkTold) (batches : B) (telling : T) (net : NetView) → step ≡ GoesOn end
+    → HasStepped laws gives has_told start step source sink batches telling net → IsUnderWay laws gives has_told start end source sink batches telling net
+stepped_on {laws} {B} {T} gives has_told start step end source sink batches telling net is h = subst (λ (s : Step). HasStepped laws gives has_told start s source sink batches telling net) is h
+
+pub stepped_over : {laws : Laws} {B T : Type 0} (gives : Giving B) (has_told : TellingSets T) (start : Start B) (step : Step) (end : FeedEnd) (source : SourceTold) (sink : SinkTold) (batches : B) (telling : T) (net : NetView) → step ≡ IsOver end
+    → HasStepped laws gives has_told start step source sink batches telling net → RunIsOver laws gives has_told start end source sink batches telling net
+stepped_over {laws} {B} {T} gives has_told start step end source sink batches telling net is h = subst (λ (s : Step). HasStepped laws gives has_told start s source sink batches telling net) is h
+
+pub fewer_on : (step : Step) (end last : BatchEnd) (before now : ℕ) → step ≡ GoesOn end → LeavesFewer step last before now → steps_left end now < steps_left last before
+fewer_on step end last before now is h = subst (λ (s : Step). LeavesFewer s last before now) is h

@@ -22,6 +22,7 @@ use Rattle.mg_answer.specs.Devices.{Device, device}
 use Rattle.mg_answer.specs.Wrote.{Wrote}
 use Rattle.mg_answer.specs.declared.status.Status.{Status}
 use Rattle.mg_answer.proofs.GeneratedFits.{generated-fit, generated-grow}
+use Rattle.mg_answer.specs.declared.run.Reporting.{Reporting}
 use Rattle.mg_node.specs.Batches.{Grows}
 use Rattle.mg_sched.specs.Views.{NetView}
 use Rattle.mg_sched.specs.Made.{BoxesFit}
@@ -29,14 +30,14 @@ use Rattle.mg_sched.specs.GivesBack.{given_back, StoodFor}
 use Rattle.mg_sched.proofs.Solved.{solved}
 use Rattle.mg_drive.specs.Batches.{IsMore, logged}
 use Rattle.mg_drive.specs.Told.{HasSums}
-use Rattle.mg_drive.specs.Leaves.{HadCallsOf}
+use Rattle.mg_drive.specs.Leaves.{HadCallsOf, HadFronts}
 use Rattle.mg_drive.specs.OneRun.{CalculatorsCameBack, OneRun, OneShort, OneMade}
 use Rattle.mg_drive.specs.Code.Running.{IsToldSome, FrontIn}
 use Rattle.mg_drive.specs.Code.InPieces.{made_inputs, piece_end, WereMade}
 use Rattle.mg_drive.proofs.LinesGoOn.{not_ended}
 use Rattle.mg_drive.proofs.PiecesGoOn.{so_far_made}
 use Rattle.mg_drive.proofs.PacketsRan.{front_unwritten, front_sums}
-use Rattle.mg_drive.proofs.FrontsBack.{KeptFronts, kept_fronts, kept_now}
+use Rattle.mg_drive.proofs.FrontsBack.{kept_fronts, kept_now}
 use Rattle.mg_drive.proofs.OneRuns.{one_run, one_short}
 
 -- All of them --
@@ -59,7 +60,7 @@ whole_made plan number m end inputs was all =
     was.inputs_are ∙ ap (made_inputs (inputs_of plan) m.made) (eq-eqb m.made number all) ∙ ap (λ n. made_inputs (inputs_of plan) n true) all
 
 -- they were run
-pub pieces_ran : (laws : Laws) (report : Bool) (plan : Plan) (number : ℕ) (m : Making) (output notes : Device SinkTold) (boxes : Device (List BoxTold)) (status : Status) (end : FeedEnd) (inputs : Inputs) → WereMade plan number m (End end) inputs
+pub pieces_ran : (laws : Laws) (report : Reporting) (plan : Plan) (number : ℕ) (m : Making) (output notes : Device SinkTold) (boxes : Device (List BoxTold)) (status : Status) (end : FeedEnd) (inputs : Inputs) → WereMade plan number m (End end) inputs
     → CalculatorsCameBack plan boxes.before boxes.now → Wrote (by_summary report) (record { plan = plan; inputs = inputs; laws = laws }) end status output notes → HadCallsOf (record { plan = plan; inputs = inputs; laws = laws }) boxes
     → OneMade laws report plan number status output notes boxes
 pieces_ran laws report plan number m output notes boxes status end inputs was back wrote had =
@@ -103,7 +104,7 @@ pieces_short {laws} plan number m output boxes now net More inputs fit was is fr
     let grows = goes_on_to plan number m inputs boxes is.plan was in
     let then : StoodFor (logged laws plan so_far boxes) net = subst (λ (i : Inputs). StoodFor (logged laws plan i boxes) net) (so_far_made plan number m inputs was) stood in
     one_short totals (generated_job laws plan number) output (device boxes now) came
-    (subst (λ (bs : List BoxTold). KeptFronts (generated_job laws plan number) (device boxes bs)) (sym back)
+    (subst (λ (bs : List BoxTold). HadFronts (generated_job laws plan number) (device boxes bs)) (sym back)
     (kept_fronts boxes (logged laws plan so_far boxes) (logged laws plan (generated_inputs (inputs_of plan) number) boxes) net fit refl then refl (inr grows) grows.is_job))
     (unwritten_yet laws plan number inputs output.before output.now is (unended tt))
 pieces_short {laws} plan number m output boxes now net (End end) inputs fit was is front unended stood back came =

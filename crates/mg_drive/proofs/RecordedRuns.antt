@@ -24,6 +24,7 @@ use Rattle.mg_answer.specs.declared.status.Status.TheVariants.{Good, StoreFault,
 use Rattle.mg_answer.proofs.Writing.{put-front}
 use Rattle.mg_answer.proofs.Answering.{no-want}
 use Rattle.mg_answer.proofs.Gathering.{read-came}
+use Rattle.mg_answer.specs.declared.run.Reporting.{Reporting}
 use Rattle.mg_calc.specs.Meaning.{faults, stalled}
 use Rattle.mg_node.specs.Job.{LoggedJob}
 use Rattle.mg_sched.specs.Views.{NetView}
@@ -46,7 +47,7 @@ use Rattle.mg_drive.specs.Code.Tracing.{plan_job, HasRecorded, HasRecordedSome, 
 use Rattle.mg_drive.proofs.Jobs.{valid_plan}
 use Rattle.mg_drive.proofs.RunsEnd.{had_of}
 use Rattle.mg_drive.proofs.BoxesBack.{all_had_now}
-use Rattle.mg_drive.proofs.FrontsBack.{all_are_fronts, fronts_now}
+use Rattle.mg_drive.proofs.FrontsBack.{all_are_fronts, kept_now}
 
 -- Events --
 
@@ -143,7 +144,7 @@ trace_put {laws} plan inputs boxes first sink blocks begun rested is rests r = r
 }
 
 -- the run was recorded, and its answer was written
-pub net_traced : {laws : Laws} (report : Bool) (plan : Plan) (inputs : Inputs) (boxes : List BoxTold) (end : FeedEnd) (status : Status) (first sink now : SinkTold) (notes : Device SinkTold) (text : TextView) (begun rested wound : NetView)
+pub net_traced : {laws : Laws} (report : Reporting) (plan : Plan) (inputs : Inputs) (boxes : List BoxTold) (end : FeedEnd) (status : Status) (first sink now : SinkTold) (notes : Device SinkTold) (text : TextView) (begun rested wound : NetView)
     → IsBegun laws plan inputs boxes begun → ((job : LoggedJob laws) → StandsFor job begun → StandsFor job rested) → IsRunning rested → IsAtRest laws rested
     → HasRecorded laws first sink (record { kept = text.kept; failed = text.failed }) (job_text plan inputs) (codes "end\n") begun rested
     → ((form : OutputForm) (job : LoggedJob laws) (f : SinkTold) → job.job.plan ≡ plan → StandsFor job rested → HasRested job rested → IsWhole form f sink job.job text
@@ -199,7 +200,7 @@ short_end {laws} plan inputs boxes first sink put now text begun rested later is
 
 -- The calculators --
 
-pub job_traced : {laws : Laws} (report : Bool) (plan : Plan) (inputs : Inputs) (boxes handed now : List BoxTold) (end : FeedEnd) (status : Status) (output notes : Device SinkTold) (made net : NetView) → BoxesFit plan boxes
+pub job_traced : {laws : Laws} (report : Reporting) (plan : Plan) (inputs : Inputs) (boxes handed now : List BoxTold) (end : FeedEnd) (status : Status) (output notes : Device SinkTold) (made net : NetView) → BoxesFit plan boxes
     → handed ≡ boxes → now ≡ given_back net → NetTraced laws report plan inputs handed end status output notes net → JobTraced laws report plan inputs end status output notes (device boxes now)
 job_traced {laws} report plan inputs boxes handed now end status output notes made net fit same back h =
     let k : NetTraced laws report plan inputs boxes end status output notes net = subst (λ (bs : List BoxTold). NetTraced laws report plan inputs bs end status output notes net) same h in
@@ -216,7 +217,7 @@ job_short {laws} plan inputs boxes handed now before later net same back h =
     let k : NetShort laws plan inputs boxes before (device before later) net = subst (λ (bs : List BoxTold). NetShort laws plan inputs bs before (device before later) net) same h in
     record { took = k.took; net = net; stood = k.stood; back = back }
 
-pub stood_traced : {laws : Laws} (report : Bool) (plan : Plan) (inputs : Inputs) (boxes handed : List BoxTold) (end : FeedEnd) (status : Status) (output notes : Device SinkTold) (net : NetView) → handed ≡ boxes
+pub stood_traced : {laws : Laws} (report : Reporting) (plan : Plan) (inputs : Inputs) (boxes handed : List BoxTold) (end : FeedEnd) (status : Status) (output notes : Device SinkTold) (net : NetView) → handed ≡ boxes
     → NetTraced laws report plan inputs handed end status output notes net → StoodWith laws boxes net
 stood_traced {laws} report plan inputs boxes handed end status output notes net same h = record { job = job_of laws plan inputs handed; stood = h.stood; boxes_are = same }
 
@@ -226,7 +227,7 @@ stood_untraced {laws} plan inputs boxes handed before output net same h = record
 
 -- Over what the input came to --
 
-traced_all : {laws : Laws} (report : Bool) (plan : Plan) (inputs : Inputs) (input : Device SourceTold) (end : FeedEnd) (status : Status) (output notes : Device SinkTold) (boxes : Device (List BoxTold)) (gathered : GatheredInputs (inputs_of plan) input end inputs)
+traced_all : {laws : Laws} (report : Reporting) (plan : Plan) (inputs : Inputs) (input : Device SourceTold) (end : FeedEnd) (status : Status) (output notes : Device SinkTold) (boxes : Device (List BoxTold)) (gathered : GatheredInputs (inputs_of plan) input end inputs)
     → (j : JobTraced laws report plan (inputs_by (inputs_of plan) gathered.read) gathered.read.end status output notes boxes)
     → Meets (answer_of (by_text j.text report) (answers.job_of laws plan gathered.read) gathered.read.end j.wrote.streams) status output notes
     → TracedAll laws report plan boxes.before status (run_devices input output notes)
@@ -244,7 +245,7 @@ traced_all {laws} report plan inputs input end status output notes boxes gathere
   met = record { text = met.text; noted = met.noted; told = met.told };
 }
 
-traced_short : {laws : Laws} (report : Bool) (plan : Plan) (inputs : Inputs) (input : Device SourceTold) (end : FeedEnd) (status : Status) (output notes : Device SinkTold) (boxes : Device (List BoxTold)) (gathered : GatheredInputs (inputs_of plan) input end inputs)
+traced_short : {laws : Laws} (report : Reporting) (plan : Plan) (inputs : Inputs) (input : Device SourceTold) (end : FeedEnd) (status : Status) (output notes : Device SinkTold) (boxes : Device (List BoxTold)) (gathered : GatheredInputs (inputs_of plan) input end inputs)
     → (j : JobTraced laws report plan (inputs_by (inputs_of plan) gathered.read) gathered.read.end status output notes boxes)
     → MetShort (answer_of (by_text j.text report) (answers.job_of laws plan gathered.read) gathered.read.end j.wrote.streams)
     (failed_notes (by_text j.text report) (answers.job_of laws plan gathered.read) gathered.read.end j.wrote.streams) output notes
@@ -263,7 +264,7 @@ traced_short {laws} report plan inputs input end status output notes boxes gathe
   short = short;
 }
 
-traced_of : {laws : Laws} (report : Bool) (plan : Plan) (inputs : Inputs) (input : Device SourceTold) (end : FeedEnd) (status : Status) (output notes : Device SinkTold) (boxes : Device (List BoxTold)) (gathered : GatheredInputs (inputs_of plan) input end inputs)
+traced_of : {laws : Laws} (report : Reporting) (plan : Plan) (inputs : Inputs) (input : Device SourceTold) (end : FeedEnd) (status : Status) (output notes : Device SinkTold) (boxes : Device (List BoxTold)) (gathered : GatheredInputs (inputs_of plan) input end inputs)
     → JobTraced laws report plan (inputs_by (inputs_of plan) gathered.read) gathered.read.end status output notes boxes → Traced laws report plan boxes.before status (run_devices input output notes)
 traced_of {laws} report plan inputs input end Good output notes boxes gathered j = traced_all report plan inputs input end Good output notes boxes gathered j j.wrote.by
 traced_of {laws} report plan inputs input end StoreFault output notes boxes gathered j = traced_all report plan inputs input end StoreFault output notes boxes gathered j j.wrote.by
@@ -278,17 +279,17 @@ traced_of {laws} report plan inputs input end OutOfMemory output notes boxes gat
     absurd (no-want plan input gathered.read.end (faults (answers.job_of laws plan gathered.read) j.wrote.streams) (stalled j.wrote.streams) gathered.came.came gathered.read gathered.came.by j.wrote.by.told)
 
 -- the job is that of what was read
-job_read : {laws : Laws} (report : Bool) (plan : Plan) (inputs : Inputs) (input : Device SourceTold) (end : FeedEnd) (status : Status) (output notes : Device SinkTold) (boxes : Device (List BoxTold)) (gathered : GatheredInputs (inputs_of plan) input end inputs)
+job_read : {laws : Laws} (report : Reporting) (plan : Plan) (inputs : Inputs) (input : Device SourceTold) (end : FeedEnd) (status : Status) (output notes : Device SinkTold) (boxes : Device (List BoxTold)) (gathered : GatheredInputs (inputs_of plan) input end inputs)
     → JobTraced laws report plan inputs end status output notes boxes → JobTraced laws report plan (inputs_by (inputs_of plan) gathered.read) gathered.read.end status output notes boxes
 job_read {laws} report plan inputs input end status output notes boxes gathered j =
     subst (λ (e : FeedEnd). JobTraced laws report plan (inputs_by (inputs_of plan) gathered.read) e status output notes boxes) gathered.ended
     (subst (λ (i : Inputs). JobTraced laws report plan i end status output notes boxes) gathered.given j)
 
-pub traced_read : {laws : Laws} (report : Bool) (plan : Plan) (inputs : Inputs) (input : Device SourceTold) (end : FeedEnd) (status : Status) (output notes : Device SinkTold) (boxes : Device (List BoxTold)) → GatheredInputs (inputs_of plan) input end inputs
+pub traced_read : {laws : Laws} (report : Reporting) (plan : Plan) (inputs : Inputs) (input : Device SourceTold) (end : FeedEnd) (status : Status) (output notes : Device SinkTold) (boxes : Device (List BoxTold)) → GatheredInputs (inputs_of plan) input end inputs
     → JobTraced laws report plan inputs end status output notes boxes → Traced laws report plan boxes.before status (run_devices input output notes)
 traced_read {laws} report plan inputs input end status output notes boxes gathered j = traced_of report plan inputs input end status output notes boxes gathered (job_read report plan inputs input end status output notes boxes gathered j)
 
-pub had_read : {laws : Laws} (report : Bool) (plan : Plan) (inputs : Inputs) (input : Device SourceTold) (end : FeedEnd) (status : Status) (output notes : Device SinkTold) (boxes : Device (List BoxTold)) → GatheredInputs (inputs_of plan) input end inputs
+pub had_read : {laws : Laws} (report : Reporting) (plan : Plan) (inputs : Inputs) (input : Device SourceTold) (end : FeedEnd) (status : Status) (output notes : Device SinkTold) (boxes : Device (List BoxTold)) → GatheredInputs (inputs_of plan) input end inputs
     → JobTraced laws report plan inputs end status output notes boxes → AllHadCalls laws plan input boxes
 had_read {laws} report plan inputs input end status output notes boxes gathered j = record {
   read = gathered.read;
@@ -319,11 +320,11 @@ some_read {laws} plan inputs input end output boxes now fit is gathered j = inr 
   read = gathered.read;
   came = gathered.came;
   fronts = subst (λ (i : Inputs). HadFronts (plan_job laws plan i) (device boxes now)) gathered.given
-      (fronts_now boxes now (logged laws plan inputs boxes) j.net fit refl j.stood is j.back);
+      (kept_now boxes now (logged laws plan inputs boxes) j.net fit refl j.stood is j.back);
 })
 
-pub all_are_some : {laws : Laws} (plan : Plan) (input : Device SourceTold) (boxes : Device (List BoxTold)) → AllHadCalls laws plan input boxes → HadSome laws plan input boxes
-all_are_some {laws} plan input boxes h = inr (record { read = h.read; came = h.came; fronts = all_are_fronts (answers.job_of laws plan h.read) boxes h.had })
+pub all_are_some : {laws : Laws} (plan : Plan) (input : Device SourceTold) (boxes : Device (List BoxTold)) → BoxesFit plan boxes.before → AllHadCalls laws plan input boxes → HadSome laws plan input boxes
+all_are_some {laws} plan input boxes fit h = inr (record { read = h.read; came = h.came; fronts = all_are_fronts (answers.job_of laws plan h.read) boxes fit h.had })
 
 -- a text that was put whole, of which nothing is written yet
 pub opened : (sink : SinkTold) (blocks : BlockView) (text : List ℕ) → blocks ≡ record { kept = text; failed = false } → HasPutIn sink sink blocks text

@@ -1,5 +1,5 @@
 -- How a run begins, and how it ends once its net has come to rest.
-use Rattle.std.proofs.Common.{◌≡◌, ◌⊎◌, inl, inr, ℕ, List, [], length, take, Bool, Option, Some, None, slice_get, unwrap_or, option_map, refl, sym, ap, ◌∙◌, subst}
+use Rattle.std.proofs.Common.{◌≡◌, ◌⊎◌, inl, inr, ℕ, List, [], length, take, Option, Some, None, slice_get, unwrap_or, option_map, refl, sym, ap, ◌∙◌, subst}
 use Rattle.std.proofs.Math.Seq.{take-length}
 use Rattle.mg_edge.specs.Edge.{SourceTold, SinkTold}
 use Rattle.mg_value.specs.Payload.{Plain}
@@ -20,6 +20,7 @@ use Rattle.mg_answer.specs.Devices.{Device, device}
 use Rattle.mg_answer.specs.Put.{TextView, HasPut}
 use Rattle.mg_answer.specs.declared.status.Status.{Status}
 use Rattle.mg_answer.proofs.Writing.{put-front}
+use Rattle.mg_answer.specs.declared.run.Reporting.{Reporting}
 use Rattle.mg_node.specs.Views.{IntakeView}
 use Rattle.mg_node.specs.Job.{LoggedJob, Solves}
 use Rattle.mg_sched.specs.Views.{NetView}
@@ -33,7 +34,7 @@ use Rattle.mg_sched.proofs.OutputsTaken.{outputs_by_default}
 use Rattle.mg_drive.specs.Told.{told_in}
 use Rattle.mg_drive.specs.Nets.{Keeps}
 use Rattle.mg_drive.specs.Batches.{logged}
-use Rattle.mg_drive.specs.Code.Running.{Giving, ReadingOn, TellingSets, Start, job_with, IsTold, IsUnderWay, HasRested, IsAllTaken, SomeRested, SomeRestedOf, RunIsOver, IsShort, FrontIn}
+use Rattle.mg_drive.specs.Code.Running.{Giving, ReadingOn, TellingSets, Start, start_of, job_with, IsTold, IsUnderWay, HasRested, IsAllTaken, SomeRested, SomeRestedOf, RunIsOver, IsShort, FrontIn}
 use Rattle.mg_drive.specs.Code.Ending.{IsWhole, HadAllOf, Writing, HasEnded}
 use Rattle.mg_drive.proofs.Jobs.{valid_plan, plan_stood}
 use Rattle.mg_drive.proofs.TakingSets.{told_some}
@@ -47,10 +48,6 @@ none_taken net (Some intake) is fresh = fresh intake is
 
 pub none_yet : {laws : Laws} (plan : Plan) (inputs : Inputs) (boxes : List BoxTold) (net : NetView) → IsMade laws plan inputs boxes net → taken_out net ≡ 0
 none_yet {laws} plan inputs boxes net made = none_taken net (collector_of net) refl (λ intake there. (made.fresh (length net.plan.nodes) intake there).claimed)
-
--- how the run of a plan begins, with these calculators
-abbrev pub start_of : {B : Type 0} → Plan → List BoxTold → SourceTold → SinkTold → B → Start B
-start_of plan boxes source sink batches = record { plan = plan; boxes = boxes; source = source; sink = sink; batches = batches }
 
 -- a net that was made of the first batch begins a run, of which nothing is told
 pub begins : {laws : Laws} {B T : Type 0} (gives : Giving B) (has_told : TellingSets T) (plan : Plan) (boxes handed : List BoxTold) (began batches : B) (telling : T) (first now : SourceTold) (sink : SinkTold) (end : BatchEnd) (inputs : Inputs) (net : NetView)
@@ -143,7 +140,7 @@ rested_of {laws} {B} gives plan end net batches r = record {
 }
 
 -- its answer was written
-pub ended_over : {laws : Laws} {B T : Type 0} (gives : Giving B) (writes : Writing B) (has_told : TellingSets T) (form : OutputForm) (report : Bool) (plan : Plan) (start : Start B) (end : FeedEnd) (source : SourceTold) (sink now : SinkTold) (batches : B) (telling : T) (net wound : NetView) (text : TextView) (status : Status)
+pub ended_over : {laws : Laws} {B T : Type 0} (gives : Giving B) (writes : Writing B) (has_told : TellingSets T) (form : OutputForm) (report : Reporting) (plan : Plan) (start : Start B) (end : FeedEnd) (source : SourceTold) (sink now : SinkTold) (batches : B) (telling : T) (net wound : NetView) (text : TextView) (status : Status)
     (notes : Device SinkTold) → start.plan ≡ plan
     → ((p : Plan) (f n : SinkTold) (sets : List (TimedSet Plain)) → has_told telling p f n sets → HasPut f n text (told_in form p sets))
     → ((fm : OutputForm) (job : LoggedJob laws) (first : SinkTold) → job.job.plan ≡ plan → StandsFor job net → HasRested job net → IsWhole fm first sink job.job text

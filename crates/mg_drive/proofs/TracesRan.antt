@@ -1,5 +1,5 @@
 -- What a recorded run came to, by its status, and what follows of it.
-use Rattle.std.proofs.Common.{◌≡◌, ◌≢◌, ◌⊎◌, inl, inr, ℕ, Bool, List, [], ◌∷◌, Option, None, Some, IfSome, refl, ap, ◌∙◌, subst}
+use Rattle.std.proofs.Common.{◌≡◌, ◌≢◌, ◌⊎◌, inl, inr, ℕ, List, [], ◌∷◌, Option, None, Some, IfSome, refl, ap, ◌∙◌, subst}
 use Rattle.mg_edge.specs.Edge.{Rose}
 use Rattle.mg_calc.specs.Rules.{Laws}
 use Rattle.mg_calc.specs.declared.plan.Plan.{Plan}
@@ -16,14 +16,15 @@ use Rattle.mg_answer.specs.Status.{IsOneOf}
 use Rattle.mg_answer.specs.declared.status.Status.{Status}
 use Rattle.mg_answer.specs.declared.status.Status.TheVariants.{Good, StoreFault, Usage, GraphRefused, LineRefused, NodeFault, Stalled, ReadFault, WriteFault, OutOfMemory}
 use Rattle.mg_answer.proofs.Answering.{WriteRisen, ended_statuses, read_statuses, end-by, no-one, failed-by, steady-risen, rose-unrisen, whole-read}
+use Rattle.mg_answer.specs.declared.run.Reporting.{Reporting}
 use Rattle.mg_drive.specs.Traced.{IsTraced, TracesEnded, TracedAll, TracedShort, Traced}
 
 -- by its status: a write failed, memory ran out, or all is as it is due
-abbrev TracedBy : Laws → Bool → Plan → List BoxTold → Status → RunDevices → Type 0
+abbrev TracedBy : Laws → Reporting → Plan → List BoxTold → Status → RunDevices → Type 0
 TracedBy laws report plan boxes status all =
     ((status ≡ WriteFault) × TracedShort laws report plan boxes all) ⊎ ((status ≡ OutOfMemory) ⊎ TracedAll laws report plan boxes status all)
 
-traced_by : {laws : Laws} (report : Bool) (plan : Plan) (boxes : List BoxTold) (status : Status) (all : RunDevices) → Traced laws report plan boxes status all → TracedBy laws report plan boxes status all
+traced_by : {laws : Laws} (report : Reporting) (plan : Plan) (boxes : List BoxTold) (status : Status) (all : RunDevices) → Traced laws report plan boxes status all → TracedBy laws report plan boxes status all
 traced_by {laws} report plan boxes Good all ran = inr (inr ran)
 traced_by {laws} report plan boxes StoreFault all ran = inr (inr ran)
 traced_by {laws} report plan boxes Usage all ran = inr (inr ran)
@@ -36,7 +37,7 @@ traced_by {laws} report plan boxes WriteFault all ran = inl (refl, ran)
 traced_by {laws} report plan boxes OutOfMemory all ran = inr (inl refl)
 
 -- the status is told by how the input ended
-pub traced_told : {laws : Laws} (report : Bool) (plan : Plan) (boxes : List BoxTold) (status : Status) (all : RunDevices) (ran : TracedAll laws report plan boxes status all)
+pub traced_told : {laws : Laws} (report : Reporting) (plan : Plan) (boxes : List BoxTold) (status : Status) (all : RunDevices) (ran : TracedAll laws report plan boxes status all)
     → (fs : List Fault) × (ns : List ℕ) × (status ≡ status_of ran.read.end fs ns)
 traced_told {laws} report plan boxes status all ran =
     let streams = ran.is.is_answer.streams in (
@@ -45,7 +46,7 @@ traced_told {laws} report plan boxes status all ran =
       ran.met.told ∙ ap (λ (a : RunAnswer). a.status) ran.is.is ∙ ap (λ (a : RunAnswer). a.status) ran.is.is_answer.is,
     )
 
-pub traced_ended : (laws : Laws) (report : Bool) (plan : Plan) (boxes : List BoxTold) (status : Status) (all : RunDevices) → Traced laws report plan boxes status all → IsOneOf status ended_statuses
+pub traced_ended : (laws : Laws) (report : Reporting) (plan : Plan) (boxes : List BoxTold) (status : Status) (all : RunDevices) → Traced laws report plan boxes status all → IsOneOf status ended_statuses
     → EndCame all.input.before all.input.now
 traced_ended laws report plan boxes status all ran one = by (traced_by report plan boxes status all ran)
   where
@@ -56,7 +57,7 @@ traced_ended laws report plan boxes status all ran one = by (traced_by report pl
         let told = traced_told report plan boxes status all whole in
         end-by whole.read.end status told.0 told.1 (inputs_of plan) all.input whole.input.came whole.read told.2 one whole.input.by
 
-pub traced_read_risen : (laws : Laws) (report : Bool) (plan : Plan) (boxes : List BoxTold) (status : Status) (all : RunDevices) → Traced laws report plan boxes status all
+pub traced_read_risen : (laws : Laws) (report : Reporting) (plan : Plan) (boxes : List BoxTold) (status : Status) (all : RunDevices) → Traced laws report plan boxes status all
     → HasRisen all.input.before.faults all.input.now.faults → IsOneOf status read_statuses
 traced_read_risen laws report plan boxes status all ran risen = by (traced_by report plan boxes status all ran)
   where
@@ -67,7 +68,7 @@ traced_read_risen laws report plan boxes status all ran risen = by (traced_by re
         let told = traced_told report plan boxes status all whole in
         failed-by whole.read.end status told.0 told.1 all.input.before all.input.now (inputs_of plan) all.input whole.input.came whole.read told.2 whole.input.faults whole.input.by risen
 
-pub traced_write_risen : (laws : Laws) (report : Bool) (plan : Plan) (boxes : List BoxTold) (status : Status) (all : RunDevices) → Traced laws report plan boxes status all → WriteRisen all
+pub traced_write_risen : (laws : Laws) (report : Reporting) (plan : Plan) (boxes : List BoxTold) (status : Status) (all : RunDevices) → Traced laws report plan boxes status all → WriteRisen all
     → IsOneOf status (WriteFault ∷ OutOfMemory ∷ [])
 traced_write_risen laws report plan boxes status all ran risen = by (traced_by report plan boxes status all ran) risen
   where
@@ -77,7 +78,7 @@ traced_write_risen laws report plan boxes status all ran risen = by (traced_by r
     by (inr (inr whole)) (inl risen) = absurd (steady-risen _ _ whole.met.text.steady risen)
     by (inr (inr whole)) (inr risen) = absurd (steady-risen _ _ whole.met.noted.steady risen)
 
-whole_answered : {laws : Laws} (report : Bool) (plan : Plan) (boxes : List BoxTold) (status : Status) (all : RunDevices) → TracedAll laws report plan boxes status all → NoneFailed all
+whole_answered : {laws : Laws} (report : Reporting) (plan : Plan) (boxes : List BoxTold) (status : Status) (all : RunDevices) → TracedAll laws report plan boxes status all → NoneFailed all
     → IfSome all.input.before.left (λ bytes. (answer : RunAnswer) × TracesEnded laws report plan boxes bytes answer × Meets answer status all.output all.notes)
 whole_answered {laws} report plan boxes status all ran none = by all.input.before.left refl
   where
@@ -89,14 +90,14 @@ whole_answered {laws} report plan boxes status all ran none = by all.input.befor
       ran.met,
     )
 
-short_failed : {laws : Laws} (report : Bool) (plan : Plan) (boxes : List BoxTold) (all : RunDevices) → TracedShort laws report plan boxes all → NoneFailed all → ⊥
+short_failed : {laws : Laws} (report : Reporting) (plan : Plan) (boxes : List BoxTold) (all : RunDevices) → TracedShort laws report plan boxes all → NoneFailed all → ⊥
 short_failed {laws} report plan boxes all ran none = by ran.short.rose
   where
     by : Rose all.output.before.faults all.output.now.faults ⊎ Rose all.notes.before.faults all.notes.now.faults → ⊥
     by (inl rose) = rose-unrisen _ _ rose none.output
     by (inr rose) = rose-unrisen _ _ rose none.notes
 
-pub traced_answered : (laws : Laws) (report : Bool) (plan : Plan) (boxes : List BoxTold) (status : Status) (all : RunDevices) → Traced laws report plan boxes status all → NoneFailed all → status ≢ OutOfMemory
+pub traced_answered : (laws : Laws) (report : Reporting) (plan : Plan) (boxes : List BoxTold) (status : Status) (all : RunDevices) → Traced laws report plan boxes status all → NoneFailed all → status ≢ OutOfMemory
     → IfSome all.input.before.left (λ bytes. (answer : RunAnswer) × TracesEnded laws report plan boxes bytes answer × Meets answer status all.output all.notes)
 traced_answered laws report plan boxes status all ran none some = by (traced_by report plan boxes status all ran)
   where

@@ -17,7 +17,7 @@ use Rattle.mg_node.specs.Job.{LoggedJob}
 use Rattle.mg_node.specs.Extending.{joined}
 use Rattle.mg_sched.specs.Views.{NetView}
 use Rattle.mg_sched.specs.StandsFor.{StandsFor}
-use Rattle.mg_sched.specs.Extends.{for_last}
+use Rattle.mg_sched.specs.Extends.{ComesAt}
 use Rattle.mg_answer.specs.Answer.{OutputForm, output_in}
 use Rattle.mg_answer.specs.Outcomes.{TellsOf}
 use Rattle.mg_answer.specs.Put.{TextView, HasPut}
@@ -98,17 +98,23 @@ pub record NextIsDue {B : Type 0} (gives : Giving B) (is_due : Due B) (wants : B
   pub due : is_due now plan so_far
   pub read : AreRead (wants now) net
 
--- How a run goes on: pieces come to the last graph inputs before the next batch; or the next batch is due; or the input ended, and all of
+-- Pieces come to some graph inputs, and together with what came so far they were given.
+pub record SomeComes (gives : Inputs → Type 0) (plan : Plan) (so_far : Inputs) (inputs : List ℕ) (pieces : List (StreamPrefix Plain)) : Type 0 where
+  pub more : Inputs
+  pub goes : BatchesGoOn gives plan so_far more
+  pub comes : ComesAt inputs pieces so_far.streams more
+
+-- How a run goes on: pieces come to some graph inputs before the next batch; or the next batch is due; or the input ended, and all of
 -- it was given.
 abbrev pub GoesOnward : {B : Type 0} → Giving B → Due B → (B → List Wanted) → B → Plan → SourceTold → SourceTold → BatchEnd → Inputs → NetView → B → Onward → Type 0
-GoesOnward gives is_due wants began plan first source last so_far net now (Round pieces) =
-    (last ≡ More) × BatchesGoOn (gives began now plan first source More) plan so_far (for_last (length net.plan.inputs) pieces)
+GoesOnward gives is_due wants began plan first source last so_far net now (Round inputs pieces) =
+    (last ≡ More) × SomeComes (gives began now plan first source More) plan so_far inputs pieces
 GoesOnward gives is_due wants began plan first source last so_far net now Next = NextIsDue gives is_due wants began plan first source last so_far net now
 GoesOnward gives is_due wants began plan first source last so_far net now (Over end) = gives began now plan first source (End end) so_far
 
 -- the bound on the batches and rounds that may still come falls with each round, and stays otherwise
 abbrev pub RoundLeaves : Onward → ℕ → ℕ → Type 0
-RoundLeaves (Round pieces) before now = now < before
+RoundLeaves (Round inputs pieces) before now = now < before
 RoundLeaves Next before now = now ≡ before
 RoundLeaves (Over end) before now = now ≡ before
 

@@ -83,14 +83,16 @@ pub record KeepsAFront (job : Job) (streams : List (StreamPrefix Plain)) (node :
   pub unopened : front.count ≡ 0 → now.state ≡ before.state
   pub state : (shown : ℕ) → front.count ≡ suc shown → now.state ≡ kept_by job streams node shown front.close
 
--- Each calculator that a node uses had a front of the calls that its node has in the solution of a job.
+-- Each calculator that a node uses had a front of the calls that its node has in the solution of a job, and keeps what its node has come to
+-- after these.
 pub record HadFronts (job : Job) (boxes : Device (List BoxTold)) : Type 0 where
   pub streams : List (StreamPrefix Plain)
   pub solution : IsSolution job streams
   pub each : (number place : ℕ) (node : PlanNode) → slice_get job.plan.nodes number ≡ Some node → node.box_number ≡ Some place
-      → IsRelatedAt place (HadAFront job streams node) boxes
+      → IsRelatedAt place (KeepsAFront job streams node) boxes
 
--- The input was read, and each calculator that a node uses had a front of its node's calls in the solution over what the input came to.
+-- The input was read, and each calculator that a node uses had a front of its node's calls in the solution over what the input came to, and
+-- keeps what its node has come to after these.
 pub record HadFrontsOfRead (laws : Laws) (plan : Plan) (input : Device SourceTold) (boxes : Device (List BoxTold)) : Type 0 where
   pub read : Read
   pub came : CameTo (inputs_of plan) input read

@@ -1,4 +1,5 @@
--- The outcomes of a run of a graph with free nodes: what a solution of its core has, by the plan's numbers, and a line for each arrival.
+-- The outcomes of a run of a graph with free nodes: what a solution of its core has, by the plan's numbers, and a line for each arrival
+-- where these lines are asked for.
 use Rattle.std.specs.Prelude.{◌≡◌, ℕ, true, false, List, [], ◌∷◌, map, drop, length, slice_index_or}
 use Rattle.std.specs.List.{flat_map, zip}
 use Rattle.mg_value.specs.Payload.{Plain}
@@ -13,8 +14,10 @@ use Rattle.mg_free.specs.declared.node.FreeNode.{FreeNode}
 use Rattle.mg_free.specs.Core.{split_of, is_free, stream_number}
 use Rattle.mg_free.specs.Rounds.{Taken}
 use Rattle.mg_answer.specs.Notes.{arrival_note}
+use Rattle.mg_answer.specs.Report.{asked_arrivals}
 use Rattle.mg_settled.specs.Ends.{end_of}
 use Rattle.mg_answer.specs.declared.outcomes.Outcomes.{Outcomes}
+use Rattle.mg_answer.specs.declared.run.Reporting.{Reporting}
 
 -- a fault of a core's node, by the plan's number of the node
 abbrev pub renumbered_fault : List ℕ → NodeFault → NodeFault
@@ -39,9 +42,10 @@ lines_at e = flat_map (λ a. arrival_note e.0.node a.port a.packet.at) e.1.log
 abbrev pub arrivals_text : List FreeNode → List Taken → List ℕ
 arrivals_text frees takens = flat_map lines_at (zip frees takens)
 
--- The outcomes of a plan with free nodes, by a solution of its core and by what the free nodes have taken, with the lines of the arrivals.
-pub record LiveTells (whole : Plan) (job : Job) (streams : List (StreamPrefix Plain)) (frees : List FreeNode) (takens : List Taken) (outcomes : Outcomes) : Type 0 where
+-- The outcomes of a plan with free nodes, by a solution of its core and by what the free nodes have taken, with the lines of the arrivals
+-- where they are asked for.
+pub record LiveTells (report : Reporting) (whole : Plan) (job : Job) (streams : List (StreamPrefix Plain)) (frees : List FreeNode) (takens : List Taken) (outcomes : Outcomes) : Type 0 where
   pub faults : outcomes.faults ≡ map (renumbered_fault (split_of whole).numbers) (faults job streams)
   pub sets : outcomes.sets ≡ sets_by whole.nodes (counts job streams) (map (λ t. length t.log) takens)
   pub ends : outcomes.ends.items ≡ map (λ s. end_of (stream_of streams (stream_number whole s))) (numbers (length whole.streams))
-  pub arrivals : outcomes.arrivals.items ≡ arrivals_text frees takens
+  pub arrivals : outcomes.arrivals.items ≡ asked_arrivals report (arrivals_text frees takens)

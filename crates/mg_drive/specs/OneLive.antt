@@ -28,6 +28,7 @@ use Rattle.mg_answer.specs.Wrote.{WroteBy}
 use Rattle.mg_answer.specs.declared.outcomes.Outcomes.{Outcomes}
 use Rattle.mg_answer.specs.declared.status.Status.{Status}
 use Rattle.mg_answer.specs.declared.status.Status.TheVariants.{OutOfMemory}
+use Rattle.mg_answer.specs.declared.run.Reporting.{Reporting}
 use Rattle.mg_drive.specs.Leaves.{HadItsCalls, KeepsAFront}
 use Rattle.mg_drive.specs.OneRun.{AllHad, WasNothing, ShortAtOnce}
 use Rattle.mg_drive.specs.Live.{LiveTells}
@@ -37,7 +38,7 @@ use Rattle.mg_drive.specs.InBatches.{InBatches, come_after}
 
 -- The rounds over some batches come to logs. In the solution of the core for these, the log of each free node is lawful, the node's output
 -- is the one that its law gives for its log, and `live` is what this tells of the plan.
-pub record ComesTo (laws : Laws) (whole : Plan) (first : Inputs) (later : List Inputs) : Type 0 where
+pub record ComesTo (laws : Laws) (report : Reporting) (whole : Plan) (first : Inputs) (later : List Inputs) : Type 0 where
   pub takens : List Taken
   pub rounds : AllRounds laws (split_of whole) (first ∷ later) (none_taken (split_of whole)) takens
   pub streams : List (StreamPrefix Plain)
@@ -45,17 +46,18 @@ pub record ComesTo (laws : Laws) (whole : Plan) (first : Inputs) (later : List I
   pub logs : AreLawful streams (split_of whole).free takens
   pub outputs : AllZip (λ free taken. output_so_far free taken ≡ output_of free.law (free_inputs streams free) taken.log) (split_of whole).free takens
   pub live : Outcomes
-  pub tells : LiveTells whole (core_job laws (split_of whole) (last_batch first later) takens) streams (split_of whole).free takens live
+  pub tells : LiveTells report whole (core_job laws (split_of whole) (last_batch first later) takens) streams (split_of whole).free takens live
 
 -- the answer of a run over batches, by how its input ended
-pub record IsLiveAnswer (laws : Laws) (form : OutputForm) (report : Bool) (whole : Plan) (first : Inputs) (later : List Inputs) (end : FeedEnd) (answer : RunAnswer) : Type 0 where
-  pub comes : ComesTo laws whole first later
+pub record IsLiveAnswer (laws : Laws) (form : OutputForm) (report : Reporting) (whole : Plan) (first : Inputs) (later : List Inputs) (end : FeedEnd) (answer : RunAnswer) : Type 0 where
+  pub comes : ComesTo laws report whole first later
   pub is : answer ≡ told_answer report whole end comes.live (output_in form (split_of whole).core comes.streams)
 
 -- A run over batches, by how its input ended. The output, the status and the notes are those of the core's solution, by the plan's numbers,
--- with a line for each arrival; and each calculator that is handed in had exactly the calls that its node has in that solution.
-pub record OneLive (laws : Laws) (form : OutputForm) (report : Bool) (whole : Plan) (first : Inputs) (later : List Inputs) (end : FeedEnd) (status : Status) (output notes : Device SinkTold) (boxes : Device (List BoxTold)) : Type 0 where
-  pub comes : ComesTo laws whole first later
+-- with a line for each arrival where it is asked for; and each calculator that is handed in had exactly the calls that its node has in that
+-- solution.
+pub record OneLive (laws : Laws) (form : OutputForm) (report : Reporting) (whole : Plan) (first : Inputs) (later : List Inputs) (end : FeedEnd) (status : Status) (output notes : Device SinkTold) (boxes : Device (List BoxTold)) : Type 0 where
+  pub comes : ComesTo laws report whole first later
   pub wrote : WroteBy status (told_answer report whole end comes.live (output_in form (split_of whole).core comes.streams)) (told_failed report whole end comes.live) output notes
   pub had : AllHad (split_of whole).core (HadItsCalls (core_job laws (split_of whole) (last_batch first later) comes.takens) comes.streams) boxes
 
@@ -83,7 +85,7 @@ pub record AreBatchesOf (whole : Plan) (read : Read) (batches : List Inputs) : T
   pub are : come_after (inputs_of whole) read.end [] lines ≡ batches
 
 -- The input was read to its end, its first line that isn't good or its first failed read, and the batches of its lines were run.
-pub record OneLiveReading (laws : Laws) (report : Bool) (whole : Plan) (status : Status) (devices : RunDevices) (boxes : Device (List BoxTold)) : Type 0 where
+pub record OneLiveReading (laws : Laws) (report : Reporting) (whole : Plan) (status : Status) (devices : RunDevices) (boxes : Device (List BoxTold)) : Type 0 where
   pub read : Read
   pub came : CameTo (inputs_of whole) devices.input read
   pub first : Inputs
@@ -123,11 +125,11 @@ pub record LiveShortReading (laws : Laws) (whole : Plan) (status : Status) (devi
   pub by : LiveShortIn laws whole devices.input devices.output boxes
 
 -- a run over packet lines ended with this status: over the whole input, or since memory ran out
-abbrev pub RanLive : Laws → Bool → Plan → Status → RunDevices → Device (List BoxTold) → Type 0
+abbrev pub RanLive : Laws → Reporting → Plan → Status → RunDevices → Device (List BoxTold) → Type 0
 RanLive laws report whole status devices boxes = OneLiveReading laws report whole status devices boxes ⊎ LiveShortReading laws whole status devices boxes
 
 -- the answer of a graph with free nodes over an input that ended after these bytes
-pub record AnswersLive (laws : Laws) (report : Bool) (whole : Plan) (bytes : List ℕ) (answer : RunAnswer) : Type 0 where
+pub record AnswersLive (laws : Laws) (report : Reporting) (whole : Plan) (bytes : List ℕ) (answer : RunAnswer) : Type 0 where
   pub first : Inputs
   pub later : List Inputs
   pub batches : AreBatchesOf whole (ended_input (inputs_of whole) bytes) (first ∷ later)
@@ -136,7 +138,7 @@ pub record AnswersLive (laws : Laws) (report : Bool) (whole : Plan) (bytes : Lis
 -- Over packets that are made, all of which are one batch --
 
 -- A number of packets were made, and were run as one batch.
-abbrev pub OneLiveMade : Laws → Bool → Plan → ℕ → Status → Device SinkTold → Device SinkTold → Device (List BoxTold) → Type 0
+abbrev pub OneLiveMade : Laws → Reporting → Plan → ℕ → Status → Device SinkTold → Device SinkTold → Device (List BoxTold) → Type 0
 OneLiveMade laws report whole number status output notes boxes = OneLive laws totals report whole (generated_job laws whole number).inputs [] Ended status output notes boxes
 
 -- Memory ran out in a run over packets that are made, before anything was done or later.
@@ -150,10 +152,10 @@ pub record LiveShortMade (laws : Laws) (whole : Plan) (number : ℕ) (status : S
   pub by : LiveShortInMade laws whole number output boxes
 
 -- a run over packets that are made ended with this status: over all packets, or since memory ran out
-abbrev pub RanLiveMade : Laws → Bool → Plan → ℕ → Status → Device SinkTold → Device SinkTold → Device (List BoxTold) → Type 0
+abbrev pub RanLiveMade : Laws → Reporting → Plan → ℕ → Status → Device SinkTold → Device SinkTold → Device (List BoxTold) → Type 0
 RanLiveMade laws report whole number status output notes boxes =
     OneLiveMade laws report whole number status output notes boxes ⊎ LiveShortMade laws whole number status output notes boxes
 
 -- the answer of a graph with free nodes over a number of packets that are made
-abbrev pub AnswersLiveMade : Laws → Bool → Plan → ℕ → RunAnswer → Type 0
+abbrev pub AnswersLiveMade : Laws → Reporting → Plan → ℕ → RunAnswer → Type 0
 AnswersLiveMade laws report whole number answer = IsLiveAnswer laws totals report whole (generated_job laws whole number).inputs [] Ended answer

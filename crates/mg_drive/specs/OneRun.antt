@@ -20,6 +20,7 @@ use Rattle.mg_answer.specs.Wrote.{WroteBy}
 use Rattle.mg_answer.specs.Ran.{CameTo, ReadSome}
 use Rattle.mg_answer.specs.declared.status.Status.{Status}
 use Rattle.mg_answer.specs.declared.status.Status.TheVariants.{OutOfMemory}
+use Rattle.mg_answer.specs.declared.run.Reporting.{Reporting}
 use Rattle.mg_drive.specs.Leaves.{IsRelatedAt, HadItsCalls, KeepsAFront}
 
 -- All calculators come back in their order, and each that no node uses had no call.
@@ -56,7 +57,7 @@ pub record WasNothing (output : Device SinkTold) (boxes : Device (List BoxTold))
 -- Runs over packet lines --
 
 -- The input was read to its end, its first line that isn't good or its first failed read, and the job of what it came to was run.
-pub record OneReading (laws : Laws) (report : Bool) (plan : Plan) (status : Status) (devices : RunDevices) (boxes : Device (List BoxTold)) : Type 0 where
+pub record OneReading (laws : Laws) (report : Reporting) (plan : Plan) (status : Status) (devices : RunDevices) (boxes : Device (List BoxTold)) : Type 0 where
   pub read : Read
   pub came : CameTo (inputs_of plan) devices.input read
   pub run : OneRun (by_lines report) (job_of laws plan read) read.end status devices.output devices.notes boxes
@@ -95,13 +96,13 @@ pub record ShortReading (laws : Laws) (plan : Plan) (status : Status) (devices :
   pub by : ShortIn laws plan devices.input devices.output boxes
 
 -- a run over packet lines ended with this status: over the whole input, or since memory ran out
-abbrev pub RanOverLines : Laws → Bool → Plan → Status → RunDevices → Device (List BoxTold) → Type 0
+abbrev pub RanOverLines : Laws → Reporting → Plan → Status → RunDevices → Device (List BoxTold) → Type 0
 RanOverLines laws report plan status devices boxes = OneReading laws report plan status devices boxes ⊎ ShortReading laws plan status devices boxes
 
 -- Runs over packets that are made --
 
 -- A number of packets were made, and their job was run.
-abbrev pub OneMade : Laws → Bool → Plan → ℕ → Status → Device SinkTold → Device SinkTold → Device (List BoxTold) → Type 0
+abbrev pub OneMade : Laws → Reporting → Plan → ℕ → Status → Device SinkTold → Device SinkTold → Device (List BoxTold) → Type 0
 OneMade laws report plan number status output notes boxes = OneRun (by_summary report) (generated_job laws plan number) Ended status output notes boxes
 
 -- Memory ran out in a run over packets that are made, before anything was done or later.
@@ -115,5 +116,5 @@ pub record ShortMade (laws : Laws) (plan : Plan) (number : ℕ) (status : Status
   pub by : ShortInMade laws plan number output boxes
 
 -- a run over packets that are made ended with this status: over all packets, or since memory ran out
-abbrev pub RanOverPackets : Laws → Bool → Plan → ℕ → Status → Device SinkTold → Device SinkTold → Device (List BoxTold) → Type 0
+abbrev pub RanOverPackets : Laws → Reporting → Plan → ℕ → Status → Device SinkTold → Device SinkTold → Device (List BoxTold) → Type 0
 RanOverPackets laws report plan number status output notes boxes = OneMade laws report plan number status output notes boxes ⊎ ShortMade laws plan number status output notes boxes

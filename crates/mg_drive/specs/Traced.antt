@@ -1,6 +1,6 @@
 -- What a recorded run came to, by its status. Its output is a trace: the text of the job, and of the events that brought a net to rest once
 -- its nodes had begun. All else is as in a run that writes its outputs.
-use Rattle.std.specs.Prelude.{◌≡◌, ◌⊎◌, ℕ, List, ◌++◌, Bool}
+use Rattle.std.specs.Prelude.{◌≡◌, ◌⊎◌, ℕ, List, ◌++◌}
 use Rattle.mg_edge.specs.Edge.{SourceTold, SinkTold}
 use Rattle.mg_calc.specs.Rules.{Laws}
 use Rattle.mg_calc.specs.declared.event.Event.{Event}
@@ -17,6 +17,7 @@ use Rattle.mg_answer.specs.Wrote.{Meets, MetShort}
 use Rattle.mg_answer.specs.Ran.{CameTo, ReadSome}
 use Rattle.mg_answer.specs.declared.status.Status.{Status}
 use Rattle.mg_answer.specs.declared.status.Status.TheVariants.{WriteFault, OutOfMemory}
+use Rattle.mg_answer.specs.declared.run.Reporting.{Reporting}
 use Rattle.mg_sched.specs.Views.{NetView}
 use Rattle.mg_sched.specs.Runs.{IsRun, IsBegun, IsRunAtRest}
 
@@ -41,7 +42,7 @@ TookSomeTrace laws plan inputs boxes output = ((text : List ℕ) × IsTrace laws
     ⊎ ((events : List Event) × IsRunSoFar laws plan inputs boxes events × TookFront output (job_text plan inputs ++ events_text events))
 
 -- The answer of a recorded run over what its input came to: the answer of a run, but that the output is a trace.
-pub record IsTraced (laws : Laws) (report : Bool) (plan : Plan) (boxes : List BoxTold) (read : Read) (answer : RunAnswer) : Type 0 where
+pub record IsTraced (laws : Laws) (report : Reporting) (plan : Plan) (boxes : List BoxTold) (read : Read) (answer : RunAnswer) : Type 0 where
   pub text : List ℕ
   pub trace : IsTrace laws plan (inputs_by (inputs_of plan) read) boxes text
   pub of_run : RunAnswer
@@ -49,13 +50,13 @@ pub record IsTraced (laws : Laws) (report : Bool) (plan : Plan) (boxes : List Bo
   pub is : answer ≡ record of_run { output = text }
 
 -- the answer of a recorded run over an input that ended after these bytes
-abbrev pub TracesEnded : Laws → Bool → Plan → List BoxTold → List ℕ → RunAnswer → Type 0
+abbrev pub TracesEnded : Laws → Reporting → Plan → List BoxTold → List ℕ → RunAnswer → Type 0
 TracesEnded laws report plan boxes bytes answer = IsTraced laws report plan boxes (ended_input (inputs_of plan) bytes) answer
 
 -- The run --
 
 -- The recorded run wrote its answer.
-pub record TracedAll (laws : Laws) (report : Bool) (plan : Plan) (boxes : List BoxTold) (status : Status) (devices : RunDevices) : Type 0 where
+pub record TracedAll (laws : Laws) (report : Reporting) (plan : Plan) (boxes : List BoxTold) (status : Status) (devices : RunDevices) : Type 0 where
   pub read : Read
   pub input : CameTo (inputs_of plan) devices.input read
   pub answer : RunAnswer
@@ -63,7 +64,7 @@ pub record TracedAll (laws : Laws) (report : Bool) (plan : Plan) (boxes : List B
   pub met : Meets answer status devices.output devices.notes
 
 -- A write failed, after the input was read; what was written is of the recorded run's answer.
-pub record TracedShort (laws : Laws) (report : Bool) (plan : Plan) (boxes : List BoxTold) (devices : RunDevices) : Type 0 where
+pub record TracedShort (laws : Laws) (report : Reporting) (plan : Plan) (boxes : List BoxTold) (devices : RunDevices) : Type 0 where
   pub read : Read
   pub input : CameTo (inputs_of plan) devices.input read
   pub answer : RunAnswer
@@ -81,7 +82,7 @@ abbrev pub TracedOut : Laws → Plan → List BoxTold → RunDevices → Type 0
 TracedOut laws plan boxes devices = Untouched devices.output ⊎ TracedSome laws plan boxes devices.input devices.output
 
 -- A recorded run ended with this status. Where memory ran out the notes say that alone, and what was read of the input was read once.
-abbrev pub Traced : Laws → Bool → Plan → List BoxTold → Status → RunDevices → Type 0
+abbrev pub Traced : Laws → Reporting → Plan → List BoxTold → Status → RunDevices → Type 0
 Traced laws report plan boxes WriteFault devices = TracedShort laws report plan boxes devices
 Traced laws report plan boxes OutOfMemory devices = TracedOut laws plan boxes devices × TookNotes devices.notes memory_note × ReadSome (inputs_of plan) devices.input
 Traced laws report plan boxes status devices = TracedAll laws report plan boxes status devices

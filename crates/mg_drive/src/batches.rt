@@ -11,6 +11,7 @@ ghost use Rattle.mg_answer.specs.Answer.{OutputForm};
 ghost use Rattle.mg_answer.specs.Put.{HasPut};
 ghost use Rattle.mg_answer.specs.Devices.{Device, device, TookFront};
 ghost use Rattle.mg_answer.specs.declared.status.Status.{Status as Stands};
+ghost use Rattle.mg_answer.specs.declared.run.Reporting.{Reporting};
 ghost use Rattle.mg_drive.specs.Nets.{Wanted, AreThere};
 ghost use Rattle.mg_drive.specs.Batches.{IsMore, MayRead, IsFirst, BatchesGoOn, GoesOnward, RoundLeaves, SomeGiven, IsAsGiven, OutcomesFit, AreOfGiven, TellsSolution};
 
@@ -20,6 +21,7 @@ use mg_calc::Inputs;
 use mg_edge::{Sink, Source};
 use mg_feed::{BatchEnd, FeedEnd};
 use mg_settled::PrefixList;
+use mg_value::NumberList;
 use std::alloc::AllocError;
 
 /// A batch: how it ended, and what it hands to the graph.
@@ -32,8 +34,8 @@ pub struct Batch {
 /// How a run goes on once its net has come to rest.
 #[derive(Drop)]
 pub enum Onward {
-    /// First these pieces come to the last graph inputs; no batch is read yet.
-    Round(PrefixList),
+    /// First further input comes to some graph inputs, by their rising numbers, a piece for each; no batch is read yet.
+    Round(NumberList, PrefixList),
     /// The next batch is due.
     Next,
     /// No batch is left, and this is how the input ended.
@@ -76,9 +78,9 @@ pub trait Batches: Drop {
     /// Whether it reads its source.
     ghost reads: { Bool };
 
-    /// What is written at the end of a run over these batches: the form and whether there is a report, the job over what was given, how its
+    /// What is written at the end of a run over these batches: the form and what the notes report, the job over what was given, how its
     /// input ended, the status, and what the output and the notes took.
-    ghost wrote: { Self → OutputForm → Bool → Job → FeedEnding → Stands → Device SinkTold → Device SinkTold → Type 0 };
+    ghost wrote: { Self → OutputForm → Reporting → Job → FeedEnding → Stands → Device SinkTold → Device SinkTold → Type 0 };
 
     /// Reads the next batch. Behind a batch with which the input ended there is none.
     fn next<S: Source>(&mut self, input: &mut S) -> Result<Batch, AllocError>

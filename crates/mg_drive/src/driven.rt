@@ -4,12 +4,14 @@ ghost use Rattle.mg_value.specs.Payload.{Plain};
 ghost use Rattle.mg_settled.specs.Prefix.{StreamPrefix};
 ghost use Rattle.mg_stream.specs.Pool.{Backlog};
 ghost use Rattle.mg_calc.specs.Rules.{Laws};
+ghost use Rattle.mg_calc.specs.declared.inputs.Inputs.{Inputs as Given};
 ghost use Rattle.mg_node.specs.Job.{LoggedJob, Solves};
 ghost use Rattle.mg_node.specs.Looking.{kept_packet};
 ghost use Rattle.mg_node.specs.Intakes.{HasSet};
 ghost use Rattle.mg_sched.specs.Views.{NetView};
 ghost use Rattle.mg_sched.specs.StandsFor.{StandsFor, StandsForSome, IsRunning};
-ghost use Rattle.mg_sched.specs.Extends.{GoesOnWith, MayGoOnWith, for_last};
+ghost use Rattle.mg_sched.specs.AtRest.{IsAtRest};
+ghost use Rattle.mg_sched.specs.Extends.{GoesOnWith, MayGoOnWith, ComesAt, MayGoOnAt};
 ghost use Rattle.mg_sched.specs.Taking.{TakesOut, taken_out};
 ghost use Rattle.mg_sched.specs.Looks.{IsOutputOf, HasFrom};
 ghost use Rattle.mg_sched.specs.Reports.{report_of};
@@ -20,7 +22,7 @@ use mg_calc::Inputs;
 use mg_sched::Report;
 use mg_settled::{InputSet, PrefixList};
 use mg_time::Timestamp;
-use mg_value::Packet;
+use mg_value::{NumberList, Packet};
 use std::alloc::{AllocError, Global};
 
 /// A net that can be driven, however its nodes are made to run.
@@ -41,6 +43,17 @@ pub trait Driven {
         ensures taken { taken_out (net self.new) ≡ taken_out (net self.old) }
         ensures stands { (job : LoggedJob laws) → StandsFor job (net self.old) → StandsFor job (net self.new) };
 
+    /// Sweeps the net until no node can go further. It takes no set of the outputs.
+    fn to_rest(&mut self) -> Result<(), AllocError>
+        requires running { IsRunning (net self.old) }
+        requires stands { StandsForSome laws (net self.old) }
+        ensures rest { OnOk result (IsAtRest laws (net self.new)) }
+        ensures running { IsRunning (net self.new) }
+        ensures keeps { Keeps (net self.old) (net self.new) }
+        ensures whole { GaveNothingUp (net self.old) (net self.new) }
+        ensures taken { taken_out (net self.new) ≡ taken_out (net self.old) }
+        ensures stands { (job : LoggedJob laws) → StandsFor job (net self.old) → StandsFor job (net self.new) };
+
     /// Takes in further input. After an `Err`, for want of memory, the net is as it was.
     fn extend(&mut self, more: &Inputs) -> Result<(), AllocError>
         requires may { MayGoOnWith laws more.now (net self.old) }
@@ -51,16 +64,16 @@ pub trait Driven {
         ensures unchanged { OnErr result (net self.new ≡ net self.old) }
         ensures stands { (first later : LoggedJob laws) → GoesOnWith more.now first later → StandsFor first (net self.old) → OnOk result (StandsFor later (net self.new)) };
 
-    /// Takes in further input at the last graph inputs alone, a piece for each of them. After an `Err`, for want of memory, the net is as
-    /// it was.
-    fn extend_last(&mut self, pieces: &PrefixList) -> Result<(), AllocError>
-        requires may { MayGoOnWith laws (for_last (length (net self.old).plan.inputs) pieces.now) (net self.old) }
+    /// Takes in further input at some graph inputs alone, by their rising numbers, a piece for each of them. After an `Err`, for want of
+    /// memory, the net is as it was.
+    fn extend_some(&mut self, inputs: &NumberList, pieces: &PrefixList) -> Result<(), AllocError>
+        requires may { MayGoOnAt laws inputs.now pieces.now (net self.old) }
         ensures running { IsRunning (net self.old) → IsRunning (net self.new) }
         ensures keeps { Keeps (net self.old) (net self.new) }
         ensures whole { GaveNothingUp (net self.old) (net self.new) }
         ensures taken { taken_out (net self.new) ≡ taken_out (net self.old) }
         ensures unchanged { OnErr result (net self.new ≡ net self.old) }
-        ensures stands { (first later : LoggedJob laws) → GoesOnWith (for_last (length (net self.old).plan.inputs) pieces.now) first later → StandsFor first (net self.old) → OnOk result (StandsFor later (net self.new)) };
+        ensures stands { (more : Given) (first later : LoggedJob laws) → ComesAt inputs.now pieces.now first.job.inputs.streams more → GoesOnWith more first later → StandsFor first (net self.old) → OnOk result (StandsFor later (net self.new)) };
 
     /// Gives up the packets that all readers of their stream have got.
     fn trim(&mut self)

@@ -1,4 +1,5 @@
-//! The loop of a run: a batch comes, the net is brought to rest, and the sets of its outputs are told.
+//! The loop of a run: a batch comes, the net is brought to rest, and the sets of its outputs are told. That is one step, for which no
+//! runtime is needed.
 ghost use Rattle.std.specs.Prelude.{◌≡◌, ◌<◌, List, length, false, IfOk, OnOk, OnErr};
 ghost use Rattle.mg_edge.specs.Edge.{SourceTold, SinkTold};
 ghost use Rattle.mg_calc.specs.declared.inputs.Inputs.{Inputs as Given};
@@ -10,7 +11,7 @@ ghost use Rattle.mg_sched.specs.StandsFor.{StandsFor, IsRunning};
 ghost use Rattle.mg_sched.specs.Taking.{taken_out, settled_outputs, HasAllOutputs, LeavesNodes};
 ghost use Rattle.mg_drive.specs.Nets.{Keeps, GaveNothingUp, AreThere, AreRead};
 ghost use Rattle.mg_drive.specs.Batches.{IsMore};
-ghost use Rattle.mg_drive.specs.Code.Running.{Start, job_with, IsTold, IsToldSome, IsSomeTold, IsUnderWay, IsSomeRun, IsSomeMore, WentOn, HasRested, IsAllTaken, RunIsOver, IsShort};
+ghost use Rattle.mg_drive.specs.Code.Running.{Start, job_with, IsTold, IsToldSome, IsSomeTold, IsUnderWay, IsSomeRun, IsSomeMore, WentOn, HasRested, IsAllTaken, RunIsOver, HasStepped, LeavesFewer, IsShort};
 
 use crate::{Batches, Driven, ManyThreads, NetEnds, Onward, Telling};
 use mg_calc::NodeCalculator;
@@ -75,33 +76,111 @@ pub fn take_all<N: Driven, T: Telling, K: Sink>(
 }
 
 // Brings a net to rest, and tells all sets that its outputs then have.
-fn advance<R: Threads + Wait + Sync, G: Gate + Sync, C: NodeCalculator + Send, T: Telling, K: Sink>(
-    net: &mut ManyThreads<'_, C, R, G>,
+fn advance<N: Driven, T: Telling, K: Sink>(
+    net: &mut N,
     set: &mut InputSet,
     telling: &mut T,
     output: &mut K,
 ) -> Result<(), AllocError>
-    requires places { length set.old ≡ length net.old.one.net.plan.outputs }
-    requires running { IsRunning net.old.one.net }
-    requires told { IsSomeTold C.laws T.has_told (K.told output.old) net.old.one.net telling.old }
-    ensures places { length set.new ≡ length net.new.one.net.plan.outputs }
-    ensures running { IsRunning net.new.one.net }
-    ensures keeps { Keeps net.old.one.net net.new.one.net }
-    ensures whole { GaveNothingUp net.old.one.net net.new.one.net }
-    ensures stands { (job : LoggedJob C.laws) → StandsFor job net.old.one.net → StandsFor job net.new.one.net }
-    ensures told { OnOk result ((job : LoggedJob C.laws) (first : SinkTold) → StandsFor job net.old.one.net → IsTold T.has_told job.job first (K.told output.old) (taken_out net.old.one.net) telling.old
-        → IsTold T.has_told job.job first (K.told output.new) (taken_out net.new.one.net) telling.new) }
-    ensures front { OnErr result ((job : LoggedJob C.laws) (first : SinkTold) → StandsFor job net.old.one.net → IsTold T.has_told job.job first (K.told output.old) (taken_out net.old.one.net) telling.old
+    requires places { length set.old ≡ length (N.net net.old).plan.outputs }
+    requires running { IsRunning (N.net net.old) }
+    requires told { IsSomeTold N.laws T.has_told (K.told output.old) (N.net net.old) telling.old }
+    ensures places { length set.new ≡ length (N.net net.new).plan.outputs }
+    ensures running { IsRunning (N.net net.new) }
+    ensures keeps { Keeps (N.net net.old) (N.net net.new) }
+    ensures whole { GaveNothingUp (N.net net.old) (N.net net.new) }
+    ensures stands { (job : LoggedJob N.laws) → StandsFor job (N.net net.old) → StandsFor job (N.net net.new) }
+    ensures told { OnOk result ((job : LoggedJob N.laws) (first : SinkTold) → StandsFor job (N.net net.old) → IsTold T.has_told job.job first (K.told output.old) (taken_out (N.net net.old)) telling.old
+        → IsTold T.has_told job.job first (K.told output.new) (taken_out (N.net net.new)) telling.new) }
+    ensures front { OnErr result ((job : LoggedJob N.laws) (first : SinkTold) → StandsFor job (N.net net.old) → IsTold T.has_told job.job first (K.told output.old) (taken_out (N.net net.old)) telling.old
         → IsToldSome T.has_told job.job first (K.told output.new)) }
-    ensures rested { OnOk result ((job : LoggedJob C.laws) → StandsFor job net.old.one.net → HasRested job net.new.one.net × IsAllTaken job net.new.one.net) }
+    ensures rested { OnOk result ((job : LoggedJob N.laws) → StandsFor job (N.net net.old) → HasRested job (N.net net.new) × IsAllTaken job (N.net net.new)) }
 {
     net.to_rest()?;
     take_all(net, set, telling, output)?;
     Ok(())
 }
 
-/// Begins a net, and drives it over the first batch, which it already has, and over all further ones. Returns how the input ended: the net
-/// is at rest then, and all sets of its outputs are told.
+/// How a run goes on after a step of it.
+#[derive(Drop)]
+pub enum Step {
+    /// The net has more to do. The last batch ended in this way.
+    On(BatchEnd),
+    /// The net is at rest, all sets of its outputs are told, and this is how the input ended.
+    Over(FeedEnd),
+}
+
+/// Makes a step of a run: brings its net to rest, tells the sets of its outputs, and lets the next round or batch come to it. `last` tells
+/// how the last batch ended.
+pub fn make_step<N: Driven, B: Batches, T: Telling, S: Source, K: Sink>(
+    net: &mut N,
+    ends: &mut NetEnds<B, T>,
+    last: BatchEnd,
+    input: &mut S,
+    output: &mut K,
+) -> Result<Step, AllocError>
+    requires under_way { (plan : Plan) × IsSomeRun N.laws (B.gives N.laws) T.has_told plan last (S.told input.old) (K.told output.old) ends.old.batches ends.old.telling (N.net net.old) }
+    requires running { IsRunning (N.net net.old) }
+    requires there { AreThere (B.wants ends.old.batches) (N.net net.old) }
+    requires places { length ends.old.set ≡ length (N.net net.old).plan.outputs }
+    ensures stepped { IfOk result (λ step. (start : Start B) → IsUnderWay N.laws (B.gives N.laws) T.has_told start last (S.told input.old) (K.told output.old) ends.old.batches ends.old.telling (N.net net.old)
+        → HasStepped N.laws (B.gives N.laws) T.has_told start step (S.told input.new) (K.told output.new) ends.new.batches ends.new.telling (N.net net.new)) }
+    ensures short { OnErr result ((start : Start B) → IsUnderWay N.laws (B.gives N.laws) T.has_told start last (S.told input.old) (K.told output.old) ends.old.batches ends.old.telling (N.net net.old)
+        → IsShort N.laws (B.gives N.laws) B.reads_on T.has_told T.form start (S.told input.new) (K.told output.new) (N.net net.new)) }
+    ensures fewer { IfOk result (λ step. LeavesFewer step last (B.left ends.old.batches) (B.left ends.new.batches)) }
+    ensures running { OnOk result (IsRunning (N.net net.new)) }
+    ensures there { OnOk result (AreThere (B.wants ends.new.batches) (N.net net.new)) }
+    ensures places { OnOk result (length ends.new.set ≡ length (N.net net.new).plan.outputs) }
+    ensures keeps { Keeps (N.net net.old) (N.net net.new) }
+    ensures unread { B.reads ≡ false → S.told input.new ≡ S.told input.old }
+{
+    advance(net, &mut ends.set, &mut ends.telling, output)?;
+    let onward = ends.batches.onward(last, net)?;
+    match onward {
+        Onward::Round(inputs, pieces) => {
+            net.extend_some(&inputs, &pieces)?;
+            Ok(Step::On(last))
+        }
+        Onward::Next => {
+            ends.telling.pass_on(output);
+            let end = next_batch(net, &mut ends.batches, input)?;
+            Ok(Step::On(end))
+        }
+        Onward::End(end) => Ok(Step::Over(end)),
+    }
+}
+
+/// Begins a net, and makes the steps of its run over the first batch, which it already has, and over all further ones. Returns how the
+/// input ended: the net is at rest then, and all sets of its outputs are told. It is handed no runtime, so it returns.
+pub fn drive_alone<N: Driven, B: Batches, T: Telling, S: Source, K: Sink>(
+    net: &mut N,
+    ends: &mut NetEnds<B, T>,
+    first: BatchEnd,
+    input: &mut S,
+    output: &mut K,
+) -> Result<FeedEnd, AllocError>
+    requires under_way { (plan : Plan) × IsSomeRun N.laws (B.gives N.laws) T.has_told plan first (S.told input.old) (K.told output.old) ends.old.batches ends.old.telling (N.net net.old) }
+    requires there { AreThere (B.wants ends.old.batches) (N.net net.old) }
+    requires places { length ends.old.set ≡ length (N.net net.old).plan.outputs }
+    ensures over { IfOk result (λ end. (start : Start B) → IsUnderWay N.laws (B.gives N.laws) T.has_told start first (S.told input.old) (K.told output.old) ends.old.batches ends.old.telling (N.net net.old)
+        → RunIsOver N.laws (B.gives N.laws) T.has_told start end (S.told input.new) (K.told output.new) ends.new.batches ends.new.telling (N.net net.new)) }
+    ensures short { OnErr result ((start : Start B) → IsUnderWay N.laws (B.gives N.laws) T.has_told start first (S.told input.old) (K.told output.old) ends.old.batches ends.old.telling (N.net net.old)
+        → IsShort N.laws (B.gives N.laws) B.reads_on T.has_told T.form start (S.told input.new) (K.told output.new) (N.net net.new)) }
+    ensures keeps { Keeps (N.net net.old) (N.net net.new) }
+    ensures unread { B.reads ≡ false → S.told input.new ≡ S.told input.old }
+{
+    net.begin()?;
+    let mut last = first;
+    'steps: loop {
+        let stepped = make_step(net, ends, last, input, output)?;
+        match stepped {
+            Step::On(end) => last = end,
+            Step::Over(end) => return Ok(end),
+        }
+    }
+}
+
+/// Does what `drive_alone` does, and lets workers run the net before each step.
 pub fn drive<
     R: Threads + Wait + Sync,
     G: Gate + Sync,
@@ -129,17 +208,12 @@ pub fn drive<
 {
     net.begin()?;
     let mut last = first;
-    'batches: loop {
-        advance(net, &mut ends.set, &mut ends.telling, output)?;
-        let onward = ends.batches.onward(last, net)?;
-        match onward {
-            Onward::Round(pieces) => {
-                net.extend_last(&pieces)?;
-                continue;
-            }
-            Onward::Next => ends.telling.pass_on(output),
-            Onward::End(end) => return Ok(end),
+    'steps: loop {
+        net.work();
+        let stepped = make_step(net, ends, last, input, output)?;
+        match stepped {
+            Step::On(end) => last = end,
+            Step::Over(end) => return Ok(end),
         }
-        last = next_batch(net, &mut ends.batches, input)?;
     }
 }

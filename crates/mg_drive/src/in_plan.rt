@@ -9,12 +9,13 @@ ghost use Rattle.mg_free.specs.Core.{is_free as the_free, is_core, split_of};
 ghost use Rattle.mg_free.specs.Rounds.{Taken};
 ghost use Rattle.mg_live.specs.Takes.{HaveTaken};
 ghost use Rattle.mg_answer.specs.Outcomes.{TellsOf};
+ghost use Rattle.mg_answer.specs.Report.{asked_arrivals};
 ghost use Rattle.mg_settled.specs.Ends.{end_of};
 ghost use Rattle.mg_drive.specs.Batches.{OutcomesFit};
 ghost use Rattle.mg_drive.specs.Live.{LiveTells, renumbered_fault, sets_by, lines_at, arrivals_text};
 ghost use Rattle.mg_drive.specs.Code.Live.{AreNumbersOf};
 
-use mg_answer::{Outcomes, put_arrival};
+use mg_answer::{Outcomes, Reporting, put_arrival};
 use mg_calc::{NodeFault, NodeFaultList, Plan, PlanNode};
 use mg_free::is_free;
 use mg_live::LiveNodes;
@@ -91,10 +92,12 @@ fn ends_of(alloc: Global, streams: &[u32], ends: &[StreamEnd]) -> Result<Vec<Str
 }
 
 impl<'p> InPlan<'p> {
-    /// Returns the outcomes of the plan: those of its core by the plan's numbers, and the lines of all arrivals at free nodes.
+    /// Returns the outcomes of the plan: those of its core by the plan's numbers, and the lines of all arrivals at free nodes where `report`
+    /// asks for them.
     pub fn outcomes(
         &self,
         alloc: Global,
+        report: Reporting,
         core: &Outcomes,
         live: &LiveNodes,
     ) -> Result<Outcomes, AllocError>
@@ -104,7 +107,7 @@ impl<'p> InPlan<'p> {
         requires long { length live.now.free ≡ length live.now.takers.items }
         requires tells { OutcomesFit (split_of self.now.plan.now).core core.now }
         ensures { (job : Job) (streams : List (StreamPrefix Plain)) (takens : List Taken) → job.plan ≡ (split_of self.now.plan.now).core → TellsOf job streams core.now
-            → HaveTaken live.now.free takens live.now.takers.items → IfOk result (LiveTells self.now.plan.now job streams live.now.free takens) }
+            → HaveTaken live.now.free takens live.now.takers.items → IfOk result (LiveTells report self.now.plan.now job streams live.now.free takens) }
     {
         let faults = faults_in(alloc, self.nodes.as_slice(), core.faults.as_slice())?;
         let sets = sets_of(
@@ -114,13 +117,25 @@ impl<'p> InPlan<'p> {
             live,
         )?;
         let ends = ends_of(alloc, self.streams.as_slice(), core.ends.as_slice())?;
-        let arrivals = arrival_lines(alloc, live)?;
+        let arrivals = asked_lines(alloc, report, live)?;
         Ok(Outcomes {
             faults,
             sets,
             ends,
             arrivals,
         })
+    }
+}
+
+// Returns the lines of all arrivals at free nodes where they are asked for, and else nothing.
+fn asked_lines(alloc: Global, report: Reporting, live: &LiveNodes) -> Result<Vec<u8>, AllocError>
+    requires { length live.now.free ≡ length live.now.takers.items }
+    ensures { (takens : List Taken) → HaveTaken live.now.free takens live.now.takers.items → IfOk result (λ lines. lines.items ≡ asked_arrivals report (arrivals_text live.now.free takens)) }
+{
+    if report.arrivals {
+        arrival_lines(alloc, live)
+    } else {
+        Ok(Vec::new(alloc))
     }
 }
 

@@ -1,6 +1,6 @@
 //! Drives a net over the batches of an input: the net is brought to rest after each, the sets of its outputs are told as they come, and at
-//! the end its nodes are wound up and the notes written. The loop stands once, over three small traits: the net, where batches come from,
-//! and what tells the sets. Answers to the definitions of `specs/OneRun.antt`, `specs/OneLive.antt`, `specs/Traced.antt` and
+//! the end its nodes are wound up and the notes written. A step of it stands once, over three small traits: the net, where batches come
+//! from, and what tells the sets. Whoever is handed no runtime loops over it alone, and who is, lets workers run the net before each. Answers to the definitions of `specs/OneRun.antt`, `specs/OneLive.antt`, `specs/Traced.antt` and
 //! `specs/Leaves.antt`, and, of what is written, to those of mg_answer.
 #![tactic(auto)]
 
@@ -32,17 +32,17 @@ mod tracing;
 pub use batches::{Batch, Batches, Closing, Onward};
 pub use crew::Crew;
 pub use driven::Driven;
-pub use driving::{drive, take_all};
+pub use driving::{Step, drive, drive_alone, make_step, take_all};
 pub use event_text::EventText;
 pub use finishing::{finish, finish_frozen};
-pub use lines::run_lines;
+pub use lines::{run_lines, run_lines_alone};
 pub use live::Live;
-pub use live_running::{run_live_lines, run_live_made};
-pub use made::run_made;
+pub use live_running::{run_live_lines, run_live_lines_alone, run_live_made, run_live_made_alone};
+pub use made::{run_made, run_made_alone};
 pub use many_threads::ManyThreads;
 pub use net_ends::NetEnds;
 pub use one_thread::OneThread;
 pub use recording::record_run;
-pub use running::{run_batches, run_net};
+pub use running::{run_batches, run_batches_alone};
 pub use telling::Telling;
 pub use tracing::trace_lines;

@@ -11,10 +11,10 @@ ghost use Rattle.mg_answer.specs.Wrote.{Wrote};
 ghost use Rattle.mg_answer.specs.Held.{told_by, SameDevices};
 ghost use Rattle.mg_sched.specs.Made.{BoxesFit};
 ghost use Rattle.mg_drive.specs.OneRun.{OneReading, ShortIn, RanOverLines};
-ghost use Rattle.mg_drive.specs.Code.Lines.{has_ended as the_end, HadMemory, IsRead, HasBatch, ReadsOn, IsNew, LinesGave, LinesCame, lines_left};
+ghost use Rattle.mg_drive.specs.Code.Lines.{has_ended as the_end, HadMemory, IsRead, HasBatch, ReadsOn, IsNew, LinesGave, LinesCame, NewestGave, lines_left};
 
 use crate::onward::plain_onward;
-use crate::{Batch, Batches, Closing, Crew, Driven, Onward, run_batches};
+use crate::{Batch, Batches, Closing, Crew, Driven, Onward, run_batches, run_batches_alone};
 use mg_answer::{
     Devices, Outcomes, OutputText, Run, Status, conclude, is_ended, note_out_of_memory, ran_out,
 };
@@ -25,8 +25,22 @@ use std::alloc::AllocError;
 use std::sync::Wait;
 use std::thread::Threads;
 
-/// The most lines that name a stream in one batch. Each batch but the last has so many.
+/// The most lines that name a stream in one batch. Where batches don't end early each but the last has so many.
 pub const BATCH: u32 = 4096;
+
+/// The lines of a feed, in batches that end early: a batch ends also where the source has nothing more for now, so that what its lines
+/// come to is written then. How lines are parted into batches changes no answer of a graph without free nodes.
+pub struct Promptly {
+    pub feed: Feed,
+}
+
+// Written out, so that a proof about code that drops it needn't open the feed.
+impl Drop for Promptly {
+    fn drop(self) {
+        let Promptly { feed } = self;
+        drop(feed);
+    }
+}
 
 // Whether the input ended well with a batch.
 fn has_ended(end: BatchEnd) -> bool
@@ -48,13 +62,13 @@ fn lacks_memory(end: BatchEnd) -> bool
     }
 }
 
-// Reads a batch of lines.
-fn read_on<S: Source>(feed: &mut Feed, input: &mut S) -> Result<Batch, AllocError>
+// Reads a batch of lines, which may end early or not.
+fn read_on<S: Source>(feed: &mut Feed, input: &mut S, early: bool) -> Result<Batch, AllocError>
     ensures batch { (plan : Plan) (first : SourceTold) (past : List ℕ) (lines : List (List ℕ)) → IsRead plan first BatchEnd.More (S.told input.old) (fed feed.old) past lines
-        → IfOk result (λ b. HasBatch plan first b.end b.inputs (S.told input.new) (fed feed.new) past lines) }
+        → IfOk result (λ b. HasBatch early plan first b.end b.inputs (S.told input.new) (fed feed.new) past lines) }
     ensures further { (plan : Plan) (first : SourceTold) → ReadsOn (fed feed.old) plan first (S.told input.old) (S.told input.new) }
 {
-    let end = feed.read_batch(input, BATCH);
+    let end = feed.read_batch(input, BATCH, early);
     if lacks_memory(end) {
         return Err(AllocError);
     }
@@ -82,7 +96,49 @@ impl Batches for Feed {
     ghost wrote = { λ f form report job end status output notes. Wrote (record { form = form; report = report }) job end status output notes };
 
     fn next<S: Source>(&mut self, input: &mut S) -> Result<Batch, AllocError> {
-        let batch = read_on(self, input)?;
+        let batch = read_on(self, input, false)?;
+        Ok(batch)
+    }
+
+    fn onward<N: Driven>(&mut self, last: BatchEnd, net: &N) -> Result<Onward, AllocError> {
+        let _ = net;
+        Ok(plain_onward(last))
+    }
+
+    fn conclude<K: Sink, E: Sink>(
+        &self,
+        run: &Run<'_>,
+        closing: Closing,
+        outcomes: Outcomes,
+        output: &mut K,
+        notes: &mut E,
+    ) -> Result<Status, AllocError> {
+        let status = conclude(run, closing.end, &outcomes, closing.text, output, notes)?;
+        Ok(status)
+    }
+}
+
+impl Batches for Promptly {
+    ghost is_fresh = { λ p plan. IsNew (fed p.feed) plan };
+
+    ghost gives = { λ laws began p plan first now end inputs. LinesGave (fed p.feed) plan first now end inputs };
+
+    ghost came = { λ laws began p plan first now end history. NewestGave (fed p.feed) plan first now end history };
+
+    ghost is_due = { λ p plan so_far. Unit {0} };
+
+    ghost wants = { λ p. [] };
+
+    ghost reads_on = { λ p plan first at now. ReadsOn (fed p.feed) plan first at now };
+
+    ghost left = { λ p. lines_left (fed p.feed) };
+
+    ghost reads = { true };
+
+    ghost wrote = { λ p form report job end status output notes. Wrote (record { form = form; report = report }) job end status output notes };
+
+    fn next<S: Source>(&mut self, input: &mut S) -> Result<Batch, AllocError> {
+        let batch = read_on(&mut self.feed, input, true)?;
         Ok(batch)
     }
 
@@ -163,13 +219,51 @@ fn run_whole<
     Ok(status)
 }
 
-// A feed and a text for a plan, of which nothing is read or put yet.
-fn ends_of(run: &Run<'_>) -> Result<(Feed, OutputText), AllocError>
+/// Runs the graph of a plan over packet lines without workers, and does all else as `run_lines` does. It is handed no runtime, so it returns.
+pub fn run_lines_alone<G: Gate, C: NodeCalculator, S: Source, K: Sink, E: Sink>(
+    run: &Run<'_>,
+    gate: &G,
+    boxes: &mut Vec<C>,
+    devices: &mut Devices<'_, '_, '_, S, K, E>,
+) -> Status
+    requires valid { IsValid run.now.plan.now }
+    requires boxes { BoxesFit run.now.plan.now (map C.told boxes.old.items) }
+
+    // There is one reading of the input, one job and one solution, and all that is seen of the run is theirs; or memory ran out.
+    ensures ran { RanOverLines C.laws run.now.report run.now.plan.now result (told_by S.told K.told E.told devices.old devices.new) (device (map C.told boxes.old.items) (map C.told boxes.new.items)) }
+    ensures same { SameDevices devices.old devices.new }
+{
+    match run_whole_alone(run, gate, boxes, devices) {
+        Ok(status) => status,
+        Err(_) => note_out_of_memory(devices.notes),
+    }
+}
+
+fn run_whole_alone<G: Gate, C: NodeCalculator, S: Source, K: Sink, E: Sink>(
+    run: &Run<'_>,
+    gate: &G,
+    boxes: &mut Vec<C>,
+    devices: &mut Devices<'_, '_, '_, S, K, E>,
+) -> Result<Status, AllocError>
+    requires valid { IsValid run.now.plan.now }
+    requires boxes { BoxesFit run.now.plan.now (map C.told boxes.old.items) }
+    ensures ran { IfOk result (λ status. OneReading C.laws run.now.report run.now.plan.now status (told_by S.told K.told E.told devices.old devices.new) (device (map C.told boxes.old.items) (map C.told boxes.new.items))) }
+    ensures short { OnErr result (ShortIn C.laws run.now.plan.now (told_by S.told K.told E.told devices.old devices.new).input (told_by S.told K.told E.told devices.old devices.new).output (device (map C.told boxes.old.items) (map C.told boxes.new.items))) }
+    ensures unnoted { OnErr result (E.told devices.new.notes.now ≡ E.told devices.old.notes.now) }
+    ensures same { SameDevices devices.old devices.new }
+{
+    let ends = ends_of(run)?;
+    let status = run_batches_alone(run, gate, boxes, ends.0, ends.1, devices)?;
+    Ok(status)
+}
+
+// The lines of a feed and a text for a plan, of which nothing is read or put yet.
+fn ends_of(run: &Run<'_>) -> Result<(Promptly, OutputText), AllocError>
     requires { IsValid run.now.plan.now }
-    ensures feed { IfOk result (λ ends. IsNew (fed ends.0) run.now.plan.now) }
+    ensures feed { IfOk result (λ ends. IsNew (fed ends.0.feed) run.now.plan.now) }
     ensures text { IfOk result (λ ends. ends.1 ≡ nothing_put (output_names run.now.plan.now)) }
 {
     let feed = Feed::new(run.alloc, run.plan)?;
     let text = OutputText::new(run.alloc, run.plan)?;
-    Ok((feed, text))
+    Ok((Promptly { feed }, text))
 }

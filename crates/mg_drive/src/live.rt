@@ -1,5 +1,5 @@
 //! Batches of the core of a graph with free nodes: between two batches of the input the free nodes have their rounds.
-ghost use Rattle.std.specs.Prelude.{◌≡◌, ◌+◌, ◌++◌, true, None, replicate, IfOk};
+ghost use Rattle.std.specs.Prelude.{◌≡◌, ◌+◌, ◌++◌, true, None, map, replicate, IfOk};
 ghost use Rattle.mg_settled.specs.Prefix.{empty_prefix};
 ghost use Rattle.mg_drive.specs.Code.LiveRunning.{ReadsWhere, IsWidened};
 ghost use Rattle.mg_drive.specs.Code.Live.{IsFreshLive, LiveGives, LiveCame, LiveWrote, wanted_by, rounds_left, ended_of, batches_left};
@@ -14,7 +14,7 @@ use mg_feed::{BatchEnd, FeedEnd};
 use mg_live::LiveNodes;
 use mg_settled::{Prefix, PrefixList};
 use mg_time::Timestamp;
-use mg_value::PacketList;
+use mg_value::{NumberList, PacketList};
 use std::alloc::{AllocError, Global};
 
 /// Where the batches of a core come from: those of a graph with free nodes, and between two of them what the free nodes lay in a round.
@@ -41,6 +41,24 @@ fn ended_by(end: BatchEnd) -> Option<FeedEnd>
         BatchEnd::More => None,
         BatchEnd::End(end) => Some(end),
     }
+}
+
+// Returns the number of a graph input that stands so many places behind the first.
+fn input_at(first: u32, place: u32) -> Result<u32, AllocError>
+    ensures { IfOk result (λ input. input ≡ first + place) }
+{
+    first.checked_add(place).ok_or(AllocError)
+}
+
+// Returns the numbers of a core's graph inputs at which the outputs of some free nodes come in, where `first` is the first of these inputs.
+fn inputs_at(alloc: Global, first: u32, places: &[u32]) -> Result<NumberList, AllocError>
+    ensures { IfOk result (λ inputs. inputs ≡ map (λ place. first + place) places.now) }
+{
+    let mut inputs = Vec::with_capacity(alloc, places.len())?;
+    for place in places {
+        inputs.push(input_at(first, *place)?)?;
+    }
+    Ok(NumberList::from_vec(inputs)?)
 }
 
 // Appends `count` streams of which nothing is known to some streams.
@@ -112,11 +130,16 @@ impl<'p, B: Batches> Batches for Live<'p, B> {
             BatchEnd::End(end) => return Ok(Onward::End(end)),
             BatchEnd::More => {}
         }
-        let did = self.nodes.round(&Looked { net })?;
-        self.rested = !did;
+        let places = self.nodes.round(self.alloc, &Looked { net })?;
+        let none = places.is_empty();
+        self.rested = none;
+        let did = !none;
         if did {
-            let pieces = self.nodes.hand_on(self.alloc)?;
-            return Ok(Onward::Round(pieces));
+            let moved = places.as_slice();
+            let first = self.whole.plan.inputs.len();
+            let inputs = inputs_at(self.alloc, first, moved)?;
+            let pieces = self.nodes.hand_on(self.alloc, moved)?;
+            return Ok(Onward::Round(inputs, pieces));
         }
         match self.end {
             Some(end) => Ok(Onward::End(end)),
@@ -132,7 +155,9 @@ impl<'p, B: Batches> Batches for Live<'p, B> {
         output: &mut K,
         notes: &mut E,
     ) -> Result<Status, AllocError> {
-        let outcomes = self.whole.outcomes(run.alloc, &outcomes, &self.nodes)?;
+        let outcomes = self
+            .whole
+            .outcomes(run.alloc, run.report, &outcomes, &self.nodes)?;
         let whole = Run {
             alloc: run.alloc,
             plan: self.whole.plan,

@@ -13,7 +13,7 @@ ghost use Rattle.mg_drive.specs.Code.LiveRunning.{HasRunLive, HasRunLiveShort, R
 
 use crate::in_plan::InPlan;
 use crate::pieces::Pieces;
-use crate::{Batches, Crew, Live, Telling, run_batches};
+use crate::{Batches, Crew, Live, Telling, run_batches, run_batches_alone};
 use mg_answer::{Devices, OutputSummary, OutputText, Run, Status, note_out_of_memory};
 use mg_calc::NodeCalculator;
 use mg_edge::{Gate, Sink, Source};
@@ -26,7 +26,7 @@ use std::thread::Threads;
 
 /// Runs the graph of a plan with free nodes over packet lines. The net of the graph's core is brought to rest; then each free node takes a
 /// packet or closes its output, and the core goes on with what these laid, until no free node does anything; then comes the next batch of
-/// lines. All else is as in `run_lines`, and the notes have a line for each arrival at a free node.
+/// lines. All else is as in `run_lines`, and the notes have a line for each arrival at a free node where it is asked for.
 pub fn run_live_lines<
     R: Threads + Wait + Sync,
     G: Gate + Sync,
@@ -199,5 +199,142 @@ fn run_live<
         report: run.report,
     };
     let status = run_batches(&run, crew, boxes, live, telling, devices)?;
+    Ok(status)
+}
+
+/// Runs the graph of a plan with free nodes over packet lines without workers, and does all else as `run_live_lines` does. It is handed no
+/// runtime, so it returns.
+pub fn run_live_lines_alone<G: Gate, C: NodeCalculator, S: Source, K: Sink, E: Sink>(
+    run: &Run<'_>,
+    gate: &G,
+    boxes: &mut Vec<C>,
+    devices: &mut Devices<'_, '_, '_, S, K, E>,
+) -> Status
+    requires valid { IsValidWithFree run.now.plan.now }
+    requires boxes { BoxesFit (split_of run.now.plan.now).core (map C.told boxes.old.items) }
+
+    // There is one reading of the input, its batches, the logs to which the free nodes' rounds over these come, and one solution, and all
+    // that is seen of the run is theirs; or memory ran out.
+    ensures ran { RanLive C.laws run.now.report run.now.plan.now result (told_by S.told K.told E.told devices.old devices.new) (device (map C.told boxes.old.items) (map C.told boxes.new.items)) }
+    ensures same { SameDevices devices.old devices.new }
+{
+    match lines_whole_alone(run, gate, boxes, devices) {
+        Ok(status) => status,
+        Err(_) => note_out_of_memory(devices.notes),
+    }
+}
+
+fn lines_whole_alone<G: Gate, C: NodeCalculator, S: Source, K: Sink, E: Sink>(
+    run: &Run<'_>,
+    gate: &G,
+    boxes: &mut Vec<C>,
+    devices: &mut Devices<'_, '_, '_, S, K, E>,
+) -> Result<Status, AllocError>
+    requires valid { IsValidWithFree run.now.plan.now }
+    requires boxes { BoxesFit (split_of run.now.plan.now).core (map C.told boxes.old.items) }
+    ensures ran { IfOk result (λ status. OneLiveReading C.laws run.now.report run.now.plan.now status (told_by S.told K.told E.told devices.old devices.new) (device (map C.told boxes.old.items) (map C.told boxes.new.items))) }
+    ensures short { OnErr result (LiveShortIn C.laws run.now.plan.now (told_by S.told K.told E.told devices.old devices.new).input (told_by S.told K.told E.told devices.old devices.new).output (device (map C.told boxes.old.items) (map C.told boxes.new.items))) }
+    ensures unnoted { OnErr result (E.told devices.new.notes.now ≡ E.told devices.old.notes.now) }
+    ensures same { SameDevices devices.old devices.new }
+{
+    let parts = split(run.alloc, run.plan)?;
+    let feed = Feed::new(run.alloc, run.plan)?;
+    let text = OutputText::new(run.alloc, &parts.core)?;
+    let status = run_live_alone(run, gate, boxes, parts, (feed, text), devices)?;
+    Ok(status)
+}
+
+/// Runs the graph of a plan with free nodes over `number` packets that are made without workers, and does all else as `run_live_made`
+/// does. It is handed no runtime, so it returns.
+pub fn run_live_made_alone<G: Gate, C: NodeCalculator, S: Source, K: Sink, E: Sink>(
+    run: &Run<'_>,
+    number: u32,
+    gate: &G,
+    boxes: &mut Vec<C>,
+    devices: &mut Devices<'_, '_, '_, S, K, E>,
+) -> Status
+    requires valid { IsValidWithFree run.now.plan.now }
+    requires boxes { BoxesFit (split_of run.now.plan.now).core (map C.told boxes.old.items) }
+
+    // There is one job, the logs to which its rounds come, and one solution, and all that is seen of the run is theirs; or memory ran out.
+    // The input has no part in it.
+    ensures ran { RanLiveMade C.laws run.now.report run.now.plan.now number result (told_by S.told K.told E.told devices.old devices.new).output (told_by S.told K.told E.told devices.old devices.new).notes (device (map C.told boxes.old.items) (map C.told boxes.new.items)) }
+    ensures unread { S.told devices.new.input.now ≡ S.told devices.old.input.now }
+    ensures same { SameDevices devices.old devices.new }
+{
+    match made_whole_alone(run, number, gate, boxes, devices) {
+        Ok(status) => status,
+        Err(_) => note_out_of_memory(devices.notes),
+    }
+}
+
+fn made_whole_alone<G: Gate, C: NodeCalculator, S: Source, K: Sink, E: Sink>(
+    run: &Run<'_>,
+    number: u32,
+    gate: &G,
+    boxes: &mut Vec<C>,
+    devices: &mut Devices<'_, '_, '_, S, K, E>,
+) -> Result<Status, AllocError>
+    requires valid { IsValidWithFree run.now.plan.now }
+    requires boxes { BoxesFit (split_of run.now.plan.now).core (map C.told boxes.old.items) }
+    ensures ran { IfOk result (λ status. OneLiveMade C.laws run.now.report run.now.plan.now number status (told_by S.told K.told E.told devices.old devices.new).output (told_by S.told K.told E.told devices.old devices.new).notes (device (map C.told boxes.old.items) (map C.told boxes.new.items))) }
+    ensures short { OnErr result (LiveShortInMade C.laws run.now.plan.now number (told_by S.told K.told E.told devices.old devices.new).output (device (map C.told boxes.old.items) (map C.told boxes.new.items))) }
+    ensures unnoted { OnErr result (E.told devices.new.notes.now ≡ E.told devices.old.notes.now) }
+    ensures unread { S.told devices.new.input.now ≡ S.told devices.old.input.now }
+    ensures same { SameDevices devices.old devices.new }
+{
+    let parts = split(run.alloc, run.plan)?;
+    let pieces = Pieces::at_once(run.alloc, run.plan, number)?;
+    let summary = OutputSummary::new(run.alloc, &parts.core)?;
+    let status = run_live_alone(run, gate, boxes, parts, (pieces, summary), devices)?;
+    Ok(status)
+}
+
+fn run_live_alone<G: Gate, C: NodeCalculator, B: Batches, T: Telling, S: Source, K: Sink, E: Sink>(
+    run: &Run<'_>,
+    gate: &G,
+    boxes: &mut Vec<C>,
+    parts: FreePlan,
+    ends: (B, T),
+    devices: &mut Devices<'_, '_, '_, S, K, E>,
+) -> Result<Status, AllocError>
+    requires valid { IsValidWithFree run.now.plan.now }
+    requires boxes { BoxesFit (split_of run.now.plan.now).core (map C.told boxes.old.items) }
+    requires parts { parts ≡ split_of run.now.plan.now }
+    requires fresh { B.is_fresh ends.0 run.now.plan.now }
+    requires due { (batches : B) (plan : Plan) (inputs : Given) → B.is_due batches plan inputs }
+    requires nothing { (sink : SinkTold) → T.has_told ends.1 (split_of run.now.plan.now).core sink sink [] }
+    ensures ran { IfOk result (λ status. HasRunLive C.laws (B.gives C.laws) (B.came C.laws) T.form run.now.report ends.0 run.now.plan.now status (told_by S.told K.told E.told devices.old devices.new) (device (map C.told boxes.old.items) (map C.told boxes.new.items))) }
+    ensures short { OnErr result (HasRunLiveShort C.laws (B.gives C.laws) (B.came C.laws) (ReadsWhere B.is_fresh B.is_due B.reads_on) T.has_told T.form ends.0 run.now.plan.now (told_by S.told K.told E.told devices.old devices.new) (device (map C.told boxes.old.items) (map C.told boxes.new.items))) }
+    ensures unnoted { OnErr result (E.told devices.new.notes.now ≡ E.told devices.old.notes.now) }
+    ensures unread { B.reads ≡ false → S.told devices.new.input.now ≡ S.told devices.old.input.now }
+    ensures same { SameDevices devices.old devices.new }
+{
+    let FreePlan {
+        core,
+        numbers,
+        streams,
+        free,
+    } = parts;
+    let (batches, telling) = ends;
+    let nodes = LiveNodes::new(run.alloc, free)?;
+    let live = Live {
+        batches,
+        nodes,
+        whole: InPlan {
+            plan: run.plan,
+            nodes: &numbers,
+            streams: &streams,
+        },
+        alloc: run.alloc,
+        end: None,
+        rested: false,
+    };
+    let run = Run {
+        alloc: run.alloc,
+        plan: &core,
+        report: run.report,
+    };
+    let status = run_batches_alone(&run, gate, boxes, live, telling, devices)?;
     Ok(status)
 }

@@ -11,7 +11,7 @@ ghost use Rattle.mg_feed.specs.GeneratorSeen.{making};
 ghost use Rattle.mg_drive.specs.Code.InPieces.{AreToCome};
 
 use crate::pieces::Pieces;
-use crate::{Crew, run_batches};
+use crate::{Crew, run_batches, run_batches_alone};
 use mg_answer::{Devices, OutputSummary, Run, Status, note_out_of_memory};
 use mg_calc::NodeCalculator;
 use mg_edge::{Gate, Sink, Source};
@@ -79,6 +79,49 @@ fn run_whole<
 {
     let ends = ends_of(run, number)?;
     let status = run_batches(run, crew, boxes, ends.0, ends.1, devices)?;
+    Ok(status)
+}
+
+/// Runs the graph of a plan over `number` packets that are made without workers, and does all else as `run_made` does. It is handed no
+/// runtime, so it returns.
+pub fn run_made_alone<G: Gate, C: NodeCalculator, S: Source, K: Sink, E: Sink>(
+    run: &Run<'_>,
+    number: u32,
+    gate: &G,
+    boxes: &mut Vec<C>,
+    devices: &mut Devices<'_, '_, '_, S, K, E>,
+) -> Status
+    requires valid { IsValid run.now.plan.now }
+    requires boxes { BoxesFit run.now.plan.now (map C.told boxes.old.items) }
+
+    // There is one job and one solution, and all that is seen of the run is theirs; or memory ran out. The input has no part in it.
+    ensures ran { RanOverPackets C.laws run.now.report run.now.plan.now number result (told_by S.told K.told E.told devices.old devices.new).output (told_by S.told K.told E.told devices.old devices.new).notes (device (map C.told boxes.old.items) (map C.told boxes.new.items)) }
+    ensures unread { S.told devices.new.input.now ≡ S.told devices.old.input.now }
+    ensures same { SameDevices devices.old devices.new }
+{
+    match run_whole_alone(run, number, gate, boxes, devices) {
+        Ok(status) => status,
+        Err(_) => note_out_of_memory(devices.notes),
+    }
+}
+
+fn run_whole_alone<G: Gate, C: NodeCalculator, S: Source, K: Sink, E: Sink>(
+    run: &Run<'_>,
+    number: u32,
+    gate: &G,
+    boxes: &mut Vec<C>,
+    devices: &mut Devices<'_, '_, '_, S, K, E>,
+) -> Result<Status, AllocError>
+    requires valid { IsValid run.now.plan.now }
+    requires boxes { BoxesFit run.now.plan.now (map C.told boxes.old.items) }
+    ensures ran { IfOk result (λ status. OneMade C.laws run.now.report run.now.plan.now number status (told_by S.told K.told E.told devices.old devices.new).output (told_by S.told K.told E.told devices.old devices.new).notes (device (map C.told boxes.old.items) (map C.told boxes.new.items))) }
+    ensures short { OnErr result (ShortInMade C.laws run.now.plan.now number (told_by S.told K.told E.told devices.old devices.new).output (device (map C.told boxes.old.items) (map C.told boxes.new.items))) }
+    ensures unnoted { OnErr result (E.told devices.new.notes.now ≡ E.told devices.old.notes.now) }
+    ensures unread { S.told devices.new.input.now ≡ S.told devices.old.input.now }
+    ensures same { SameDevices devices.old devices.new }
+{
+    let ends = ends_of(run, number)?;
+    let status = run_batches_alone(run, gate, boxes, ends.0, ends.1, devices)?;
     Ok(status)
 }
 

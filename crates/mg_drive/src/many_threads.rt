@@ -1,10 +1,5 @@
-ghost use Rattle.std.specs.Prelude.{◌≡◌, OnOk};
-ghost use Rattle.mg_node.specs.Job.{LoggedJob};
-ghost use Rattle.mg_sched.specs.StandsFor.{StandsFor, StandsForSome, IsRunning};
-ghost use Rattle.mg_sched.specs.AtRest.{IsAtRest};
-ghost use Rattle.mg_sched.specs.Taking.{taken_out};
+ghost use Rattle.mg_sched.specs.StandsFor.{StandsForSome, IsRunning};
 ghost use Rattle.mg_workers.specs.Became.{Became};
-ghost use Rattle.mg_drive.specs.Nets.{Keeps, GaveNothingUp};
 
 use crate::crew::packets_in;
 use crate::nothing::net_of_nothing;
@@ -15,13 +10,13 @@ use mg_edge::Gate;
 use mg_sched::Report;
 use mg_settled::{InputSet, PrefixList};
 use mg_time::Timestamp;
-use mg_value::Packet;
+use mg_value::{NumberList, Packet};
 use std::alloc::{AllocError, Global};
 use std::mem;
 use std::sync::Wait;
 use std::thread::Threads;
 
-/// A net that workers run side by side. The thread that drives it does what they leave undone.
+/// A net that workers run side by side, where `work` lets them. The thread that drives it does what they leave undone.
 pub struct ManyThreads<'a, C: NodeCalculator, R, G: Gate> {
     pub one: OneThread<'a, C, G>,
     pub rt: &'a R,
@@ -42,8 +37,9 @@ impl<'a, C: NodeCalculator + Send, R: Threads + Wait + Sync, G: Gate + Sync> Man
     R,
     G,
 > {
-    // Lets workers run the net, where enough packets have come or `fresh` is set. Meanwhile a net of no node stands in its place.
-    fn work(&mut self)
+    /// Lets workers run the net, where enough packets have come or `fresh` is set. Meanwhile a net of no node stands in its place. Nothing
+    /// else that drives a net is handed its runtime.
+    pub fn work(&mut self)
         requires running { IsRunning self.old.one.net }
         requires stands { StandsForSome C.laws self.old.one.net }
         ensures running { IsRunning self.new.one.net }
@@ -60,23 +56,6 @@ impl<'a, C: NodeCalculator + Send, R: Threads + Wait + Sync, G: Gate + Sync> Man
         let (net, _) = run_workers(self.rt, self.alloc, net, self.workers, self.one.gate);
         self.one.net = net;
     }
-
-    /// Lets the workers run the net, and then sweeps it until no node can go further. It takes no set of the outputs.
-    pub fn to_rest(&mut self) -> Result<(), AllocError>
-        requires running { IsRunning self.old.one.net }
-        requires stands { StandsForSome C.laws self.old.one.net }
-        ensures rest { OnOk result (IsAtRest C.laws self.new.one.net) }
-        ensures running { IsRunning self.new.one.net }
-        ensures keeps { Keeps self.old.one.net self.new.one.net }
-        ensures whole { GaveNothingUp self.old.one.net self.new.one.net }
-        ensures taken { taken_out self.new.one.net ≡ taken_out self.old.one.net }
-        ensures stands { (job : LoggedJob C.laws) → StandsFor job self.old.one.net → StandsFor job self.new.one.net }
-    {
-        self.work();
-        self.one.to_rest()?;
-        self.came = 0;
-        Ok(())
-    }
 }
 
 impl<'a, C: NodeCalculator, R, G: Gate> Driven for ManyThreads<'a, C, R, G> {
@@ -89,14 +68,20 @@ impl<'a, C: NodeCalculator, R, G: Gate> Driven for ManyThreads<'a, C, R, G> {
         Ok(())
     }
 
+    fn to_rest(&mut self) -> Result<(), AllocError> {
+        self.one.to_rest()?;
+        self.came = 0;
+        Ok(())
+    }
+
     fn extend(&mut self, more: &Inputs) -> Result<(), AllocError> {
         self.one.extend(more)?;
         self.came = self.one.net.held();
         Ok(())
     }
 
-    fn extend_last(&mut self, pieces: &PrefixList) -> Result<(), AllocError> {
-        self.one.extend_last(pieces)?;
+    fn extend_some(&mut self, inputs: &NumberList, pieces: &PrefixList) -> Result<(), AllocError> {
+        self.one.extend_some(inputs, pieces)?;
         self.came = self.came.saturating_add(packets_in(pieces));
         Ok(())
     }

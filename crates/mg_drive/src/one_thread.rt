@@ -1,40 +1,16 @@
-ghost use Rattle.std.specs.Prelude.{◌≡◌, OnOk};
-ghost use Rattle.mg_node.specs.Job.{LoggedJob};
-ghost use Rattle.mg_sched.specs.StandsFor.{StandsFor, StandsForSome, IsRunning};
-ghost use Rattle.mg_sched.specs.AtRest.{IsAtRest};
-ghost use Rattle.mg_sched.specs.Taking.{taken_out};
-ghost use Rattle.mg_drive.specs.Nets.{Keeps, GaveNothingUp};
-
 use crate::Driven;
 use mg_calc::{Inputs, NodeCalculator};
 use mg_edge::Gate;
 use mg_sched::{Deaf, Net, Report};
 use mg_settled::{InputSet, PrefixList};
 use mg_time::Timestamp;
-use mg_value::Packet;
+use mg_value::{NumberList, Packet};
 use std::alloc::{AllocError, Global};
 
 /// A net whose nodes run on the one thread that drives it, each Process call through a gate.
 pub struct OneThread<'a, C: NodeCalculator, G: Gate> {
     pub net: Net<C>,
     pub gate: &'a G,
-}
-
-impl<'a, C: NodeCalculator, G: Gate> OneThread<'a, C, G> {
-    /// Sweeps the net until no node can go further. It takes no set of the outputs.
-    pub fn to_rest(&mut self) -> Result<(), AllocError>
-        requires running { IsRunning self.old.net }
-        requires stands { StandsForSome C.laws self.old.net }
-        ensures rest { OnOk result (IsAtRest C.laws self.new.net) }
-        ensures running { IsRunning self.new.net }
-        ensures keeps { Keeps self.old.net self.new.net }
-        ensures whole { GaveNothingUp self.old.net self.new.net }
-        ensures taken { taken_out self.new.net ≡ taken_out self.old.net }
-        ensures stands { (job : LoggedJob C.laws) → StandsFor job self.old.net → StandsFor job self.new.net }
-    {
-        self.net.sweep(self.gate, &mut Deaf)?;
-        Ok(())
-    }
 }
 
 impl<'a, C: NodeCalculator, G: Gate> Driven for OneThread<'a, C, G> {
@@ -47,13 +23,18 @@ impl<'a, C: NodeCalculator, G: Gate> Driven for OneThread<'a, C, G> {
         Ok(())
     }
 
+    fn to_rest(&mut self) -> Result<(), AllocError> {
+        self.net.sweep(self.gate, &mut Deaf)?;
+        Ok(())
+    }
+
     fn extend(&mut self, more: &Inputs) -> Result<(), AllocError> {
         self.net.extend(more)?;
         Ok(())
     }
 
-    fn extend_last(&mut self, pieces: &PrefixList) -> Result<(), AllocError> {
-        self.net.extend_last(pieces)?;
+    fn extend_some(&mut self, inputs: &NumberList, pieces: &PrefixList) -> Result<(), AllocError> {
+        self.net.extend_some(inputs.as_slice(), pieces)?;
         Ok(())
     }
 

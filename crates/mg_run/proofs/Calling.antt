@@ -1,5 +1,5 @@
 -- What a call came to.
-use Rattle.std.proofs.Common.{◌≡◌, ◌≢◌, ℕ, List, [], All, Bool, Option, None, Some, IfSome, ◌⊎◌, inl, inr, refl, sym, ap, ◌∙◌, subst, arith}
+use Rattle.std.proofs.Common.{◌≡◌, ◌≢◌, ℕ, List, [], All, Option, None, Some, IfSome, ◌⊎◌, inl, inr, refl, sym, ap, ◌∙◌, subst, arith}
 use Rattle.mg_edge.specs.Edge.{SourceTold, SinkTold, StoreTold, Rose, one_more}
 use Rattle.mg_calc.specs.Rules.{Laws}
 use Rattle.mg_calc.specs.Told.{BoxTold}
@@ -27,6 +27,7 @@ use Rattle.mg_answer.specs.Wrote.{Meets}
 use Rattle.mg_run.specs.Call.{Written, WasShown, DidAction, IsActionOf, CallDid, CallShort, Called, MetAnswer, IsAnswered}
 use Rattle.mg_answer.specs.declared.status.Status.{Status}
 use Rattle.mg_answer.specs.declared.status.Status.TheVariants.{Good, StoreFault, Usage, GraphRefused, LineRefused, NodeFault, Stalled, ReadFault, WriteFault, OutOfMemory}
+use Rattle.mg_answer.specs.declared.run.Reporting.{Reporting}
 
 -- a call that fails, after others that don't
 rose-after : (a b c : ℕ) → b ≡ a → c ≡ one_more b → Rose a c
@@ -55,11 +56,11 @@ not-shown text status all not_good not_failed shown = by shown.written
     by (inl good) = not_good good.0
     by (inr failed) = not_failed failed.0
 
-not-ran : (laws : Laws) (report : Bool) (plan : Plan) (status : Status) (all : running_devices.RunDevices) → (status ≡ StoreFault) ⊎ (status ≡ Usage) → running.RanAll laws report plan status all → ⊥
+not-ran : (laws : Laws) (report : Reporting) (plan : Plan) (status : Status) (all : running_devices.RunDevices) → (status ≡ StoreFault) ⊎ (status ≡ Usage) → running.RanAll laws report plan status all → ⊥
 not-ran laws report plan status all other ran =
     no-status status ran.read.end (faults (answers.job_of laws plan ran.read) ran.is.streams) (stalled ran.is.streams) other (ran.met.told ∙ ap (λ (a : RunAnswer). a.status) ran.is.is)
 
-not-traced : (laws : Laws) (report : Bool) (plan : Plan) (boxes : List BoxTold) (status : Status) (all : running_devices.RunDevices) → (status ≡ StoreFault) ⊎ (status ≡ Usage) → TracedAll laws report plan boxes status all → ⊥
+not-traced : (laws : Laws) (report : Reporting) (plan : Plan) (boxes : List BoxTold) (status : Status) (all : running_devices.RunDevices) → (status ≡ StoreFault) ⊎ (status ≡ Usage) → TracedAll laws report plan boxes status all → ⊥
 not-traced laws report plan boxes status all other ran =
     let told = traced_told report plan boxes status all ran in
     no-status status ran.read.end told.0 told.1 other told.2

@@ -14,7 +14,7 @@ use Rattle.mg_calc.specs.declared.shape.OuterShape.{OuterShape}
 use Rattle.mg_calc.specs.Told.{BoxTold}
 use Rattle.mg_run.specs.Invocation.{Invocation, invocation}
 use Rattle.mg_files.specs.Files.{Files, graphs, no_graphs}
-use Rattle.mg_run.specs.Answer.{Action, refuse, show, run_plan, run_live, solve, generate, generate_live, trace, replay, check_action, solve_action, first_stated, way_action, live_action, verb_action, expanded_action, files_action}
+use Rattle.mg_run.specs.Answer.{reporting, Action, refuse, show, run_plan, run_live, solve, generate, generate_live, trace, replay, check_action, solve_action, first_stated, way_action, live_action, verb_action, expanded_action, files_action}
 use Rattle.mg_words.specs.Words.{Request, asks_usage, asks_text, asks_command, command_by}
 use Rattle.mg_run.specs.Devices.{Device, device, CallDevices, devices, run_devices_of, Untouched, InputHasEnded, HasRisen, NoneFailed, TookNotes}
 use Rattle.mg_answer.specs.Notes.{memory_note}
@@ -29,6 +29,7 @@ use Rattle.mg_words.specs.declared.words.Way.{Way}
 use Rattle.mg_words.specs.declared.words.Way.TheVariants.{Run, Solve, Generate, Trace, Replay}
 use Rattle.mg_answer.specs.declared.status.Status.{Status}
 use Rattle.mg_answer.specs.declared.status.Status.TheVariants.{Good, StoreFault, Usage, GraphRefused, LineRefused, NodeFault, Stalled, ReadFault, WriteFault, OutOfMemory}
+use Rattle.mg_answer.specs.declared.run.Reporting.{Reporting}
 use Rattle.mg_feed.specs.Sent.{Sent}
 use Rattle.mg_run.proofs.Readings.{lines-boxes, packets-boxes}
 use Rattle.mg_run.proofs.LiveReadings.{live-boxes, live-made-boxes}
@@ -234,13 +235,13 @@ check-no-run : (checked : Result Plan CheckFault) → IsRun (check_action checke
 check-no-run (Ok plan) runs = runs
 check-no-run (Err fault) runs = runs
 
-solve-no-run : (first : Option ℕ) (report : Bool) (plan : Plan) → IsRun (solve_action first report plan) → ⊥
+solve-no-run : (first : Option ℕ) (report : Reporting) (plan : Plan) → IsRun (solve_action first report plan) → ⊥
 solve-no-run None report plan runs = runs
 solve-no-run (Some first) report plan runs = runs
 
 way-no-run : (way : Way) (instruction : Instruction) (plan : Plan) → calls_boxes (Use way) ≡ false → IsRun (way_action way instruction plan) → ⊥
 way-no-run Run instruction plan is runs = false≢true (sym is)
-way-no-run Solve instruction plan is runs = solve-no-run (first_stated plan) instruction.report plan runs
+way-no-run Solve instruction plan is runs = solve-no-run (first_stated plan) (reporting instruction) plan runs
 way-no-run Generate instruction plan is runs = false≢true (sym is)
 way-no-run Trace instruction plan is runs = false≢true (sym is)
 way-no-run Replay instruction plan is runs = false≢true (sym is)

@@ -1,5 +1,5 @@
 -- Who reads the input, and that it met its end.
-use Rattle.std.proofs.Common.{◌≡◌, ℕ, List, [], ◌∷◌, Bool, true, false, Option, None, Some, Result, Ok, Err, ◌⊎◌, inl, inr, refl, sym, subst, arith}
+use Rattle.std.proofs.Common.{◌≡◌, ℕ, List, [], ◌∷◌, true, false, Option, None, Some, Result, Ok, Err, ◌⊎◌, inl, inr, refl, sym, subst, arith}
 use Rattle.std.proofs.lemmas.Bool.{false≢true}
 use Rattle.mg_edge.specs.Edge.{SourceTold}
 use Rattle.mg_feed.specs.Ran.{EndCame}
@@ -19,7 +19,7 @@ use Rattle.mg_replay.proofs.Answered.{replayed_ended}
 use Rattle.mg_words.specs.Command.{reads_input}
 use Rattle.mg_run.specs.Invocation.{Invocation}
 use Rattle.mg_files.specs.Files.{Files, graphs, no_graphs}
-use Rattle.mg_run.specs.Answer.{Action, refuse, show, run_plan, run_live, solve, generate, generate_live, trace, replay, check_action, solve_action, first_stated, way_action, live_action, verb_action, expanded_action, files_action}
+use Rattle.mg_run.specs.Answer.{reporting, Action, refuse, show, run_plan, run_live, solve, generate, generate_live, trace, replay, check_action, solve_action, first_stated, way_action, live_action, verb_action, expanded_action, files_action}
 use Rattle.mg_run.specs.Devices.{Device, CallDevices, run_devices_of, Untouched, InputHasEnded}
 use Rattle.mg_run.specs.Call.{DidAction, IsActionOf, DidNothing, CallDid, Called, IsOneOf}
 use Rattle.mg_run.proofs.Planned.{planned}
@@ -30,6 +30,7 @@ use Rattle.mg_words.specs.declared.words.Way.{Way}
 use Rattle.mg_words.specs.declared.words.Way.TheVariants.{Run, Solve, Generate, Trace, Replay}
 use Rattle.mg_answer.specs.declared.status.Status.{Status}
 use Rattle.mg_answer.specs.declared.status.Status.TheVariants.{Good, StoreFault, Usage, GraphRefused, LineRefused, NodeFault, Stalled, ReadFault, WriteFault, OutOfMemory}
+use Rattle.mg_answer.specs.declared.run.Reporting.{Reporting}
 
 -- the input may be read where this action is done
 abbrev MayRead : Action → Type 0
@@ -122,13 +123,13 @@ NeedsNone (generate_live report number plan) = Unit {0}
 NeedsNone (trace report plan) = ⊥
 NeedsNone (replay report plan) = ⊥
 
-solve-reads : (first : Option ℕ) (report : Bool) (plan : Plan) → NeedsNone (solve_action first report plan) → ⊥
+solve-reads : (first : Option ℕ) (report : Reporting) (plan : Plan) → NeedsNone (solve_action first report plan) → ⊥
 solve-reads None report plan none = none
 solve-reads (Some first) report plan none = none
 
 way-reads : (way : Way) (instruction : Instruction) (plan : Plan) → reads_input (Use way) ≡ true → NeedsNone (way_action way instruction plan) → ⊥
 way-reads Run instruction plan is none = none
-way-reads Solve instruction plan is none = solve-reads (first_stated plan) instruction.report plan none
+way-reads Solve instruction plan is none = solve-reads (first_stated plan) (reporting instruction) plan none
 way-reads Generate instruction plan is none = false≢true is
 way-reads Trace instruction plan is none = none
 way-reads Replay instruction plan is none = none

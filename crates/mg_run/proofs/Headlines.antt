@@ -31,7 +31,7 @@ use Rattle.mg_files.specs.CheckNotes.{check_note}
 use Rattle.mg_files.specs.Files.{Files, graphs, no_graphs, AreGraphs, AreFiles}
 use Rattle.mg_files.specs.Loads.{LoadedAll, loads_of}
 use Rattle.mg_run.specs.Devices.{Device, CallDevices, run_devices_of, Untouched, Unrisen}
-use Rattle.mg_run.specs.Answer.{Action, refuse, run_plan, run_live, generate, generate_live, with_limit, with_workers, as_asked, way_action, live_action, used_action, plan_action, verb_action, expanded_action, action_of}
+use Rattle.mg_run.specs.Answer.{reporting, Action, refuse, run_plan, run_live, generate, generate_live, with_limit, with_workers, as_asked, way_action, live_action, used_action, plan_action, verb_action, expanded_action, action_of}
 use Rattle.mg_run.specs.Call.{GeneratedGraph, GeneratedLive, DidAction, IsActionOf, CallDid, Called, CallEnded, IsOneOf}
 use Rattle.mg_run.specs.Headline.{RunsGraph, ran_statuses, IsGraph, Origin, from_input, from_number, IsOrigin, job_from, end_from, telling_from, bare, Headline, IsLiveGraph, form_from, LiveHeadline, RanGraph}
 use Rattle.mg_words.specs.declared.words.Instruction.{Instruction}
@@ -128,21 +128,21 @@ request_is instruction (Some limit) None plan = refl
 request_is instruction (Some limit) (Some workers) plan = refl
 
 bare_run : (laws : Laws) (instruction : Instruction) (plan : Plan) (from : Origin) (status : Status) (output notes : Device SinkTold) (boxes : Device (List BoxTold))
-    → OneRun (telling_from instruction.report from) (job_from laws (as_asked instruction plan) from) (end_from from) status output notes boxes
-    → OneRun (telling_from instruction.report from) (job_from laws (bare plan) from) (end_from from) status output notes boxes
+    → OneRun (telling_from (reporting instruction) from) (job_from laws (as_asked instruction plan) from) (end_from from) status output notes boxes
+    → OneRun (telling_from (reporting instruction) from) (job_from laws (bare plan) from) (end_from from) status output notes boxes
 bare_run laws instruction plan from status output notes boxes run =
-    by from (subst (λ (p : Plan). OneRun (telling_from instruction.report from) (job_from laws p from) (end_from from) status output notes boxes) (request_is instruction instruction.limit instruction.workers plan) run)
+    by from (subst (λ (p : Plan). OneRun (telling_from (reporting instruction) from) (job_from laws p from) (end_from from) status output notes boxes) (request_is instruction instruction.limit instruction.workers plan) run)
   where
-    by : (from : Origin) → OneRun (telling_from instruction.report from) (job_from laws (limited_plan (bare plan) (as_asked instruction plan).limit (as_asked instruction plan).workers) from) (end_from from) status output notes boxes
-        → OneRun (telling_from instruction.report from) (job_from laws (bare plan) from) (end_from from) status output notes boxes
-    by (from_input read) run = unlimited_run (by_lines instruction.report) (answers.job_of laws (bare plan) read) (as_asked instruction plan).limit (as_asked instruction plan).workers read.end status output notes boxes run
-    by (from_number number) run = unlimited_run (by_summary instruction.report) (generated_job laws (bare plan) number) (as_asked instruction plan).limit (as_asked instruction plan).workers Ended status output notes boxes run
+    by : (from : Origin) → OneRun (telling_from (reporting instruction) from) (job_from laws (limited_plan (bare plan) (as_asked instruction plan).limit (as_asked instruction plan).workers) from) (end_from from) status output notes boxes
+        → OneRun (telling_from (reporting instruction) from) (job_from laws (bare plan) from) (end_from from) status output notes boxes
+    by (from_input read) run = unlimited_run (by_lines (reporting instruction)) (answers.job_of laws (bare plan) read) (as_asked instruction plan).limit (as_asked instruction plan).workers read.end status output notes boxes run
+    by (from_number number) run = unlimited_run (by_summary (reporting instruction)) (generated_job laws (bare plan) number) (as_asked instruction plan).limit (as_asked instruction plan).workers Ended status output notes boxes run
 
 bare_live : (laws : Laws) (instruction : Instruction) (plan : Plan) (from : Origin) (first : Inputs) (later : List Inputs) (status : Status) (output notes : Device SinkTold) (boxes : Device (List BoxTold))
-    → OneLive laws (form_from from) instruction.report (as_asked instruction plan) first later (end_from from) status output notes boxes → OneLive laws (form_from from) instruction.report (bare plan) first later (end_from from) status output notes boxes
+    → OneLive laws (form_from from) (reporting instruction) (as_asked instruction plan) first later (end_from from) status output notes boxes → OneLive laws (form_from from) (reporting instruction) (bare plan) first later (end_from from) status output notes boxes
 bare_live laws instruction plan from first later status output notes boxes run =
-    unlimited_live laws (form_from from) instruction.report (bare plan) (as_asked instruction plan).limit (as_asked instruction plan).workers first later (end_from from) status output notes boxes
-    (subst (λ (p : Plan). OneLive laws (form_from from) instruction.report p first later (end_from from) status output notes boxes) (request_is instruction instruction.limit instruction.workers plan) run)
+    unlimited_live laws (form_from from) (reporting instruction) (bare plan) (as_asked instruction plan).limit (as_asked instruction plan).workers first later (end_from from) status output notes boxes
+    (subst (λ (p : Plan). OneLive laws (form_from from) (reporting instruction) p first later (end_from from) status output notes boxes) (request_is instruction instruction.limit instruction.workers plan) run)
 
 bare_batches : (instruction : Instruction) (plan : Plan) (read : Read) (batches : List Inputs) → AreBatchesOf (as_asked instruction plan) read batches → AreBatchesOf (bare plan) read batches
 bare_batches instruction plan read batches are =
@@ -159,7 +159,7 @@ made_asked laws (Some limit) (Some workers) plan number = refl
 
 -- a graph was found, and its run came from this
 headline : (laws : Laws) (invocation : Invocation) (contents : List (List ℕ)) (plan : Plan) (status : Status) (all : CallDevices) (from : Origin) → LoadedAll invocation.files contents all.store → IsGraph invocation contents plan → IsOrigin invocation.instruction plan all.input from
-    → OneRun (telling_from invocation.instruction.report from) (job_from laws (as_asked invocation.instruction plan) from) (end_from from) status all.output all.notes all.boxes → Headline laws invocation status all
+    → OneRun (telling_from (reporting invocation.instruction) from) (job_from laws (as_asked invocation.instruction plan) from) (end_from from) status all.output all.notes all.boxes → Headline laws invocation status all
 headline laws invocation contents plan status all from loaded graph origin run = record {
   contents = contents;
   loaded = loaded;
@@ -178,18 +178,18 @@ came_asked (Some limit) None plan input read came = came
 came_asked (Some limit) (Some workers) plan input read came = came
 
 lines_headline : (laws : Laws) (invocation : Invocation) (contents : List (List ℕ)) (plan : Plan) (status : Status) (all : CallDevices) → invocation.instruction.verb ≡ Use Run → status ≢ OutOfMemory → LoadedAll invocation.files contents all.store → IsGraph invocation contents plan
-    → RanOverLines laws invocation.instruction.report (as_asked invocation.instruction plan) status (run_devices_of all) all.boxes → Headline laws invocation status all
+    → RanOverLines laws (reporting invocation.instruction) (as_asked invocation.instruction plan) status (run_devices_of all) all.boxes → Headline laws invocation status all
 lines_headline laws invocation contents plan status all verb some loaded graph (inl one) =
     headline laws invocation contents plan status all (from_input one.read) loaded graph (verb, came_asked invocation.instruction.limit invocation.instruction.workers plan all.input one.read one.came) one.run
 lines_headline laws invocation contents plan status all verb some loaded graph (inr short) = absurd (some short.is)
 
 packets_headline : (laws : Laws) (invocation : Invocation) (contents : List (List ℕ)) (plan : Plan) (status : Status) (all : CallDevices) → invocation.instruction.verb ≡ Use Generate → status ≢ OutOfMemory → LoadedAll invocation.files contents all.store → IsGraph invocation contents plan
-    → Untouched all.input → RanOverPackets laws invocation.instruction.report (as_asked invocation.instruction plan) invocation.instruction.number status all.output all.notes all.boxes → Headline laws invocation status all
+    → Untouched all.input → RanOverPackets laws (reporting invocation.instruction) (as_asked invocation.instruction plan) invocation.instruction.number status all.output all.notes all.boxes → Headline laws invocation status all
 packets_headline laws invocation contents plan status all verb some loaded graph unread (inl one) = headline laws invocation contents plan status all (from_number invocation.instruction.number) loaded graph (verb, refl, unread) one
 packets_headline laws invocation contents plan status all verb some loaded graph unread (inr short) = absurd (some short.is)
 
 live_lines_headline : (laws : Laws) (invocation : Invocation) (contents : List (List ℕ)) (plan : Plan) (status : Status) (all : CallDevices) → invocation.instruction.verb ≡ Use Run → status ≢ OutOfMemory → LoadedAll invocation.files contents all.store → IsLiveGraph invocation contents plan
-    → RanLive laws invocation.instruction.report (as_asked invocation.instruction plan) status (run_devices_of all) all.boxes → LiveHeadline laws invocation status all
+    → RanLive laws (reporting invocation.instruction) (as_asked invocation.instruction plan) status (run_devices_of all) all.boxes → LiveHeadline laws invocation status all
 live_lines_headline laws invocation contents plan status all verb some loaded graph (inl one) = record {
   contents = contents;
   loaded = loaded;
@@ -205,7 +205,7 @@ live_lines_headline laws invocation contents plan status all verb some loaded gr
 live_lines_headline laws invocation contents plan status all verb some loaded graph (inr short) = absurd (some short.is)
 
 live_packets_headline : (laws : Laws) (invocation : Invocation) (contents : List (List ℕ)) (plan : Plan) (status : Status) (all : CallDevices) → invocation.instruction.verb ≡ Use Generate → status ≢ OutOfMemory → LoadedAll invocation.files contents all.store → IsLiveGraph invocation contents plan
-    → Untouched all.input → RanLiveMade laws invocation.instruction.report (as_asked invocation.instruction plan) invocation.instruction.number status all.output all.notes all.boxes → LiveHeadline laws invocation status all
+    → Untouched all.input → RanLiveMade laws (reporting invocation.instruction) (as_asked invocation.instruction plan) invocation.instruction.number status all.output all.notes all.boxes → LiveHeadline laws invocation status all
 live_packets_headline laws invocation contents plan status all verb some loaded graph unread (inl one) = record {
   contents = contents;
   loaded = loaded;
@@ -225,18 +225,18 @@ did_headline : (laws : Laws) (invocation : Invocation) (status : Status) (all : 
     → Due invocation called.contents way called.action → RanGraph laws invocation status all
 did_headline laws invocation status all called way used verb good some (inl refused) = absurd (good (let d : DidAction laws (refuse refused.0) status all = subst (λ (j : Action). DidAction laws j status all) refused.1 called.did in d.ended))
 did_headline laws invocation status all called way (inl is) verb good some (inr (inl found)) =
-    let same : called.action ≡ run_plan invocation.instruction.report (as_asked invocation.instruction found.plan) = found.is ∙ ap (λ (w : Way). way_action w invocation.instruction found.plan) is in
+    let same : called.action ≡ run_plan (reporting invocation.instruction) (as_asked invocation.instruction found.plan) = found.is ∙ ap (λ (w : Way). way_action w invocation.instruction found.plan) is in
     inl (lines_headline laws invocation called.contents found.plan status all (verb ∙ ap Use is) some called.loaded found.graph (subst (λ (j : Action). DidAction laws j status all) same called.did))
 did_headline laws invocation status all called way (inr is) verb good some (inr (inl found)) =
-    let same : called.action ≡ generate invocation.instruction.report invocation.instruction.number (as_asked invocation.instruction found.plan) = found.is ∙ ap (λ (w : Way). way_action w invocation.instruction found.plan) is in
-    let d : GeneratedGraph laws invocation.instruction.report invocation.instruction.number (as_asked invocation.instruction found.plan) status all = subst (λ (j : Action). DidAction laws j status all) same called.did in
+    let same : called.action ≡ generate (reporting invocation.instruction) invocation.instruction.number (as_asked invocation.instruction found.plan) = found.is ∙ ap (λ (w : Way). way_action w invocation.instruction found.plan) is in
+    let d : GeneratedGraph laws (reporting invocation.instruction) invocation.instruction.number (as_asked invocation.instruction found.plan) status all = subst (λ (j : Action). DidAction laws j status all) same called.did in
     inl (packets_headline laws invocation called.contents found.plan status all (verb ∙ ap Use is) some called.loaded found.graph d.unread d.ran)
 did_headline laws invocation status all called way (inl is) verb good some (inr (inr found)) =
-    let same : called.action ≡ run_live invocation.instruction.report (as_asked invocation.instruction found.plan) = found.is ∙ ap (λ (w : Way). live_action w invocation.instruction found.graph.first found.plan) is in
+    let same : called.action ≡ run_live (reporting invocation.instruction) (as_asked invocation.instruction found.plan) = found.is ∙ ap (λ (w : Way). live_action w invocation.instruction found.graph.first found.plan) is in
     inr (live_lines_headline laws invocation called.contents found.plan status all (verb ∙ ap Use is) some called.loaded found.graph (subst (λ (j : Action). DidAction laws j status all) same called.did))
 did_headline laws invocation status all called way (inr is) verb good some (inr (inr found)) =
-    let same : called.action ≡ generate_live invocation.instruction.report invocation.instruction.number (as_asked invocation.instruction found.plan) = found.is ∙ ap (λ (w : Way). live_action w invocation.instruction found.graph.first found.plan) is in
-    let d : GeneratedLive laws invocation.instruction.report invocation.instruction.number (as_asked invocation.instruction found.plan) status all = subst (λ (j : Action). DidAction laws j status all) same called.did in
+    let same : called.action ≡ generate_live (reporting invocation.instruction) invocation.instruction.number (as_asked invocation.instruction found.plan) = found.is ∙ ap (λ (w : Way). live_action w invocation.instruction found.graph.first found.plan) is in
+    let d : GeneratedLive laws (reporting invocation.instruction) invocation.instruction.number (as_asked invocation.instruction found.plan) status all = subst (λ (j : Action). DidAction laws j status all) same called.did in
     inr (live_packets_headline laws invocation called.contents found.plan status all (verb ∙ ap Use is) some called.loaded found.graph d.unread d.ran)
 
 call_headline : (laws : Laws) (status : Status) (invocation : Invocation) (all : CallDevices) → CallDid laws status invocation all → RunsGraph invocation.instruction.verb → status ≢ GraphRefused → status ≢ OutOfMemory → RanGraph laws invocation status all

@@ -17,3 +17,4 @@ pub mod LiveUnlimited
 pub mod AnyLimit
 pub mod Headlines
 pub mod LiveHeadlines
+pub mod Begins

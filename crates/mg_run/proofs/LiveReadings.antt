@@ -1,5 +1,5 @@
 -- What follows of a run of a graph with free nodes as one thing, by its status.
-use Rattle.std.proofs.Common.{◌≡◌, ◌≢◌, ◌⊎◌, inl, inr, ℕ, Bool, List, [], ◌∷◌, ◌++◌, length, Option, None, Some, IfSome, refl, ap, subst}
+use Rattle.std.proofs.Common.{◌≡◌, ◌≢◌, ◌⊎◌, inl, inr, ℕ, List, [], ◌∷◌, ◌++◌, length, Option, None, Some, IfSome, refl, ap, subst}
 use Rattle.mg_edge.specs.Edge.{SourceTold, SinkTold}
 use Rattle.mg_calc.specs.Rules.{Laws}
 use Rattle.mg_calc.specs.declared.inputs.Inputs.{Inputs}
@@ -20,6 +20,7 @@ use Rattle.mg_answer.specs.declared.outcomes.Outcomes.{Outcomes}
 use Rattle.mg_answer.specs.declared.status.Status.{Status}
 use Rattle.mg_answer.specs.declared.status.Status.TheVariants.{Good, StoreFault, Usage, GraphRefused, LineRefused, NodeFault, Stalled, ReadFault, WriteFault, OutOfMemory}
 use Rattle.mg_answer.proofs.Answering.{no-want, end-by, no-one, failed-by, steady-risen, rose-unrisen, whole-read}
+use Rattle.mg_answer.specs.declared.run.Reporting.{Reporting}
 use Rattle.mg_drive.specs.InBatches.{come_after}
 use Rattle.mg_drive.specs.OneLive.{OneLive, OneLiveReading, OneLiveMade, AreBatchesOf, IsLiveAnswer, LiveShortIn, LiveShortInMade, RanLive, RanLiveMade, AnswersLive, AnswersLiveMade}
 use Rattle.mg_drive.proofs.Cuts.{some_cut}
@@ -43,21 +44,21 @@ either_wrote WriteFault answer failed output notes wrote = inr (refl, wrote)
 either_wrote OutOfMemory answer failed output notes wrote = inl wrote
 
 -- of a run of a graph with free nodes
-abbrev Ended_so : Bool → Plan → FeedEnd → Outcomes → List ℕ → Status → Device SinkTold → Device SinkTold → Type 0
+abbrev Ended_so : Reporting → Plan → FeedEnd → Outcomes → List ℕ → Status → Device SinkTold → Device SinkTold → Type 0
 Ended_so report whole end live text status output notes =
     Meets (told_answer report whole end live text) status output notes ⊎ ((status ≡ WriteFault) × MetShort (told_answer report whole end live text) (told_failed report whole end live) output notes)
 
-ended_so : (laws : Laws) (form : OutputForm) (report : Bool) (whole : Plan) (first : Inputs) (later : List Inputs) (end : FeedEnd) (status : Status) (output notes : Device SinkTold) (boxes : Device (List BoxTold))
+ended_so : (laws : Laws) (form : OutputForm) (report : Reporting) (whole : Plan) (first : Inputs) (later : List Inputs) (end : FeedEnd) (status : Status) (output notes : Device SinkTold) (boxes : Device (List BoxTold))
     → (run : OneLive laws form report whole first later end status output notes boxes) → Ended_so report whole end run.comes.live (output_in form (split_of whole).core run.comes.streams) status output notes
 ended_so laws form report whole first later end status output notes boxes run =
     either_wrote status (told_answer report whole end run.comes.live (output_in form (split_of whole).core run.comes.streams)) (told_failed report whole end run.comes.live) output notes run.wrote
 
 -- over an input, and over packets that are made
-read_so : (laws : Laws) (report : Bool) (whole : Plan) (status : Status) (all : RunDevices) (boxes : Device (List BoxTold)) → (one : OneLiveReading laws report whole status all boxes)
+read_so : (laws : Laws) (report : Reporting) (whole : Plan) (status : Status) (all : RunDevices) (boxes : Device (List BoxTold)) → (one : OneLiveReading laws report whole status all boxes)
     → Ended_so report whole one.read.end one.run.comes.live (output_in packet_lines (split_of whole).core one.run.comes.streams) status all.output all.notes
 read_so laws report whole status all boxes one = ended_so laws packet_lines report whole one.first one.later one.read.end status all.output all.notes boxes one.run
 
-made_so : (laws : Laws) (report : Bool) (whole : Plan) (number : ℕ) (status : Status) (output notes : Device SinkTold) (boxes : Device (List BoxTold)) → (one : OneLiveMade laws report whole number status output notes boxes)
+made_so : (laws : Laws) (report : Reporting) (whole : Plan) (number : ℕ) (status : Status) (output notes : Device SinkTold) (boxes : Device (List BoxTold)) → (one : OneLiveMade laws report whole number status output notes boxes)
     → Ended_so report whole Ended one.comes.live (output_in totals (split_of whole).core one.comes.streams) status output notes
 made_so laws report whole number status output notes boxes one = ended_so laws totals report whole (generated_job laws whole number).inputs [] Ended status output notes boxes one
 
@@ -67,7 +68,7 @@ not_failed : (status : Status) → (status ≡ StoreFault) ⊎ (status ≡ Usage
 not_failed status (inl store) is = cc
 not_failed status (inr usage) is = cc
 
-no_other : (report : Bool) (whole : Plan) (end : FeedEnd) (live : Outcomes) (text : List ℕ) (status : Status) (output notes : Device SinkTold) → (status ≡ StoreFault) ⊎ (status ≡ Usage) → Ended_so report whole end live text status output notes → ⊥
+no_other : (report : Reporting) (whole : Plan) (end : FeedEnd) (live : Outcomes) (text : List ℕ) (status : Status) (output notes : Device SinkTold) → (status ≡ StoreFault) ⊎ (status ≡ Usage) → Ended_so report whole end live text status output notes → ⊥
 no_other report whole end live text status output notes other (inl met) = no-status status end live.faults (open_numbers live.ends.items) other met.told
 no_other report whole end live text status output notes other (inr short) = not_failed status other short.0
 
@@ -75,18 +76,18 @@ not_short : (status : Status) → (status ≡ StoreFault) ⊎ (status ≡ Usage)
 not_short status (inl store) is = cc
 not_short status (inr usage) is = cc
 
-pub live-no-other : (laws : Laws) (report : Bool) (whole : Plan) (status : Status) (all : RunDevices) (boxes : Device (List BoxTold)) → (status ≡ StoreFault) ⊎ (status ≡ Usage) → RanLive laws report whole status all boxes → ⊥
+pub live-no-other : (laws : Laws) (report : Reporting) (whole : Plan) (status : Status) (all : RunDevices) (boxes : Device (List BoxTold)) → (status ≡ StoreFault) ⊎ (status ≡ Usage) → RanLive laws report whole status all boxes → ⊥
 live-no-other laws report whole status all boxes other (inl one) =
     no_other report whole one.read.end one.run.comes.live (output_in packet_lines (split_of whole).core one.run.comes.streams) status all.output all.notes other (read_so laws report whole status all boxes one)
 live-no-other laws report whole status all boxes other (inr short) = not_short status other short.is
 
-pub live-made-no-other : (laws : Laws) (report : Bool) (whole : Plan) (number : ℕ) (status : Status) (output notes : Device SinkTold) (boxes : Device (List BoxTold)) → (status ≡ StoreFault) ⊎ (status ≡ Usage) → RanLiveMade laws report whole number status output notes boxes → ⊥
+pub live-made-no-other : (laws : Laws) (report : Reporting) (whole : Plan) (number : ℕ) (status : Status) (output notes : Device SinkTold) (boxes : Device (List BoxTold)) → (status ≡ StoreFault) ⊎ (status ≡ Usage) → RanLiveMade laws report whole number status output notes boxes → ⊥
 live-made-no-other laws report whole number status output notes boxes other (inl one) =
     no_other report whole Ended one.comes.live (output_in totals (split_of whole).core one.comes.streams) status output notes other (made_so laws report whole number status output notes boxes one)
 live-made-no-other laws report whole number status output notes boxes other (inr short) = not_short status other short.is
 
 -- Where memory ran out the notes say so.
-pub live-noted : (laws : Laws) (report : Bool) (whole : Plan) (all : RunDevices) (boxes : Device (List BoxTold)) → RanLive laws report whole OutOfMemory all boxes → TookNotes all.notes memory_note
+pub live-noted : (laws : Laws) (report : Reporting) (whole : Plan) (all : RunDevices) (boxes : Device (List BoxTold)) → RanLive laws report whole OutOfMemory all boxes → TookNotes all.notes memory_note
 live-noted laws report whole all boxes (inr short) = short.noted
 live-noted laws report whole all boxes (inl one) = absurd (by (read_so laws report whole OutOfMemory all boxes one))
   where
@@ -94,7 +95,7 @@ live-noted laws report whole all boxes (inl one) = absurd (by (read_so laws repo
     by (inl met) = no-want whole all.input one.read.end one.run.comes.live.faults (open_numbers one.run.comes.live.ends.items) one.came.came one.read one.came.by met.told
     by (inr short) = let e = short.0 in cc
 
-pub live-made-noted : (laws : Laws) (report : Bool) (whole : Plan) (number : ℕ) (output notes : Device SinkTold) (boxes : Device (List BoxTold)) → RanLiveMade laws report whole number OutOfMemory output notes boxes → TookNotes notes memory_note
+pub live-made-noted : (laws : Laws) (report : Reporting) (whole : Plan) (number : ℕ) (output notes : Device SinkTold) (boxes : Device (List BoxTold)) → RanLiveMade laws report whole number OutOfMemory output notes boxes → TookNotes notes memory_note
 live-made-noted laws report whole number output notes boxes (inr short) = short.noted
 live-made-noted laws report whole number output notes boxes (inl one) = absurd (by (made_so laws report whole number OutOfMemory output notes boxes one))
   where
@@ -112,7 +113,7 @@ short_count laws whole input output boxes (inr (inr short)) =
     let cut = some_cut read.lines in
     (short.short [] (λ ended. refl) (come_after (inputs_of whole) read.end [] cut.0) (record { lines = cut.0; in_batches = cut.1; are = refl })).had.back.count
 
-pub live-boxes : (laws : Laws) (report : Bool) (whole : Plan) (status : Status) (all : RunDevices) (boxes : Device (List BoxTold)) → RanLive laws report whole status all boxes → length boxes.now ≡ length boxes.before
+pub live-boxes : (laws : Laws) (report : Reporting) (whole : Plan) (status : Status) (all : RunDevices) (boxes : Device (List BoxTold)) → RanLive laws report whole status all boxes → length boxes.now ≡ length boxes.before
 live-boxes laws report whole status all boxes (inl one) = one.run.had.back.count
 live-boxes laws report whole status all boxes (inr short) = short_count laws whole all.input all.output boxes short.by
 
@@ -120,7 +121,7 @@ made_count : (laws : Laws) (whole : Plan) (number : ℕ) (output : Device SinkTo
 made_count laws whole number output boxes (inl nothing) = ap length nothing.uncalled
 made_count laws whole number output boxes (inr short) = short.had.back.count
 
-pub live-made-boxes : (laws : Laws) (report : Bool) (whole : Plan) (number : ℕ) (status : Status) (output notes : Device SinkTold) (boxes : Device (List BoxTold)) → RanLiveMade laws report whole number status output notes boxes → length boxes.now ≡ length boxes.before
+pub live-made-boxes : (laws : Laws) (report : Reporting) (whole : Plan) (number : ℕ) (status : Status) (output notes : Device SinkTold) (boxes : Device (List BoxTold)) → RanLiveMade laws report whole number status output notes boxes → length boxes.now ≡ length boxes.before
 live-made-boxes laws report whole number status output notes boxes (inl one) = one.had.back.count
 live-made-boxes laws report whole number status output notes boxes (inr short) = made_count laws whole number output boxes short.by
 
@@ -129,15 +130,15 @@ live-made-boxes laws report whole number status output notes boxes (inr short) =
 no_short : (answer : RunAnswer) (failed : List ℕ) (output notes : Device SinkTold) → MetShort answer failed output notes → answers.Unrisen output.before.faults output.now.faults → answers.Unrisen notes.before.faults notes.now.faults → ⊥
 no_short answer failed output notes short one two = elim short.rose [ inl rose ↦ rose-unrisen _ _ rose one | inr rose ↦ rose-unrisen _ _ rose two ]
 
-met_then : (report : Bool) (whole : Plan) (end : FeedEnd) (live : Outcomes) (text : List ℕ) (status : Status) (output notes : Device SinkTold) → answers.Unrisen output.before.faults output.now.faults → answers.Unrisen notes.before.faults notes.now.faults
+met_then : (report : Reporting) (whole : Plan) (end : FeedEnd) (live : Outcomes) (text : List ℕ) (status : Status) (output notes : Device SinkTold) → answers.Unrisen output.before.faults output.now.faults → answers.Unrisen notes.before.faults notes.now.faults
     → Ended_so report whole end live text status output notes → Meets (told_answer report whole end live text) status output notes
 met_then report whole end live text status output notes one two (inl met) = met
 met_then report whole end live text status output notes one two (inr short) = absurd (no_short (told_answer report whole end live text) (told_failed report whole end live) output notes short.1 one two)
 
-abbrev MetLive : Laws → Bool → Plan → Status → RunDevices → List ℕ → Type 0
+abbrev MetLive : Laws → Reporting → Plan → Status → RunDevices → List ℕ → Type 0
 MetLive laws report whole status all bytes = (answer : RunAnswer) × AnswersLive laws report whole bytes answer × Meets answer status all.output all.notes
 
-pub live-answered : (laws : Laws) (report : Bool) (whole : Plan) (status : Status) (all : RunDevices) (boxes : Device (List BoxTold)) → RanLive laws report whole status all boxes → answers.NoneFailed all → status ≢ OutOfMemory
+pub live-answered : (laws : Laws) (report : Reporting) (whole : Plan) (status : Status) (all : RunDevices) (boxes : Device (List BoxTold)) → RanLive laws report whole status all boxes → answers.NoneFailed all → status ≢ OutOfMemory
     → IfSome all.input.before.left (MetLive laws report whole status all)
 live-answered laws report whole status all boxes (inr short) none some = absurd (some short.is)
 live-answered laws report whole status all boxes (inl one) none some = by all.input.before.left refl
@@ -158,7 +159,7 @@ live-answered laws report whole status all boxes (inl one) none some = by all.in
           met_then report whole one.read.end one.run.comes.live text status all.output all.notes none.output none.notes (read_so laws report whole status all boxes one),
         )
 
-pub live-made-answered : (laws : Laws) (report : Bool) (whole : Plan) (number : ℕ) (status : Status) (all : RunDevices) (boxes : Device (List BoxTold)) → RanLiveMade laws report whole number status all.output all.notes boxes → answers.NoneFailed all → status ≢ OutOfMemory
+pub live-made-answered : (laws : Laws) (report : Reporting) (whole : Plan) (number : ℕ) (status : Status) (all : RunDevices) (boxes : Device (List BoxTold)) → RanLiveMade laws report whole number status all.output all.notes boxes → answers.NoneFailed all → status ≢ OutOfMemory
     → (answer : RunAnswer) × AnswersLiveMade laws report whole number answer × Meets answer status all.output all.notes
 live-made-answered laws report whole number status all boxes (inr short) none some = absurd (some short.is)
 live-made-answered laws report whole number status all boxes (inl one) none some =
@@ -168,7 +169,7 @@ live-made-answered laws report whole number status all boxes (inl one) none some
       met_then report whole Ended one.comes.live text status all.output all.notes none.output none.notes (made_so laws report whole number status all.output all.notes boxes one),
     )
 
-pub live-ended : (laws : Laws) (report : Bool) (whole : Plan) (status : Status) (all : RunDevices) (boxes : Device (List BoxTold)) → RanLive laws report whole status all boxes → (status ≡ OutOfMemory → IsOneOf status (Good ∷ NodeFault ∷ Stalled ∷ []) → ⊥)
+pub live-ended : (laws : Laws) (report : Reporting) (whole : Plan) (status : Status) (all : RunDevices) (boxes : Device (List BoxTold)) → RanLive laws report whole status all boxes → (status ≡ OutOfMemory → IsOneOf status (Good ∷ NodeFault ∷ Stalled ∷ []) → ⊥)
     → IsOneOf status (Good ∷ NodeFault ∷ Stalled ∷ []) → EndCame all.input.before all.input.now
 live-ended laws report whole status all boxes (inr out) short one_of = absurd (short out.is one_of)
 live-ended laws report whole status all boxes (inl one) short one_of = by (read_so laws report whole status all boxes one)
@@ -177,7 +178,7 @@ live-ended laws report whole status all boxes (inl one) short one_of = by (read_
     by (inl met) = end-by one.read.end status one.run.comes.live.faults (open_numbers one.run.comes.live.ends.items) (inputs_of whole) all.input one.came.came one.read met.told one_of one.came.by
     by (inr failed) = absurd (no-one status (inl failed.0) one_of)
 
-pub live-read-risen : (laws : Laws) (report : Bool) (whole : Plan) (status : Status) (all : RunDevices) (boxes : Device (List BoxTold)) → RanLive laws report whole status all boxes → HasRisen all.input.before.faults all.input.now.faults
+pub live-read-risen : (laws : Laws) (report : Reporting) (whole : Plan) (status : Status) (all : RunDevices) (boxes : Device (List BoxTold)) → RanLive laws report whole status all boxes → HasRisen all.input.before.faults all.input.now.faults
     → IsOneOf status (ReadFault ∷ WriteFault ∷ OutOfMemory ∷ [])
 live-read-risen laws report whole status all boxes (inr short) risen = inr (inr (inl short.is))
 live-read-risen laws report whole status all boxes (inl one) risen = by (read_so laws report whole status all boxes one)
@@ -189,17 +190,17 @@ live-read-risen laws report whole status all boxes (inl one) risen = by (read_so
 abbrev EitherRisen : RunDevices → Type 0
 EitherRisen all = HasRisen all.output.before.faults all.output.now.faults ⊎ HasRisen all.notes.before.faults all.notes.now.faults
 
-write_so : (report : Bool) (whole : Plan) (end : FeedEnd) (live : Outcomes) (text : List ℕ) (status : Status) (all : RunDevices) → EitherRisen all → Ended_so report whole end live text status all.output all.notes → IsOneOf status (WriteFault ∷ OutOfMemory ∷ [])
+write_so : (report : Reporting) (whole : Plan) (end : FeedEnd) (live : Outcomes) (text : List ℕ) (status : Status) (all : RunDevices) → EitherRisen all → Ended_so report whole end live text status all.output all.notes → IsOneOf status (WriteFault ∷ OutOfMemory ∷ [])
 write_so report whole end live text status all (inl risen) (inl met) = absurd (steady-risen _ _ met.text.steady risen)
 write_so report whole end live text status all (inr risen) (inl met) = absurd (steady-risen _ _ met.noted.steady risen)
 write_so report whole end live text status all risen (inr failed) = inl failed.0
 
-pub live-write-risen : (laws : Laws) (report : Bool) (whole : Plan) (status : Status) (all : RunDevices) (boxes : Device (List BoxTold)) → RanLive laws report whole status all boxes → EitherRisen all → IsOneOf status (WriteFault ∷ OutOfMemory ∷ [])
+pub live-write-risen : (laws : Laws) (report : Reporting) (whole : Plan) (status : Status) (all : RunDevices) (boxes : Device (List BoxTold)) → RanLive laws report whole status all boxes → EitherRisen all → IsOneOf status (WriteFault ∷ OutOfMemory ∷ [])
 live-write-risen laws report whole status all boxes (inl one) risen =
     write_so report whole one.read.end one.run.comes.live (output_in packet_lines (split_of whole).core one.run.comes.streams) status all risen (read_so laws report whole status all boxes one)
 live-write-risen laws report whole status all boxes (inr short) risen = inr (inl short.is)
 
-pub live-made-write-risen : (laws : Laws) (report : Bool) (whole : Plan) (number : ℕ) (status : Status) (all : RunDevices) (boxes : Device (List BoxTold)) → RanLiveMade laws report whole number status all.output all.notes boxes → EitherRisen all
+pub live-made-write-risen : (laws : Laws) (report : Reporting) (whole : Plan) (number : ℕ) (status : Status) (all : RunDevices) (boxes : Device (List BoxTold)) → RanLiveMade laws report whole number status all.output all.notes boxes → EitherRisen all
     → IsOneOf status (WriteFault ∷ OutOfMemory ∷ [])
 live-made-write-risen laws report whole number status all boxes (inl one) risen =
     write_so report whole Ended one.comes.live (output_in totals (split_of whole).core one.comes.streams) status all risen (made_so laws report whole number status all.output all.notes boxes one)

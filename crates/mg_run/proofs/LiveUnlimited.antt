@@ -1,5 +1,5 @@
 -- What a graph with free nodes comes to doesn't look at the limit of its plan's queues nor at the number of its workers.
-use Rattle.std.proofs.Common.{◌≡◌, ℕ, ℤ, min, Bool, List, [], ◌∷◌, ◌++◌, map, length, Option, None, Some, ap, ◌∙◌, subst}
+use Rattle.std.proofs.Common.{◌≡◌, ℕ, ℤ, min, List, [], ◌∷◌, ◌++◌, map, length, Option, None, Some, ap, ◌∙◌, subst}
 use Rattle.std.specs.List.{flat_map}
 use Rattle.mg_edge.specs.Edge.{SinkTold}
 use Rattle.mg_value.specs.Payload.{Plain}
@@ -25,6 +25,7 @@ use Rattle.mg_answer.specs.Wrote.{WroteBy}
 use Rattle.mg_answer.specs.declared.outcomes.Outcomes.{Outcomes}
 use Rattle.mg_answer.specs.declared.status.Status.{Status}
 use Rattle.mg_answer.specs.declared.status.Status.TheVariants.{WriteFault}
+use Rattle.mg_answer.specs.declared.run.Reporting.{Reporting}
 use Rattle.mg_drive.specs.Live.{renumbered_fault, sets_by, LiveTells}
 use Rattle.mg_drive.specs.OneLive.{ComesTo, IsLiveAnswer, OneLive, AreBatchesOf, AnswersLive, AnswersLiveMade}
 use Rattle.mg_run.specs.Answer.{with_limit, with_workers, limit_or}
@@ -47,18 +48,18 @@ all_rounds_same laws plan limit workers (inputs ∷ later) before last (batch {a
 
 -- What is told --
 
-tells_same : (laws : Laws) (plan : Plan) (limit : ℤ) (workers : ℕ) (base : Inputs) (streams : List (StreamPrefix Plain)) (takens : List Taken) (live : Outcomes)
-    → LiveTells (limited_plan plan limit workers) (core_job laws (split_of (limited_plan plan limit workers)) base takens) streams (split_of (limited_plan plan limit workers)).free takens live
-    → LiveTells plan (core_job laws (split_of plan) base takens) streams (split_of plan).free takens live
-tells_same laws plan limit workers base streams takens live t = record {
+tells_same : (laws : Laws) (report : Reporting) (plan : Plan) (limit : ℤ) (workers : ℕ) (base : Inputs) (streams : List (StreamPrefix Plain)) (takens : List Taken) (live : Outcomes)
+    → LiveTells report (limited_plan plan limit workers) (core_job laws (split_of (limited_plan plan limit workers)) base takens) streams (split_of (limited_plan plan limit workers)).free takens live
+    → LiveTells report plan (core_job laws (split_of plan) base takens) streams (split_of plan).free takens live
+tells_same laws report plan limit workers base streams takens live t = record {
   faults = t.faults ∙ ap (λ (fs : List NodeFault). map (renumbered_fault (split_of plan).numbers) fs) (faults_same (core_job laws (split_of plan) base takens) limit workers streams);
   sets = t.sets ∙ ap (λ (cs : List ℕ). sets_by plan.nodes cs (map (λ (taken : Taken). length taken.log) takens)) (counts_same (core_job laws (split_of plan) base takens) limit workers streams);
   ends = t.ends;
   arrivals = t.arrivals;
 }
 
-comes_same : (laws : Laws) (plan : Plan) (limit : ℤ) (workers : ℕ) (first : Inputs) (later : List Inputs) → ComesTo laws (limited_plan plan limit workers) first later → ComesTo laws plan first later
-comes_same laws plan limit workers first later c = record {
+comes_same : (laws : Laws) (report : Reporting) (plan : Plan) (limit : ℤ) (workers : ℕ) (first : Inputs) (later : List Inputs) → ComesTo laws report (limited_plan plan limit workers) first later → ComesTo laws report plan first later
+comes_same laws report plan limit workers first later c = record {
   takens = c.takens;
   rounds = all_rounds_same laws plan limit workers (first ∷ later) (none_taken (split_of plan)) c.takens c.rounds;
   streams = c.streams;
@@ -66,12 +67,12 @@ comes_same laws plan limit workers first later c = record {
   logs = c.logs;
   outputs = c.outputs;
   live = c.live;
-  tells = tells_same laws plan limit workers (last_batch first later) c.streams c.takens c.live c.tells;
+  tells = tells_same laws report plan limit workers (last_batch first later) c.streams c.takens c.live c.tells;
 }
 
 -- The answer --
 
-answer_same : (form : OutputForm) (report : Bool) (plan : Plan) (limit : ℤ) (workers : ℕ) (end : FeedEnd) (live : Outcomes) (streams : List (StreamPrefix Plain))
+answer_same : (form : OutputForm) (report : Reporting) (plan : Plan) (limit : ℤ) (workers : ℕ) (end : FeedEnd) (live : Outcomes) (streams : List (StreamPrefix Plain))
     → told_answer report (limited_plan plan limit workers) end live (output_in form (split_of (limited_plan plan limit workers)).core streams) ≡ told_answer report plan end live (output_in form (split_of plan).core streams)
 answer_same form report plan limit workers end live streams =
     let stopped = open_numbers live.ends.items in
@@ -83,18 +84,18 @@ answer_same form report plan limit workers end live streams =
       status = status;
     }
 
-live_same : (laws : Laws) (form : OutputForm) (report : Bool) (plan : Plan) (limit : ℤ) (workers : ℕ) (first : Inputs) (later : List Inputs) (end : FeedEnd) (a : RunAnswer)
+live_same : (laws : Laws) (form : OutputForm) (report : Reporting) (plan : Plan) (limit : ℤ) (workers : ℕ) (first : Inputs) (later : List Inputs) (end : FeedEnd) (a : RunAnswer)
     → IsLiveAnswer laws form report (limited_plan plan limit workers) first later end a → IsLiveAnswer laws form report plan first later end a
 unfolding comes_same
 live_same laws form report plan limit workers first later end a is = record {
-  comes = comes_same laws plan limit workers first later is.comes;
+  comes = comes_same laws report plan limit workers first later is.comes;
   is = is.is ∙ answer_same form report plan limit workers end is.comes.live is.comes.streams;
 }
 
 pub batches_same : (plan : Plan) (limit : ℤ) (workers : ℕ) (read : Read) (batches : List Inputs) → AreBatchesOf (limited_plan plan limit workers) read batches → AreBatchesOf plan read batches
 batches_same plan limit workers read batches b = record { lines = b.lines; in_batches = b.in_batches; are = b.are }
 
-lines_same : (laws : Laws) (report : Bool) (plan : Plan) (limit : ℤ) (workers : ℕ) (input : List ℕ) (a : RunAnswer) → AnswersLive laws report (limited_plan plan limit workers) input a → AnswersLive laws report plan input a
+lines_same : (laws : Laws) (report : Reporting) (plan : Plan) (limit : ℤ) (workers : ℕ) (input : List ℕ) (a : RunAnswer) → AnswersLive laws report (limited_plan plan limit workers) input a → AnswersLive laws report plan input a
 lines_same laws report plan limit workers input a is = record {
   first = is.first;
   later = is.later;
@@ -102,16 +103,16 @@ lines_same laws report plan limit workers input a is = record {
   answers = live_same laws packet_lines report plan limit workers is.first is.later (ended_input (inputs_of plan) input).end a is.answers;
 }
 
-pub live_asked : (laws : Laws) (report : Bool) (limit : Option ℤ) (workers : Option ℕ) (plan : Plan) (input : List ℕ) (a : RunAnswer) → AnswersLive laws report (with_workers workers (with_limit limit plan)) input a → AnswersLive laws report plan input a
+pub live_asked : (laws : Laws) (report : Reporting) (limit : Option ℤ) (workers : Option ℕ) (plan : Plan) (input : List ℕ) (a : RunAnswer) → AnswersLive laws report (with_workers workers (with_limit limit plan)) input a → AnswersLive laws report plan input a
 live_asked laws report None None plan input a is = is
 live_asked laws report (Some limit) None plan input a is = lines_same laws report plan (limit_or limit plan.limit) plan.workers input a is
 live_asked laws report None (Some workers) plan input a is = lines_same laws report plan plan.limit (min workers MOST_WORKERS) input a is
 live_asked laws report (Some limit) (Some workers) plan input a is = lines_same laws report plan (limit_or limit plan.limit) (min workers MOST_WORKERS) input a is
 
-made_same : (laws : Laws) (report : Bool) (number : ℕ) (plan : Plan) (limit : ℤ) (workers : ℕ) (a : RunAnswer) → AnswersLiveMade laws report (limited_plan plan limit workers) number a → AnswersLiveMade laws report plan number a
+made_same : (laws : Laws) (report : Reporting) (number : ℕ) (plan : Plan) (limit : ℤ) (workers : ℕ) (a : RunAnswer) → AnswersLiveMade laws report (limited_plan plan limit workers) number a → AnswersLiveMade laws report plan number a
 made_same laws report number plan limit workers a is = live_same laws totals report plan limit workers (generated_job laws plan number).inputs [] Ended a is
 
-pub live_made_asked : (laws : Laws) (report : Bool) (number : ℕ) (limit : Option ℤ) (workers : Option ℕ) (plan : Plan) (a : RunAnswer) → AnswersLiveMade laws report (with_workers workers (with_limit limit plan)) number a → AnswersLiveMade laws report plan number a
+pub live_made_asked : (laws : Laws) (report : Reporting) (number : ℕ) (limit : Option ℤ) (workers : Option ℕ) (plan : Plan) (a : RunAnswer) → AnswersLiveMade laws report (with_workers workers (with_limit limit plan)) number a → AnswersLiveMade laws report plan number a
 live_made_asked laws report number None None plan a is = is
 live_made_asked laws report number (Some limit) None plan a is = made_same laws report number plan (limit_or limit plan.limit) plan.workers a is
 live_made_asked laws report number None (Some workers) plan a is = made_same laws report number plan plan.limit (min workers MOST_WORKERS) a is
@@ -119,19 +120,19 @@ live_made_asked laws report number (Some limit) (Some workers) plan a is = made_
 
 -- A run --
 
-failed_same : (report : Bool) (plan : Plan) (limit : ℤ) (workers : ℕ) (end : FeedEnd) (live : Outcomes) → told_failed report (limited_plan plan limit workers) end live ≡ told_failed report plan end live
+failed_same : (report : Reporting) (plan : Plan) (limit : ℤ) (workers : ℕ) (end : FeedEnd) (live : Outcomes) → told_failed report (limited_plan plan limit workers) end live ≡ told_failed report plan end live
 failed_same report plan limit workers end live =
     let stopped = open_numbers live.ends.items in
     λ i. (end_note end ++ flat_map (fault_note plan) live.faults ++ notes_same WriteFault plan limit workers (end_bounds live.ends.items) stopped i)
     ++ live.arrivals.items ++ asked_report report (report_by plan live.sets live.ends.items)
 
-pub unlimited_live : (laws : Laws) (form : OutputForm) (report : Bool) (plan : Plan) (limit : ℤ) (workers : ℕ) (first : Inputs) (later : List Inputs) (end : FeedEnd) (status : Status) (output notes : Device SinkTold) (boxes : Device (List BoxTold))
+pub unlimited_live : (laws : Laws) (form : OutputForm) (report : Reporting) (plan : Plan) (limit : ℤ) (workers : ℕ) (first : Inputs) (later : List Inputs) (end : FeedEnd) (status : Status) (output notes : Device SinkTold) (boxes : Device (List BoxTold))
     → OneLive laws form report (limited_plan plan limit workers) first later end status output notes boxes → OneLive laws form report plan first later end status output notes boxes
 unfolding comes_same
 unlimited_live laws form report plan limit workers first later end status output notes boxes r =
     let job = core_job laws (split_of plan) (last_batch first later) r.comes.takens in
     record {
-      comes = comes_same laws plan limit workers first later r.comes;
+      comes = comes_same laws report plan limit workers first later r.comes;
       wrote = subst (λ (a : RunAnswer). WroteBy status a (told_failed report plan end r.comes.live) output notes) (answer_same form report plan limit workers end r.comes.live r.comes.streams)
           (subst (λ (f : List ℕ). WroteBy status (told_answer report (limited_plan plan limit workers) end r.comes.live (output_in form (split_of (limited_plan plan limit workers)).core r.comes.streams)) f output notes)
           (failed_same report plan limit workers end r.comes.live) r.wrote);

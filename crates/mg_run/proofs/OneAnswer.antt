@@ -1,5 +1,5 @@
 -- There is one answer, and of a recorded run one end.
-use Rattle.std.proofs.Common.{◌≡◌, ℕ, Bool, List, [], sym, ap, ◌∙◌}
+use Rattle.std.proofs.Common.{◌≡◌, ℕ, List, [], sym, ap, ◌∙◌}
 use Rattle.mg_calc.specs.Rules.{Laws}
 use Rattle.mg_calc.specs.declared.plan.Plan.{Plan}
 use Rattle.mg_calc.specs.Told.{BoxTold}
@@ -7,14 +7,15 @@ use Rattle.mg_feed.specs.Graph.{inputs_of}
 use Rattle.mg_feed.specs.declared.feed_end.FeedEnd.TheVariants.{Ended}
 use Rattle.mg_answer.specs.Answer.{totals, ended_input, by_summary, generated_job, AnswersEnded, AnswersGenerated}
 use Rattle.mg_answer.proofs.OneAnswer.{one-answer, one-of}
+use Rattle.mg_answer.specs.declared.run.Reporting.{Reporting}
 use Rattle.mg_drive.specs.Traced.{TracesEnded}
 use Rattle.mg_run.proofs.OneLiveAnswer.{one-of-live, one-of-lines}
 use Rattle.mg_run.specs.Answer.{RunAnswer, Action, refuse, show, run_plan, run_live, solve, generate, generate_live, trace, replay, AnswersAction, Records, Replays}
 
-pub one-of-run : (laws : Laws) (report : Bool) (plan : Plan) (input : List ℕ) (a b : RunAnswer) → AnswersEnded laws report plan input a → AnswersEnded laws report plan input b → a ≡ b
+pub one-of-run : (laws : Laws) (report : Reporting) (plan : Plan) (input : List ℕ) (a b : RunAnswer) → AnswersEnded laws report plan input a → AnswersEnded laws report plan input b → a ≡ b
 one-of-run laws report plan input a b one two = one-answer laws report plan (ended_input (inputs_of plan) input) a b one two
 
-one-of-made : (laws : Laws) (report : Bool) (plan : Plan) (number : ℕ) (a b : RunAnswer) → AnswersGenerated laws report plan number a → AnswersGenerated laws report plan number b → a ≡ b
+one-of-made : (laws : Laws) (report : Reporting) (plan : Plan) (number : ℕ) (a b : RunAnswer) → AnswersGenerated laws report plan number a → AnswersGenerated laws report plan number b → a ≡ b
 one-of-made laws report plan number a b one two = one-of (by_summary report) (generated_job laws plan number) Ended a b one two
 
 pub one-of-job : (laws : Laws) (job : Action) (boxes : List BoxTold) (input : List ℕ) (a b : RunAnswer) → ¬ Records job → ¬ Replays job → AnswersAction laws job boxes input a → AnswersAction laws job boxes input b → a ≡ b
@@ -35,12 +36,12 @@ EndAlike a b = (a.notes ≡ b.notes) × (a.status ≡ b.status)
 alike : (a b : RunAnswer) → a ≡ b → EndAlike a b
 alike a b same = (ap (λ (x : RunAnswer). x.notes) same, ap (λ (x : RunAnswer). x.status) same)
 
-pub ends-as-run : (laws : Laws) (report : Bool) (plan : Plan) (boxes : List BoxTold) (input : List ℕ) (a b : RunAnswer) → TracesEnded laws report plan boxes input a → AnswersEnded laws report plan input b → EndAlike a b
+pub ends-as-run : (laws : Laws) (report : Reporting) (plan : Plan) (boxes : List BoxTold) (input : List ℕ) (a b : RunAnswer) → TracesEnded laws report plan boxes input a → AnswersEnded laws report plan input b → EndAlike a b
 ends-as-run laws report plan boxes input a b one two =
     let same = one-of-run laws report plan input one.of_run b one.is_answer two in
     (ap (λ (x : RunAnswer). x.notes) one.is ∙ ap (λ (x : RunAnswer). x.notes) same, ap (λ (x : RunAnswer). x.status) one.is ∙ ap (λ (x : RunAnswer). x.status) same)
 
-two-traces : (laws : Laws) (report : Bool) (plan : Plan) (boxes : List BoxTold) (input : List ℕ) (a b : RunAnswer) → TracesEnded laws report plan boxes input a → TracesEnded laws report plan boxes input b → EndAlike a b
+two-traces : (laws : Laws) (report : Reporting) (plan : Plan) (boxes : List BoxTold) (input : List ℕ) (a b : RunAnswer) → TracesEnded laws report plan boxes input a → TracesEnded laws report plan boxes input b → EndAlike a b
 two-traces laws report plan boxes input a b one two =
     let first = ends-as-run laws report plan boxes input a two.of_run one two.is_answer in
     (first.0 ∙ sym (ap (λ (x : RunAnswer). x.notes) two.is), first.1 ∙ sym (ap (λ (x : RunAnswer). x.status) two.is))

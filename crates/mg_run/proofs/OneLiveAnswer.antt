@@ -1,5 +1,5 @@
 -- A run of a graph with free nodes has one answer.
-use Rattle.std.proofs.Common.{◌≡◌, ℕ, Bool, List, [], ◌∷◌, ◌++◌, map, length, drop, slice_index_or, refl, sym, ap, ◌∙◌, subst}
+use Rattle.std.proofs.Common.{◌≡◌, ℕ, List, [], ◌∷◌, ◌++◌, map, length, drop, slice_index_or, refl, sym, ap, ◌∙◌, subst}
 use Rattle.mg_value.specs.Payload.{Plain}
 use Rattle.mg_settled.specs.Prefix.{StreamPrefix}
 use Rattle.mg_calc.specs.Rules.{Laws}
@@ -19,8 +19,9 @@ use Rattle.mg_feed.specs.declared.feed_end.FeedEnd.{FeedEnd}
 use Rattle.mg_answer.specs.Answer.{OutputForm, packet_lines, RunAnswer, Read, output_in, ended_input}
 use Rattle.mg_answer.specs.Notes.{notes_by}
 use Rattle.mg_settled.specs.Ends.{end_of}
-use Rattle.mg_answer.specs.Report.{open_numbers, end_bounds, report_by, asked_report}
+use Rattle.mg_answer.specs.Report.{open_numbers, end_bounds, report_by, asked_report, asked_arrivals}
 use Rattle.mg_answer.specs.Told.{status_of}
+use Rattle.mg_answer.specs.declared.run.Reporting.{Reporting}
 use Rattle.mg_settled.specs.declared.stream_end.StreamEnd.{StreamEnd}
 use Rattle.mg_drive.specs.InBatches.{come_after}
 use Rattle.mg_drive.specs.Live.{renumbered_fault, sets_by, arrivals_text}
@@ -28,7 +29,7 @@ use Rattle.mg_drive.specs.OneLive.{IsLiveAnswer, AreBatchesOf, AnswersLive}
 use Rattle.mg_drive.proofs.Cuts.{one_cut}
 
 -- an answer, by all that it tells
-abbrev answer_by : Bool → Plan → FeedEnd → List NodeFault → List ℕ → List StreamEnd → List ℕ → List ℕ → RunAnswer
+abbrev answer_by : Reporting → Plan → FeedEnd → List NodeFault → List ℕ → List StreamEnd → List ℕ → List ℕ → RunAnswer
 answer_by report whole end fs sets ends arrivals text = record {
   output = text;
   notes = notes_by (status_of end fs (open_numbers ends)) whole end fs (end_bounds ends) (open_numbers ends) ++ arrivals ++ asked_report report (report_by whole sets ends);
@@ -36,22 +37,22 @@ answer_by report whole end fs sets ends arrivals text = record {
 }
 
 -- what the logs and the core's solution make of it
-abbrev answer_in : Laws → OutputForm → Bool → Plan → Inputs → FeedEnd → List Taken → List (StreamPrefix Plain) → RunAnswer
+abbrev answer_in : Laws → OutputForm → Reporting → Plan → Inputs → FeedEnd → List Taken → List (StreamPrefix Plain) → RunAnswer
 answer_in laws form report whole base end takens streams =
     answer_by report whole end
     (map (renumbered_fault (split_of whole).numbers) (faults (core_job laws (split_of whole) base takens) streams))
     (sets_by whole.nodes (counts (core_job laws (split_of whole) base takens) streams) (map (λ t. length t.log) takens))
     (map (λ s. end_of (stream_of streams (stream_number whole s))) (numbers (length whole.streams)))
-    (arrivals_text (split_of whole).free takens)
+    (asked_arrivals report (arrivals_text (split_of whole).free takens))
     (output_in form (split_of whole).core streams)
 
-answer_told : (laws : Laws) (form : OutputForm) (report : Bool) (whole : Plan) (first : Inputs) (later : List Inputs) (end : FeedEnd) (a : RunAnswer) → (is : IsLiveAnswer laws form report whole first later end a)
+answer_told : (laws : Laws) (form : OutputForm) (report : Reporting) (whole : Plan) (first : Inputs) (later : List Inputs) (end : FeedEnd) (a : RunAnswer) → (is : IsLiveAnswer laws form report whole first later end a)
     → a ≡ answer_in laws form report whole (last_batch first later) end is.comes.takens is.comes.streams
 answer_told laws form report whole first later end a is =
     let told = is.comes.tells in
     is.is ∙ (λ i. answer_by report whole end (told.faults i) (told.sets i) (told.ends i) (told.arrivals i) (output_in form (split_of whole).core is.comes.streams))
 
-pub one-of-live : (laws : Laws) (form : OutputForm) (report : Bool) (whole : Plan) (first : Inputs) (later : List Inputs) (end : FeedEnd) (a b : RunAnswer) → IsLiveAnswer laws form report whole first later end a → IsLiveAnswer laws form report whole first later end b → a ≡ b
+pub one-of-live : (laws : Laws) (form : OutputForm) (report : Reporting) (whole : Plan) (first : Inputs) (later : List Inputs) (end : FeedEnd) (a b : RunAnswer) → IsLiveAnswer laws form report whole first later end a → IsLiveAnswer laws form report whole first later end b → a ≡ b
 one-of-live laws form report whole first later end a b one two =
     let split = split_of whole in
     let base = last_batch first later in
@@ -65,7 +66,7 @@ pub one-batches : (whole : Plan) (read : Read) (batches other : List Inputs) →
 one-batches whole read batches other a b =
     sym a.are ∙ ap (come_after (inputs_of whole) read.end []) (one_cut read.lines read.lines a.lines b.lines refl a.in_batches b.in_batches) ∙ b.are
 
-pub one-of-lines : (laws : Laws) (report : Bool) (whole : Plan) (input : List ℕ) (a b : RunAnswer) → AnswersLive laws report whole input a → AnswersLive laws report whole input b → a ≡ b
+pub one-of-lines : (laws : Laws) (report : Reporting) (whole : Plan) (input : List ℕ) (a b : RunAnswer) → AnswersLive laws report whole input a → AnswersLive laws report whole input b → a ≡ b
 one-of-lines laws report whole input a b one two =
     let end = (ended_input (inputs_of whole) input).end in
     let same = one-batches whole (ended_input (inputs_of whole) input) (one.first ∷ one.later) (two.first ∷ two.later) one.batches two.batches in

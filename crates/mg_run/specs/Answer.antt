@@ -31,22 +31,23 @@ use Rattle.mg_words.specs.declared.words.Verb.TheVariants.{Check, Expand, Use}
 use Rattle.mg_words.specs.declared.words.Way.{Way}
 use Rattle.mg_words.specs.declared.words.Way.TheVariants.{Run, Solve, Generate, Trace, Replay}
 use Rattle.mg_answer.specs.declared.status.Status.TheVariants.{Good, GraphRefused}
+use Rattle.mg_answer.specs.declared.run.Reporting.{Reporting}
 
 -- What is to be done --
 
 -- What a command has to do: to refuse a file, the expansion or the graph with a note; to write a text; to run the graph of a plan, without
 -- free nodes or with; to solve it; to run it over a number of packets that are made, without free nodes or with; to run it and record the
--- run; or to make a recorded run of it again. Where there is a truth value, it says whether the notes end with a report.
+-- run; or to make a recorded run of it again. Where a graph is used, `Reporting` says what the notes tell beside what went wrong.
 pub data Action : Type 0 where
   refuse : List ℕ → Action
   show : List ℕ → Action
-  run_plan : Bool → Plan → Action
-  run_live : Bool → Plan → Action
-  solve : Bool → Plan → Action
-  generate : Bool → ℕ → Plan → Action
-  generate_live : Bool → ℕ → Plan → Action
-  trace : Bool → Plan → Action
-  replay : Bool → Plan → Action
+  run_plan : Reporting → Plan → Action
+  run_live : Reporting → Plan → Action
+  solve : Reporting → Plan → Action
+  generate : Reporting → ℕ → Plan → Action
+  generate_live : Reporting → ℕ → Plan → Action
+  trace : Reporting → Plan → Action
+  replay : Reporting → Plan → Action
 
 -- The action of `check`: to write a text where the graph has a plan, and else to refuse the graph. A graph is checked before its plan is used,
 -- too.
@@ -73,6 +74,10 @@ with_workers (Some workers) plan = record plan { workers = min workers MOST_WORK
 abbrev pub as_asked : Instruction → Plan → Plan
 as_asked instruction plan = with_workers instruction.workers (with_limit instruction.limit plan)
 
+-- what the notes tell beside what went wrong, by an instruction
+abbrev pub reporting : Instruction → Reporting
+reporting instruction = record { counts = instruction.report; arrivals = instruction.arrivals }
+
 -- The word of a way to use a plan, which the note of a refusal names.
 abbrev pub way_word : Way → List ℕ
 way_word Run = codes "run"
@@ -92,24 +97,24 @@ first_stated plan = position (λ node. is_stated node.law) plan.nodes
 
 -- The action of solving a plan without free nodes, by its first node whose law is stated, if it has one. Such a plan is refused, since a
 -- solution takes code for each law, and there is none for these.
-abbrev pub solve_action : Option ℕ → Bool → Plan → Action
+abbrev pub solve_action : Option ℕ → Reporting → Plan → Action
 solve_action None report plan = solve report plan
 solve_action (Some first) report plan = refuse (own_law_note first)
 
 -- the action of using a plan without free nodes in a way; for a run that is recorded or made again the number of workers doesn't count
 abbrev pub way_action : Way → Instruction → Plan → Action
-way_action Run instruction plan = run_plan instruction.report (as_asked instruction plan)
-way_action Solve instruction plan = solve_action (first_stated plan) instruction.report plan
-way_action Generate instruction plan = generate instruction.report instruction.number (as_asked instruction plan)
-way_action Trace instruction plan = trace instruction.report (with_limit instruction.limit plan)
-way_action Replay instruction plan = replay instruction.report (with_limit instruction.limit plan)
+way_action Run instruction plan = run_plan (reporting instruction) (as_asked instruction plan)
+way_action Solve instruction plan = solve_action (first_stated plan) (reporting instruction) plan
+way_action Generate instruction plan = generate (reporting instruction) instruction.number (as_asked instruction plan)
+way_action Trace instruction plan = trace (reporting instruction) (with_limit instruction.limit plan)
+way_action Replay instruction plan = replay (reporting instruction) (with_limit instruction.limit plan)
 
 -- The action of using a graph with free nodes in a way, of which `first` is the first: it is run, over the input or over packets that are
 -- made, and refused in each other way.
 abbrev pub live_action : Way → Instruction → ℕ → Plan → Action
-live_action Run instruction first plan = run_live instruction.report (as_asked instruction plan)
+live_action Run instruction first plan = run_live (reporting instruction) (as_asked instruction plan)
 live_action Solve instruction first plan = refuse (free_note (way_word Solve) first)
-live_action Generate instruction first plan = generate_live instruction.report instruction.number (as_asked instruction plan)
+live_action Generate instruction first plan = generate_live (reporting instruction) instruction.number (as_asked instruction plan)
 live_action Trace instruction first plan = refuse (free_note (way_word Trace) first)
 live_action Replay instruction first plan = refuse (free_note (way_word Replay) first)
 

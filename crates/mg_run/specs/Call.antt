@@ -1,5 +1,5 @@
 -- What a call came to, by its status.
-use Rattle.std.specs.Prelude.{◌≡◌, ℕ, ◌⊎◌, Bool, List, All, IfSome}
+use Rattle.std.specs.Prelude.{◌≡◌, ℕ, ◌⊎◌, List, All, IfSome}
 use Rattle.mg_calc.specs.Rules.{Laws}
 use Rattle.mg_calc.specs.declared.plan.Plan.{Plan}
 use Rattle.mg_calc.specs.declared.shape.OuterShape.{OuterShape}
@@ -23,6 +23,7 @@ use Rattle.mg_run.specs.Devices.{CallDevices, run_devices_of, Untouched, TookTex
 pub use Rattle.mg_answer.specs.Status.{IsOneOf}
 use Rattle.mg_answer.specs.declared.status.Status.{Status}
 use Rattle.mg_answer.specs.declared.status.Status.TheVariants.{Good, StoreFault, Usage, GraphRefused, WriteFault, OutOfMemory}
+use Rattle.mg_answer.specs.declared.run.Reporting.{Reporting}
 
 -- What a call did --
 
@@ -74,29 +75,29 @@ pub record WasShown (text : List ℕ) (status : Status) (devices : CallDevices) 
 -- A run --
 
 -- The graph of this plan was solved.
-pub record SolvedGraph (laws : Laws) (report : Bool) (plan : Plan) (status : Status) (devices : CallDevices) : Type 0 where
+pub record SolvedGraph (laws : Laws) (report : Reporting) (plan : Plan) (status : Status) (devices : CallDevices) : Type 0 where
   pub ran : runs.Ran laws report plan status (run_devices_of devices)
   pub uncalled : Untouched devices.boxes
 
 -- The graph of this plan was run over `number` packets that are made, and a summary of its outputs was written. The input was left as it
 -- was.
-pub record GeneratedGraph (laws : Laws) (report : Bool) (number : ℕ) (plan : Plan) (status : Status) (devices : CallDevices) : Type 0 where
+pub record GeneratedGraph (laws : Laws) (report : Reporting) (number : ℕ) (plan : Plan) (status : Status) (devices : CallDevices) : Type 0 where
   pub ran : RanOverPackets laws report plan number status devices.output devices.notes devices.boxes
   pub unread : Untouched devices.input
 
 -- The graph of this plan, which has free nodes, was run over `number` packets that are made, and a summary of its outputs was written. The
 -- input was left as it was.
-pub record GeneratedLive (laws : Laws) (report : Bool) (number : ℕ) (plan : Plan) (status : Status) (devices : CallDevices) : Type 0 where
+pub record GeneratedLive (laws : Laws) (report : Reporting) (number : ℕ) (plan : Plan) (status : Status) (devices : CallDevices) : Type 0 where
   pub ran : RanLiveMade laws report plan number status devices.output devices.notes devices.boxes
   pub unread : Untouched devices.input
 
 -- The graph of this plan was run over the input, and a trace of the run was written.
-pub record TracedGraph (laws : Laws) (report : Bool) (plan : Plan) (status : Status) (devices : CallDevices) : Type 0 where
+pub record TracedGraph (laws : Laws) (report : Reporting) (plan : Plan) (status : Status) (devices : CallDevices) : Type 0 where
   pub ran : Traced laws report plan devices.boxes.before status (run_devices_of devices)
   pub left : RunLeaves laws plan status devices.input devices.boxes
 
 -- A recorded run of the graph of this plan was made again.
-pub record ReplayedGraph (laws : Laws) (report : Bool) (plan : Plan) (status : Status) (devices : CallDevices) : Type 0 where
+pub record ReplayedGraph (laws : Laws) (report : Reporting) (plan : Plan) (status : Status) (devices : CallDevices) : Type 0 where
   pub replayed : ReplayedBy laws status report plan (run_devices_of devices) devices.boxes
   pub left : CalculatorsCameBack plan devices.boxes.before devices.boxes.now
 

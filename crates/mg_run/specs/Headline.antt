@@ -1,6 +1,6 @@
 -- A `run` or a `generate` that reached its graph, as no fault of a file and no want of memory kept it from that, is one thing: there is one
 -- content of each file, one graph and its plan, one reading of the input and one solution, and all that is seen of the call is theirs.
-use Rattle.std.specs.Prelude.{◌≡◌, ◌⊎◌, ℕ, negsuc, Bool, List, [], ◌∷◌, None, Some, Ok}
+use Rattle.std.specs.Prelude.{◌≡◌, ◌⊎◌, ℕ, negsuc, List, [], ◌∷◌, None, Some, Ok}
 use Rattle.mg_edge.specs.Edge.{SourceTold}
 use Rattle.mg_config.specs.Config.{GraphView}
 use Rattle.mg_calc.specs.Rules.{Laws}
@@ -18,8 +18,10 @@ use Rattle.mg_answer.specs.Answer.{OutputForm, packet_lines, totals, Read, Telli
 use Rattle.mg_answer.specs.Ran.{CameTo}
 use Rattle.mg_answer.specs.declared.status.Status.{Status}
 use Rattle.mg_answer.specs.declared.status.Status.TheVariants.{Good, LineRefused, NodeFault, Stalled, ReadFault, WriteFault}
+use Rattle.mg_answer.specs.declared.run.Reporting.{Reporting}
 use Rattle.mg_drive.specs.OneRun.{OneRun}
 use Rattle.mg_drive.specs.OneLive.{AreBatchesOf, OneLive}
+use Rattle.mg_run.specs.Answer.{reporting}
 use Rattle.mg_run.specs.Invocation.{Invocation}
 use Rattle.mg_files.specs.Files.{AreGraphs}
 use Rattle.mg_files.specs.Loads.{LoadedAll}
@@ -72,7 +74,7 @@ end_from (from_input read) = read.end
 end_from (from_number number) = Ended
 
 -- how a run is told: by lines where it was over an input, and by a summary where packets were made
-abbrev pub telling_from : Bool → Origin → Telling
+abbrev pub telling_from : Reporting → Origin → Telling
 telling_from report (from_input read) = by_lines report
 telling_from report (from_number number) = by_summary report
 
@@ -89,7 +91,7 @@ pub record Headline (laws : Laws) (invocation : Invocation) (status : Status) (d
   pub graph : IsGraph invocation contents plan
   pub from : Origin
   pub origin : IsOrigin invocation.instruction plan devices.input from
-  pub run : OneRun (telling_from invocation.instruction.report from) (job_from laws (bare plan) from) (end_from from) status devices.output devices.notes devices.boxes
+  pub run : OneRun (telling_from (reporting invocation.instruction) from) (job_from laws (bare plan) from) (end_from from) status devices.output devices.notes devices.boxes
 
 -- Graphs with free nodes --
 
@@ -128,7 +130,7 @@ pub record LiveHeadline (laws : Laws) (invocation : Invocation) (status : Status
   pub first : Inputs
   pub later : List Inputs
   pub batches : AreBatchesFrom laws (bare plan) from (first ∷ later)
-  pub run : OneLive laws (form_from from) invocation.instruction.report (bare plan) first later (end_from from) status devices.output devices.notes devices.boxes
+  pub run : OneLive laws (form_from from) (reporting invocation.instruction) (bare plan) first later (end_from from) status devices.output devices.notes devices.boxes
 
 -- a call ran its graph, without free nodes or with
 abbrev pub RanGraph : Laws → Invocation → Status → CallDevices → Type 0

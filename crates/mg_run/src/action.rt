@@ -13,6 +13,7 @@ ghost use Rattle.mg_files.specs.Reads.{contents_of, AreNotedOf};
 ghost use Rattle.mg_run.specs.Call.{IsActionOf};
 
 use crate::way::{live_action, way_action};
+use mg_answer::Reporting;
 use mg_calc::{OuterShape, Plan};
 use mg_check::check;
 use mg_config::GraphConfig;
@@ -49,8 +50,8 @@ pub enum Action {
     Refuse(Vec<u8>),
     /// This text is written.
     Show(Vec<u8>),
-    /// The graph of this plan is used in this way, with a report behind the notes or without.
-    Graph(Use, bool, Plan),
+    /// The graph of this plan is used in this way, and the notes tell this beside what went wrong.
+    Graph(Use, Reporting, Plan),
 }
 
 /// Reads the contents of a command's files, and returns what the command has to do with them. `outers` are the shapes and laws of the

@@ -1,5 +1,5 @@
 //! Laws of the definitions: each function does nothing, and its contract is the law.
-ghost use Rattle.std.specs.Prelude.{◌≡◌, ◌∷◌, ℕ, ℤ, Bool, List, Option, None, Some};
+ghost use Rattle.std.specs.Prelude.{◌≡◌, ◌∷◌, ℕ, ℤ, List, Option, None, Some};
 ghost use Rattle.mg_calc.specs.Rules.{Laws};
 ghost use Rattle.mg_calc.specs.declared.plan.Plan.{Plan};
 ghost use Rattle.mg_calc.specs.Told.{BoxTold};
@@ -9,6 +9,7 @@ ghost use Rattle.mg_feed.specs.Graph.{inputs_of};
 ghost use Rattle.mg_answer.specs.Answer.{Read, ended_input};
 ghost use Rattle.mg_answer.specs.Ran.{CameTo};
 ghost use Rattle.mg_answer.specs.declared.status.Status.{Status};
+ghost use Rattle.mg_answer.specs.declared.run.Reporting.{Reporting};
 ghost use Rattle.mg_run.specs.Invocation.{Invocation};
 ghost use Rattle.mg_run.specs.Devices.{Device, CallDevices, Unrisen};
 ghost use Rattle.mg_files.specs.Loads.{LoadedAll, loads_of};
@@ -21,7 +22,7 @@ ghost use Rattle.mg_run.specs.Answer.{RunAnswer, Action, run_plan, solve, trace,
 pub fn one_answer()
     ensures one { (laws : Laws) (action : Action) (boxes : List BoxTold) (input : List ℕ) (a b : RunAnswer) → ¬ Records action → ¬ Replays action → AnswersAction laws action boxes input a → AnswersAction laws action boxes input b → a ≡ b }
     ensures ends { (laws : Laws) (action : Action) (boxes : List BoxTold) (input : List ℕ) (a b : RunAnswer) → ¬ Replays action → AnswersAction laws action boxes input a → AnswersAction laws action boxes input b → (a.notes ≡ b.notes) × (a.status ≡ b.status) }
-    ensures as_run { (laws : Laws) (report : Bool) (plan : Plan) (boxes : List BoxTold) (input : List ℕ) (a b : RunAnswer) → AnswersAction laws (trace report plan) boxes input a → AnswersAction laws (run_plan report plan) boxes input b
+    ensures as_run { (laws : Laws) (report : Reporting) (plan : Plan) (boxes : List BoxTold) (input : List ℕ) (a b : RunAnswer) → AnswersAction laws (trace report plan) boxes input a → AnswersAction laws (run_plan report plan) boxes input b
         → (a.notes ≡ b.notes) × (a.status ≡ b.status) }
 {}
 
@@ -31,14 +32,14 @@ pub fn one_answer()
 pub fn limits_and_workers_change_no_answer()
     ensures words { (laws : Laws) (invocation : Invocation) (files : Files) (boxes : List BoxTold) (input : List ℕ) (a : RunAnswer) → ¬ Records (action_of invocation files) → ¬ Replays (action_of invocation files)
         → AnswersAction laws (action_of invocation files) boxes input a → AnswersAction laws (action_of (record invocation { instruction = record invocation.instruction { limit = None; workers = None } }) files) boxes input a }
-    ensures recorded { (laws : Laws) (report : Bool) (limit : Option ℤ) (plan : Plan) (boxes : List BoxTold) (input : List ℕ) (a b : RunAnswer)
+    ensures recorded { (laws : Laws) (report : Reporting) (limit : Option ℤ) (plan : Plan) (boxes : List BoxTold) (input : List ℕ) (a b : RunAnswer)
         → AnswersAction laws (trace report (with_limit limit plan)) boxes input a → AnswersAction laws (run_plan report plan) boxes input b
         → (a.notes ≡ b.notes) × (a.status ≡ b.status) }
 {}
 
 /// A graph without free nodes has the same answer whether it is run, with any limit of queues, or solved.
 pub fn run_and_solve_answer_the_same()
-    ensures { (laws : Laws) (report : Bool) (limit : Option ℤ) (plan : Plan) (boxes : List BoxTold) (input : List ℕ) (a b : RunAnswer)
+    ensures { (laws : Laws) (report : Reporting) (limit : Option ℤ) (plan : Plan) (boxes : List BoxTold) (input : List ℕ) (a b : RunAnswer)
         → AnswersAction laws (run_plan report (with_limit limit plan)) boxes input a → AnswersAction laws (solve report plan) boxes input b → a ≡ b }
 {}
 

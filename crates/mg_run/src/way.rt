@@ -9,6 +9,7 @@ ghost use Rattle.mg_run.specs.Code.Action.{action_view, CanBeDone};
 use crate::action::{Action, Use};
 use crate::limited::{as_asked, limited};
 use crate::stated::first_stated;
+use mg_answer::Reporting;
 use mg_calc::Plan;
 use mg_files::{free_note, own_law_note};
 use mg_words::{Instruction, Way};
@@ -27,6 +28,16 @@ pub fn way_word(way: Way) -> &'static str
     }
 }
 
+// Returns what the notes tell beside what went wrong.
+fn reporting(instruction: Instruction) -> Reporting
+    ensures { result ≡ answers.reporting instruction }
+{
+    Reporting {
+        counts: instruction.report,
+        arrivals: instruction.arrivals,
+    }
+}
+
 /// Returns the action of using a plan without free nodes in a way. A plan with a node whose law is stated isn't solved, but refused. For a run
 /// that is recorded or made again the number of workers in the words doesn't count.
 pub fn way_action(
@@ -38,7 +49,7 @@ pub fn way_action(
     ensures due { IfOk result (λ action. action_view action ≡ answers.way_action way instruction plan) }
     ensures valid { (outers : List OuterShape) → IsValid plan → OutersFit plan outers → IfOk result (λ action. CanBeDone outers (action_view action)) }
 {
-    let report = instruction.report;
+    let report = reporting(instruction);
     match way {
         Way::Run => Ok(Action::Graph(Use::Run, report, as_asked(instruction, plan))),
         Way::Solve => solve_action(alloc, report, plan),
@@ -52,7 +63,7 @@ pub fn way_action(
 }
 
 // Returns the action of solving a plan without free nodes: it is refused where a node's law is stated.
-fn solve_action(alloc: Global, report: bool, plan: Plan) -> Result<Action, AllocError>
+fn solve_action(alloc: Global, report: Reporting, plan: Plan) -> Result<Action, AllocError>
     ensures due { IfOk result (λ action. action_view action ≡ answers.solve_action (answers.first_stated plan) report plan) }
     ensures valid { (outers : List OuterShape) → IsValid plan → IfOk result (λ action. CanBeDone outers (action_view action)) }
 {
@@ -74,7 +85,7 @@ pub fn live_action(
     ensures due { IfOk result (λ action. action_view action ≡ answers.live_action way instruction first plan) }
     ensures valid { (outers : List OuterShape) → IsValidWithFree plan → OutersFit plan outers → IfOk result (λ action. CanBeDone outers (action_view action)) }
 {
-    let report = instruction.report;
+    let report = reporting(instruction);
     match way {
         Way::Run => Ok(Action::Graph(Use::RunLive, report, as_asked(instruction, plan))),
         Way::Generate => {

@@ -1,5 +1,5 @@
 -- How a run of a net ends, and what it leaves.
-use Rattle.std.specs.Prelude.{◌≡◌, ◌⊎◌, ℕ, Bool, List, [], Some, slice_get}
+use Rattle.std.specs.Prelude.{◌≡◌, ◌⊎◌, ℕ, List, [], Some, slice_get}
 use Rattle.mg_edge.specs.Edge.{SourceTold, SinkTold}
 use Rattle.mg_value.specs.Payload.{Plain}
 use Rattle.mg_settled.specs.Prefix.{StreamPrefix}
@@ -18,11 +18,14 @@ use Rattle.mg_answer.specs.Devices.{Device, device, RunDevices}
 use Rattle.mg_answer.specs.Put.{TextView, HasPut}
 use Rattle.mg_answer.specs.declared.outcomes.Outcomes.{Outcomes}
 use Rattle.mg_answer.specs.declared.status.Status.{Status}
+use Rattle.mg_answer.specs.declared.run.Reporting.{Reporting}
 use Rattle.mg_node.specs.Job.{LoggedJob}
 use Rattle.mg_node.specs.Had.{HadCalls}
 use Rattle.mg_sched.specs.Views.{NetView}
+use Rattle.mg_sched.specs.Made.{IsMade}
 use Rattle.mg_sched.specs.GivesBack.{StoodFor, given_back}
 use Rattle.mg_sched.specs.Reports.{report_of}
+use Rattle.mg_drive.specs.Nets.{Keeps}
 use Rattle.mg_drive.specs.Batches.{IsMore, logged}
 use Rattle.mg_drive.specs.Leaves.{HadCallsOf}
 pub use Rattle.mg_drive.specs.OneRun.{CalculatorsCameBack, WasNothing}
@@ -60,18 +63,25 @@ pub record StoodWith (laws : Laws) (boxes : List BoxTold) (net : NetView) : Type
   pub stood : StoodFor job net
   pub boxes_are : job.boxes ≡ boxes
 
+-- a net was made of a plan and these calculators, and has kept its plan and the calculators that no node uses since
+pub record WasMade (laws : Laws) (plan : Plan) (boxes : List BoxTold) (net : NetView) : Type 0 where
+  pub inputs : Inputs
+  pub made : NetView
+  pub is_made : IsMade laws plan inputs boxes made
+  pub keeps : Keeps made net
+
 -- Runs.
 
 -- the type of `Batches::wrote`: what is written at the end of a run over batches
 abbrev pub Writing : Type 0 → Type 1
-Writing B = B → OutputForm → Bool → Job → FeedEnd → Status → Device SinkTold → Device SinkTold → Type 0
+Writing B = B → OutputForm → Reporting → Job → FeedEnd → Status → Device SinkTold → Device SinkTold → Type 0
 
 -- the devices of a run, where the input told `source` at the beginning of the run
 abbrev pub since : SourceTold → RunDevices → RunDevices
 since source devices = record devices { input = device source devices.input.now }
 
 -- A net was run: the answer of the job of all that was given was written, and its nodes' calculators had their calls.
-pub record HasEnded (laws : Laws) {B : Type 0} (gives : Giving B) (writes : Writing B) (form : OutputForm) (report : Bool) (start : Start B) (status : Status) (source : SourceTold) (sink : SinkTold) (notes : Device SinkTold) (net : NetView) : Type 0 where
+pub record HasEnded (laws : Laws) {B : Type 0} (gives : Giving B) (writes : Writing B) (form : OutputForm) (report : Reporting) (start : Start B) (status : Status) (source : SourceTold) (sink : SinkTold) (notes : Device SinkTold) (net : NetView) : Type 0 where
   pub batches : B
   pub end : FeedEnd
   pub inputs : Inputs
@@ -81,7 +91,7 @@ pub record HasEnded (laws : Laws) {B : Type 0} (gives : Giving B) (writes : Writ
   pub stood : StoodFor (job_with laws start inputs) net
 
 -- A run is over: the answer of the job of all that was given was written, and the calculators that were handed in had their calls.
-pub record HasRunBatches (laws : Laws) {B : Type 0} (gives : Giving B) (writes : Writing B) (form : OutputForm) (report : Bool) (began : B) (plan : Plan) (status : Status) (devices : RunDevices) (boxes : Device (List BoxTold)) : Type 0 where
+pub record HasRunBatches (laws : Laws) {B : Type 0} (gives : Giving B) (writes : Writing B) (form : OutputForm) (report : Reporting) (began : B) (plan : Plan) (status : Status) (devices : RunDevices) (boxes : Device (List BoxTold)) : Type 0 where
   pub batches : B
   pub end : FeedEnd
   pub inputs : Inputs

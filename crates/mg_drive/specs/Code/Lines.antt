@@ -12,7 +12,7 @@ use Rattle.mg_feed.specs.Stands.{HasAccepted, nothing_taken, packets_of}
 use Rattle.mg_feed.specs.Fed.{Fed}
 use Rattle.mg_feed.specs.Came.{Came}
 use Rattle.mg_feed.specs.Ran.{MetEnd, Spends, Unfailed, FailedBy}
-use Rattle.mg_feed.specs.Batch.{EndsAs, Fills, idle_by}
+use Rattle.mg_feed.specs.Batch.{EndsAs, Fills, CutsAt, idle_by}
 use Rattle.mg_feed.specs.declared.feed_end.FeedEnd.TheVariants.{OutOfMemory}
 use Rattle.mg_feed.specs.declared.feed_end.BatchEnd.{BatchEnd}
 use Rattle.mg_feed.specs.declared.feed_end.BatchEnd.TheVariants.{More, End}
@@ -48,8 +48,8 @@ pub record IsRead (plan : Plan) (first : SourceTold) (end : BatchEnd) (source : 
   pub spent : Spends 0 (idle_by end fed.read.ended) first.left source.left first.reads source.reads
   pub so : ReadsAs end plan first source fed past lines
 
--- A feed read one more batch behind these lines. The batch hands on what the feed then had and had not handed on before.
-pub record HasBatch (plan : Plan) (first : SourceTold) (end : BatchEnd) (inputs : Inputs) (source : SourceTold) (fed : Fed) (past : List ℕ) (lines : List (List ℕ)) : Type 0 where
+-- A feed read one more batch behind these lines, which may have ended early or not. The batch hands on what the feed then had and had not handed on before.
+pub record HasBatch (early : Bool) (plan : Plan) (first : SourceTold) (end : BatchEnd) (inputs : Inputs) (source : SourceTold) (fed : Fed) (past : List ℕ) (lines : List (List ℕ)) : Type 0 where
   pub came : List ℕ
   pub more : List (List ℕ)
   pub is_read : IsRead plan first end source fed (past ++ came) (lines ++ more)
@@ -63,7 +63,7 @@ pub record HasBatch (plan : Plan) (first : SourceTold) (end : BatchEnd) (inputs 
   pub longer : IsMore end → length lines < length (lines ++ more)
   pub named : IsMore end → (given_by (inputs_of plan) (lines ++ more)).named ≡ true
   pub few : length (lines ++ more) ≤ most_lines
-  pub filled : Fills end batch_size more
+  pub filled : CutsAt early end batch_size more
 
 -- A call read some more bytes, or none, behind these, and all that was read was read once. The source told `at` before the call. Where the
 -- source had ended, nothing more was read.
@@ -111,6 +111,11 @@ pub record LinesCame (fed : Fed) (plan : Plan) (first source : SourceTold) (end 
   pub filled : Fills end batch_size newest
   pub all_filled : All (λ batch. Fills More batch_size batch) earlier
   pub named : IsMore end → (given_by (inputs_of plan) (lines_of (newest ∷ earlier))).named ≡ true
+
+-- a feed read batches, and the newest of a history is all that the lines that it accepted gave
+abbrev pub NewestGave : Fed → Plan → SourceTold → SourceTold → BatchEnd → List Inputs → Type 0
+NewestGave fed plan first source end [] = ⊥
+NewestGave fed plan first source end (all ∷ earlier) = LinesGave fed plan first source end all
 
 -- how many lines may still come
 abbrev pub lines_left : Fed → ℕ

@@ -24,6 +24,7 @@ use Rattle.mg_answer.specs.Outcomes.{told_answer, told_failed}
 use Rattle.mg_answer.specs.Wrote.{WroteBy}
 use Rattle.mg_answer.specs.declared.outcomes.Outcomes.{Outcomes}
 use Rattle.mg_answer.specs.declared.status.Status.{Status}
+use Rattle.mg_answer.specs.declared.run.Reporting.{Reporting}
 use Rattle.mg_node.specs.Job.{LoggedJob, Solves}
 use Rattle.mg_sched.specs.Views.{NetView}
 use Rattle.mg_sched.specs.StandsFor.{StandsFor}
@@ -142,9 +143,9 @@ batches_left (Some end) left = 0
 
 -- The answer of a solution of the core was written, with notes by the plan's numbers and the lines of the logs, which are those of whatever
 -- the free nodes may have taken by what is kept of them.
-pub record LiveWrote (whole : Plan) (frees : List FreeNode) (takers : List Taker) (form : OutputForm) (report : Bool) (job : Job) (end : FeedEnd) (status : Status) (output notes : Device SinkTold) : Type 0 where
+pub record LiveWrote (whole : Plan) (frees : List FreeNode) (takers : List Taker) (form : OutputForm) (report : Reporting) (job : Job) (end : FeedEnd) (status : Status) (output notes : Device SinkTold) : Type 0 where
   pub streams : List (StreamPrefix Plain)
   pub solution : IsSolution job streams
   pub live : Outcomes
-  pub tells : (takens : List Taken) → HaveTaken frees takens takers → LiveTells whole job streams frees takens live
+  pub tells : (takens : List Taken) → HaveTaken frees takens takers → LiveTells report whole job streams frees takens live
   pub by : WroteBy status (told_answer report whole end live (output_in form job.plan streams)) (told_failed report whole end live) output notes

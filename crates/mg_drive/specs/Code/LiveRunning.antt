@@ -1,5 +1,5 @@
 -- A run of a core over batches of its plan, once it is over.
-use Rattle.std.specs.Prelude.{◌≡◌, ◌⊎◌, ℕ, Bool, List, ◌∷◌, ◌++◌, replicate, reverse, Option}
+use Rattle.std.specs.Prelude.{◌≡◌, ◌⊎◌, ℕ, List, ◌∷◌, ◌++◌, replicate, reverse, Option}
 use Rattle.mg_edge.specs.Edge.{SourceTold}
 use Rattle.mg_value.specs.Payload.{Plain}
 use Rattle.mg_settled.specs.Prefix.{StreamPrefix, empty_prefix}
@@ -16,6 +16,7 @@ use Rattle.mg_feed.specs.declared.feed_end.BatchEnd.TheVariants.{End}
 use Rattle.mg_answer.specs.Answer.{OutputForm}
 use Rattle.mg_answer.specs.Devices.{Device, RunDevices}
 use Rattle.mg_answer.specs.declared.status.Status.{Status}
+use Rattle.mg_answer.specs.declared.run.Reporting.{Reporting}
 use Rattle.mg_drive.specs.Leaves.{KeepsAFront}
 use Rattle.mg_drive.specs.OneLive.{OneLive}
 use Rattle.mg_drive.specs.OneRun.{AllHad, WasNothing}
@@ -26,7 +27,7 @@ use Rattle.mg_drive.specs.Code.Live.{end_by}
 
 -- All batches were given and run: `base` is what they gave together, and `earlier` has what they had given by the end of each earlier
 -- batch.
-pub record HasRunLive (laws : Laws) {B : Type 0} (gives : Giving B) (came : Coming B) (form : OutputForm) (report : Bool) (began : B) (whole : Plan) (status : Status) (devices : RunDevices) (boxes : Device (List BoxTold)) : Type 0 where
+pub record HasRunLive (laws : Laws) {B : Type 0} (gives : Giving B) (came : Coming B) (form : OutputForm) (report : Reporting) (began : B) (whole : Plan) (status : Status) (devices : RunDevices) (boxes : Device (List BoxTold)) : Type 0 where
   pub batches : B
   pub end : FeedEnd
   pub base : Inputs

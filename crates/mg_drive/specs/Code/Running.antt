@@ -1,5 +1,5 @@
 -- A run of a net over batches, while it is under way.
-use Rattle.std.specs.Prelude.{◌≡◌, ◌⊎◌, ℕ, List, length, take}
+use Rattle.std.specs.Prelude.{◌≡◌, ◌⊎◌, ◌<◌, ◌+◌, ⊤, ℕ, List, Result, IfOk, OnErr, length, take}
 use Rattle.mg_edge.specs.Edge.{SourceTold, SinkTold}
 use Rattle.mg_value.specs.Payload.{Plain}
 use Rattle.mg_settled.specs.Prefix.{StreamPrefix}
@@ -23,6 +23,8 @@ use Rattle.mg_sched.specs.GivesBack.{StoodFor}
 pub use Rattle.mg_drive.specs.Nets.{HasRested}
 pub use Rattle.mg_drive.specs.Batches.{Giving, Due}
 use Rattle.mg_drive.specs.Batches.{IsMore, logged, SomeGiven}
+use Rattle.mg_drive.specs.declared.driving.Step.{Step}
+use Rattle.mg_drive.specs.declared.driving.Step.TheVariants.{On, Over}
 
 -- the type of `Batches::reads_on`: what a further call of batches reads
 abbrev pub ReadingOn : Type 0 → Type 1
@@ -40,6 +42,10 @@ pub record Start (B : Type 0) : Type 0 where
   pub source : SourceTold
   pub sink : SinkTold
   pub batches : B
+
+-- how the run of a plan begins, with these calculators
+abbrev pub start_of : {B : Type 0} → Plan → List BoxTold → SourceTold → SinkTold → B → Start B
+start_of plan boxes source sink batches = record { plan = plan; boxes = boxes; source = source; sink = sink; batches = batches }
 
 -- the job of a run over what was given so far
 abbrev pub job_with : (laws : Laws) {B : Type 0} → Start B → Inputs → LoggedJob laws
@@ -112,6 +118,23 @@ pub record RunIsOver (laws : Laws) {B T : Type 0} (gives : Giving B) (has_told :
   pub has_rested : HasRested (job_with laws start under_way.inputs) net
   pub all : IsAllTaken (job_with laws start under_way.inputs) net
 
+-- A step of a run --
+
+-- The run is under way still, or it is over.
+abbrev pub HasStepped : (laws : Laws) {B T : Type 0} → Giving B → TellingSets T → Start B → Step → SourceTold → SinkTold → B → T → NetView → Type 0
+HasStepped laws gives has_told start (On end) source sink batches telling net = IsUnderWay laws gives has_told start end source sink batches telling net
+HasStepped laws gives has_told start (Over end) source sink batches telling net = RunIsOver laws gives has_told start end source sink batches telling net
+
+-- a bound on the steps that are left, by how the last batch ended and by how much may still come
+abbrev pub steps_left : BatchEnd → ℕ → ℕ
+steps_left More left = left + 1
+steps_left (End end) left = 0
+
+-- a step with which the run goes on leaves fewer
+abbrev pub LeavesFewer : Step → BatchEnd → ℕ → ℕ → Type 0
+LeavesFewer (On end) last before now = steps_left end now < steps_left last before
+LeavesFewer (Over end) last before now = ⊤
+
 -- a front of the text by which a job's solution is told in a form was taken
 abbrev pub FrontIn : OutputForm → SinkTold → SinkTold → Job → Type 0
 FrontIn form first sink job = (streams : List (StreamPrefix Plain)) → IsSolution job streams → TookFront (device first sink) (output_in form job.plan streams)
@@ -128,3 +151,8 @@ pub record IsShort (laws : Laws) {B T : Type 0} (gives : Giving B) (reads_on : R
   pub front : IsToldSome has_told (job_with laws start inputs).job start.sink sink ⊎ FrontIn form start.sink sink (job_with laws start inputs).job
   -- while the input went on, sets were told and nothing else was written
   pub unended : IsMore end → IsToldSome has_told (job_with laws start inputs).job start.sink sink
+
+-- What the steps of a run came to: it is over, or memory ran out.
+pub record IsDriven (laws : Laws) {B T E : Type 0} (gives : Giving B) (reads_on : ReadingOn B) (has_told : TellingSets T) (form : OutputForm) (start : Start B) (end : Result FeedEnd E) (source : SourceTold) (sink : SinkTold) (batches : B) (telling : T) (net : NetView) : Type 0 where
+  pub over : IfOk end (λ e. RunIsOver laws gives has_told start e source sink batches telling net)
+  pub short : OnErr end (IsShort laws gives reads_on has_told form start source sink net)

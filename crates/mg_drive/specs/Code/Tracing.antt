@@ -1,5 +1,5 @@
 -- A run that is recorded, step by step.
-use Rattle.std.specs.Prelude.{◌≡◌, ◌⊎◌, ℕ, List, ◌++◌, Bool}
+use Rattle.std.specs.Prelude.{◌≡◌, ◌⊎◌, ℕ, List, ◌++◌}
 use Rattle.mg_edge.specs.Edge.{SinkTold}
 use Rattle.mg_calc.specs.Rules.{Laws}
 use Rattle.mg_calc.specs.declared.event.Event.{Event}
@@ -14,6 +14,7 @@ use Rattle.mg_answer.specs.Devices.{Device, device, Untouched, TookFront}
 use Rattle.mg_answer.specs.Put.{BlockView, HasPutIn}
 use Rattle.mg_answer.specs.Wrote.{Wrote}
 use Rattle.mg_answer.specs.declared.status.Status.{Status}
+use Rattle.mg_answer.specs.declared.run.Reporting.{Reporting}
 use Rattle.mg_sched.specs.Views.{NetView}
 use Rattle.mg_sched.specs.Runs.{IsRun}
 use Rattle.mg_sched.specs.Made.{IsMade, job_of}
@@ -46,7 +47,7 @@ pub record HasRecordedSome (laws : Laws) (first sink : SinkTold) (text : List �
   pub front : TookFront (device first sink) (text ++ events_text events)
 
 -- A net that was made was run, and a trace of it was written; its nodes' calculators had their calls.
-pub record NetTraced (laws : Laws) (report : Bool) (plan : Plan) (inputs : Inputs) (boxes : List BoxTold) (end : FeedEnd) (status : Status) (output notes : Device SinkTold) (net : NetView) : Type 0 where
+pub record NetTraced (laws : Laws) (report : Reporting) (plan : Plan) (inputs : Inputs) (boxes : List BoxTold) (end : FeedEnd) (status : Status) (output notes : Device SinkTold) (net : NetView) : Type 0 where
   pub text : List ℕ
   pub trace : IsTrace laws plan inputs boxes text
   pub wrote : Wrote (by_text text report) (plan_job laws plan inputs) end status output notes
@@ -59,7 +60,7 @@ pub record NetShort (laws : Laws) (plan : Plan) (inputs : Inputs) (boxes : List 
   pub stood : StoodFor (job_of laws plan inputs boxes) net
 
 -- A job was run and a trace of it written, and the calculators that were handed in had their calls.
-pub record JobTraced (laws : Laws) (report : Bool) (plan : Plan) (inputs : Inputs) (end : FeedEnd) (status : Status) (output notes : Device SinkTold) (boxes : Device (List BoxTold)) : Type 0 where
+pub record JobTraced (laws : Laws) (report : Reporting) (plan : Plan) (inputs : Inputs) (end : FeedEnd) (status : Status) (output notes : Device SinkTold) (boxes : Device (List BoxTold)) : Type 0 where
   pub text : List ℕ
   pub trace : IsTrace laws plan inputs boxes.before text
   pub wrote : Wrote (by_text text report) (plan_job laws plan inputs) end status output notes

@@ -1,5 +1,5 @@
 -- What an `Action` of the code stands for, and whether it can be done.
-use Rattle.std.specs.Prelude.{ℕ, Bool, List, All}
+use Rattle.std.specs.Prelude.{ℕ, List, All}
 use Rattle.mg_calc.specs.declared.plan.Plan.{Plan}
 use Rattle.mg_calc.specs.declared.shape.OuterShape.{OuterShape}
 use Rattle.mg_calc.specs.Shape.{IsStated}
@@ -15,9 +15,10 @@ use Rattle.mg_run.specs.declared.action.Action as code
 use Rattle.mg_run.specs.declared.action.Action.TheVariants.{Refuse, Show, Graph}
 use Rattle.mg_run.specs.declared.action.Use.{Use}
 use Rattle.mg_run.specs.declared.action.Use.TheVariants.{Run, RunLive, Solve, Generate, GenerateLive, Trace, Replay}
+use Rattle.mg_answer.specs.declared.run.Reporting.{Reporting}
 
 -- the action of using a plan in a way of the code, with a report or without
-abbrev pub use_action : Use → Bool → Plan → Action
+abbrev pub use_action : Use → Reporting → Plan → Action
 use_action Run report plan = run_plan report plan
 use_action RunLive report plan = run_live report plan
 use_action Solve report plan = solve report plan

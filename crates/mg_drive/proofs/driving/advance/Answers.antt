@@ -8,7 +8,7 @@ use Rattle.mg_drive.proofs.StillThere.{given_on}
 use Rattle.mg_drive.proofs.driving.advance.Goals as goal
 
 pub to_rest-requires-clause-stands : goal.to_rest-requires-clause-stands
-to_rest-requires-clause-stands g c κs within = told_stands g.T.Telling.has_told (g.K.Sink.told c.args.output.now) c.args.net.now.one.net c.args.telling.now c.requires.told
+to_rest-requires-clause-stands g c = told_stands g.T.Telling.has_told (g.K.Sink.told c.args.output.now) (g.N.Driven.net c.args.net.now) c.args.telling.now c.requires.told
 
 pub returns-in_err-to_rest-clause-places : goal.returns-in_err-to_rest-clause-places
 returns-in_err-to_rest-clause-places g c = c.requires.places ∙ ap (λ (p : Plan). length p.outputs) (sym c.in_err-to_rest.ensures.keeps.plan)
@@ -16,7 +16,7 @@ returns-in_err-to_rest-clause-places g c = c.requires.places ∙ ap (λ (p : Pla
 pub returns-in_err-to_rest-clause-front : goal.returns-in_err-to_rest-clause-front
 returns-in_err-to_rest-clause-front g c =
     let is = err_from_is_err_and c.from_residual.result c.from_residual.ensures.1 in
-    rw is.1 (λ job first h p. told_some g.T.Telling.has_told job first (g.K.Sink.told c.args.output.now) (taken_out c.args.net.now.one.net) c.args.telling.now p)
+    rw is.1 (λ job first h p. told_some g.T.Telling.has_told job first (g.K.Sink.told c.args.output.now) (taken_out (g.N.Driven.net c.args.net.now)) c.args.telling.now p)
 
 pub take_all-requires-clause-places : goal.take_all-requires-clause-places
 take_all-requires-clause-places g c = c.requires.places ∙ ap (λ (p : Plan). length p.outputs) (sym c.in_ok-to_rest.ensures.keeps.plan)
@@ -28,17 +28,17 @@ take_all-requires-clause-told g c =
       job = some.job;
       first = some.first;
       stands = c.in_ok-to_rest.ensures.stands some.job some.stands;
-      is_told = told_same g.T.Telling.has_told some.job some.first (g.K.Sink.told c.args.output.now) (taken_out c.args.net.now.one.net) (taken_out c.to_rest.new.self.one.net) c.args.telling.now
+      is_told = told_same g.T.Telling.has_told some.job some.first (g.K.Sink.told c.args.output.now) (taken_out (g.N.Driven.net c.args.net.now)) (taken_out (g.N.Driven.net c.to_rest.new.self)) c.args.telling.now
           c.in_ok-to_rest.ensures.taken some.is_told;
     }
 
 pub returns-in_err-take_all-clause-running : goal.returns-in_err-take_all-clause-running
-returns-in_err-take_all-clause-running g c = takings_run c.to_rest.new.self.one.net c.take_all.new.net.one.net c.in_err-take_all.ensures.left c.in_ok-to_rest.ensures.running
+returns-in_err-take_all-clause-running g c = takings_run (g.N.Driven.net c.to_rest.new.self) (g.N.Driven.net c.take_all.new.net) c.in_err-take_all.ensures.left c.in_ok-to_rest.ensures.running
 
 pub returns-in_err-take_all-clause-keeps : goal.returns-in_err-take_all-clause-keeps
 returns-in_err-take_all-clause-keeps g c =
-    keeps_on c.args.net.now.one.net c.to_rest.new.self.one.net c.take_all.new.net.one.net c.in_ok-to_rest.ensures.keeps
-    (takings_keep c.to_rest.new.self.one.net c.take_all.new.net.one.net c.in_err-take_all.ensures.left)
+    keeps_on (g.N.Driven.net c.args.net.now) (g.N.Driven.net c.to_rest.new.self) (g.N.Driven.net c.take_all.new.net) c.in_ok-to_rest.ensures.keeps
+    (takings_keep (g.N.Driven.net c.to_rest.new.self) (g.N.Driven.net c.take_all.new.net) c.in_err-take_all.ensures.left)
 
 pub returns-in_err-take_all-clause-stands : goal.returns-in_err-take_all-clause-stands
 returns-in_err-take_all-clause-stands g c = λ job h. c.in_err-take_all.ensures.stands job (c.in_ok-to_rest.ensures.stands job h)
@@ -48,15 +48,15 @@ returns-in_err-take_all-clause-front g c =
     let is = err_from_is_err_and c.from_residual-in_err-take_all.result c.from_residual-in_err-take_all.ensures.1 in
     rw is.1 (λ job first h p.
     c.in_err-take_all.ensures.front job first (c.in_ok-to_rest.ensures.stands job h)
-    (told_same g.T.Telling.has_told job first (g.K.Sink.told c.args.output.now) (taken_out c.args.net.now.one.net) (taken_out c.to_rest.new.self.one.net) c.args.telling.now c.in_ok-to_rest.ensures.taken p))
+    (told_same g.T.Telling.has_told job first (g.K.Sink.told c.args.output.now) (taken_out (g.N.Driven.net c.args.net.now)) (taken_out (g.N.Driven.net c.to_rest.new.self)) c.args.telling.now c.in_ok-to_rest.ensures.taken p))
 
 pub returns-clause-running : goal.returns-clause-running
-returns-clause-running g c = takings_run c.to_rest.new.self.one.net c.take_all.new.net.one.net c.in_ok-take_all.ensures.left c.in_ok-to_rest.ensures.running
+returns-clause-running g c = takings_run (g.N.Driven.net c.to_rest.new.self) (g.N.Driven.net c.take_all.new.net) c.in_ok-take_all.ensures.left c.in_ok-to_rest.ensures.running
 
 pub returns-clause-keeps : goal.returns-clause-keeps
 returns-clause-keeps g c =
-    keeps_on c.args.net.now.one.net c.to_rest.new.self.one.net c.take_all.new.net.one.net c.in_ok-to_rest.ensures.keeps
-    (takings_keep c.to_rest.new.self.one.net c.take_all.new.net.one.net c.in_ok-take_all.ensures.left)
+    keeps_on (g.N.Driven.net c.args.net.now) (g.N.Driven.net c.to_rest.new.self) (g.N.Driven.net c.take_all.new.net) c.in_ok-to_rest.ensures.keeps
+    (takings_keep (g.N.Driven.net c.to_rest.new.self) (g.N.Driven.net c.take_all.new.net) c.in_ok-take_all.ensures.left)
 
 pub returns-clause-stands : goal.returns-clause-stands
 returns-clause-stands g c = λ job h. c.in_ok-take_all.ensures.stands job (c.in_ok-to_rest.ensures.stands job h)
@@ -64,15 +64,15 @@ returns-clause-stands g c = λ job h. c.in_ok-take_all.ensures.stands job (c.in_
 pub returns-clause-told : goal.returns-clause-told
 returns-clause-told g c = λ job first h p.
     c.in_ok-take_all.ensures.told job first (c.in_ok-to_rest.ensures.stands job h)
-    (told_same g.T.Telling.has_told job first (g.K.Sink.told c.args.output.now) (taken_out c.args.net.now.one.net) (taken_out c.to_rest.new.self.one.net) c.args.telling.now c.in_ok-to_rest.ensures.taken p)
+    (told_same g.T.Telling.has_told job first (g.K.Sink.told c.args.output.now) (taken_out (g.N.Driven.net c.args.net.now)) (taken_out (g.N.Driven.net c.to_rest.new.self)) c.args.telling.now c.in_ok-to_rest.ensures.taken p)
 
 pub returns-clause-rested : goal.returns-clause-rested
 returns-clause-rested g c = λ job h.
-    rested_at job c.args.net.now.one.net c.to_rest.new.self.one.net c.take_all.new.net.one.net c.in_ok-to_rest.ensures.stands h c.in_ok-to_rest.ensures.running c.in_ok-to_rest.ensures.rest
+    rested_at job (g.N.Driven.net c.args.net.now) (g.N.Driven.net c.to_rest.new.self) (g.N.Driven.net c.take_all.new.net) c.in_ok-to_rest.ensures.stands h c.in_ok-to_rest.ensures.running c.in_ok-to_rest.ensures.rest
     c.in_ok-take_all.ensures.left c.in_ok-take_all.ensures.all
 
 pub returns-in_err-take_all-clause-whole : goal.returns-in_err-take_all-clause-whole
-returns-in_err-take_all-clause-whole g c = given_on c.args.net.now.one.net c.to_rest.new.self.one.net c.take_all.new.net.one.net c.in_ok-to_rest.ensures.whole c.in_err-take_all.ensures.whole
+returns-in_err-take_all-clause-whole g c = given_on (g.N.Driven.net c.args.net.now) (g.N.Driven.net c.to_rest.new.self) (g.N.Driven.net c.take_all.new.net) c.in_ok-to_rest.ensures.whole c.in_err-take_all.ensures.whole
 
 pub returns-clause-whole : goal.returns-clause-whole
-returns-clause-whole g c = given_on c.args.net.now.one.net c.to_rest.new.self.one.net c.take_all.new.net.one.net c.in_ok-to_rest.ensures.whole c.in_ok-take_all.ensures.whole
+returns-clause-whole g c = given_on (g.N.Driven.net c.args.net.now) (g.N.Driven.net c.to_rest.new.self) (g.N.Driven.net c.take_all.new.net) c.in_ok-to_rest.ensures.whole c.in_ok-take_all.ensures.whole

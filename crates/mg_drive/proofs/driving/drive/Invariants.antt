@@ -2,12 +2,11 @@
 use Rattle.std.proofs.Common.{◌≡◌, length, false}
 use Rattle.mg_sched.specs.StandsFor.{IsRunning}
 use Rattle.mg_drive.specs.Nets.{Keeps, AreThere}
-use Rattle.mg_drive.specs.Code.Running.{Start, IsUnderWay}
-use Rattle.mg_drive.proofs.Looping.{batches_left}
+use Rattle.mg_drive.specs.Code.Running.{Start, IsUnderWay, steps_left}
 use Rattle.mg_drive.proofs.driving.drive.Given as goal
 
-abbrev pub invariant-batches : goal.invariant-batches
-invariant-batches g l = record {
+abbrev pub invariant-steps : goal.invariant-steps
+invariant-steps g l = record {
   places : length l.ends.set ≡ length l.net.one.net.plan.outputs;
   running : IsRunning l.net.one.net;
   keeps : Keeps l.fn.net.one.net l.net.one.net;
@@ -17,5 +16,5 @@ invariant-batches g l = record {
       → IsUnderWay g.C.NodeCalculator.laws (g.B.Batches.gives g.C.NodeCalculator.laws) g.T.Telling.has_told start l.last (g.S.Source.told l.input) (g.K.Sink.told l.output) l.ends.batches l.ends.telling l.net.one.net;
 }
 
-abbrev pub decreases-batches : goal.decreases-batches
-decreases-batches g l = batches_left l.last (g.B.Batches.left l.ends.batches)
+abbrev pub decreases-steps : goal.decreases-steps
+decreases-steps g l = steps_left l.last (g.B.Batches.left l.ends.batches)

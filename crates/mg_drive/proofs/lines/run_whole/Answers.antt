@@ -25,20 +25,20 @@ returns-in_err-status-clause-short g c =
         read = elim nothing.0 [
           | inl same ↦ unread_yet c.args.run.now.plan.now (told_by g.S.Source.told g.K.Sink.told g.E.Sink.told c.args.devices.now c.run_batches.new.devices).input same
           | inr read ↦ elim read [
-            | inl further ↦ first_call c.args.run.now.plan.now (told_by g.S.Source.told g.K.Sink.told g.E.Sink.told c.args.devices.now c.run_batches.new.devices).input (fed c.in_ok-ends.ends.0) c.in_ok-ends.ensures.feed further
-            | inr given ↦ first_given c.args.run.now.plan.now (told_by g.S.Source.told g.K.Sink.told g.E.Sink.told c.args.devices.now c.run_batches.new.devices).input (fed given.batches) given.end given.inputs given.given
+            | inl further ↦ first_call c.args.run.now.plan.now (told_by g.S.Source.told g.K.Sink.told g.E.Sink.told c.args.devices.now c.run_batches.new.devices).input (fed c.in_ok-ends.ends.0.feed) c.in_ok-ends.ensures.feed further
+            | inr given ↦ first_given c.args.run.now.plan.now (told_by g.S.Source.told g.K.Sink.told g.E.Sink.told c.args.devices.now c.run_batches.new.devices).input (fed given.batches.feed) given.end given.inputs given.given
           ]
         ];
         nothing = nothing.1;
       })
-      | inr was ↦ inr (lines_short c.args.run.now.plan.now (told_by g.S.Source.told g.K.Sink.told g.E.Sink.told c.args.devices.now c.run_batches.new.devices).input (told_by g.S.Source.told g.K.Sink.told g.E.Sink.told c.args.devices.now c.run_batches.new.devices).output (map g.C.NodeCalculator.told c.args.boxes.now.items) (map g.C.NodeCalculator.told c.run_batches.new.boxes.items) was.net (fed was.batches) was.end was.at was.inputs c.requires.boxes was.given was.last (stood_is_job (logged g.C.NodeCalculator.laws c.args.run.now.plan.now was.inputs (map g.C.NodeCalculator.told c.args.boxes.now.items)) was.net was.stood)
+      | inr was ↦ inr (lines_short c.args.run.now.plan.now (told_by g.S.Source.told g.K.Sink.told g.E.Sink.told c.args.devices.now c.run_batches.new.devices).input (told_by g.S.Source.told g.K.Sink.told g.E.Sink.told c.args.devices.now c.run_batches.new.devices).output (map g.C.NodeCalculator.told c.args.boxes.now.items) (map g.C.NodeCalculator.told c.run_batches.new.boxes.items) was.net (fed was.batches.feed) was.end was.at was.inputs c.requires.boxes was.given was.last (stood_is_job (logged g.C.NodeCalculator.laws c.args.run.now.plan.now was.inputs (map g.C.NodeCalculator.told c.args.boxes.now.items)) was.net was.stood)
           (front_lines (logged g.C.NodeCalculator.laws c.args.run.now.plan.now was.inputs (map g.C.NodeCalculator.told c.args.boxes.now.items)) (told_by g.S.Source.told g.K.Sink.told g.E.Sink.told c.args.devices.now c.run_batches.new.devices).output.before (told_by g.S.Source.told g.K.Sink.told g.E.Sink.told c.args.devices.now c.run_batches.new.devices).output.now (stood_is_job (logged g.C.NodeCalculator.laws c.args.run.now.plan.now was.inputs (map g.C.NodeCalculator.told c.args.boxes.now.items)) was.net was.stood) was.front) was.stood was.back c.in_err-status.ensures.back)
     ])
 
 pub returns-clause-ran : goal.returns-clause-ran
 returns-clause-ran g c =
     let h = c.in_ok-status.ensures.ran in
-    lines_ran c.args.run.now.report c.args.run.now.plan.now (told_by g.S.Source.told g.K.Sink.told g.E.Sink.told c.args.devices.now c.run_batches.new.devices) (device (map g.C.NodeCalculator.told c.args.boxes.now.items) (map g.C.NodeCalculator.told c.run_batches.new.boxes.items)) c.in_ok-status.status (fed h.batches) h.end h.inputs h.given c.in_ok-status.ensures.back h.wrote h.had
+    lines_ran c.args.run.now.report c.args.run.now.plan.now (told_by g.S.Source.told g.K.Sink.told g.E.Sink.told c.args.devices.now c.run_batches.new.devices) (device (map g.C.NodeCalculator.told c.args.boxes.now.items) (map g.C.NodeCalculator.told c.run_batches.new.boxes.items)) c.in_ok-status.status (fed h.batches.feed) h.end h.inputs h.given c.in_ok-status.ensures.back h.wrote h.had
 
 pub returns-in_err-ends-clause-unnoted : goal.returns-in_err-ends-clause-unnoted
 returns-in_err-ends-clause-unnoted g c =

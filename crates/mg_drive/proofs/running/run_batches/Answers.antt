@@ -1,60 +1,43 @@
-use Rattle.std.proofs.Common.{map, refl, inl, inr, ◌∙◌}
-use Rattle.std.proofs.lemmas.Result.{err_from_is_err_and}
-use Rattle.mg_calc.proofs.FreeNodes.{with_none}
-use Rattle.mg_drive.proofs.BoxesBack.{same_back}
+use Rattle.std.proofs.Common.{length, map, refl, inl, inr, sym, ap, ◌∙◌}
+use Rattle.std.proofs.lemmas.Result.{err_from_is_err_and, IfOk-weaker, on_err_weaker}
+use Rattle.mg_calc.specs.declared.plan.Plan.{Plan}
+use Rattle.mg_drive.specs.Code.Running.{start_of}
+use Rattle.mg_drive.proofs.RunsEnd.{some_rested}
+use Rattle.mg_drive.proofs.BoxesBack.{made_plan, made_still, same_back}
 use Rattle.mg_drive.proofs.running.run_batches.Goals as goal
 
-pub returns-in_err-set-clause-short : goal.returns-in_err-set-clause-short
-returns-in_err-set-clause-short g c =
+pub returns-in_err-begun-clause-short : goal.returns-in_err-begun-clause-short
+returns-in_err-begun-clause-short g c =
     let is = err_from_is_err_and c.from_residual.result c.from_residual.ensures.1 in
-    rw is.1 (inl (inl refl, record { unwritten = refl; uncalled = refl }))
+    rw is.1 (inl (c.in_err-begun.ensures.short, record { unwritten = refl; uncalled = c.in_err-begun.ensures.same }))
 
-pub returns-in_err-set-clause-back : goal.returns-in_err-set-clause-back
-returns-in_err-set-clause-back g c = same_back c.args.run.now.plan.now (map g.C.NodeCalculator.told c.args.boxes.now.items) (map g.C.NodeCalculator.told c.args.boxes.now.items) refl
+pub returns-in_err-begun-clause-unnoted : goal.returns-in_err-begun-clause-unnoted
+returns-in_err-begun-clause-unnoted g c =
+    let is = err_from_is_err_and c.from_residual.result c.from_residual.ensures.1 in
+    rw is.1 refl
 
-pub returns-in_err-first-clause-short : goal.returns-in_err-first-clause-short
-returns-in_err-first-clause-short g c =
-    let is = err_from_is_err_and c.from_residual-in_err-first.result c.from_residual-in_err-first.ensures.1 in
-    rw is.1 (inl (inr (inl (c.in_err-first.ensures.further c.args.run.now.plan.now (g.S.Source.told c.args.devices.now.input.now) (inl c.requires.fresh))), record { unwritten = refl; uncalled = refl }))
+pub returns-in_err-begun-clause-back : goal.returns-in_err-begun-clause-back
+returns-in_err-begun-clause-back g c = same_back c.args.run.now.plan.now (map g.C.NodeCalculator.told c.args.boxes.now.items) _ c.in_err-begun.ensures.same
 
-pub returns-in_err-first-clause-back : goal.returns-in_err-first-clause-back
-returns-in_err-first-clause-back g c = same_back c.args.run.now.plan.now (map g.C.NodeCalculator.told c.args.boxes.now.items) (map g.C.NodeCalculator.told c.args.boxes.now.items) refl
+pub drive-end-requires-clause-under_way : goal.drive-end-requires-clause-under_way
+drive-end-requires-clause-under_way g c κs within = (c.args.run.now.plan.now, record { start = (start_of c.args.run.now.plan.now (map g.C.NodeCalculator.told c.args.boxes.now.items) (g.S.Source.told c.args.devices.now.input.now) (g.K.Sink.told c.args.devices.now.output.now) c.args.batches); plan_is = refl; under_way = (c.in_ok-begun.ensures.begun (g.K.Sink.told c.args.devices.now.output.now)) })
 
-pub run_made_net-requires-clause-job : goal.run_made_net-requires-clause-job
-run_made_net-requires-clause-job g c κs within = record {
-  plan = c.requires.valid;
-  inputs = (c.in_ok-first.ensures.first g.C.NodeCalculator.laws c.args.run.now.plan.now (with_none c.args.run.now.plan.now c.requires.valid).0 c.requires.fresh).fits;
+pub drive-end-requires-clause-places : goal.drive-end-requires-clause-places
+drive-end-requires-clause-places g c κs within = c.in_ok-begun.ensures.set ∙ ap (λ (p : Plan). length p.outputs) (sym (made_plan c.args.run.now.plan.now (map g.C.NodeCalculator.told c.args.boxes.now.items) c.in_ok-begun.begun.net c.in_ok-begun.ensures.made))
+
+pub end_run-requires : goal.end_run-requires
+end_run-requires g c = record {
+  rested = IfOk-weaker c.drive-end.result _ _ (λ end f. some_rested (g.B.Batches.gives g.C.NodeCalculator.laws) g.T.Telling.has_told c.args.run.now.plan.now (start_of c.args.run.now.plan.now (map g.C.NodeCalculator.told c.args.boxes.now.items) (g.S.Source.told c.args.devices.now.input.now) (g.K.Sink.told c.args.devices.now.output.now) c.args.batches) end (g.S.Source.told c.drive-end.new.input) (g.K.Sink.told c.drive-end.new.output) c.drive-end.new.ends.batches c.drive-end.new.ends.telling c.drive-end.new.net.one.net refl (f (start_of c.args.run.now.plan.now (map g.C.NodeCalculator.told c.args.boxes.now.items) (g.S.Source.told c.args.devices.now.input.now) (g.K.Sink.told c.args.devices.now.output.now) c.args.batches) (c.in_ok-begun.ensures.begun (g.K.Sink.told c.args.devices.now.output.now)))) c.drive-end.ensures.over;
 }
 
-pub run_made_net-requires-clause-first : goal.run_made_net-requires-clause-first
-run_made_net-requires-clause-first g c κs within =
-    (c.args.batches, (g.S.Source.told c.args.devices.now.input.now, (c.in_ok-first.ensures.first g.C.NodeCalculator.laws c.args.run.now.plan.now (with_none c.args.run.now.plan.now c.requires.valid).0 c.requires.fresh).given))
-
-pub returns-in_err-status-clause-short : goal.returns-in_err-status-clause-short
-returns-in_err-status-clause-short g c =
-    let is = err_from_is_err_and c.from_residual-in_err-status.result c.from_residual-in_err-status.ensures.1 in
-    rw is.1 (c.in_err-status.ensures.short c.args.batches (g.S.Source.told c.args.devices.now.input.now) (c.in_ok-first.ensures.first g.C.NodeCalculator.laws c.args.run.now.plan.now (with_none c.args.run.now.plan.now c.requires.valid).0 c.requires.fresh).given)
-
-pub returns-in_err-status-clause-unread : goal.returns-in_err-status-clause-unread
-returns-in_err-status-clause-unread g c = λ none. c.in_err-status.ensures.unread none ∙ c.in_ok-first.ensures.unread none
-
 pub returns-clause-ran : goal.returns-clause-ran
-returns-clause-ran g c = c.in_ok-status.ensures.ran c.args.batches (g.S.Source.told c.args.devices.now.input.now) (c.in_ok-first.ensures.first g.C.NodeCalculator.laws c.args.run.now.plan.now (with_none c.args.run.now.plan.now c.requires.valid).0 c.requires.fresh).given
+returns-clause-ran g c = IfOk-weaker c.end_run.result _ _ (λ status f. f (map g.C.NodeCalculator.told c.args.boxes.now.items) (g.S.Source.told c.args.devices.now.input.now) (g.K.Sink.told c.args.devices.now.output.now) c.args.batches c.requires.boxes (record { over = IfOk-weaker c.drive-end.result _ _ (λ end f. f (start_of c.args.run.now.plan.now (map g.C.NodeCalculator.told c.args.boxes.now.items) (g.S.Source.told c.args.devices.now.input.now) (g.K.Sink.told c.args.devices.now.output.now) c.args.batches) (c.in_ok-begun.ensures.begun (g.K.Sink.told c.args.devices.now.output.now))) c.drive-end.ensures.over; short = on_err_weaker c.drive-end.result (λ f. f (start_of c.args.run.now.plan.now (map g.C.NodeCalculator.told c.args.boxes.now.items) (g.S.Source.told c.args.devices.now.input.now) (g.K.Sink.told c.args.devices.now.output.now) c.args.batches) (c.in_ok-begun.ensures.begun (g.K.Sink.told c.args.devices.now.output.now))) c.drive-end.ensures.short })) c.end_run.ensures.ran
+
+pub returns-clause-short : goal.returns-clause-short
+returns-clause-short g c = on_err_weaker c.end_run.result (λ f. inr (f (map g.C.NodeCalculator.told c.args.boxes.now.items) (g.S.Source.told c.args.devices.now.input.now) (g.K.Sink.told c.args.devices.now.output.now) c.args.batches (record { over = IfOk-weaker c.drive-end.result _ _ (λ end f. f (start_of c.args.run.now.plan.now (map g.C.NodeCalculator.told c.args.boxes.now.items) (g.S.Source.told c.args.devices.now.input.now) (g.K.Sink.told c.args.devices.now.output.now) c.args.batches) (c.in_ok-begun.ensures.begun (g.K.Sink.told c.args.devices.now.output.now))) c.drive-end.ensures.over; short = on_err_weaker c.drive-end.result (λ f. f (start_of c.args.run.now.plan.now (map g.C.NodeCalculator.told c.args.boxes.now.items) (g.S.Source.told c.args.devices.now.input.now) (g.K.Sink.told c.args.devices.now.output.now) c.args.batches) (c.in_ok-begun.ensures.begun (g.K.Sink.told c.args.devices.now.output.now))) c.drive-end.ensures.short }))) c.end_run.ensures.short
+
+pub returns-clause-back : goal.returns-clause-back
+returns-clause-back g c = c.end_run.ensures.back (map g.C.NodeCalculator.told c.args.boxes.now.items) (g.S.Source.told c.args.devices.now.input.now) (g.K.Sink.told c.args.devices.now.output.now) c.args.batches (made_still c.args.run.now.plan.now (map g.C.NodeCalculator.told c.args.boxes.now.items) c.in_ok-begun.begun.net c.drive-end.new.net.one.net c.drive-end.ensures.keeps c.in_ok-begun.ensures.made) (record { over = IfOk-weaker c.drive-end.result _ _ (λ end f. f (start_of c.args.run.now.plan.now (map g.C.NodeCalculator.told c.args.boxes.now.items) (g.S.Source.told c.args.devices.now.input.now) (g.K.Sink.told c.args.devices.now.output.now) c.args.batches) (c.in_ok-begun.ensures.begun (g.K.Sink.told c.args.devices.now.output.now))) c.drive-end.ensures.over; short = on_err_weaker c.drive-end.result (λ f. f (start_of c.args.run.now.plan.now (map g.C.NodeCalculator.told c.args.boxes.now.items) (g.S.Source.told c.args.devices.now.input.now) (g.K.Sink.told c.args.devices.now.output.now) c.args.batches) (c.in_ok-begun.ensures.begun (g.K.Sink.told c.args.devices.now.output.now))) c.drive-end.ensures.short })
 
 pub returns-clause-unread : goal.returns-clause-unread
-returns-clause-unread g c = λ none. c.in_ok-status.ensures.unread none ∙ c.in_ok-first.ensures.unread none
-
-pub returns-in_err-set-clause-unnoted : goal.returns-in_err-set-clause-unnoted
-returns-in_err-set-clause-unnoted g c =
-    let is = err_from_is_err_and c.from_residual.result c.from_residual.ensures.1 in
-    rw is.1 refl
-
-pub returns-in_err-first-clause-unnoted : goal.returns-in_err-first-clause-unnoted
-returns-in_err-first-clause-unnoted g c =
-    let is = err_from_is_err_and c.from_residual-in_err-first.result c.from_residual-in_err-first.ensures.1 in
-    rw is.1 refl
-
-pub returns-in_err-status-clause-unnoted : goal.returns-in_err-status-clause-unnoted
-returns-in_err-status-clause-unnoted g c =
-    let is = err_from_is_err_and c.from_residual-in_err-status.result c.from_residual-in_err-status.ensures.1 in
-    rw is.1 c.in_err-status.ensures.unnoted
+returns-clause-unread g c = λ none. c.end_run.ensures.unread ∙ (c.drive-end.ensures.unread none ∙ c.in_ok-begun.ensures.unread none)

@@ -14,7 +14,7 @@ returns-in-Ok-clause-left g c =
       count = back.count;
       unused = back.unused;
       used = λ memory. had;
-      short = λ none. all_are_some c.args.run.now.plan.now (told_by g.S.Source.told g.K.Sink.told g.E.Sink.told c.args.devices.now c.trace_whole.new.devices).input (device (map g.C.NodeCalculator.told c.args.boxes.now.items) (map g.C.NodeCalculator.told c.trace_whole.new.boxes.items)) had;
+      short = λ none. all_are_some c.args.run.now.plan.now (told_by g.S.Source.told g.K.Sink.told g.E.Sink.told c.args.devices.now c.trace_whole.new.devices).input (device (map g.C.NodeCalculator.told c.args.boxes.now.items) (map g.C.NodeCalculator.told c.trace_whole.new.boxes.items)) c.requires.boxes had;
     }
 
 pub returns-in-Err-clause-traced : goal.returns-in-Err-clause-traced

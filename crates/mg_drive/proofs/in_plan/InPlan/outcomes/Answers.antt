@@ -30,8 +30,8 @@ ends_of-requires c =
     subst (λ (ss : List ℕ). All (λ s. s < length c.as_slice-6.result.now) ss) (sym (c.as_slice-5.ensures ∙ c.requires.numbers.streams_are))
     (subst (λ (n : ℕ). All (λ s. s < n) (map (stream_number plan) (numbers (length plan.streams)))) (sym (ap length c.as_slice-6.ensures.value ∙ c.requires.tells.many)) (all_in_core plan c.requires.valid))
 
-pub arrival_lines-requires : goal.arrival_lines-requires
-arrival_lines-requires c = c.requires.long
+pub asked_lines-requires : goal.asked_lines-requires
+asked_lines-requires c = c.requires.long
 
 pub returns : goal.returns
 returns c = λ job streams takens core_is tells have.

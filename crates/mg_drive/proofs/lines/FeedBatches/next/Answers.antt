@@ -1,4 +1,4 @@
-use Rattle.std.proofs.Common.{[], ◌∷◌}
+use Rattle.std.proofs.Common.{[], ◌∷◌, false}
 use Rattle.mg_feed.specs.FeedSeen.{fed}
 use Rattle.mg_drive.specs.Code.Lines.{lines_of}
 use Rattle.mg_drive.proofs.BatchesRead.{nothing_read}
@@ -7,17 +7,17 @@ use Rattle.mg_drive.proofs.lines.FeedBatches.next.Goals as goal
 
 pub returns-clause-first : goal.returns-clause-first
 returns-clause-first g c = λ laws plan valid new.
-    first_lines plan (g.S.Source.told c.args.input.now) (g.S.Source.told c.read_on.new.input) c.in_ok-batch.batch.end c.in_ok-batch.batch.inputs (fed c.read_on.new.feed) valid
+    first_lines false plan (g.S.Source.told c.args.input.now) (g.S.Source.told c.read_on.new.input) c.in_ok-batch.batch.end c.in_ok-batch.batch.inputs (fed c.read_on.new.feed) valid
     (c.in_ok-batch.ensures.batch plan (g.S.Source.told c.args.input.now) [] [] (nothing_read plan (g.S.Source.told c.args.input.now) (fed c.args.self.now) new.graph new.stands new.unread))
 
 pub returns-clause-goes_on : goal.returns-clause-goes_on
 returns-clause-goes_on g c = λ laws began plan first so_far valid gave due.
-    more_lines plan first (g.S.Source.told c.args.input.now) (g.S.Source.told c.read_on.new.input) c.in_ok-batch.batch.end c.in_ok-batch.batch.inputs so_far (fed c.args.self.now) (fed c.read_on.new.feed) valid gave
+    more_lines false plan first (g.S.Source.told c.args.input.now) (g.S.Source.told c.read_on.new.input) c.in_ok-batch.batch.end c.in_ok-batch.batch.inputs so_far (fed c.args.self.now) (fed c.read_on.new.feed) valid gave
     (c.in_ok-batch.ensures.batch plan first gave.past gave.lines gave.is_read)
 
 pub returns-clause-fewer : goal.returns-clause-fewer
 returns-clause-fewer g c = λ laws began plan first so_far gave due more.
-    fewer_lines plan first (g.S.Source.told c.args.input.now) (g.S.Source.told c.read_on.new.input) c.in_ok-batch.batch.end c.in_ok-batch.batch.inputs so_far (fed c.args.self.now) (fed c.read_on.new.feed) gave
+    fewer_lines false plan first (g.S.Source.told c.args.input.now) (g.S.Source.told c.read_on.new.input) c.in_ok-batch.batch.end c.in_ok-batch.batch.inputs so_far (fed c.args.self.now) (fed c.read_on.new.feed) gave
     (c.in_ok-batch.ensures.batch plan first gave.past gave.lines gave.is_read) more
 
 pub returns-clause-first_came : goal.returns-clause-first_came

@@ -30,7 +30,7 @@ conclude-requires g c =
     let job : Job = record { plan = c.args.run.now.plan.now; inputs = c.requires.of.1.inputs; laws = c.requires.of.0 } in
     let told = c.in_ok-outcomes.ensures job c.requires.of.1.streams l.takens l.of.core_is c.requires.of.1.tells l.taken in
     let tells = subst (λ (p : Plan). OutcomesFit p c.args.outcomes) l.of.core_is c.requires.tells in
-    let many = plan_ends whole job c.requires.of.1.streams c.args.self.now.nodes.free l.takens c.in_ok-outcomes.outcomes told in
+    let many = plan_ends c.args.run.now.report whole job c.requires.of.1.streams c.args.self.now.nodes.free l.takens c.in_ok-outcomes.outcomes told in
     record {
       few = omega (arith, many, tells.many, tells.few, streams_as_many whole l.of.valid);
       many = many;
