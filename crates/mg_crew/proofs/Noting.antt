@@ -1,4 +1,5 @@
--- There is a queue for each edge, and where the length of one is noted there are as many as before; and feeders one behind the other.
+-- There is a queue for each edge. If the length of a queue is noted, there are as many queues as before. Feeders come one after
+-- the other.
 use Rattle.std.proofs.Common.{◌≡◌, ℕ, ◌+◌, ◌<◌, ◌≤◌, zero, suc, List, [], ◌∷◌, ◌∙◌, length, map, refl, ap, sym, Option, Some, None, IfSome, arith}
 use Rattle.std.proofs.lemmas.List.{length-map}
 use Rattle.mg_calc.specs.declared.edge.Edge.{Edge}
@@ -14,7 +15,7 @@ length_noted (q ∷ qs) (suc edge) packets = ap suc (length_noted qs edge packet
 pub length_made : (qs : List Queue) (edges : List Edge) (make : Edge → Queue) (count : ℕ) → qs ≡ map make edges → count ≡ length edges → count ≡ length qs
 length_made qs edges make count made all = all ∙ sym (ap length made ∙ length-map edges make)
 
--- a feeder that is looked for from behind another one stands behind it
+-- a feeder that is looked for from the place after another one stands after that other one
 pub later_feeder : (next : Option ℕ) (feeder end : ℕ) → IfSome next (λ f. (feeder + 1 ≤ f) × (f < end)) → IfSome next (λ f. (feeder < f) × (f < end))
 later_feeder None feeder end h = tt
 later_feeder (Some f) feeder end h = (let above = h.0 in omega (arith, above), h.1)

@@ -136,6 +136,6 @@ all_rows : (Ts : List RattleType) → AllSend Ts → AllSend (rows (parts Ts))
 all_rows [] s = tt
 all_rows (T ∷ Ts) s = (s.0, all_rows Ts s.1)
 
--- A closure may cross threads where all that it captures may. Its name says nothing of that.
+-- A closure may cross threads if all that it captures may. Its name says nothing of that.
 pub closure : (Ts : List RattleType) → AllSend Ts → IsSend (TupleAt [] Ts)
 closure Ts s = recorded_send _ _ _ (type_at [] Ts).to_one (struct_send (shape (type_at [] Ts)) (all_rows Ts s))

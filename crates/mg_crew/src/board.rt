@@ -8,8 +8,9 @@ use std::thread;
 // How often an idle worker looks for news before it sleeps. That takes about as long as to wake it.
 const LOOKS: u32 = 16;
 
-/// What workers tell each other. One count says how often there was something new, so that idle workers know when to look again; another
-/// says how many workers have nothing to do, so that the last of them knows that it is the last. No contract rests on it.
+/// What workers tell each other. One count says how often there was something new, so that idle workers know when to look
+/// again. Another says how many workers have nothing to do, so that the last of them knows that it is the last. No contract
+/// rests on the board.
 #[derive(Drop)]
 pub(crate) struct Board {
     news: CachePadded<AtomicU64>,
@@ -20,7 +21,7 @@ pub(crate) struct Board {
     // Whether a worker is looking over all nodes, and whether one has done that and found nothing.
     looking: AtomicBool,
     over: AtomicBool,
-    // Whether a worker brings packets from the graph inputs, or found none that could be brought.
+    // Whether a worker brings packets from the graph inputs, or found that no packet could be brought.
     fed: AtomicBool,
     // Whether some work found no memory.
     short: AtomicBool,
@@ -62,8 +63,8 @@ impl Board {
         }
     }
 
-    /// Notes that a worker has nothing to do. Returns whether it is to look over all nodes: all workers that have begun are idle, and no
-    /// other one is looking or has looked in vain.
+    /// Notes that a worker has nothing to do. Returns whether the worker is to look over all nodes. It is if all workers that
+    /// have begun are idle, and no other worker is looking or has looked in vain.
     pub(crate) fn rest(&self) -> bool {
         let idle = self.idle.fetch_add(1, SeqCst).wrapping_add(1);
         idle >= self.begun.load(SeqCst)
@@ -123,8 +124,8 @@ impl Board {
         !self.fed.load(SeqCst) && !self.fed.swap(true, SeqCst)
     }
 
-    /// Notes what came of bringing packets from the graph inputs. Where anything did, there may be more. What couldn't be brought, since
-    /// another worker had a consumer's turn, is left to that one.
+    /// Notes what came of bringing packets from the graph inputs. If anything did, there may be more. What couldn't be brought,
+    /// since another worker had a consumer's turn, is left to that worker.
     pub(crate) fn fed(&self, came: &Came) {
         if came.did | came.more {
             self.leave_inputs();

@@ -13,13 +13,13 @@ use std::alloc::{AllocError, Global};
 pub(crate) struct Chart {
     // For each node whether several of its works may run at once.
     flies: Vec<bool>,
-    /// The edges by the places from which they lead: places are the nodes, and behind them the graph inputs.
+    /// The edges by the places from which they lead: places are the nodes, and then the graph inputs.
     pub from: Leads,
-    /// The edges by their consumers: these are the nodes, and behind them the collector.
+    /// The edges by their consumers: these are the nodes, and then the collector.
     pub into: Leads,
     // The place from which each edge leads.
     starts: Vec<u32>,
-    // The consumer of each edge: a node, or the number behind all nodes for the collector.
+    // The consumer of each edge: a node, or for the collector the number after those of all nodes.
     consumers: Vec<u32>,
     edge_count: u32,
     // The nodes without inputs, in order; and for each place of `from` the number of the feeder there, if one is.
@@ -47,7 +47,8 @@ fn producer_of(plan: &Plan, edge: Edge) -> Producer
     plan.streams.as_slice()[edge.stream as usize].producer
 }
 
-// Returns the place from which an edge leads: the number of a node, or of a graph input behind all nodes. It is `None` past 32 bits.
+// Returns the place from which an edge leads: the number of a node, or the place of a graph input after all nodes. It is `None`
+// past 32 bits.
 fn source_of(plan: &Plan, edge: Edge) -> Option<u32>
     requires { edge.stream < length plan.now.streams }
     ensures { IfSome result (λ place. source_of plan.now edge ≡ Some place) }
@@ -67,7 +68,7 @@ fn place_of(plan: &Plan, number: u32) -> Option<u32>
     source_of(plan, plan.edges.as_slice()[number as usize])
 }
 
-// Returns the places from which the edges lead. A place past 32 bits counts as want of memory.
+// Returns the places from which the edges lead. A place past 32 bits counts as out of memory.
 fn starts_of(alloc: Global, plan: &Plan) -> Result<Vec<u32>, AllocError>
     requires { IsValid plan.now }
     ensures each { IfOk result (λ v. length v.items ≡ length plan.now.edges) }
@@ -83,7 +84,7 @@ fn starts_of(alloc: Global, plan: &Plan) -> Result<Vec<u32>, AllocError>
     Ok(starts)
 }
 
-// Returns the consumer of the edge of a number: a node, or the number behind all nodes for the collector.
+// Returns the consumer of the edge of a number: a node, or for the collector the number after those of all nodes.
 fn consumer_of(plan: &Plan, number: u32) -> u32
     requires valid { IsValid plan.now }
     requires there { number < length plan.now.edges }
@@ -268,7 +269,8 @@ impl Chart {
         }
     }
 
-    /// Returns the node into which an edge leads, or the number behind all nodes where it leads into the collector.
+    /// Returns the node into which an edge leads. If the edge leads into the collector, returns the number after those of all
+    /// nodes.
     pub(crate) fn consumer(&self, edge: u32) -> u32
         requires { edge < self.now.from.edges }
     {

@@ -35,7 +35,7 @@ fn shelve<C: NodeCalculator, R: Wait>(
     unreachable!()
 }
 
-// Commits a work, or puts it back into its window where there is no memory. Returns whether it is committed.
+// Commits a work, or puts it back into its window if there is no memory. Returns whether it is committed.
 fn commit<C: NodeCalculator, R: Wait>(
     rt: &R,
     net: &SharedNet<C>,
@@ -63,8 +63,8 @@ fn commit<C: NodeCalculator, R: Wait>(
     unreachable!()
 }
 
-/// Performs a work while the seat has no turn, and commits it, or puts it back into its window where there is no memory. Returns whether it
-/// is committed.
+/// Performs a work while the seat has no turn, and commits it, or puts it back into its window if there is no memory. Returns
+/// whether it is committed.
 pub(crate) fn finish<C: NodeCalculator, R: Wait, G: Gate>(
     rt: &R,
     shop: &Shop<'_, C, G>,

@@ -16,8 +16,9 @@ use mg_turns::NetSeat;
 use std::sync::Wait;
 use std::thread::{Threads, join};
 
-// Waits, as a worker that found nothing to do, until there is something new, and returns whether there is. The last worker to find nothing
-// relaxes the limits of full queues instead, or else looks over everything; where it finds nothing then, all workers end.
+// Waits, as a worker that found nothing to do, until there is something new, and returns whether there is. The last worker to
+// find nothing relaxes the limits of full queues instead, or else looks over everything. If it finds nothing then, all workers
+// end.
 fn rest<C: NodeCalculator, R: Wait, G: Gate>(
     rt: &R,
     shop: &Shop<'_, C, G>,

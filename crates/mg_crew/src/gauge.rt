@@ -5,8 +5,8 @@ use mg_calc::Plan;
 use mg_throttle::Limits;
 use std::alloc::{AllocError, Global};
 
-/// The limits of queues, for workers. They lie behind a lock, so that contracts know nothing of them but how many there are: a queue that
-/// isn't there is never full, and a feeder that isn't there is never throttled.
+/// The limits of queues, for workers. A lock guards them, so contracts know only how many there are. A queue that isn't there
+/// is never full, and a feeder that isn't there is never throttled.
 #[derive(Drop)]
 pub(crate) struct Gauge {
     limits: Limits,

@@ -9,7 +9,7 @@ pub(crate) struct Marks {
 }
 
 impl Marks {
-    /// Returns `count` marks, of which all are set, or none.
+    /// Returns `count` marks. Either all of them are set, or none.
     pub(crate) fn new(alloc: Global, count: u32, set: bool) -> Result<Marks, AllocError> {
         let mut marks = Vec::new(alloc);
         for _ in 0..count {

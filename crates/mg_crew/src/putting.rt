@@ -10,8 +10,8 @@ use mg_levels::{LevelSeat, Levels};
 use std::alloc::Global;
 use std::sync::Wait;
 
-/// What a worker has to do with the levels: a seat at them, if there was memory for one, and a node that it keeps, to come back to once it
-/// has taken another one.
+/// What a worker has to do with the levels. It has a seat at them, if there was memory for one. It may also keep a node, to
+/// come back to once it has taken another one.
 #[derive(Drop)]
 pub(crate) struct Place {
     pub seat: Option<LevelSeat>,
@@ -173,8 +173,8 @@ fn take_out<R: Wait>(rt: &R, tools: &Tools, place: &mut Place) -> Option<u32>
     }
 }
 
-/// Returns the next node: one that is taken out of the levels, into which the kept node goes then; or the kept node, where none could be
-/// taken.
+/// Takes a node out of the levels, puts the kept node into them, and returns the node that was taken. If no node could be
+/// taken, returns the kept node.
 pub(crate) fn take<R: Wait>(rt: &R, tools: &Tools, place: &mut Place) -> Option<u32>
     requires place { IsPlaceAt tools.now.levels place.old }
     ensures place { IsPlaceAt tools.now.levels place.new }

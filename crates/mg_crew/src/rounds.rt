@@ -1,4 +1,4 @@
-//! What a worker does next: it takes a node from the levels, and where they are empty it brings packets from the graph inputs.
+//! What a worker does next: it takes a node from the levels, and if they are empty it brings packets from the graph inputs.
 ghost use Rattle.mg_crew.specs.Code.Seats.{IsWithoutWork, StaysAtWork};
 
 use crate::bringing::wake_all;
@@ -68,8 +68,8 @@ fn feed<C: NodeCalculator, R: Wait, G: Gate>(
     feed_all(rt, shop, seat, place)
 }
 
-/// Brings packets from all graph inputs that aren't throttled, and serves all nodes. Where nothing came of it, and no other worker did
-/// anything meanwhile, nothing is left to do.
+/// Brings packets from all graph inputs that aren't throttled, and serves all nodes. If nothing came of it, and no other worker
+/// did anything meanwhile, nothing is left to do.
 pub(crate) fn look_over<C: NodeCalculator, R: Wait, G: Gate>(
     rt: &R,
     shop: &Shop<'_, C, G>,
@@ -102,7 +102,8 @@ fn go_round<C: NodeCalculator, R: Wait, G: Gate>(
     }
 }
 
-/// Serves the next node, or brings packets from the graph inputs where there is none. Returns whether there was anything to do.
+/// Serves the next node, or brings packets from the graph inputs if there is no such node. Returns whether there was anything
+/// to do.
 pub(crate) fn go_on<C: NodeCalculator, R: Wait, G: Gate>(
     rt: &R,
     shop: &Shop<'_, C, G>,

@@ -27,8 +27,8 @@ struct Executor<'a, G: Gate> {
     gate: &'a G,
 }
 
-// Runs a shared net by at least one worker. Returns a seat with all portions, and how many turns were in vain. Where there is no memory for
-// what workers need, nothing is done.
+// Runs a shared net by at least one worker. Returns a seat with all portions, and how many turns were in vain. If there is no
+// memory for what workers need, nothing is done.
 fn run_shared<C: NodeCalculator + Send, R: Threads + Wait + Sync, G: Gate + Sync>(
     rt: &R,
     executor: &Executor<'_, G>,
@@ -57,11 +57,12 @@ fn run_shared<C: NodeCalculator + Send, R: Threads + Wait + Sync, G: Gate + Sync
     }
 }
 
-/// Lets workers run a net whose nodes are begun, side by side, until none of them finds anything to do (MediaPipe's documentation,
-/// Synchronization). While queues are full feeders are held back, until nothing else can be done (Real-time Streams). What workers leave
-/// undone, as for want of memory, is left to a sweep. Nothing says how far they come: without memory for sharing the net, or with no
-/// workers, nothing is done. Beside the net it returns how many turns were in vain: a worker found them with another one, or took
-/// them and did nothing. Tests and measurements read that count, and no answer depends on it.
+/// Lets workers run a net whose nodes are begun, side by side, until none of them finds anything to do (MediaPipe's
+/// documentation, Synchronization). While queues are full, feeders are held back, until nothing else can be done (Real-time
+/// Streams). What workers leave undone, for instance when out of memory, is left to a sweep. Nothing says how far the workers
+/// come: without memory for sharing the net, or with no workers, nothing is done. Returns the net, and how many turns were in
+/// vain: a worker found them with another worker, or took them and did nothing. Tests and measurements read that count, and no
+/// answer depends on it.
 pub fn run_workers<C: NodeCalculator + Send, R: Threads + Wait + Sync, G: Gate + Sync>(
     rt: &R,
     alloc: Global,

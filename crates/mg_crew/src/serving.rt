@@ -15,7 +15,7 @@ use mg_edge::Gate;
 use mg_turns::NetSeat;
 use std::sync::Wait;
 
-// Brings what a node laid along the edges that lead from it, and marks the node where not all of that could be brought.
+// Brings what a node laid along the edges that lead from it, and marks the node if not all of that could be brought.
 fn bring_laid<C: NodeCalculator, R: Wait, G: Gate>(
     rt: &R,
     shop: &Shop<'_, C, G>,
@@ -82,7 +82,7 @@ fn go_through<C: NodeCalculator, R: Wait, G: Gate>(
     worked.and(&raised).and(&brought)
 }
 
-// Brings what a node laid in an earlier visit, where not all of that could be brought then.
+// Brings what a node laid in an earlier visit, if not all of that could be brought then.
 fn catch_up<C: NodeCalculator, R: Wait, G: Gate>(
     rt: &R,
     shop: &Shop<'_, C, G>,
@@ -122,8 +122,8 @@ fn visit<C: NodeCalculator, R: Wait, G: Gate>(
     late.and(&came)
 }
 
-/// Serves a node, and keeps it to come back to where there may be more to do. If another worker has a turn that this takes, the node or the
-/// edge waits until that worker calls it.
+/// Serves a node. If there may be more to do, keeps the node to come back to. If another worker has a turn that this takes, the
+/// node or the edge waits until that worker calls it.
 pub(crate) fn serve<C: NodeCalculator, R: Wait, G: Gate>(
     rt: &R,
     shop: &Shop<'_, C, G>,

@@ -5,7 +5,7 @@ use crate::marks::Marks;
 use std::alloc::{AllocError, Global};
 use std::sync::{Mutex, Wait};
 
-/// What holds feeders back where queues are full. No contract rests on it.
+/// What holds feeders back if queues are full. No contract rests on it.
 #[derive(Drop)]
 pub(crate) struct Throttle {
     gauge: Mutex<Gauge>,
@@ -16,7 +16,7 @@ pub(crate) struct Throttle {
 }
 
 impl Throttle {
-    /// Returns a throttle for `edges` queues, none of which is full. No limit may be lower than `least`.
+    /// Returns a throttle for `edges` queues. None of them is full. No limit may be lower than `least`.
     pub(crate) fn new(
         alloc: Global,
         gauge: Gauge,

@@ -70,8 +70,8 @@ fn let_all_go<R: Wait>(rt: &R, tools: &Tools, place: &mut Place)
     tools.board.tell();
 }
 
-// Lets feeders go that are held and aren't throttled any more, as a queue of a node isn't full any more: puts the sources into the levels
-// that reach the node, and lets a worker bring packets from the graph inputs.
+// Lets held feeders go that aren't throttled any more because a queue of a node isn't full any more. Puts the sources that
+// reach the node into the levels, and lets a worker bring packets from the graph inputs.
 fn let_go<R: Wait>(rt: &R, tools: &Tools, throttle: &Throttle, place: &mut Place, node: u32)
     requires place { IsPlaceAt tools.now.levels place.old }
     requires sources { HasSources tools.now }
@@ -178,7 +178,8 @@ fn eases_if_full<C: NodeCalculator, R: Wait, G: Gate>(
     throttle.is_full(edge) && eases(rt, shop, seat, edge)
 }
 
-/// Notes how many packets wait at a node that worked, where its queues were full. If one isn't any more, feeders go on that were held by it.
+/// Notes how many packets wait at a node that worked, if its queues were full. If one isn't full any more, feeders go on that
+/// were held by it.
 pub(crate) fn note_worked<C: NodeCalculator, R: Wait, G: Gate>(
     rt: &R,
     shop: &Shop<'_, C, G>,

@@ -1,4 +1,4 @@
--- Whether a round changes its streams, and that the rounds come to an end.
+-- Whether a round changes its streams, and that the rounds end.
 use Rattle.std.proofs.Common.{◌≡◌, ℕ, zero, suc, ◌+◌, ◌-◌, ◌^◌, ◌<◌, ◌≤◌, ◌==◌, ◌&&◌, Bool, true, false, not, List, [], ◌∷◌, ◌++◌, append-nil, All, length, length-append, Result, Ok, Err, IfOk, refl, sym, ap, subst, ◌∙◌, arith, inl, inr}
 use Rattle.std.specs.List.{AllByRecursion}
 use Rattle.std.proofs.lemmas.Bool.{cases_lt}
@@ -97,7 +97,7 @@ other_than xs ys e k some same =
     let rooms = ap room same in
     omega (arith, falls, rooms)
 
--- Streams that the rounds have come to: those of a round, and no earlier one meets the equations.
+-- Streams that the rounds have reached: those of a round, and no earlier round meets the equations.
 pub record AreReached (job : Job) (streams : List (StreamPrefix Plain)) : Type 0 where
   pub number : ℕ
   pub is : streams ≡ round job number

@@ -60,7 +60,7 @@ outer_is job streams node known outer rules =
     sym (outer_outcome node.law job streams node (sides_of job node) outer known refl)
     ∙ ap (λ (r : Rules). node_outcome r node.shape.offset node.policy (length node.outputs) (sides_of job node) (inputs_at streams node.inputs)) rules
 
--- What a node of a job has where its streams have grown.
+-- What a node of a job has if its streams have grown.
 pub record MayGoOn (job : Job) (before streams : List (StreamPrefix Plain)) (node : PlanNode) : Type 0 where
   pub was_known : All (λ i. i < length before) node.inputs
   pub known : All (λ i. i < length streams) node.inputs

@@ -34,7 +34,8 @@ pub given_there : (plan : Plan) (inputs : List (StreamPrefix Plain)) (nodes : Li
     → ((x : PlanStream) → slice_get plan.streams s ≡ Some x → IsGivenBy inputs nodes x.producer (stream_of (given_streams inputs nodes) s)) → IsGivenBy inputs nodes (get_or shown s stream).producer (stream_of (given_streams inputs nodes) s)
 given_there plan inputs nodes s stream shown below same given = given (get_or shown s stream) (slice_get-get_or plan.streams s stream below ∙ ap (λ (ss : List PlanStream). Some (get_or ss s stream)) (sym same))
 
--- the first streams that are due are the given ones, each other is one that was or a given one, and a list has those that changed
+-- the first `i` streams that are due are those of `next`. Each other stream is as it was or that of `next`. A list has the
+-- streams that changed
 pub record HaveGrown (before next : List (StreamPrefix Plain)) (due : List ℕ) (i : ℕ) (now : List (StreamPrefix Plain)) (changed : List ℕ) : Type 0 where
   pub many : length now ≡ length before
   pub each : (s : ℕ) → s < length before → (stream_of now s ≡ stream_of before s) ⊎ ((stream_of now s ≡ stream_of next s) × Contains changed s)

@@ -1,4 +1,4 @@
--- A node that is shown its further sets comes to what it comes to from all of them.
+-- If a node is shown its further sets, its outcome is that of all its sets.
 use Rattle.std.proofs.Common.{◌≡◌, ℕ, ℤ, ◌+◌, ◌<◌, ◌≤◌, ◌^◌, ◌==◌, max, Bool, true, false, List, [], ◌∷◌, ◌++◌, map, drop, length, All, Option, Some, None, Result, Ok, Err, refl, sym, ap, ap₂, ◌∙◌, take-append-drop, arith, inl, inr, ◌⊎◌, if◌then◌else◌}
 use Rattle.std.specs.List.{AllByRecursion, fold}
 use Rattle.std.proofs.lemmas.List.Sums.{fold-append}

@@ -53,7 +53,7 @@ called_counts law outcome number =
     let before : Outcome = record outcome { taken = outcome.taken + 1 } in
     unless_counts outcome.fault outcome (after_call None (Call number) before (call law outcome.state number)) (call_counts None (Call number) before (call law outcome.state number))
 
--- A node that was shown the sets so far: with the others it comes to the same.
+-- A node was shown the sets so far: with the sets that are left its outcome is that of all sets.
 pub record IsShown (law : Law) (offset : Option ℤ) (begun outcome : Outcome) (sets : List (TimedSet Plain)) (i : ℕ) : Type 0 where
   pub same : fold (shown (table_rules law) offset) outcome (drop i sets) ≡ fold (shown (table_rules law) offset) begun sets
   pub counted : outcome.taken ≤ begun.taken + i
@@ -78,7 +78,7 @@ called_further law begun outcome next calls i so_far below next_is = record {
   counted = (let one = called_counts law outcome i in let same = ap (λ (o : Outcome). o.taken) next_is in let few = so_far.counted in omega (arith, one, same, few));
 }
 
--- The input streams of a node, all of which are there.
+-- The input streams of a node: all of them are there.
 inputs_by_recursion : (streams : List (StreamPrefix Plain)) (ports : List ℕ) → AllByRecursion (λ i. i < length streams) ports → inputs_at streams ports ≡ map (stream_of streams) ports
 inputs_by_recursion streams [] there = refl
 inputs_by_recursion streams (port ∷ ports) there =

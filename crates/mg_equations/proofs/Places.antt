@@ -12,7 +12,7 @@ use Rattle.mg_calc.specs.declared.plan_stream.Producer.TheVariants.{Input, Node}
 use Rattle.mg_calc.specs.Plan.{IsValid, numbers, producers, written_streams}
 use Rattle.mg_calc.proofs.Positions.{givers}
 
--- Two lists, one behind the other.
+-- Two lists, one after the other.
 joined_at : {X : Type 0} (xs ys : List X) (i : ℕ) (x : X) → slice_get (xs ++ ys) i ≡ Some x
     → (slice_get xs i ≡ Some x) ⊎ ((j : ℕ) × (i ≡ length xs + j) × (slice_get ys j ≡ Some x))
 joined_at [] ys i x at = inr (i, omega arith, at)
@@ -185,7 +185,7 @@ outputs_within plan k node s valid at c =
     All-contains (λ m. m < length plan.streams) (written_streams plan) s all
     (Contains-append_right plan.inputs (flat_map (λ n. n.outputs) plan.nodes) s (contains_flat (λ (n : PlanNode). n.outputs) plan.nodes node s (contains_there plan.nodes k node at) c))
 
--- a node writes the streams of which it is the producer
+-- a node writes the streams whose producer it is
 pub record IsWriter (plan : Plan) (s k port : ℕ) : Type 0 where
   pub node : PlanNode
   pub there : slice_get plan.nodes k ≡ Some node

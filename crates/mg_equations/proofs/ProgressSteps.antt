@@ -22,7 +22,7 @@ use Rattle.mg_calc.specs.Law.{table_rules}
 
 -- Sets.
 
--- the packets that are read behind further sets
+-- the packets that are read after further sets
 read_further : (node : PlanNode) (ss : List (StreamPrefix Plain)) (before now : Progress) (k : ℕ) → All IsPrefix ss → AreGone node.policy k ss before.read.items → IsShownMore node ss before now → HasRead node ss now
 read_further node ss before now k h gone more =
     let policy = node.policy in

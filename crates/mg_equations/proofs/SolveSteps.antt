@@ -1,4 +1,5 @@
--- A round that goes on: streams that have become those of the next round, by nodes that had come to them.
+-- A round that goes on. The streams have become those of the next round, by nodes that had gone on as far as the streams
+-- before.
 use Rattle.std.proofs.Common.{◌≡◌, ℕ, zero, suc, ◌+◌, ◌++◌, ◌<◌, ◌≤◌, Bool, true, false, List, [], ◌∷◌, map, replicate, All, length, Some, slice_get, get_or, nat_lt, Result, Ok, Err, IfOk, option_map, unwrap_or, ◌⊎◌, inl, inr, refl, sym, ap, subst, ◌∙◌, arith}
 use Rattle.std.specs.Prelude.{Contains}
 use Rattle.std.specs.List.{AllByRecursion, flat_map, range_with_len, filter_map, enumerate_from}
@@ -36,7 +37,8 @@ use Rattle.mg_equations.proofs.DueSteps.{same_streams}
 use Rattle.mg_equations.proofs.Places.{GivesEach, StandsAt, IsPart, IsWriter, stands_at, writer_at}
 use Rattle.mg_equations.proofs.RoundSteps.{next_streams_are, counts_are, faults_are}
 
--- A round has been solved: the nodes have come to its streams, and the next round changes none but those that are due.
+-- A round has been solved: the nodes have gone on as far as its streams let them. The next round changes no streams but those
+-- that are due.
 pub record IsUnderWay (job : Job) (streams : List (StreamPrefix Plain)) (going : RoundNodes) (due : List ℕ) : Type 0 where
   pub reached : AreReached job streams
   pub come : HaveCome job streams going.nodes.items
@@ -175,7 +177,7 @@ pub ok_for_all : {E : Type 0} (P : Laws → Streams → Type 0) (result : Result
 ok_for_all P (Ok s) all = all
 ok_for_all P (Err e) all = tt
 
--- where nothing has, the streams are the solution
+-- if nothing has changed, the streams are the solution
 pub going_solution : {E : Type 0} (job : Job) (before streams : List (StreamPrefix Plain)) (changed : List ℕ) (going : RoundNodes) (result : Result Streams E) → IsGoing job before streams changed going → before ≡ streams
     → IfOk result (λ s. s.prefixes ≡ streams) → IfOk result (λ s. IsSolution job s.prefixes)
 going_solution job before streams changed going result t same told = told_solution job streams result told (subst (IsSolution job) same (reached_solution job before streams t.is t.reached t.next same))
@@ -192,7 +194,7 @@ going_faults job before streams changed going read (Ok s) t same here prefixes t
     told ∙ ap (λ (ps : List Progress). filter_map numbered_fault (enumerate_from 0 (map (λ outcome. outcome.fault) (outcomes ps)))) here ∙ faults_are job before going.nodes.items t.come ∙ ap (faults job) (same ∙ sym prefixes)
 going_faults job before streams changed going read (Err e) t same here prefixes told = tt
 
--- and where something has, the nodes go on
+-- and if something has changed, the nodes go on
 pub going_prefixes : (job : Job) (before streams now : List (StreamPrefix Plain)) (changed : List ℕ) (going : RoundNodes) → IsGoing job before streams changed going → now ≡ streams → All IsPrefix now
 going_prefixes job before streams now changed going t same = subst (λ (ss : List (StreamPrefix Plain)). All IsPrefix ss) (sym same) (next_prefixes job before streams t.is t.reached t.next)
 

@@ -1,4 +1,4 @@
-//! How what a call emits is put behind a node's outputs (MediaPipe, Calculators and Synchronization).
+//! How what a call emits is appended to a node's outputs (MediaPipe, Calculators and Synchronization).
 ghost use Rattle.std.specs.Prelude.{◌≡◌, map, OnOk};
 ghost use Rattle.mg_settled.specs.Prefix.{closed};
 ghost use Rattle.mg_calc.specs.Laying.{with_packets, laid_behind, all_raised};
@@ -11,7 +11,7 @@ use mg_time::Timestamp;
 use mg_time::laws::done_is_greatest;
 use std::alloc::AllocError;
 
-// Returns the first cause why packets can't be put behind an output one after the other, if there is one.
+// Returns the first cause why packets can't be appended to an output one after the other, if there is one.
 fn output_fault(
     offset: Option<i64>,
     phase: &Phase,
@@ -23,7 +23,7 @@ fn output_fault(
     packets_fault(offset, phase, output.bound(), output.has_packets(), packets)
 }
 
-/// Returns the first cause why an emission can't be put behind a node's outputs, in their order, if there is one.
+/// Returns the first cause why an emission can't be appended to a node's outputs, in their order, if there is one.
 pub fn emission_fault(
     offset: Option<i64>,
     phase: &Phase,
@@ -44,7 +44,7 @@ pub fn emission_fault(
     None
 }
 
-// Puts what is emitted at an output behind it: the packets, and then the bound, if there is one.
+// Appends to an output what is emitted there: the packets, and then the bound, if there is one.
 fn lay(output: &mut Output, laid: &Laid) -> Result<(), AllocError>
     ensures { OnOk result (output.new ≡ laid_on output.old laid.now) }
 {
@@ -56,7 +56,7 @@ fn lay(output: &mut Output, laid: &Laid) -> Result<(), AllocError>
     Ok(())
 }
 
-/// Puts an emission behind a node's outputs, behind each its own entry. Payloads are shared.
+/// Appends an emission to a node's outputs, to each output its own entry. Payloads are shared.
 pub fn lay_all(outputs: &mut [Output], emission: &Emission) -> Result<(), AllocError>
     ensures { OnOk result (outputs.new ≡ all_laid_on outputs.old emission.now) }
 {

@@ -1,6 +1,6 @@
-//! The solution of a graph, computed in rounds as the definitions of mg_calc say (`specs/Laying.antt`, `specs/Outcome.antt`,
-//! `specs/Equations.antt` and `specs/Meaning.antt`), but with each node going on in a round from where it stood
-//! (`specs/Code/Progress.antt`).
+//! The solution of a graph, computed in rounds as the definitions of mg_calc say. These stand in `specs/Laying.antt`,
+//! `specs/Outcome.antt`, `specs/Equations.antt` and `specs/Meaning.antt`. But here each node goes on in a round from where it
+//! stood (`specs/Code/Progress.antt`).
 #![tactic(auto)]
 
 mod laying;

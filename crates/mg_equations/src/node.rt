@@ -35,7 +35,7 @@ fn call_count(law: &Law) -> u64
     }
 }
 
-/// Returns what has become of a node before it reads a packet, by its law: a source has been called and closed, a loopback has
+/// Returns what has become of a node before it reads a packet, by its law. A source has been called and closed, a loopback has
 /// answered nothing, and every other node is opened.
 pub fn begun(
     alloc: Global,

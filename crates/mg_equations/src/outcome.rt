@@ -1,5 +1,5 @@
-//! What becomes of a node: it is opened, shown its settled sets one after the other, and closed, and stops at its first
-//! fault (MediaPipe, Calculators).
+//! What becomes of a node: it is opened, shown its settled sets one after the other, and closed. It stops at its first fault
+//! (MediaPipe, Calculators).
 ghost use Rattle.std.specs.Prelude.{◌≡◌, ◌<◌, ◌^◌, ◌+◌, replicate, length, None, OnOk, IfOk};
 ghost use Rattle.mg_settled.specs.Prefix.{empty_prefix};
 ghost use Rattle.mg_calc.specs.Shape.{IsServed, IsOuter, IsSource, calls_of};
@@ -35,7 +35,7 @@ pub struct Outcome {
     pub fault: Option<Failure>,
 }
 
-// Returns `count` outputs of which nothing is known yet.
+// Returns `count` outputs about which nothing is known yet.
 fn empty_outputs(alloc: Global, count: u32) -> Result<Vec<Output>, AllocError>
     ensures { IfOk result (λ outputs. outputs.items ≡ replicate count empty_prefix) }
 {
@@ -99,8 +99,8 @@ impl Outcome {
         self.take(offset, &phase, answer)
     }
 
-    /// Tells the node that no more sets come below a time: its outputs are raised, and where the time is Done, the node is closed. A node
-    /// that has failed stays as it is.
+    /// Tells the node that no more sets come below a time. Its outputs are raised, and if the time is Done, the node is closed.
+    /// A node that has failed stays as it is.
     pub fn end(
         &mut self,
         law: &Law,
@@ -144,7 +144,8 @@ impl Outcome {
         }
     }
 
-    /// Puts further answers of a loopback behind its only output, sets the output's bound, and sets how many packets were answered.
+    /// Appends further answers of a loopback to its only output, sets the output's bound, and sets how many packets were
+    /// answered.
     pub fn answer(
         &mut self,
         packets: &PacketList,
@@ -192,7 +193,7 @@ impl Outcome {
         }
     }
 
-    // Lays an emission. Where it can't be laid, the node has failed, and the whole emission is dropped.
+    // Lays an emission. If it can't be laid, the node has failed, and the whole emission is dropped.
     fn lay(
         &mut self,
         offset: Option<i64>,

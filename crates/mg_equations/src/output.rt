@@ -11,7 +11,7 @@ use mg_value::{BlockList, Packet};
 use std::alloc::{AllocError, Global};
 use std::marker::Model;
 
-/// A stream that grows, such as an output behind which a node lays packets. Contracts see its prefix.
+/// A stream that grows, such as an output to which a node appends packets. Contracts see its prefix.
 #[derive(Debug, Drop)]
 pub struct Output {
     packets: Vec<Packet>,
@@ -31,7 +31,7 @@ impl Model for Output {
 }
 
 impl Output {
-    /// Returns a stream of which nothing is known yet. It allocates nothing.
+    /// Returns a stream about which nothing is known yet. Allocates nothing.
     pub fn new(alloc: Global) -> Output
         ensures { result ≡ empty_prefix }
     {
@@ -70,7 +70,7 @@ impl Output {
         Rest::behind(self.packets.as_slice(), self.bound, read)
     }
 
-    /// Returns the time of the last of the first `read` packets, or none where `read` is 0.
+    /// Returns the time of the last of the first `read` packets, or none if `read` is 0.
     pub fn last_time(&self, read: usize) -> Option<Timestamp>
         requires { read ≤ length self.now.packets }
         ensures { result ≡ option_map (λ p. p.at) (last_of None read self.now.packets) }

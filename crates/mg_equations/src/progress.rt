@@ -45,8 +45,8 @@ impl Progress {
         })
     }
 
-    /// Lets the node go on with input streams that have grown: a source has ended and stays, a loopback answers further packets of MAIN,
-    /// and every other node is shown its further settled sets.
+    /// Lets the node go on with input streams that have grown. A source has ended and stays, and a loopback answers further
+    /// packets of MAIN. Every other node is shown its further settled sets.
     pub fn go_on(
         &mut self,
         alloc: Global,
@@ -71,7 +71,7 @@ impl Progress {
         }
     }
 
-    // Shows the node its further settled sets. Where those before reached Done, there is none.
+    // Shows the node its further settled sets. If the sets before reached Done, there are no further ones.
     fn show(&mut self, alloc: Global, node: &PlanNode, streams: &[Output]) -> Result<(), AllocError>
         requires law { IsOuter node.now.law }
         requires served { IsServed node.now.law }

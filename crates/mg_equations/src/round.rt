@@ -106,8 +106,8 @@ fn note_if(noted: &mut Vec<u32>, number: u32, change: bool) -> Result<(), AllocE
     Ok(())
 }
 
-/// Makes the streams those of the next round, which are the graph inputs and then the outputs of each node, by copying only what is
-/// new. Only the streams that are due are looked at. Returns those that have changed.
+/// Makes the streams those of the next round, by copying only what is new. These are the graph inputs and then the outputs of
+/// each node. Looks only at the streams that are due. Returns those that have changed.
 pub fn grow_due(
     alloc: Global,
     plan: &Plan,

@@ -59,7 +59,7 @@ fn outputs_among(alloc: Global, plan: &Plan, nodes: &[u32]) -> Result<Vec<u32>, 
 }
 
 impl RoundNodes {
-    /// Returns nodes of which none has gone on.
+    /// Returns nodes that haven't gone on yet.
     pub fn begun(alloc: Global, nodes: Vec<Progress>) -> Result<RoundNodes, AllocError>
         ensures nodes { IfOk result (λ going. going.nodes.items ≡ nodes.items) }
         ensures begun { IfOk result IsBegun }

@@ -25,19 +25,19 @@ use std::alloc::{AllocError, Global};
 pub struct Streams {
     /// The prefix of each stream.
     pub prefixes: PrefixList,
-    /// For each node how many sets it was shown, how often it was called if it is a source, and how many packets of MAIN it
-    /// answered if it is a loopback; the set or call that failed included.
+    /// For each node how many sets it was shown; for a source, how often it was called. For a loopback, how many packets of
+    /// MAIN it answered. The set or call that failed is included.
     pub sets: CountList,
     /// The faults, in node order.
     pub faults: NodeFaultList,
 }
 
-/// Solves the equations of a graph for what is handed in. Each law of the graph is one of the table, so that what becomes of it is the same
-/// whatever the stated laws are.
+/// Solves the equations of a graph for these inputs. Each law of the graph is one of the table, so what becomes of the graph is
+/// the same whatever the stated laws are.
 ///
-/// Streams are computed in rounds, and no calculator that is handed in is called. A round computes only the nodes that read a stream
-/// which the round before has changed, each from where it stood, so that all rounds together read each packet once at each port, and
-/// looks only at these nodes and at the streams that they write. Payloads are shared.
+/// Streams are computed in rounds, and no user-supplied calculator is called. A round computes only the nodes that read a
+/// stream that the round before has changed, each node from where it stood. It looks only at these nodes and at the streams
+/// that they write. So all rounds together read each packet once at each port. Payloads are shared.
 pub fn solve(alloc: Global, plan: &Plan, inputs: &Inputs) -> Result<Streams, AllocError>
     requires plan { IsValid plan.now }
     requires inputs { InputsFit plan.now inputs.now }
@@ -77,7 +77,7 @@ fn all_streams(alloc: Global, count: u32) -> Result<Vec<u32>, AllocError>
     Ok(streams)
 }
 
-// Returns `count` streams of which nothing is known.
+// Returns `count` streams about which nothing is known.
 fn nothing_known(alloc: Global, count: u32) -> Result<Vec<Output>, AllocError>
     ensures { IfOk result (λ streams. streams.items ≡ replicate count empty_prefix) }
 {

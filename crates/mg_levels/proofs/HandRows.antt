@@ -1,4 +1,4 @@
--- Lists of which one member changes after the other.
+-- Lists whose members change one after the other.
 use Rattle.std.proofs.Common.{◌≡◌, ◌≢◌, ℕ, zero, suc, ◌+◌, ◌-◌, ◌<◌, All, List, [], ◌∷◌, ◌++◌, length, map, set, take, drop, get_or, slice_get, Option, None, Some, sym, refl, ap, ◌∙◌, subst, arith, ⊎_elim}
 use Rattle.std.proofs.lemmas.List.{get_or-map, length-set, length-map, map-set, map-append, take_more, length-append, get_or_append_left, get_or_push}
 use Rattle.std.proofs.lemmas.List.Elements.{All-get_or, All-set}
@@ -45,7 +45,7 @@ some_inj x y p = ap (λ o. had o x) p
 one_up : (i : ℕ) → suc i ≡ i + 1
 one_up i = omega arith
 
--- nothing is behind the last level
+-- nothing comes after the last level
 pub none_found : (old : List HandView) (n : ℕ) → length old ≡ n → FoundEmptyFrom n old old
 none_found old n size = record {
   count = refl;
@@ -151,7 +151,7 @@ ids_more f ids xs x i d same there is =
 -- The last of a list.
 
 module _ {X Z : Type 0} (f : X → Z) where
-  -- where the first of some numbers are those of a list, so are they without the last
+  -- if the first of some numbers are those of a list, so are they without the last
   pub last_id : (xs : List X) (x : X) (ids : List Z) (d : Z) → map f (xs ++ x ∷ []) ≡ take (length (xs ++ x ∷ [])) ids
       → (map f xs ≡ take (length xs) ids) × (length xs < length ids) × (f x ≡ get_or ids (length xs) d)
   last_id [] x [] d same = absurd (none_more 0 (ap length same))
@@ -190,7 +190,7 @@ join_step hands xs x new d i is there view_is =
 pub joined_end : (hands : List Hand) (xs : List Hand) → xs ≡ [] → joined_all (views_in hands) (views_in xs) ≡ views_in hands
 joined_end hands xs none = ap (λ l. joined_all (views_in hands) (views_in l)) none ∙ joined_none (views_in hands)
 
--- portions stay positive where two are one
+-- portions stay positive if two are one
 pub portions_joined : (hands : List Hand) (i : ℕ) (new : Hand) → 0 < new.pass.me.0.client.portion → All (λ p. 0 < p) (portions_in hands) → All (λ p. 0 < p) (portions_in (set hands i new))
 portions_joined hands i new some_left all =
     subst (λ l. All (λ p. 0 < p) l) (sym (map-set (λ (h : Hand). h.pass.me.0.client.portion) hands i new)) (All-set (λ p. 0 < p) (portions_in hands) i new.pass.me.0.client.portion some_left all)

@@ -1,4 +1,4 @@
--- What steps at one level, or at all, come to for a seat's counts.
+-- What steps at one level, or at all levels, do to a seat's counts.
 use Rattle.std.proofs.Common.{◌≡◌, ◌⊎◌, ℕ, zero, suc, ◌+◌, ◌-◌, ◌/◌, ◌%◌, ◌<◌, ◌≤◌, Bool, true, false, if◌then◌else◌, MatchBool, All, List, [], ◌∷◌, ◌++◌, length, map, set, get_or, replicate, slice_get, slice_index, Option, None, Some, Contains, sym, refl, ap, ◌∙◌, subst, arith, ⊎_elim, inl, inr, min, Vec, Global}
 use Rattle.std.specs.Vec.{with_items}
 use Rattle.std.proofs.lemmas.List.{with_items_is, get_or-map, length-set, length-map, map-set, length-replicate, get_or-replicate}
@@ -145,7 +145,7 @@ pub kept_same : {Z : Type 0} (k : HandView → Z) (amount : ℕ) (xs : List Hand
 kept_same k amount [] keeps = refl
 kept_same k amount (x ∷ xs) keeps = λ i. keeps x i ∷ kept_same k amount xs keeps i
 
--- where all hands are fresh
+-- if all hands are fresh
 pub even_from : (hands : List Hand) (n p : ℕ) → views_in hands ≡ replicate n (fresh p) → portions_in hands ≡ replicate (length hands) p
 even_from [] n p same = refl
 even_from (h ∷ hs) zero p same = absurd (none_more (length (views_in hs)) (ap length same))
@@ -168,13 +168,13 @@ all_fresh hands n x same level h at =
     let long : length (replicate n x) ≡ n = length-replicate n x in
     sym (get_or_from_slice_get (replicate n x) level h x there) ∙ get_or-replicate n level x x (omega (arith, within, long))
 
--- the portions stay even where one hand keeps its portion
+-- the portions stay even if one hand keeps its portion
 pub even_set : (hands : List Hand) (i : ℕ) (new d : Hand) (p : ℕ) → new.pass.me.0.client.portion ≡ (get_or hands i d).pass.me.0.client.portion → portions_in hands ≡ replicate (length hands) p
     → portions_in (set hands i new) ≡ replicate (length (set hands i new)) p
 even_set hands i new d p same even =
     map-set_same (λ (h : Hand). h.pass.me.0.client.portion) hands i new d same ∙ even ∙ ap (λ n. replicate n p) (sym (length-set hands i new))
 
--- the portions stay even where each hand keeps its own
+-- the portions stay even if each hand keeps its own
 pub even_still : (hands now : List Hand) (p : ℕ) → portions_in now ≡ portions_in hands → portions_in hands ≡ replicate (length hands) p → portions_in now ≡ replicate (length now) p
 even_still hands now p same even =
     same ∙ even ∙ ap (λ n. replicate n p) (sym (length-map hands (λ (h : Hand). h.pass.me.0.client.portion)) ∙ sym (ap length same) ∙ length-map now (λ (h : Hand). h.pass.me.0.client.portion))
@@ -189,7 +189,7 @@ rest_of (x ∷ xs) = xs
 no_more : (n : ℕ) → suc n ≡ 0 → ⊥
 no_more n p = omega (arith, p)
 
--- the portions are even where two are one
+-- the portions are even if two are one
 pub even_joined : (xs ys now : List Hand) (p q : ℕ) → length xs ≡ length ys → views_in now ≡ joined_all (views_in xs) (views_in ys) → portions_in xs ≡ replicate (length xs) p → portions_in ys ≡ replicate (length ys) q
     → portions_in now ≡ replicate (length now) (p + q)
 unfolding rest_of
@@ -205,7 +205,7 @@ even_joined (x ∷ xs) (y ∷ ys) (n ∷ ns) p q long is xs_even ys_even =
     let tail = even_joined xs ys ns p q (omega (arith, long)) (ap rest_of is) (ap rest_of xs_even) (ap rest_of ys_even) in
     λ i. head i ∷ tail i
 
--- the portions stay even where each hand gives away the same amount
+-- the portions stay even if each hand gives away the same amount
 pub even_cut : (xs now : List Hand) (p amount : ℕ) → views_in now ≡ map (λ (h : HandView). kept_hand h amount) (views_in xs) → portions_in xs ≡ replicate (length xs) p
     → portions_in now ≡ replicate (length now) (p - amount)
 unfolding rest_of

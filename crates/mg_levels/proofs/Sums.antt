@@ -31,12 +31,12 @@ module _ {A : Type 0} (g : A → ℕ) where
   terms_le (x ∷ xs) (suc j) zero v u n e d = omega (arith, ap g (some-injective x u d), term_le xs j v e)
   terms_le (x ∷ xs) (suc j) (suc k) v u n e d = omega (arith, terms_le xs j k v u (λ h. n (ap suc h)) e d)
 
-  -- where no member of a list weighs anything
+  -- if no member of a list weighs anything
   pub total-none : (l : List A) → ((k : ℕ) (u : A) → get_elem? l k ≡ some u → g u ≡ 0) → total g l ≡ 0
   total-none [] none = refl
   total-none (x ∷ xs) none = omega (arith, none 0 x refl, total-none xs (λ k u at. none (suc k) u at))
 
-  -- where one alone does, the list weighs what it does
+  -- if one member alone weighs something, the list weighs what that member weighs
   pub total-only : (l : List A) (j : ℕ) (v : A) → get_elem? l j ≡ some v → ((k : ℕ) (u : A) → k ≢ j → get_elem? l k ≡ some u → g u ≡ 0) → total g l ≡ g v
   total-only [] j v e none = absurd (some-ne-none v (sym e))
   total-only (x ∷ xs) zero v e none = omega (arith, ap g (some-injective x v e), total-none xs (λ k u at. none (suc k) u (suc-ne-zero k) at))

@@ -1,5 +1,5 @@
--- What a thread has done at one level: the portion that it has, the places that it put in and those that it took out, and how often it
--- found the level full, and empty.
+-- What a thread has done at one level: the portion that it has, the places that it put in and those that it took out. It also
+-- says how often the thread found the level full, and empty.
 use Rattle.std.specs.Prelude.{◌≡◌, ℕ, ◌+◌, ◌-◌, List, [], ◌∷◌, ◌++◌, min}
 use Rattle.crossbeam_queue.specs.Fifo.{Held}
 use Rattle.crossbeam_queue.specs.declared.array_queue.Slotted.{Slotted}

@@ -3,7 +3,7 @@ use Rattle.std.specs.Prelude.{◌≡◌, ℕ, suc, ◌+◌, ◌-◌, ◌*◌, �
 use Rattle.mg_levels.specs.Balance.{weigh}
 use Rattle.mg_levels.specs.Hands.{HandView, took_from, FoundEmpty}
 
--- the node at a place of an order; behind the last one the order begins again
+-- the node at a place of an order. After the last place the order begins again
 abbrev pub node_of : List ℕ → ℕ → ℕ
 node_of order place = slice_index order (place % length order)
 
@@ -19,7 +19,7 @@ times x xs = weigh (once x) xs
 abbrev pub times_of : List ℕ → ℕ → List ℕ → ℕ
 times_of order node places = weigh (λ place. once node (node_of order place)) places
 
--- 1 where this node was taken out, and 0 otherwise
+-- 1 if this node was taken out, and 0 otherwise
 abbrev pub taken_once : Option ℕ → ℕ → ℕ
 taken_once None node = 0
 taken_once (Some x) node = once node x

@@ -13,8 +13,8 @@ use std::sync::Wait;
 /// The nodes that are left in the levels at the end, in no order.
 pub type LeftList = NumberList;
 
-/// Queues of nodes that may run, for threads that share them: one for each 32 places of an order of nodes (MediaPipe,
-/// Synchronization: a later node goes first), with room for four entries for each of its nodes.
+/// Queues of nodes that may run, for threads that share them. There is one queue for each 32 places of an order of nodes
+/// (MediaPipe, Synchronization: a later node goes first). A queue has room for four entries for each of its nodes.
 #[derive(Drop)]
 pub struct Levels {
     order: Order,
@@ -61,7 +61,8 @@ impl Levels {
         Ok((levels, seat))
     }
 
-    /// Puts a node of the order into its level, behind those that are there, unless the level is full. Returns whether it did.
+    /// Puts a node of the order into its level, after the nodes that are there, unless the level is full. Returns whether it
+    /// did.
     pub fn put<R: Wait>(&self, rt: &R, seat: &mut LevelSeat, node: u32) -> bool
         requires of { IsSeatOf self.now seat.old }
         requires node { Contains (order_of self.now) node }
@@ -76,7 +77,8 @@ impl Levels {
         put_at(rt, &self.queues[level], &mut seat.hands[level], place)
     }
 
-    /// Takes a node out of the last level that isn't empty, the one that was put in first. None where each level was found empty.
+    /// Takes a node out of the last level that isn't empty: the node that was put in first. Returns `None` if each level was
+    /// found empty.
     pub fn take<R: Wait>(&self, rt: &R, seat: &mut LevelSeat) -> Option<u32>
         requires of { IsSeatOf self.now seat.old }
         ensures of { IsSeatOf self.now seat.new × (portion_of seat.new ≡ portion_of seat.old) }

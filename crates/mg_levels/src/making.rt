@@ -17,7 +17,7 @@ pub(crate) struct Made {
     pub room: usize,
 }
 
-// Makes a level for so many nodes behind the others.
+// Makes a level for so many nodes, after the other levels.
 fn make_level(alloc: Global, made: &mut Made, nodes: u32) -> Result<(), AllocError>
     requires nodes { (0 < nodes) × (nodes ≤ 32) }
     requires room { made.old.room < 2 ^ 40 }

@@ -19,8 +19,8 @@ impl LevelSeat {
     ghost use Rattle.mg_levels.specs.Balance.{whole};
     ghost use Rattle.mg_levels.specs.Levels.{order_of, IsSeatOf, portion_of, HasDoneNothing, SameCounts, AddsCounts};
 
-    /// Hands over so much of the portion to a new seat, which has done nothing yet. After an `Err`, which is want of memory, the seat is
-    /// unchanged.
+    /// Hands over so much of the portion to a new seat, which has done nothing yet. After an `Err`, which means out of memory,
+    /// this seat is unchanged.
     pub fn split(
         &mut self,
         alloc: Global,

@@ -48,7 +48,7 @@ found_first t u v answer first is some le e = omega (arith, le, ap (λ (o : Opti
 pub found_none : (t u : ℕ) (answer first : Option ℕ) → answer ≡ first → answer ≡ None → Some u ≡ first → t ≤ u
 found_none t u answer first is none e = absurd (let clash : Some u ≡ None = e ∙ sym is ∙ none in cc)
 
--- where no packet is below the time, one exactly at it is the first, and no other goes
+-- if no packet is below the time, a packet exactly at it is the first, and no other goes
 pub record Ends {X : Type 0} (t : ℕ) (q : Waiting X) : Type 0 where
   pub left : popped_at t q ≡ without (Some t) q
   pub found : front_at t q.packets ≡ packet_at t q.packets
@@ -75,7 +75,7 @@ ends_by {X} t g b s (p ∷ ps) h far =
 pub ends : {X : Type 0} (t : ℕ) (q : Waiting X) → IsPrefix (rest_of q) → ((u : ℕ) → Some u ≡ option_map (λ p. p.at) (slice_get q.packets 0) → t ≤ u) → Ends t q
 ends t q h far = ends_by t q.gone q.bound q.spare q.packets (prefix-climbs (rest_of q) h) far
 
--- the packets at or below a time are the first ones, and the others come behind them
+-- the packets at or below a time are the first ones, and the others come after these
 record IsSplit {X : Type 0} (t : ℕ) (ps : List (Stamped X)) : Type 0 where
   low : AllByRecursion (λ p. p.at ≤ t) (take (length (filter (λ p. leb p.at t) ps)) ps)
   high : filter (λ p. ltb t p.at) ps ≡ drop (length (filter (λ p. leb p.at t) ps)) ps

@@ -151,7 +151,7 @@ fresh_stands {X} held h = record {
     empty_stands : StandsFor (empty_queue {X = X}) empty_prefix
     empty_stands = record { prefix = empty_is_prefix; gone = omega arith; waiting = refl; bound = refl }
 
--- where prefixes are extended, and as many packets are gone, as many answers are given
+-- if prefixes are extended, and as many packets are gone, as many answers are given
 time_before-append : {X : Type 0} (k : ℕ) (ps fs : List (Stamped X)) → k ≤ length ps → time_before k (ps ++ fs) ≡ time_before k ps
 time_before-append zero ps fs le = refl
 time_before-append {X} (suc k) ps fs le = ap (λ (o : Option (Stamped X)). option_map (λ p. p.at) o) (get-append k ps fs (omega (arith, le)))

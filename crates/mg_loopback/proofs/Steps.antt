@@ -96,7 +96,7 @@ first_reached {X} held first bound result is at answer = answer ∙ ap (λ (o : 
     by [] = refl
     by (p ∷ ps) = refl
 
--- an answer is silent exactly where the next one is nothing
+-- an answer is silent exactly if the next one is nothing
 abbrev time_told : Answered → ℕ → ℕ
 time_told (Packet p) d = d
 time_told (Silent t) d = t

@@ -26,7 +26,7 @@ first_stay {X} k held main wider loop more h e f =
     let whole : rs ++ drop (length rs) all ≡ all = ap (λ (l : List (Reply X)). l ++ drop (length rs) all) (sym (replies-stay main wider loop more e f)) ∙ take-append-drop (length rs) all in
     ap (λ (l : List (Reply X)). take k l) (sym whole) ∙ take-append-le k rs (drop (length rs) all) h.answered
 
--- where nothing waits on MAIN
+-- if nothing waits on MAIN
 pub each_answered : {X : Type 0} (k : ℕ) (held : Held X) (main loop : StreamPrefix X) → StandsAfter k held main loop → held.main.packets ≡ [] → length (replies main loop) ≡ length main.packets
 each_answered {X} k held main loop h none =
     let empty : length (drop held.main.gone main.packets) ≡ 0 = ap (λ (l : List (Stamped X)). length l) (sym h.at_main.waiting ∙ none) in
@@ -39,7 +39,7 @@ stream_ends {X} k held main loop h none end =
     let all = told_stream k main loop (all_told k held main loop h (none_next held none)) in
     ap (λ (s : StreamPrefix X). s.bound) (sym all) ∙ sym (reached_is k held main loop h) ∙ ap (λ (ps : List (Stamped X)). first_time ps held.main.bound) none ∙ end
 
--- the prefix of MAIN that is answered: its first k packets, up to the time of the one behind them
+-- the prefix of MAIN that is answered: its first k packets, up to the time of the packet after these
 abbrev cut : {X : Type 0} → ℕ → StreamPrefix X → StreamPrefix X
 cut k s = record { packets = take k s.packets; bound = first_time (drop k s.packets) s.bound }
 

@@ -9,7 +9,7 @@ use Rattle.mg_settled.specs.Loopback.{is_answered, Reply, reply}
 use Rattle.mg_settled.proofs.Fronts.{one_more}
 use Rattle.mg_loopback.specs.Standing.{time_before}
 
--- the packets of a list, each behind the one before it, and the first behind another
+-- the packets of a list, each with the one before it, and the first with another packet, or none
 abbrev pub turns : {X : Type 0} → Option (Stamped X) → List (Stamped X) → List (Option (Stamped X) × Stamped X)
 turns o ps = zip (o ∷ map (λ p. Some p) ps) ps
 
@@ -19,7 +19,7 @@ before o zero ps = o
 before o (suc k) [] = o
 before o (suc k) (p ∷ ps) = before (Some p) k ps
 
--- the answer to the first of some packets, behind another
+-- the answer to the first of some packets, after another packet
 abbrev pub first_reply : {X : Type 0} → StreamPrefix X → Option (Stamped X) → List (Stamped X) → Option (Reply X)
 first_reply loop o [] = None
 first_reply loop o (p ∷ ps) = if is_answered loop (o, p) then Some (reply loop (o, p)) else None

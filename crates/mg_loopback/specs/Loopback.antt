@@ -10,8 +10,8 @@ use Rattle.mg_stream.specs.Queue.{Waiting, IsLike, empty_queue, popped}
 use Rattle.mg_loopback.specs.declared.answered.Answered.{Answered}
 use Rattle.mg_loopback.specs.declared.answered.Answered.TheVariants.{Packet, Silent, NotYet}
 
--- what a loopback holds: the queues of LOOP and MAIN, and the time of the last answered packet of MAIN, the predecessor of
--- the next one
+-- what a loopback holds: the queues of LOOP and MAIN, and the time of the last answered packet of MAIN. That packet is the
+-- predecessor of the next one
 pub record Held (X : Type 0) : Type 0 where
   pub loop : Waiting X
   pub main : Waiting X
@@ -35,8 +35,8 @@ abbrev pub value_at : {X : Type 0} → Option ℕ → List (Stamped X) → Optio
 value_at None ps = None
 value_at (Some t) ps = option_map (λ p. p.value) (packet_at t ps)
 
--- the answer to the first packet of MAIN, where one waits that may be answered: at its time, what LOOP has exactly at the
--- predecessor's time, or nothing
+-- the answer to the first packet of MAIN, if one waits that may be answered. The answer is at that packet's time: what LOOP has
+-- exactly at the predecessor's time, or nothing
 abbrev pub next_reply : {X : Type 0} → Held X → Option (Reply X)
 next_reply held =
     if is_settled held
@@ -53,8 +53,8 @@ without (Some t) q = record {
   spare = q.spare + length (filter (λ p. nat_le p.at t) q.packets);
 }
 
--- what is held once the first packet of MAIN is answered: that packet is gone, and becomes the predecessor of the next one; and the packets
--- of LOOP at or below the time of its own predecessor are gone
+-- what is held once the first packet of MAIN is answered. That packet is gone, and becomes the predecessor of the next one. The
+-- packets of LOOP at or below the time of its own predecessor are gone
 abbrev pub replied : {X : Type 0} → Held X → Held X
 replied held = record {
   loop = without held.previous held.loop;
@@ -62,11 +62,11 @@ replied held = record {
   previous = option_map (λ p. p.at) (slice_get held.main.packets 0);
 }
 
--- what is held after an answer, or as before where no answer can be given yet
+-- what is held after an answer, or as before if no answer can be given yet
 abbrev pub after_answer : {X : Type 0} → Held X → Held X
 after_answer held = if is_some (next_reply held) then replied held else held
 
--- how an answer at a time is told: as a packet, or as the time alone where there is nothing
+-- how an answer at a time is told: as a packet, or as the time alone if there is nothing
 abbrev pub told_at : ℕ → Option Plain → Answered
 told_at t None = Silent t
 told_at t (Some v) = Packet (record { at = t; value = v })

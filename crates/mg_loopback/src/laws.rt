@@ -9,13 +9,13 @@ ghost use Rattle.mg_stream.specs.Queue.{StandsFor};
 ghost use Rattle.mg_loopback.specs.Loopback.{Held, IsAsFar, next_reply};
 ghost use Rattle.mg_loopback.specs.Standing.{StandsAfter, after_replies};
 
-/// Where k answers are given, the next one is answer k of the whole streams, counted from 0.
+/// If k answers are given, the next one is answer k of the whole streams, counted from 0.
 pub fn the_next_answer_is_the_streams()
     ensures { (k : ℕ) (held : Held Plain) (main loop : StreamPrefix Plain) → StandsAfter k held main loop → next_reply held ≡ slice_get (replies main loop) k }
 {}
 
-/// Where prefixes are extended, and the loopback comes to stand for the extended ones with as many packets gone, it has
-/// given as many answers; and the answers that were given are the first of the extended ones.
+/// Packets arrive: the prefixes are extended, and the loopback stands for the extended ones, with as many packets gone. It has
+/// then given as many answers as before. The answers that were given are the first answers of the extended prefixes.
 pub fn arrivals_keep_the_answers()
     ensures stands { (k : ℕ) (held now : Held Plain) (main wider loop more : StreamPrefix Plain)
         → StandsAfter k held main loop → IsExtendedBy main wider → IsExtendedBy loop more
@@ -25,8 +25,8 @@ pub fn arrivals_keep_the_answers()
         → take k (replies wider more) ≡ take k (replies main loop) }
 {}
 
-/// Where no answer can be told yet, all of them are given, and make up the output stream. Where MAIN has ended too, and
-/// nothing waits on it, each of its packets has its answer, and the output stream has ended.
+/// If no answer can be told yet, all of them are given, and make up the output stream. If MAIN has ended too, and nothing waits
+/// on it, each of its packets has its answer. The output stream has ended then.
 pub fn all_answers_make_the_stream()
     ensures all { (k : ℕ) (held : Held Plain) (main loop : StreamPrefix Plain) → StandsAfter k held main loop → next_reply held ≡ None
         → k ≡ length (replies main loop) }

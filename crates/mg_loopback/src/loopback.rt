@@ -69,8 +69,7 @@ impl Loopback {
         }
     }
 
-    /// Puts a packet behind those that wait at a port. Where it is refused, the packet comes back, and the loopback is
-    /// as before.
+    /// Puts a packet after those that wait at a port. If the packet is refused, it comes back, and the loopback is as before.
     pub fn append(&mut self, port: u32, packet: Packet) -> Result<(), Refused>
         requires { port < 2 }
         ensures ok { OnOk result (IsLike (queue_at port self.new) (with_packet (queue_at port self.old) packet)) }
@@ -170,8 +169,8 @@ impl Loopback {
         self.queue(port).count()
     }
 
-    /// How far the answers so far tell the output stream: up to the time of the first packet of MAIN that waits, or to MAIN's bound where
-    /// none waits.
+    /// Returns how far the answers so far tell the output stream. This is the time of the first packet of MAIN that waits, or
+    /// MAIN's bound if none waits.
     pub fn out_bound(&self) -> Timestamp
         ensures reached { result ≡ reached self.now }
         ensures told { (k : ℕ) (main loop : StreamPrefix Plain) → StandsAfter k self.now main loop → result ≡ (after_replies k main loop).bound }
@@ -179,8 +178,8 @@ impl Loopback {
         self.main.first().unwrap_or(self.main.bound())
     }
 
-    /// Answers the next packet of MAIN, where its answer can be told. The packet leaves its queue, and so do the packets of LOOP at or
-    /// below the time of the packet of MAIN before it. Otherwise nothing changes. It takes no memory.
+    /// Answers the next packet of MAIN, if its answer can be told. The packet leaves its queue, and so do the packets of LOOP
+    /// at or below the time of the packet of MAIN before it. Otherwise nothing changes. The call takes no memory.
     pub fn answer(&mut self) -> Answered
         ensures answer { result ≡ told (next_reply self.old) }
         ensures left { self.new ≡ after_answer self.old }

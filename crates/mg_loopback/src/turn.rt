@@ -22,8 +22,8 @@ fn take_up_to(queue: &mut Queue, at: Timestamp) -> Option<Packet>
     queue.pop_at(at)
 }
 
-/// Takes the packets of LOOP at or below the time of the packet of MAIN that was answered last, if there was one, and returns the one
-/// exactly at it.
+/// Takes the packets of LOOP at or below the time of the packet of MAIN that was answered last, if there was one. Returns the
+/// packet of LOOP exactly at that time, if there is one.
 pub(crate) fn take_previous(queue: &mut Queue, previous: Option<Timestamp>) -> Option<Packet>
     ensures value { option_map (λ p. p.value) result ≡ value_at previous queue.old.packets }
     ensures left { queue.new ≡ without previous queue.old }

@@ -43,7 +43,7 @@ told_time policy qs t h told = sym (first-time policy (rests qs) h) ∙ time_by 
 no_next : (policy : Policy) (qs : List (Waiting Plain)) → All IsPrefix (rests qs) → first_set_time policy (rests qs) ≡ None → settled_sets policy (rests qs) ≡ []
 no_next policy qs h none = sets-over policy (rests qs) h none
 
--- where no set is settled and the reach is the end of all times, no packet waits at a port that leads
+-- if no set is settled and the reach is the end of all times, no packet waits at a port that leads
 over_by : (policy : Policy) (ss : List (StreamPrefix Plain)) (i : ℕ) (ps : List (Stamped Plain)) → All IsPrefix ss → settled_sets policy ss ≡ [] → reach policy ss ≡ done → i < length ss
     → IsTrue (leads policy (length ss) i) → (port_of ss i).packets ≡ ps → ps ≡ []
 over_by policy ss i [] h none ended there lead is = refl
@@ -90,7 +90,7 @@ shows_next policy k qs ss t set h is =
       below = All-slice_get (λ (e : TimedSet Plain). IsBelowBounds policy ss e.at) k (settled_sets policy ss) _ (below-bounds policy ss (all_prefixes qs ss h.each)) next;
     }
 
--- where none is next, as many are claimed as there are
+-- if no set is next, as many are claimed as there are
 pub none_next : (policy : Policy) (k : ℕ) (qs : List (Waiting Plain)) (ss : List (StreamPrefix Plain)) → StandAfter policy k qs ss → settled_sets policy (rests qs) ≡ [] → length (settled_sets policy ss) ≡ k
 none_next policy k qs ss h none =
     let few = h.gone.claimed in
@@ -151,7 +151,7 @@ pub shown_if : (o : Option (TimedSet Plain)) (set : List (Option (Stamped Plain)
 shown_if None set h = absurd h
 shown_if (Some e) set h = h
 
--- where no set is claimed
+-- if no set is claimed
 pub no_claim : (policy : Policy) (qs : List (Waiting Plain)) → All IsPrefix (rests qs) → first_set_time policy (rests qs) ≡ None → settled_sets policy (rests qs) ≡ []
 no_claim policy qs h none = no_next policy qs h none
 

@@ -22,7 +22,7 @@ same_queue : {X : Type 0} (g h : ℕ) (ps qs : List (Stamped X)) (b s t : ℕ) �
 same_queue {X} g h ps qs b s t gone packets spare =
     ap₂ (λ (n : ℕ) (rs : List (Stamped X)). queue n rs b s) gone packets ∙ ap (λ (n : ℕ). queue h qs b n) spare
 
--- where the first packet goes, what still goes is what goes of all
+-- if the first packet goes, what still goes is what goes of all
 drop_first : {X : Type 0} (t first g b s : ℕ) (ps : List (Stamped X)) → option_map (λ p. p.at) (slice_get ps 0) ≡ Some first → first < t
     → dropped_before t (popped_at first (queue g ps b s)) ≡ dropped_before t (queue g ps b s)
 drop_first t first g b s [] is below = absurd cc

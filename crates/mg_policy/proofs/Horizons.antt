@@ -1,4 +1,4 @@
--- How far what waits reaches: the time of the next set, or the reach where there is none.
+-- How far what waits reaches: the time of the next set, or the reach if there is none.
 use Rattle.std.proofs.Common.{◌≡◌, ℕ, min, Option, Some, None, option_map, unwrap_or, IsSomeAnd, nat_lt, inl, inr, sym, arith, if◌then◌else◌}
 use Rattle.std.proofs.lemmas.Bool.{cases_order, le-ltb, lt-ltb}
 use Rattle.mg_value.specs.Payload.{Plain}

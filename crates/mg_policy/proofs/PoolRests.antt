@@ -30,7 +30,7 @@ select-at pool select last =
     let number : length (rests (queues_of pool)) - 1 ≡ select = (let long = rests-long pool in omega (arith, last, long)) in
     ap (port_of (rests (queues_of pool))) number ∙ rest-at pool select (omega (arith, last))
 
--- each is a prefix where what waits at each port is one
+-- each of them is a prefix if what waits at each port is a prefix
 pub rests-prefixes : (pool : Pooled Plain) → ((port : ℕ) → IsPrefix (rest_of (queue_at pool port))) → All IsPrefix (rests (queues_of pool))
 rests-prefixes pool each = All-from_recursion IsPrefix (rests (queues_of pool)) (go pool.ports each)
   where
@@ -61,7 +61,7 @@ pub reach-none : (ss : List (StreamPrefix Plain)) (ps : List (Stamped Plain)) �
 reach-none ss [] is none = ap (reach_from ss) is
 reach-none ss (p ∷ ps) is none = absurd cc
 
--- where SELECT's first packet isn't settled, the reach isn't the end of all times
+-- if SELECT's first packet isn't settled, the reach isn't the end of all times
 pub reach-unsettled : (ss : List (StreamPrefix Plain)) (ps : List (Stamped Plain)) (p : Stamped Plain) → IsPrefix (select_of ss) → (select_of ss).packets ≡ ps → slice_get ps 0 ≡ Some p → is_settled ss p ≡ false → reach Mux ss ≡ done → ⊥
 reach-unsettled ss [] p h is first unsettled ended = absurd cc
 reach-unsettled ss (q ∷ ps) p h is first unsettled ended =

@@ -1,4 +1,4 @@
--- Queues that stand for prefixes of which some sets are claimed: what waits, arrivals and claims.
+-- Queues that stand for prefixes after some sets were claimed: what waits, arrivals and claims.
 use Rattle.std.proofs.Common.{◌≡◌, ℕ, ◌+◌, ◌<◌, ◌≤◌, List, [], ◌∷◌, map, drop, length, length-drop, replicate, All, ap, ap₂, subst, sym, refl, ◌∙◌, arith}
 use Rattle.std.specs.List.{AllZip, AllByRecursion}
 use Rattle.std.proofs.lemmas.List.{length-replicate}
@@ -64,7 +64,7 @@ claim_counts policy k qs rs ss h each some left =
       gone = gone-claimed policy k ss (gone_of qs) (gone_of rs) (all_prefixes qs ss h.each) h.gone below (gone-few rs ss each) same;
     }
 
--- queues to which nothing came stand for empty prefixes of which no set is claimed
+-- queues to which nothing came stand for empty prefixes, and no set of these is claimed
 empty_stands : {X : Type 0} → StandsFor (empty_queue {X = X}) empty_prefix
 empty_stands = record { prefix = empty_is_prefix; gone = omega arith; waiting = refl; bound = refl }
 

@@ -44,19 +44,19 @@ Tells policy (Ready at) qs = IsSomeAnd (next_set policy qs) (λ e. e.at ≡ at)
 Tells policy Close qs = IsOver policy qs
 Tells policy NotReady qs = (next_set policy qs ≡ None) × ¬ IsOver policy qs
 
--- the queues stand for prefixes of their streams, of which the first k settled sets are claimed
+-- the queues stand for prefixes of their streams, and the first k settled sets of these are claimed
 pub record StandAfter (policy : Policy) (k : ℕ) (qs : List (Waiting Plain)) (ss : List (StreamPrefix Plain)) : Type 0 where
   pub each : AllZip StandsFor qs ss
   pub gone : AreGone policy k ss (map (λ q. q.gone) qs)
 
--- behind their first k settled sets some prefixes have a further one: at this time, which is below the bounds that the policy asks for, and
--- with these packets
+-- after their first k settled sets some prefixes have a further set, at this time and with these packets. The time is below the
+-- bounds that the policy asks for
 pub record ShowsNext (policy : Policy) (k : ℕ) (ss : List (StreamPrefix Plain)) (at : ℕ) (set : List (Option (Stamped Plain))) : Type 0 where
   pub next : slice_get (settled_sets policy ss) k ≡ Some (record { at = at; set = set })
   pub below : IsBelowBounds policy ss at
 
--- what a readiness says of prefixes of which the first k settled sets are claimed: there is a further one, at a time below the bounds; or
--- there is none, and none comes any more; or there is none so far
+-- what a readiness says of prefixes whose first k settled sets are claimed. There is a further set, at a time below the bounds.
+-- Or there is none, and none comes any more. Or there is none so far
 abbrev pub TellsOf : Policy → ℕ → List (StreamPrefix Plain) → Readiness → Type 0
 TellsOf policy k ss (Ready at) = (set : List (Option (Stamped Plain))) × ShowsNext policy k ss at set
 TellsOf policy k ss Close = (length (settled_sets policy ss) ≡ k) × (reach policy ss ≡ done)

@@ -72,8 +72,8 @@ impl Inbox {
         self.pool.reserve(more)
     }
 
-    /// Puts a packet behind those that wait at a port, and moves the bound to what may follow it. Where it is refused,
-    /// the packet comes back, and the inbox is as before.
+    /// Puts a packet after those that wait at a port, and moves the bound to what may follow it. If the packet is refused, it
+    /// comes back, and the inbox is as before.
     pub fn append(&mut self, port: u32, packet: Packet) -> Result<(), Refused>
         requires { port < length self.old.pool.ports }
         ensures ok { OnOk result (self.new.pool
@@ -102,8 +102,8 @@ impl Inbox {
         self.pool.append(port, packet)
     }
 
-    /// Puts a packet that may come behind those that wait at a port, and moves the bound to what may follow it. Where there is no
-    /// memory the packet is dropped, and the inbox is as before.
+    /// Puts a packet that may come after those that wait at a port, and moves the bound to what may follow it. If there is no
+    /// memory, the packet is dropped, and the inbox is as before.
     pub fn bring(&mut self, port: u32, packet: Packet) -> Result<(), AllocError>
         requires port { port < length self.old.pool.ports }
         requires may_come { MayCome (queue_at self.old.pool port) packet.at }
@@ -166,9 +166,10 @@ impl Inbox {
         self.pool.count(port)
     }
 
-    /// How far the input sets reach: each set that isn't settled yet stands there or above. By default that is the least bound of the
-    /// ports, `DONE` where there is no port; under Mux the time of SELECT's first packet that isn't settled, or SELECT's bound. By default
-    /// this looks once at each port, and under Mux at SELECT's packets up to the first that isn't settled.
+    /// Returns how far the input sets reach: each set that isn't settled yet stands there or above. By default that is the
+    /// least bound of the ports, or `DONE` if there is no port. Under Mux it is the time of SELECT's first packet that isn't
+    /// settled, or SELECT's bound. By default this looks once at each port, and under Mux at SELECT's packets up to the first
+    /// that isn't settled.
     pub fn low(&self) -> Timestamp
         ensures low { result ≡ reach self.now.policy (rests (queues_of self.now.pool)) }
         // The answer is the reach of all that came.
@@ -177,8 +178,8 @@ impl Inbox {
         reach_of(&self.pool, self.policy)
     }
 
-    /// The time below which no further input set stands: that of the next one, or how far the sets reach where there is none. By
-    /// default this looks once at each port.
+    /// Returns the time below which no further input set stands. This is the time of the next set, or how far the sets reach if
+    /// there is none. By default this looks once at each port.
     pub fn horizon(&self) -> Timestamp
         ensures { result ≡ unwrap_or (option_map (λ e. e.at) (next_set self.now.policy (queues_of self.now.pool))) (reach self.now.policy (rests (queues_of self.now.pool))) }
     {
@@ -188,7 +189,7 @@ impl Inbox {
         }
     }
 
-    // The horizon by the inbox's readiness: the time of the next set, or how far the sets reach where there is none.
+    // Returns the horizon by the inbox's readiness: the time of the next set, or how far the sets reach if there is none.
     fn told_horizon(&self) -> Timestamp
         ensures { result ≡ unwrap_or (option_map (λ e. e.at) (next_set self.now.policy (queues_of self.now.pool))) (reach self.now.policy (rests (queues_of self.now.pool))) }
     {
@@ -214,8 +215,8 @@ impl Inbox {
         Readiness::NotReady
     }
 
-    /// Takes the next input set, which must stand at `at`, into `into`: its packets leave the queues, and under Mux those of other ports
-    /// before its time or at it.
+    /// Takes the next input set, which must stand at `at`, into `into`. The set's packets leave the queues. Under Mux the
+    /// packets of other ports before its time or at it leave too.
     pub fn claim_at(&mut self, at: Timestamp, into: &mut InputSet)
         requires places { length into.old ≡ length self.old.pool.ports }
         requires next { Tells self.old.policy (Ready at) (queues_of self.old.pool) }
@@ -237,8 +238,8 @@ impl Inbox {
         take_set(&mut self.pool, self.policy, at, into);
     }
 
-    /// Takes the next input set into `into`, and returns whether there was one. Its packets leave the queues, and under Mux those of other
-    /// ports before its time or at it. Where there is none nothing changes.
+    /// Takes the next input set into `into`, and returns whether there was one. The set's packets leave the queues. Under Mux
+    /// the packets of other ports before its time or at it leave too. If there is no next set, nothing changes.
     pub fn claim(&mut self, into: &mut InputSet) -> bool
         requires { length into.old ≡ length self.old.pool.ports }
         ensures claimed { IsTrue result ↔ IsSome (next_set self.old.policy (queues_of self.old.pool)) }

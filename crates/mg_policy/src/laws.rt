@@ -16,8 +16,8 @@ pub fn one_readiness_fits()
     ensures { (policy : Policy) (a b : Readiness) (qs : List (Waiting Plain)) → Tells policy a qs → Tells policy b qs → a ≡ b }
 {}
 
-/// The settled sets of what waits are the settled sets of the whole prefixes that aren't claimed, so the next set is the first of these;
-/// and what waits reaches as far as the prefixes.
+/// The settled sets of what waits are the settled sets of the whole prefixes that aren't claimed. So the next set is the first
+/// of these. What waits reaches as far as the prefixes.
 pub fn what_waits_is_not_claimed()
     ensures sets { (policy : Policy) (k : ℕ) (qs : List (Waiting Plain)) (ss : List (StreamPrefix Plain))
         → StandAfter policy k qs ss → settled_sets policy (rests qs) ≡ drop k (settled_sets policy ss) }
@@ -25,15 +25,15 @@ pub fn what_waits_is_not_claimed()
         → StandAfter policy k qs ss → reach policy (rests qs) ≡ reach policy ss }
 {}
 
-/// Where prefixes are extended, and the queues come to stand for the extended ones with as many packets gone, as many sets are claimed as
-/// before.
+/// Packets arrive: the queues now stand for extended prefixes, with as many packets gone as before. Then as many sets are
+/// claimed as before.
 pub fn arrivals_keep_what_is_claimed()
     ensures { (policy : Policy) (k : ℕ) (qs rs : List (Waiting Plain)) (ss ts : List (StreamPrefix Plain))
         → StandAfter policy k qs ss → AllZip StandsFor rs ts → AreExtendedBy ss ts → map (λ r. r.gone) rs ≡ map (λ q. q.gone) qs
         → StandAfter policy k rs ts }
 {}
 
-/// Where the packets of the next set leave the queues, one more set is claimed.
+/// If the packets of the next set leave the queues, one more set is claimed.
 pub fn a_claim_counts()
     ensures { (policy : Policy) (k : ℕ) (qs rs : List (Waiting Plain)) (ss : List (StreamPrefix Plain))
         → StandAfter policy k qs ss → AllZip StandsFor rs ss → 0 < length (settled_sets policy (rests qs))

@@ -16,9 +16,9 @@ use mg_value::Policy;
 /// What a look at the ports of a pool finds.
 #[derive(Clone, Copy)]
 pub(crate) struct Look {
-    /// The time of the next set, where there is one.
+    /// The time of the next set, if there is one.
     pub(crate) next: Option<Timestamp>,
-    /// Whether the reach is the end of all times. It has no meaning where there is a next set.
+    /// Whether the reach is the end of all times. It has no meaning if there is a next set.
     pub(crate) ended: bool,
 }
 
@@ -104,7 +104,8 @@ fn select_reach(pool: &Pool) -> Timestamp
     pool.bound(select)
 }
 
-/// The time of the next set under the default policy, or how far the sets reach where there is none. Looks once at each port.
+/// Returns the time of the next set under the default policy, or how far the sets reach if there is none. Looks once at each
+/// port.
 pub(crate) fn least_time(pool: &Pool) -> Timestamp
     ensures time { result ≡ unwrap_or (first_set_time Default (rests (queues_of pool.now))) (low (rests (queues_of pool.now))) }
     ensures prefixes { All IsPrefix (rests (queues_of pool.now)) }
@@ -116,9 +117,9 @@ pub(crate) fn least_time(pool: &Pool) -> Timestamp
 /// The times that the default policy asks for.
 #[derive(Clone, Copy)]
 struct Times {
-    /// The least timestamp of a packet that waits, and `DONE` where none waits.
+    /// The least timestamp of a packet that waits, and `DONE` if no packet waits.
     earliest: Timestamp,
-    /// The least bound, and `DONE` where there is no port.
+    /// The least bound, and `DONE` if there is no port.
     low: Timestamp,
 }
 

@@ -30,8 +30,8 @@ pub(crate) fn is_settled(pool: &Pool, packet: &Packet) -> bool
     }
 }
 
-/// The port that a packet of SELECT with this payload selects, of `ports` ports of which the last is SELECT; `None` where the payload
-/// isn't the number of another port.
+/// Returns the port that a packet of SELECT with this payload selects. There are `ports` ports, and the last is SELECT. Returns
+/// `None` if the payload isn't the number of another port.
 fn selected(ports: u32, payload: &Payload) -> Option<u32>
     ensures { result ≡ selected ports (plain payload.now) }
 {
@@ -41,7 +41,8 @@ fn selected(ports: u32, payload: &Payload) -> Option<u32>
     }
 }
 
-/// The port that SELECT's first packet selects, if one waits and it selects a port; `None` under the default policy.
+/// Returns the port that SELECT's first packet selects, if one waits and it selects a port. Returns `None` under the default
+/// policy.
 pub(crate) fn chosen_port(pool: &Pool, policy: Policy) -> Option<u32>
     requires { HasPorts policy pool.now }
     ensures { result ≡ chosen_port policy (rests (queues_of pool.now)) }

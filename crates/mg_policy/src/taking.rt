@@ -34,7 +34,7 @@ pub(crate) fn take_set(pool: &mut Pool, policy: Policy, at: Timestamp, into: &mu
     }
 }
 
-/// Returns the packet where it is shown, and otherwise `None`.
+/// Returns the packet if it is shown, and otherwise `None`.
 fn where_shown(packet: Option<Packet>, shown: bool) -> Option<Packet>
     ensures { result ≡ (if shown then packet else None) }
 {

@@ -1,4 +1,4 @@
--- The bits of buckets, where a place is taken out.
+-- The bits of buckets, if a place is taken out.
 use Rattle.std.proofs.Common.{◌≡◌, ◌≢◌, ℕ, ◌/◌, ◌<◌, Bool, true, false, List, length, get_or, slice_set, ◌∙◌, sym, subst, take, drop, ◌++◌, inl, inr, arith, length-set, get_or-set_same, get_or-set_other}
 use Rattle.std.proofs.Math.Seq.{take-append_seam}
 use Rattle.std.proofs.lemmas.Bool.{cases_eq, false≢true}
@@ -13,12 +13,12 @@ stayed places p q within there =
     ∙ subst (λ k. get_or (slice_set places p false) k false ≡ true) e there) in
     (other, sym (get_or-set_other places p q false false other) ∙ there)
 
--- a bucket without it is not empty where it has the place, or where it wasn't empty
+-- another bucket that is empty without the place was empty with it
 still_empty : (places : List Bool) (p bucket : ℕ) → bucket ≢ p / 32 → IsEmptyIn (slice_set places p false) bucket → IsEmptyIn places bucket
 still_empty places p bucket apart empty q in_bucket =
     sym (get_or-set_other places p q false false (λ e. apart (omega arith))) ∙ empty q in_bucket
 
--- its bucket keeps its bit where another of its places is in
+-- its bucket keeps its bit if another of its places is in
 kept : (places : List Bool) (words : List ℕ) (p other : ℕ) → IsMarked places words → p < length places
     → IsGreatestIn (slice_set places p false) (p / 32) other → IsMarked (slice_set places p false) words
 kept places words p other old within found =
@@ -52,7 +52,7 @@ cleared places words less p old within empty clear changes =
       ];
     }
 
--- a bucket keeps its mark where a place is taken out and another one of it is in
+-- a bucket keeps its mark if a place is taken out and another one of it is in
 pub IsMarked-kept : (places after : List Bool) (words : List ℕ) (p other : ℕ) → after ≡ slice_set places p false → IsMarked places words
     → p < length places → IsGreatestIn after (p / 32) other → IsMarked after words
 IsMarked-kept places after words p other is_after old within found =

@@ -10,7 +10,7 @@ pub is_linked-end : (places : List Bool) (s : ℕ) → s % 33 ≡ 0 → is_linke
 unfolding is_linked
 is_linked-end places s e = rw (eq-eqb (s % 33) 0 e)
 
--- another is linked where its place is in
+-- another is linked if its place is in
 pub is_linked-inner : (places : List Bool) (s : ℕ) → s % 33 ≢ 0 → is_linked places s ≡ get_or places (place_of s) false
 unfolding is_linked
 is_linked-inner places s ne = rw (ne_eqb (s % 33) 0 ne)

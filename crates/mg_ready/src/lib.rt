@@ -1,5 +1,4 @@
-//! An order of nodes, and a set of those that may run, of which the last in the order goes first. Answers to the definitions of
-//! `specs/Ready.antt`.
+//! An order of nodes, and a set of those that may run. Of these the last in the order goes first.
 #![tactic(auto)]
 
 mod bits;

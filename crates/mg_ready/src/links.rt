@@ -47,14 +47,14 @@ fn top_of(places: u32) -> usize
     (places as usize).div_ceil(BUCKET) * STRIDE
 }
 
-// Returns marks for `places` places, all of which are out.
+// Returns marks for `places` places. All places are out.
 fn all_out(alloc: Global, places: u32) -> Result<Vec<bool>, AllocError>
     ensures { IfOk result (λ v. v.items ≡ replicate places false) }
 {
     vec![in alloc; false; places as usize]
 }
 
-// Returns the links up of the slots to `top`, where no place is in.
+// Returns the links up of the slots to `top`, for a set without places.
 fn links_up(alloc: Global, top: usize) -> Result<Vec<usize>, AllocError>
     requires { top < 2 ^ 40 }
     ensures len { IfOk result (λ v. vec_len v ≡ top + 1) }
@@ -67,7 +67,7 @@ fn links_up(alloc: Global, top: usize) -> Result<Vec<usize>, AllocError>
     Ok(above)
 }
 
-// Returns the links down of the slots to `top`, where no place is in.
+// Returns the links down of the slots to `top`, for a set without places.
 fn links_down(alloc: Global, top: usize) -> Result<Vec<usize>, AllocError>
     requires { top < 2 ^ 40 }
     ensures len { IfOk result (λ v. vec_len v ≡ top + 1) }
@@ -81,7 +81,7 @@ fn links_down(alloc: Global, top: usize) -> Result<Vec<usize>, AllocError>
 }
 
 impl Links {
-    /// Returns a set over `places` places, in which none is.
+    /// Returns a set over `places` places. No place is in it.
     pub(crate) fn new(alloc: Global, places: u32) -> Result<Links, AllocError>
         ensures { IfOk result (λ l. l ≡ replicate places false) }
     {

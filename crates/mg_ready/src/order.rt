@@ -57,7 +57,7 @@ fn places_of(alloc: Global, order: &[u32]) -> Result<Vec<u32>, AllocError>
 }
 
 impl Order {
-    /// Returns the order of these nodes, none of which stands twice.
+    /// Returns the order of these nodes, which are all different.
     pub fn new(alloc: Global, order: &NumberList) -> Result<Order, AllocError>
         requires { AllPairs (λ a b. a ≢ b) order.now }
         ensures { IfOk result (λ o. o ≡ order.now) }

@@ -11,7 +11,7 @@ use std::marker::Model;
 // How many buckets a word has bits for.
 const BITS: usize = 64;
 
-/// Which of some places are in, with a bit for each bucket that tells whether one of its places is.
+/// Which of some places are in, with a bit for each bucket. The bit says whether one of the bucket's places is in.
 #[derive(Drop)]
 pub(crate) struct Places {
     links: Links,
@@ -37,7 +37,7 @@ fn no_bits(alloc: Global, words: usize) -> Result<Vec<u64>, AllocError>
 }
 
 impl Places {
-    /// Returns a set over `places` places, in which none is.
+    /// Returns a set over `places` places. No place is in it.
     pub(crate) fn new(alloc: Global, places: u32) -> Result<Places, AllocError>
         ensures { IfOk result (λ p. p ≡ replicate places false) }
     {

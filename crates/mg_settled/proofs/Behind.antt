@@ -75,7 +75,7 @@ without_is_prefix {X} test s h =
       alone = StandsAlone-left test s.packets h.alone;
     }
 
--- what stands behind a time is what is left without the others
+-- what stands after a time is what is left without the other packets
 pub left_of-same : {X : Type 0} (f g : ℕ → Bool) (ps : List (Stamped X)) → AllByRecursion (λ p. f p.at ≡ g p.at) ps → left_of f ps ≡ left_of g ps
 left_of-same f g [] h = refl
 left_of-same {X} f g (p ∷ ps) h = elim (cases_Bool (g p.at)) [
@@ -104,7 +104,7 @@ behind_is_prefix {X} t s h = drop_is_prefix (prefix_len (λ (p : Stamped X). leb
 pub from_is_prefix : {X : Type 0} (t : ℕ) (s : StreamPrefix X) → IsPrefix s → IsPrefix (from t s)
 from_is_prefix {X} t s h = drop_is_prefix (prefix_len (λ (p : Stamped X). ltb p.at t) s.packets) s h
 
--- prefixes stay prefixes where sets are claimed of all of them, and where the packets of a time or before it go
+-- prefixes stay prefixes if sets are claimed of all of them, and if the packets at a time or before it go
 pub all_after_sets : (policy : Policy) (k : ℕ) (ss : List (StreamPrefix Plain)) → All IsPrefix ss → All IsPrefix (after_sets policy k ss)
 all_after_sets policy k ss h =
     let test = goes policy (take k (set_times policy ss)) in

@@ -73,7 +73,7 @@ Climbs-finds {X} a b (p ∷ ps) h =
     let past : (q : Stamped X) → Here q → There q = λ q k. (let above = k.0 in (omega (arith, above, first), rw (ne_eqb p.at q.at (λ e. omega (arith, e, above))) k.1)) in
     ((first, rw (eq-eqb p.at p.at refl) refl), recursion_from_All There ps (All-weaker Here There past ps later))
 
--- packets behind others that climb, all at a bound of these or above
+-- packets after others that climb, all at a bound of these or above
 pub above-first : {X : Type 0} (b c n : ℕ) (ps : List (Stamped X)) → All (λ p. b ≤ p.at) ps → b ≤ c → b ≤ first_time (drop n ps) c
 above-first b c zero [] above le = le
 above-first {X} b c zero (p ∷ ps) above le = All-head (λ (q : Stamped X). b ≤ q.at) p ps above

@@ -1,4 +1,4 @@
--- The settled sets of the default policy: where they stand, and that they stay where prefixes are extended.
+-- The settled sets of the default policy: where they stand, and that they stay if prefixes are extended.
 use Rattle.std.proofs.Common.{◌≡◌, ℕ, ◌<◌, ◌≤◌, inl, inr, List, [], ◌∷◌, map, take, drop, length, All, Option, ap, refl, ◌∙◌, arith}
 use Rattle.std.specs.List.{AllByRecursion}
 use Rattle.std.proofs.lemmas.Bool.{cases_lt}

@@ -44,7 +44,7 @@ below = record { at = 5; value = int (negsuc 0) }
 below_zero : settled_sets Mux (pre [] 2 ∷ pre (below ∷ []) 6 ∷ []) ≡ record { at = 5; set = None ∷ Some below ∷ [] } ∷ []
 below_zero = refl
 
--- a packet at the bound of the port that it selects waits, and those behind it
+-- a packet at the bound of the port that it selects waits, and so do the packets after it
 at_the_bound : settled_sets Mux (pre [] 5 ∷ pre [] 9 ∷ pre (pk 5 0 ∷ pk 6 1 ∷ []) 7 ∷ []) ≡ []
 at_the_bound = refl
 

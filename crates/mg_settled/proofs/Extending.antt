@@ -54,7 +54,7 @@ all_both_ways [] (t ∷ ts) e f = absurd e
 all_both_ways (s ∷ ss) [] e f = absurd e
 all_both_ways {X} (s ∷ ss) (t ∷ ts) e f = ap₂ (λ (first : StreamPrefix X) (rest : List (StreamPrefix X)). first ∷ rest) (extended_both_ways s t e.0 f.0) (all_both_ways ss ts e.1 f.1)
 
--- where a stream has ended nothing is added
+-- if a stream has ended, nothing is added
 none_after : {X : Type 0} (b : ℕ) (ps fs : List (Stamped X)) → AllByRecursion (λ p. p.at < b) (ps ++ fs) → All (λ p. b ≤ p.at) fs → fs ≡ []
 none_after b ps [] below above = refl
 none_after {X} b (p ∷ ps) (f ∷ fs) below above = none_after b ps (f ∷ fs) below.1 above

@@ -87,7 +87,7 @@ earliest_least (s ∷ ss) h t i = elim (In-append_from t (times_of s.packets) (a
   | inr there ↦ (let least = earliest_least ss h.1 t there in omega (arith, least))
 ]
 
--- the earliest is the time of a packet, where there is one
+-- the earliest is the time of a packet, if there is one
 first_is : {X : Type 0} (ps : List (Stamped X)) → first_time ps done < done → In (first_time ps done) (times_of ps)
 first_is [] below = absurd (omega (arith, below))
 first_is (p ∷ ps) below = inl refl
@@ -114,7 +114,7 @@ no_members : (xs : List ℕ) → ((t : ℕ) → In t xs → ⊥) → xs ≡ []
 no_members [] out = refl
 no_members (x ∷ xs) out = absurd (out x (inl refl))
 
--- where the earliest time is settled, it is the first settled time, and otherwise there is none
+-- if the earliest time is settled, it is the first settled time, and otherwise there is none
 settled_first : {X : Type 0} (ss : List (StreamPrefix X)) → AllByRecursion IsPrefix ss → earliest ss < low ss → settled_times ss ≡ earliest ss ∷ drop 1 (settled_times ss)
 settled_first ss h below =
     let most = low_most ss in

@@ -1,4 +1,4 @@
--- The first elements of a list that pass a test, where more elements come behind it and more of them pass.
+-- The first elements of a list that pass a test, if more elements come after the list and more of them pass.
 use Rattle.std.proofs.Common.{◌≡◌, ℕ, zero, suc, ◌+◌, ◌≤◌, Bool, true, inl, inr, List, [], ◌∷◌, ◌++◌, map, take, drop, ap, ap₂, refl, arith}
 use Rattle.std.specs.List.{prefix_len, take_while}
 use Rattle.std.proofs.lemmas.Bool.{cases_Bool}
@@ -6,7 +6,7 @@ use Rattle.std.proofs.lemmas.Bool.{cases_Bool}
 pub one_more : (n : ℕ) → 1 + n ≡ suc n
 one_more n = omega arith
 
--- the elements at the front that pass a test are the first of those that pass a weaker one, whatever comes behind the list
+-- the first elements that pass a test are the first of those that pass a weaker test, whatever comes after the list
 pub take_while_grows : {X : Type 0} (f g : X → Bool) (xs ys : List X) → ((x : X) → f x ≡ true → g x ≡ true) → take (prefix_len f xs) (take_while g (xs ++ ys)) ≡ take_while f xs
 take_while_grows f g [] ys more = refl
 take_while_grows {X} f g (x ∷ xs) ys more = elim (cases_Bool (f x)) [

@@ -90,7 +90,7 @@ claimed-below policy ss h i there lead t at =
     let all = recursion_from_All (λ (e : TimedSet Plain). IsBelowBounds policy ss e.at) (settled_sets policy ss) (below-bounds policy ss h) in
     below-leading policy ss t i (at_time (λ u. IsBelowBounds policy ss u) (settled_sets policy ss) all t at) there lead
 
--- where prefixes are extended the settled sets become no fewer, and the first ones stay
+-- if prefixes are extended, the settled sets become no fewer, and the first ones stay
 pub sets-grow : (policy : Policy) (ss ts : List (StreamPrefix Plain)) → AreExtendedBy ss ts → length (settled_sets policy ss) ≤ length (settled_sets policy ts)
 sets-grow policy ss ts e = omega (arith, ap length (sets-stay policy ss ts e), length-take (length (settled_sets policy ss)) (settled_sets policy ts))
 

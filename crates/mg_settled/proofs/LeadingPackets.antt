@@ -68,8 +68,8 @@ leading-in Mux ss h i there lead t at below =
         let least = each-time (λ u. p.at ≤ u) (p ∷ ps) (Climbs-from p.at (select_of ss).bound (p ∷ ps) (omega arith, c.1)) t at in
         omega (arith, least, under)
 
--- where no packet stands at a port that leads, there is no set; and where the reach is the end of all times and there is
--- no set, no packet stands at such a port
+-- if no packet stands at a port that leads, there is no set. If the reach is the end of all times and there is no set, no
+-- packet stands at such a port
 no_times : {X : Type 0} (at : X → ℕ) (xs : List X) → ((t : ℕ) → In t (map at xs) → ⊥) → xs ≡ []
 no_times at [] out = refl
 no_times at (x ∷ xs) out = absurd (out (at x) (inl refl))

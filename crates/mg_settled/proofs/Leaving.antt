@@ -39,7 +39,7 @@ packet_at-left_of test t (p ∷ ps) out = elim (cases_Bool (test p.at)) [
   ])
 ]
 
--- where the first packets go and no other does, the others are left
+-- if the first packets go and no other packet does, the others are left
 pub left_of-all : {X : Type 0} (test : ℕ → Bool) (ps : List (Stamped X)) → AllByRecursion (λ p. test p.at ≡ false) ps → left_of test ps ≡ ps
 left_of-all test [] stay = refl
 left_of-all {X} test (p ∷ ps) stay = rw stay.0 (ap (λ (rest : List (Stamped X)). p ∷ rest) (left_of-all test ps stay.1))
@@ -49,7 +49,7 @@ left_of-first test zero ps go stay = left_of-all test ps stay
 left_of-first test (suc n) [] go stay = refl
 left_of-first test (suc n) (p ∷ ps) go stay = rw go.0 (left_of-first test n ps go.1 stay)
 
--- what is found behind packets that go, at a time that doesn't
+-- what is found after packets that go, at a time that doesn't
 pub packet_at-drop : {X : Type 0} (test : ℕ → Bool) (t n : ℕ) (ps : List (Stamped X)) → AllByRecursion (λ p. test p.at ≡ true) (take n ps) → test t ≡ false → packet_at t (drop n ps) ≡ packet_at t ps
 packet_at-drop test t zero ps go out = refl
 packet_at-drop test t (suc n) [] go out = refl

@@ -28,7 +28,7 @@ pub use Rattle.mg_settled.proofs.Behind.{drop_is_prefix, without_is_prefix, from
 pub use Rattle.mg_settled.proofs.LoopbackStream.{loopback_is_prefix, loopback_extends, replies-most, replies-stay, loopback-same}
 pub use Rattle.mg_settled.proofs.LoopbackFurther.{loopback-behind, loopback-further}
 
--- what a prefix has at a time stands first once all before it is gone, and the rest stands behind it
+-- once all packets before a time are gone, the packet that a prefix has at the time stands first, and the rest stands after it
 pub found-at : {X : Type 0} (t : ℕ) (s : StreamPrefix X) → IsPrefix s → packet_at t s.packets ≡ front_at t (from t s).packets
 found-at t s h = found-first t 0 s.bound s.packets (prefix-climbs s h)
 

@@ -24,7 +24,7 @@ whole-loopback main loop main_read loop_read left rest bound packets m l is h =
     ap₂ (λ (ps : List (Stamped Plain)) (b : ℕ). (let it : StreamPrefix Plain = record { packets = ps; bound = b } in it)) h.answers (is ∙ ap (λ (s : StreamPrefix Plain). first_time s.packets s.bound) h.answered)
     ∙ ap₂ loopback m l
 
--- the turns behind first packets
+-- the turns after first packets
 turns-drop : (n : ℕ) (o : Option (Stamped Plain)) (ps : List (Stamped Plain)) → n ≤ length ps → drop n (turns o ps) ≡ turns (last_of o n ps) (drop n ps)
 turns-drop zero o ps le = refl
 turns-drop (suc n) o [] le = absurd (omega (arith, le))

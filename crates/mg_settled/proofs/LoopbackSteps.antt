@@ -28,7 +28,7 @@ abbrev pub after : {X : Type 0} → Option (Stamped X) → ℕ
 after None = 0
 after (Some p) = p.at + 1
 
--- the packets behind another rise from it on
+-- the packets after another packet rise from it on
 pub rises-behind : (o : Option (Stamped Plain)) (s : StreamPrefix Plain) → IsPrefix s → StandsBehind o s.packets → Rises (after o) (times_of s.packets)
 rises-behind None s h behind = prefix-rises s h
 rises-behind (Some before) s h behind = raise s.packets (prefix-rises s h) behind
@@ -46,7 +46,7 @@ past-finds (Some before) gone ps past u le =
     (All-weaker (λ (p : Stamped Plain). p.at < before.at) (λ (p : Stamped Plain). ltb p.at before.at ≡ true) (λ p lt. lt-ltb p.at before.at lt) (take gone ps) past))
     (let up : before.at + 1 ≤ u + 1 = le in le-ltb u before.at (omega (arith, up)))
 
--- the answers to packets, the first of which is answered, or isn't
+-- the answers to packets whose first one is answered, or isn't
 pub replies-here : (o : Option (Stamped Plain)) (q : Stamped Plain) (qs : List (Stamped Plain)) (b : ℕ) (loop : StreamPrefix Plain) → is_answered loop (o, q) ≡ true
     → replies_behind o (record { packets = q ∷ qs; bound = b }) loop ≡ reply loop (o, q) ∷ replies_behind (Some q) (record { packets = qs; bound = b }) loop
 replies-here o q qs b loop here = rw (here, one_more (number loop (Some q) qs)) refl
@@ -61,7 +61,7 @@ answered-by : (o : Option (Stamped Plain)) (q : Stamped Plain) (loop : StreamPre
 answered-by None q loop here = refl
 answered-by (Some before) q loop here = here
 
--- the next packet of MAIN, where it is answered
+-- the next packet of MAIN, if it is answered
 pub record IsTurn (previous : Option ℕ) (main loop : StreamPrefix Plain) (at : ℕ) : Type 0 where
   pub turn : Stamped Plain
   pub others : List (Stamped Plain)
@@ -109,7 +109,7 @@ put_first : (x : Option (Stamped Plain)) (rs : List (Stamped Plain)) → cons_op
 put_first None rs = refl
 put_first (Some p) rs = refl
 
--- to leave out one first packet more leaves what stands behind it
+-- leaving out one more first packet leaves what stands after it
 drop-next : (n : ℕ) (ps : List (Stamped Plain)) (q : Stamped Plain) (qs : List (Stamped Plain)) → drop n ps ≡ q ∷ qs → drop (suc n) ps ≡ qs
 drop-next zero [] q qs is = absurd cc
 drop-next zero (p ∷ ps) q qs is = (let same : ps ≡ qs = cc in same)
@@ -122,7 +122,7 @@ last-next o zero (p ∷ ps) q qs is = (let same : p ≡ q = cc in ap (λ (r : St
 last-next o (suc n) [] q qs is = absurd cc
 last-next o (suc n) (p ∷ ps) q qs is = last-next (Some p) n ps q qs is
 
--- the packets of LOOP that are gone behind a further packet
+-- the packets of LOOP that are gone after a further packet
 front-up_to : (t : ℕ) (ps : List (Stamped Plain)) → AllByRecursion (λ p. p.at ≤ t) (take (prefix_len (λ p. leb p.at t) ps) ps)
 front-up_to t [] = tt
 front-up_to t (p ∷ ps) = elim (cases_Bool (leb p.at t)) [

@@ -114,7 +114,7 @@ thinned k ss rs h few left = record {
     stays : (t : ℕ) → In t (times_of (drop k (settled_selects ss))) → goes Mux (take k (set_times Mux ss)) t ≡ false
     stays t i = goes-above Mux (take k (set_times Mux ss)) t (λ u j. take-below-drop 0 k u t (set_times Mux ss) (mux_times-rise ss h) j (rw (mux_times ss, ← times-drop k (settled_selects ss)) i))
 
--- also where more sets are counted than there are
+-- also if more sets are counted than there are
 fewer : (k : ℕ) (ss rs : List (StreamPrefix Plain)) → AllLeave Mux (goes Mux (take k (set_times Mux ss))) ss rs → AllLeave Mux (goes Mux (take (min k (length (set_times Mux ss))) (set_times Mux ss))) ss rs
 fewer k ss rs left = rw (take_min k (set_times Mux ss)) left
 

@@ -1,4 +1,4 @@
--- The settled sets under Mux: where they stand, and that they stay where prefixes are extended.
+-- The settled sets under Mux: where they stand, and that they stay if prefixes are extended.
 use Rattle.std.proofs.Common.{◌≡◌, ℕ, zero, suc, ◌+◌, ◌-◌, ◌<◌, ◌≤◌, Bool, true, false, cond, inl, inr, List, [], ◌∷◌, ◌++◌, map, take, drop, length, replicate, All, Option, Some, None, IsTrue, IsSomeAnd, is_some, option_map, unwrap_or, set, get_or, pos, ap, refl, ◌∙◌, arith, ltb, ltb-true, lt-ltb}
 use Rattle.std.specs.List.{prefix_len, take_while, list_any, AllByRecursion}
 use Rattle.std.proofs.lemmas.Bool.{cases_Bool, cases_lt, or_left, or_right}
@@ -65,7 +65,7 @@ further-from f (x ∷ xs) ys a b c h above = elim (cases_Bool (f x)) [
   | inr fails ↦ rw fails (Climbs-from x.at c (x ∷ (xs ++ ys)) (omega arith, h.1))
 ]
 
--- what holds of all elements behind some first ones holds of those among any first ones
+-- what holds of all elements after some first ones holds of those among any first ones
 front-of-rest : {X : Type 0} (P : X → Type 0) (n m : ℕ) (xs : List X) → AllByRecursion P (drop n xs) → AllByRecursion P (drop n (take m xs))
 front-of-rest P zero zero xs h = tt
 front-of-rest P zero (suc m) [] h = tt

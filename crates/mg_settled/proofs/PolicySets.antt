@@ -56,7 +56,7 @@ pub sets-shown : (policy : Policy) (ss : List (StreamPrefix Plain)) → All (λ 
 sets-shown Default ss = All-default_sets (λ e. IsTrue (list_any is_some e.set)) ss (λ t i. set_at-shows t ss (settled_from ss t i).1)
 sets-shown Mux ss = mux_shown ss
 
--- where the reach is the end of all times, no set comes any more
+-- if the reach is the end of all times, no set comes any more
 no_more : {X : Type 0} (at : X → ℕ) (b : ℕ) (xs : List X) → All (λ x. b ≤ at x) xs → All (λ x. at x < b) xs → xs ≡ []
 no_more at b [] above below = refl
 no_more at b (x ∷ xs) above below = absurd (let a = All-head (λ y. b ≤ at y) x xs above in let l = All-head (λ y. at y < b) x xs below in omega (arith, a, l))

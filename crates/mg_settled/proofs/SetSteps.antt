@@ -104,7 +104,7 @@ pub record AreListed (policy : Policy) (ss : List (StreamPrefix Plain)) (es : Li
   pub whole : All IsPrefix ss
   pub left : AreLeft policy (length es) ss rs
 
--- the first set that is left, with its time, and what is left behind it
+-- the first set that is left, with its time, and what is left after it
 pub record IsNext (policy : Policy) (rs us : List (StreamPrefix Plain)) (e : TimedSet Plain) : Type 0 where
   pub time : first_set_time policy rs ≡ Some e.at
   pub set : slice_get (settled_sets policy rs) 0 ≡ Some e

@@ -39,7 +39,7 @@ not-In-above {X} b t (p ∷ ps) above below i = elim i [
   | inr j ↦ not-In-above b t ps (All-tail (λ (q : Stamped X). b ≤ q.at) p ps above) below j
 ]
 
--- where no packet has a time, none is found at it
+-- if no packet has a time, none is found at it
 pub packet_at-none : {X : Type 0} (t : ℕ) (ps : List (Stamped X)) → (In t (times_of ps) → ⊥) → packet_at t ps ≡ None
 packet_at-none t [] out = refl
 packet_at-none t (p ∷ ps) out = rw (ne_eqb p.at t (λ e. out (inl e))) (packet_at-none t ps (λ i. out (inr i)))

@@ -1,12 +1,12 @@
--- What a prefix of a stream may become, after the page Synchronization of the MediaPipe framework: further packets
--- come at its bound or above, and its bound only moves up.
+-- What a prefix of a stream may become, according to the page Synchronization of the MediaPipe framework. Further packets come
+-- at its bound or above, and its bound only moves up.
 use Rattle.std.specs.Prelude.{◌≡◌, ◌≤◌, List, ◌++◌, All}
 use Rattle.std.specs.List.{AllZip}
 use Rattle.mg_value.specs.Packet.{Stamped}
 use Rattle.mg_settled.specs.Prefix.{StreamPrefix}
 
--- a prefix is extended by another: its packets come first there, its bound is at most the other's, and each further
--- packet stands at its bound or above
+-- a prefix is extended by another: its packets come first in the other, and its bound is at most the other's. Each further
+-- packet of the other stands at the first prefix's bound or above
 pub record IsExtendedBy {X : Type 0} (s t : StreamPrefix X) : Type 0 where
   pub further : List (Stamped X)
   pub packets : t.packets ≡ s.packets ++ further

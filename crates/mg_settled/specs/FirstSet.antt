@@ -10,18 +10,18 @@ use Rattle.mg_value.specs.Packet.{Stamped}
 use Rattle.mg_settled.specs.Prefix.{StreamPrefix, first_time}
 use Rattle.mg_settled.specs.Settled.{low, select_of, selected, is_settled}
 
--- the least time of a first packet, and Done where no prefix has a packet
+-- the least time of a first packet, and Done if no prefix has a packet
 abbrev pub earliest : {X : Type 0} → List (StreamPrefix X) → ℕ
 earliest [] = done
 earliest (s ∷ ss) = min (first_time s.packets done) (earliest ss)
 
--- the first of some packets, where it stands at a time
+-- the first of some packets, if it stands at a time
 abbrev pub front_at : {X : Type 0} → ℕ → List (Stamped X) → Option (Stamped X)
 front_at t [] = None
 front_at t (p ∷ ps) = if p.at == t then Some p else None
 
--- the time of the first settled set: by default the earliest time, where it is below the least bound, and under Mux that
--- of SELECT's first packet, where it is settled
+-- the time of the first settled set. By default it is the earliest time, if that is below the least bound. Under Mux it is the
+-- time of SELECT's first packet, if that packet is settled
 abbrev pub first_set_time : Policy → List (StreamPrefix Plain) → Option ℕ
 first_set_time Default ss = if nat_lt (earliest ss) (low ss) then Some (earliest ss) else None
 first_set_time Mux ss = option_and_then (λ p. if is_settled ss p then Some p.at else None) (slice_get (select_of ss).packets 0)

@@ -12,8 +12,8 @@ use Rattle.mg_settled.specs.Settled.{settled_sets, port_of, packet_at, is_among}
 abbrev pub set_times : Policy → List (StreamPrefix Plain) → List ℕ
 set_times policy ss = map (λ e. e.at) (settled_sets policy ss)
 
--- whether the packets at a time go when the sets at some times are claimed: by default where one of the sets stands at it,
--- and under Mux where one stands at it or above
+-- whether the packets at a time go when the sets at some times are claimed. By default they go if one of the sets stands at
+-- that time, and under Mux if one stands there or above
 abbrev pub goes : Policy → List ℕ → ℕ → Bool
 goes Default ts t = is_among ts t
 goes Mux ts t = list_any (λ u. nat_le t u) ts
@@ -47,8 +47,8 @@ pub record HasLeadingPacket (policy : Policy) (ss : List (StreamPrefix Plain)) (
   pub lead : IsTrue (leads policy (length ss) port)
   pub packet : IsSome (packet_at t (port_of ss port).packets)
 
--- this many first packets of a prefix may be gone once the sets at some times are claimed: each of them goes with these sets, and where the
--- port leads no other packet does
+-- this many first packets of a prefix may be gone once the sets at some times are claimed. Each of them goes with these sets.
+-- If the port leads, no other packet goes with them
 pub record MayBeGone {X : Type 0} (policy : Policy) (lead : Bool) (ts : List ℕ) (s : StreamPrefix X) (gone : ℕ) : Type 0 where
   pub within : gone ≤ length s.packets
   pub go : All (λ p. IsTrue (goes policy ts p.at)) (take gone s.packets)
@@ -61,7 +61,7 @@ pub record AreGone (policy : Policy) (k : ℕ) (ss : List (StreamPrefix Plain)) 
   pub each : (i : ℕ) → i < length ss
       → MayBeGone policy (leads policy (length ss) i) (take k (set_times policy ss)) (port_of ss i) (slice_index_or gone i 0)
 
--- how many packets of each of some prefixes are gone, where these are left of them
+-- how many packets of each of some prefixes are gone, if these are left of them
 abbrev pub gone_of : {X : Type 0} → List (StreamPrefix X) → List (StreamPrefix X) → List ℕ
 gone_of ss rs = map (λ e. length e.0.packets - length e.1.packets) (zip ss rs)
 

@@ -10,12 +10,13 @@ pub record StreamPrefix (X : Type 0) : Type 0 where
   pub packets : List (Stamped X)
   pub bound : ℕ
 
--- the time of the first packet, or the bound where there is none
+-- the time of the first packet, or the bound if there is none
 abbrev pub first_time : {X : Type 0} → List (Stamped X) → ℕ → ℕ
 first_time [] bound = bound
 first_time (p ∷ _) bound = p.at
 
--- the lowest time that may follow a packet is at most the time of the packet behind it, or the bound where it is the last
+-- the lowest time that may follow a packet is at most the time of the packet after it. For the last packet it is at most the
+-- bound
 abbrev pub Ascends : {X : Type 0} → List (Stamped X) → ℕ → Type 0
 Ascends [] bound = Unit {0}
 Ascends (p ∷ ps) bound = (next p.at ≤ first_time ps bound) × Ascends ps bound
@@ -32,7 +33,7 @@ pub record IsPrefix {X : Type 0} (s : StreamPrefix X) : Type 0 where
   pub ascends : Ascends s.packets s.bound
   pub alone : StandsAlone s.packets
 
--- a stream of which nothing is known yet
+-- a stream about which nothing is known yet
 abbrev pub empty_prefix : {X : Type 0} → StreamPrefix X
 empty_prefix = record { packets = []; bound = pre_stream }
 
@@ -46,12 +47,12 @@ pub record MayFollow {X : Type 0} (s : StreamPrefix X) (p : Stamped X) : Type 0 
   pub above : s.bound ≤ p.at
   pub alone : p.at ≡ post_stream → length s.packets ≡ 0
 
--- the prefix with further packets, one behind the other
+-- the prefix with further packets, one after the other
 abbrev pub all_appended : {X : Type 0} → StreamPrefix X → List (Stamped X) → StreamPrefix X
 all_appended s [] = s
 all_appended s (p ∷ ps) = all_appended (appended s p) ps
 
--- some packets may follow a prefix, one behind the other
+-- some packets may follow a prefix, one after the other
 abbrev pub MayAllFollow : {X : Type 0} → StreamPrefix X → List (Stamped X) → Type 0
 MayAllFollow s [] = Unit {0}
 MayAllFollow s (p ∷ ps) = MayFollow s p × MayAllFollow (appended s p) ps

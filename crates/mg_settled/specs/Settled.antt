@@ -1,6 +1,6 @@
--- Settled sets, after the page Synchronization of the MediaPipe framework. A node is shown its input sets one after the
--- other, each once nothing can change it any more; its input policy says when that is, and what is in a set. Definitions
--- speak of the whole prefixes of a node's input streams, one per port.
+-- Settled sets, according to the page Synchronization of the MediaPipe framework. A node is shown its input sets one after the
+-- other, each once nothing can change it any more. Its input policy says when that is, and what is in a set. Definitions speak
+-- of the whole prefixes of a node's input streams, one per port.
 use Rattle.std.specs.Prelude.{ℕ, Bool, true, false, List, map, length, drop, replicate, min, Option, Some, None, IsTrue, IsSomeAnd, option_map, unwrap_or, slice_index_or, slice_set, All, pos, [], ◌∷◌, ◌++◌, ◌+◌, ◌-◌, ◌<◌, ◌==◌, ◌||◌, nat_lt, filter, find, if◌then◌else◌}
 use Rattle.std.specs.List.{take_while, list_any}
 use Rattle.mg_time.specs.Time.{done}
@@ -21,7 +21,7 @@ packet_at t ps = find (λ p. p.at == t) ps
 
 -- The default policy: a time is settled once no further packet can come at it on any port.
 
--- the least bound of some prefixes, and Done where there are none: the times below it are settled
+-- the least bound of some prefixes, and Done if there are none: the times below it are settled
 abbrev pub low : {X : Type 0} → List (StreamPrefix X) → ℕ
 low [] = done
 low (s ∷ ss) = min s.bound (low ss)
@@ -35,7 +35,7 @@ abbrev pub all_times : {X : Type 0} → List (StreamPrefix X) → List ℕ
 all_times [] = []
 all_times (s ∷ ss) = times_of s.packets ++ all_times ss
 
--- a time put in its place among times in order, where it isn't there yet
+-- a time put in its place among times in order, if it isn't there yet
 abbrev pub with_time : ℕ → List ℕ → List ℕ
 with_time t [] = t ∷ []
 with_time t (u ∷ us) = if nat_lt t u then t ∷ u ∷ us else if t == u then u ∷ us else u ∷ with_time t us
@@ -57,14 +57,14 @@ settled_times ss = in_order (filter (λ t. nat_lt t (low ss)) (all_times ss))
 abbrev pub set_at : {X : Type 0} → ℕ → List (StreamPrefix X) → List (Option (Stamped X))
 set_at t ss = map (λ s. packet_at t s.packets) ss
 
--- The mux policy: the last port is SELECT, and each of its packets makes a set, with what the port has at its time that
--- the packet selects.
+-- The mux policy: the last port is SELECT, and each of its packets makes a set. The set also has what the port that the packet
+-- selects has at the packet's time.
 
--- the prefix of a port by its number, and a closed one without packets where there is no such port
+-- the prefix of a port by its number, and a closed one without packets if there is no such port
 abbrev pub port_of : {X : Type 0} → List (StreamPrefix X) → ℕ → StreamPrefix X
 port_of ss i = slice_index_or ss i (closed empty_prefix)
 
--- the prefixes of a node's inputs, one per port, where streams are numbered and the ports have these numbers
+-- the prefixes of a node's inputs, one per port, if the ports have the streams with these numbers
 abbrev pub inputs_of : {X : Type 0} → List (StreamPrefix X) → List ℕ → List (StreamPrefix X)
 inputs_of streams ports = map (port_of streams) ports
 
@@ -109,7 +109,7 @@ is_selected ss t i = unwrap_or
     (option_map (λ p. unwrap_or (option_map (λ j. j == i) (selected (length ss) p.value)) false) (packet_at t (select_of ss).packets))
     false
 
--- whether the set at a time shows what a port has then: by default it shows that of each port, and under Mux that of
+-- whether the set at a time shows what a port has then. By default it shows that of each port. Under Mux it shows that of
 -- SELECT and of the port that is selected
 abbrev pub shows : Policy → List (StreamPrefix Plain) → ℕ → ℕ → Bool
 shows Default ss t i = true
@@ -121,8 +121,8 @@ abbrev pub reach : Policy → List (StreamPrefix Plain) → ℕ
 reach Default ss = low ss
 reach Mux ss = first_time (drop (length (settled_selects ss)) (select_of ss).packets) (select_of ss).bound
 
--- a time is below the bounds that a policy asks for: by default below that of every port; under Mux below SELECT's and,
--- where SELECT's packet at the time selects a port, below that port's
+-- a time is below the bounds that a policy asks for. By default it is below the bound of every port. Under Mux it is below
+-- SELECT's bound, and SELECT has a packet at it. If that packet selects a port, the time is also below that port's bound
 abbrev pub IsBelowBounds : Policy → List (StreamPrefix Plain) → ℕ → Type 0
 IsBelowBounds Default ss t = All (λ s. t < s.bound) ss
 IsBelowBounds Mux ss t = (t < (select_of ss).bound)

@@ -52,7 +52,7 @@ impl InputSet {
         self.places.is_empty()
     }
 
-    /// Returns the packet at a port, or None where there is none or no such port.
+    /// Returns the packet at a port, or None if there is no packet or no such port.
     pub fn get(&self, port: u32) -> Option<&Packet>
         ensures { option_copied result ≡ unwrap_or (slice_get self.now port) None }
     {

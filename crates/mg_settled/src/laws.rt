@@ -38,7 +38,8 @@ pub fn an_ended_prefix_stays()
     ensures list { (ss tt : List (StreamPrefix Plain)) → All (λ s. s.bound ≡ done) ss → All IsPrefix tt → AreExtendedBy ss tt → ss ≡ tt }
 {}
 
-/// A stream of which nothing is known is a prefix; and a prefix stays one with packets that may follow it, a higher bound, or closed.
+/// A stream about which nothing is known is a prefix. A prefix stays a prefix with packets that may follow it, with a higher
+/// bound, or closed.
 pub fn steps_make_prefixes()
     ensures empty { IsPrefix (empty_prefix {X = Plain}) }
     ensures appended { (s : StreamPrefix Plain) (p : Stamped Plain) → IsPrefix s → MayFollow s p → IsPrefix (appended s p) }
@@ -47,7 +48,7 @@ pub fn steps_make_prefixes()
     ensures closed { (s : StreamPrefix Plain) → IsPrefix s → IsPrefix (closed s) }
 {}
 
-/// Packets that may follow, a higher bound and a close each extend a prefix; packets go behind its own, in order.
+/// Packets that may follow, a higher bound and a close each extend a prefix. The packets go after its own, in order.
 pub fn steps_extend()
     ensures appended { (s : StreamPrefix Plain) (p : Stamped Plain) → MayFollow s p → IsExtendedBy s (appended s p) }
     ensures all_appended { (s : StreamPrefix Plain) (ps : List (Stamped Plain)) → MayAllFollow s ps → IsExtendedBy s (all_appended s ps) }
@@ -68,7 +69,7 @@ pub fn settled_times_are_below_low()
         → IsTrue (is_among (settled_times ss) t) ↔ ((t < low ss) × IsTrue (is_among (all_times ss) t)) }
 {}
 
-/// The inputs of a node are prefixes where the streams are, one per port, and are extended with them.
+/// The inputs of a node are prefixes if the streams are prefixes, one per port. They are extended if the streams are.
 pub fn inputs_follow_their_streams()
     ensures prefixes { (ss : List (StreamPrefix Plain)) (ports : List ℕ) → All IsPrefix ss → All IsPrefix (inputs_of ss ports) }
     ensures extended { (ss tt : List (StreamPrefix Plain)) (ports : List ℕ) → AreExtendedBy ss tt → AreExtendedBy (inputs_of ss ports) (inputs_of tt ports) }
@@ -95,8 +96,8 @@ pub fn settled_sets_are_of_leading_packets()
         → ((i : ℕ) → i < length ss → IsTrue (leads policy (length ss) i) → (port_of ss i).packets ≡ []) → settled_sets policy ss ≡ [] }
 {}
 
-/// Where prefixes are extended, their settled sets stay, and others come only behind them, at the reach or above; where
-/// the reach is the end of all times, none comes.
+/// If prefixes are extended, their settled sets stay. Further settled sets come only after them, at the reach of the shorter
+/// prefixes or above. If that reach is the end of all times, no further set comes.
 pub fn settled_sets_stay()
     ensures stay { (policy : Policy) (ss tt : List (StreamPrefix Plain)) → AreExtendedBy ss tt
         → take (length (settled_sets policy ss)) (settled_sets policy tt) ≡ settled_sets policy ss }
@@ -106,7 +107,7 @@ pub fn settled_sets_stay()
         → settled_sets policy tt ≡ settled_sets policy ss }
 {}
 
-/// The reach is a bound, and never falls where prefixes are extended.
+/// The reach is a bound, and never falls if prefixes are extended.
 pub fn the_reach_rises()
     ensures opened { (policy : Policy) (ss : List (StreamPrefix Plain)) → All IsPrefix ss → pre_stream ≤ reach policy ss }
     ensures within { (policy : Policy) (ss : List (StreamPrefix Plain)) → All IsPrefix ss → reach policy ss ≤ done }
@@ -122,7 +123,7 @@ pub fn after_sets_leaves_the_others()
         → reach policy (after_sets policy k ss) ≡ reach policy ss }
 {}
 
-/// What is left has the other settled sets and the same reach also where it is told by how many packets are gone.
+/// What is left has the other settled sets and the same reach, also if it is given by how many packets are gone.
 pub fn what_is_left_has_the_others()
     ensures sets { (policy : Policy) (k : ℕ) (ss : List (StreamPrefix Plain)) (gone : List ℕ) → All IsPrefix ss → AreGone policy k ss gone
         → settled_sets policy (without_first gone ss) ≡ drop k (settled_sets policy ss) }
@@ -130,8 +131,8 @@ pub fn what_is_left_has_the_others()
         → reach policy (without_first gone ss) ≡ reach policy ss }
 {}
 
-/// The numbers of packets that are gone: before any claim each is 0; they stay right where prefixes are extended; and after one more
-/// claim those numbers are right with which what is left has lost its first set.
+/// The numbers of packets that are gone. Before any claim each number is 0. The numbers stay right if prefixes are extended.
+/// After one more claim, numbers are right if they leave of the prefixes what was left before, without its first set.
 pub fn what_is_gone_is_kept()
     ensures none { (policy : Policy) (ss : List (StreamPrefix Plain)) → AreGone policy 0 ss (replicate (length ss) 0) }
     ensures extended { (policy : Policy) (k : ℕ) (ss tt : List (StreamPrefix Plain)) (gone : List ℕ) → All IsPrefix ss → AreExtendedBy ss tt
@@ -141,7 +142,8 @@ pub fn what_is_gone_is_kept()
         → without_first more ss ≡ after_sets policy 1 (without_first gone ss) → AreGone policy (k + 1) ss more }
 {}
 
-/// What is left are prefixes again: when the first settled sets are claimed, without first packets, and behind a time.
+/// What is left of prefixes are prefixes: when their first settled sets are claimed, without first packets, from a time on, and
+/// after a time.
 pub fn what_is_left_are_prefixes()
     ensures after_sets { (policy : Policy) (k : ℕ) (ss : List (StreamPrefix Plain)) → All IsPrefix ss → All IsPrefix (after_sets policy k ss) }
     ensures without_first { (ss : List (StreamPrefix Plain)) (gone : List ℕ) → All IsPrefix ss → All IsPrefix (without_first gone ss) }
@@ -149,8 +151,8 @@ pub fn what_is_left_are_prefixes()
     ensures behind { (t : ℕ) (s : StreamPrefix Plain) → IsPrefix s → IsPrefix (behind t s) }
 {}
 
-/// To claim some sets, and then others of what is left, is to claim them together; and the numbers of packets that are gone
-/// add up.
+/// To claim some sets, and then some more of what is left, is to claim all of them together. The numbers of packets that are
+/// gone add up.
 pub fn claims_add_up()
     ensures after_sets { (policy : Policy) (k j : ℕ) (ss : List (StreamPrefix Plain)) → All IsPrefix ss
         → after_sets policy j (after_sets policy k ss) ≡ after_sets policy (k + j) ss }
@@ -169,9 +171,9 @@ pub fn settled_sets_show_packets()
         → slice_index_or e.set i None ≡ (if shows policy ss e.at i then packet_at e.at (port_of ss i).packets else None)) (settled_sets policy ss) }
 {}
 
-/// First packets and bounds tell the first settled set: its time, and which ports it shows. The set that has, at each of these ports,
-/// what the port has at the time is the first. Before its time nothing stands at a port that leads, and when it is claimed, what
-/// stands behind its time is left.
+/// First packets and bounds tell the first settled set: its time, and which ports it shows. The set that has, at each of these
+/// ports, what the port has at the time is the first. Before its time nothing stands at a port that leads. When the set is
+/// claimed, what stands after its time is left.
 pub fn first_packets_tell_the_first_set()
     ensures time { (policy : Policy) (ss : List (StreamPrefix Plain)) → All IsPrefix ss
         → option_map (λ e. e.at) (slice_get (settled_sets policy ss) 0) ≡ first_set_time policy ss }
@@ -187,8 +189,8 @@ pub fn first_packets_tell_the_first_set()
         → after_sets policy 1 ss ≡ map (behind t) ss }
 {}
 
-/// What a prefix has at a time stands first once all before it is gone; and once that is gone too, the rest stands behind
-/// the time.
+/// If all packets before a time are gone, the packet that a prefix has at that time stands first. If that packet is gone too,
+/// the rest stands after the time.
 pub fn a_packet_stands_first_at_its_time()
     ensures found { (t : ℕ) (s : StreamPrefix Plain) → IsPrefix s → packet_at t s.packets ≡ front_at t (from t s).packets }
     ensures left { (t : ℕ) (s : StreamPrefix Plain) → IsPrefix s
@@ -212,8 +214,8 @@ pub fn loopback_follows_its_inputs()
         → IsExtendedBy (loopback main loop) (loopback wider more) }
 {}
 
-/// The loopback's answers: at most one per packet of MAIN. Where the inputs are extended they stay, and others come only
-/// behind them; and where LOOP alone is extended and as many are answered, the output stream stays.
+/// The loopback's answers: at most one per packet of MAIN. If the inputs are extended, the answers stay, and further answers
+/// come only after them. If LOOP alone is extended and as many packets are answered, the output stream stays.
 pub fn replies_stay()
     ensures most { (main loop : StreamPrefix Plain) → length (replies main loop) ≤ length main.packets }
     ensures stay { (main wider loop more : StreamPrefix Plain) → IsExtendedBy main wider → IsExtendedBy loop more
@@ -222,8 +224,8 @@ pub fn replies_stay()
         → length (replies main more) ≡ length (replies main loop) → loopback main more ≡ loopback main loop }
 {}
 
-/// Where the loopback's inputs are extended it goes on from where it stood: with the answers to what is left of MAIN behind the
-/// packets that were answered, and without those packets of LOOP that nobody asks for.
+/// If the loopback's inputs are extended, it goes on from where it stood. It answers what is left of MAIN after the packets
+/// that were answered. It does so without those packets of LOOP that nobody asks for.
 pub fn the_loopback_goes_on()
     ensures behind { (n : ℕ) (main : StreamPrefix Plain) → IsPrefix main → StandsBehind (last_of None n main.packets) (drop n main.packets) }
     ensures further { (main wider loop more left rest : StreamPrefix Plain) (packets : List (Stamped Plain)) (gone : ℕ) → IsPrefix wider

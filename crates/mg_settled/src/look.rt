@@ -8,9 +8,9 @@ use mg_time::Timestamp;
 /// What one look at what is left at each port finds.
 #[derive(Clone, Copy)]
 pub(crate) struct Look {
-    /// The least time of a first packet, and `DONE` where none is left.
+    /// The least time of a first packet, and `DONE` if no packet is left.
     pub(crate) earliest: Timestamp,
-    /// The least bound, and `DONE` where there is no port.
+    /// The least bound, and `DONE` if there is no port.
     pub(crate) low: Timestamp,
 }
 

@@ -27,8 +27,9 @@ pub fn loopback(alloc: Global, main: &Prefix, back: &Prefix) -> Result<Prefix, A
     Ok(Prefix { packets, bound })
 }
 
-/// Returns the answers to what is left of MAIN behind a packet at the time `previous`, or behind none, without those that are nothing.
-/// It passes the packets of MAIN that are answered, and those of LOOP that nobody will ask for: what comes later is read from there.
+/// Returns the answers to what is left of MAIN, without those that are nothing. The packet of MAIN before what is left stood at
+/// `previous`, if there was one. Passes the packets of MAIN that are answered, and those of LOOP that nobody will ask for. What
+/// comes later is read from there.
 pub fn take_answers(
     alloc: Global,
     previous: Option<Timestamp>,
@@ -50,8 +51,8 @@ pub fn take_answers(
     Ok(BlockList::from_vec(packets)?)
 }
 
-/// Returns the time of the next packet of MAIN, where it is answered: it is the first of all, or LOOP has settled the time of the
-/// one before it.
+/// Returns the time of the next packet of MAIN, if that packet is answered. It is answered if it is the first of all, or if
+/// LOOP has settled the time of the packet before it.
 fn next_turn(previous: Option<Timestamp>, main: &Rest<'_>, back: &Rest<'_>) -> Option<Timestamp>
     ensures { result ≡ next_turn previous main.now back.now }
 {

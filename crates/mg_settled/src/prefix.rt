@@ -46,7 +46,7 @@ impl Prefix {
         })
     }
 
-    /// Whether the prefix keeps the rule of streams: its times are allowed and ascend up to its bound, and a packet at
+    /// Returns whether the prefix keeps the rule of streams. Its times are allowed and ascend up to its bound, and a packet at
     /// PostStream is the only one.
     pub fn is_prefix(&self) -> bool
         ensures { IsTrue result ↔ IsPrefix self.now }

@@ -8,8 +8,8 @@ use crate::rest::Rest;
 use mg_time::Timestamp;
 use mg_value::{Packet, Payload, Policy};
 
-/// Returns how far the settled sets of a node reach that has this left at its ports: each further set stands there or above
-/// (MediaPipe, Synchronization). What is left after settled sets were taken reaches as far as before. It takes no memory.
+/// Returns how far the settled sets of a node reach, by what is left at its ports (MediaPipe, Synchronization). Each further
+/// set stands there or above. What is left after settled sets were taken reaches as far as before. The call takes no memory.
 pub fn reach(policy: Policy, rests: &[Rest<'_>]) -> Timestamp
     requires { length rests.now < 2 ^ 32 }
     ensures { result ≡ reach policy rests.now }
@@ -20,7 +20,8 @@ pub fn reach(policy: Policy, rests: &[Rest<'_>]) -> Timestamp
     }
 }
 
-/// Returns the time of the first packet of SELECT that isn't settled, or SELECT's bound; and Done where there is no port.
+/// Returns the time of the first packet of SELECT that isn't settled, or SELECT's bound if all are settled. Returns Done if
+/// there is no port.
 fn mux_reach(rests: &[Rest<'_>]) -> Timestamp
     requires { length rests.now < 2 ^ 32 }
     ensures { result ≡ reach Mux rests.now }
@@ -47,7 +48,7 @@ pub(crate) fn is_settled(rests: &[Rest<'_>], packet: &Packet) -> bool
     }
 }
 
-/// Returns the port that a payload selects, of `ports` ports, the last of which is SELECT.
+/// Returns the port that a payload selects, among `ports` ports. The last of these ports is SELECT.
 pub(crate) fn selected(ports: u32, payload: &Payload) -> Option<u32>
     ensures { result ≡ selected ports (plain payload.now) }
 {

@@ -31,7 +31,7 @@ impl<'a> Model for Rest<'a> {
 }
 
 impl<'a> Rest<'a> {
-    /// Makes what is left of packets up to a bound, of which the first `read` have been read.
+    /// Makes what is left of packets up to a bound once the first `read` of them have been read.
     pub fn behind(packets: &'a [Packet], bound: Timestamp, read: usize) -> Rest<'a>
         requires { read ≤ length packets.now }
         ensures packets { result.packets ≡ drop read packets.now }
@@ -44,7 +44,7 @@ impl<'a> Rest<'a> {
         }
     }
 
-    /// Makes what is left of a prefix of which nothing has been read: all of it.
+    /// Makes what is left of a prefix before anything of it has been read: all of it.
     pub fn of(prefix: &'a Prefix) -> Rest<'a>
         ensures { result ≡ prefix.now }
     {
@@ -82,7 +82,7 @@ impl<'a> Rest<'a> {
         self.bound
     }
 
-    /// Returns the time of the first packet that is left, and `DONE` where none is.
+    /// Returns the time of the first packet that is left, and `DONE` if no packet is left.
     pub(crate) fn first_time(&self) -> Timestamp
         ensures { result ≡ first_time self.now.packets done }
     {
@@ -130,7 +130,7 @@ impl<'a> Rest<'a> {
         self.packets = left;
     }
 
-    /// Passes the first packet and returns it, where it stands at a time.
+    /// Passes the first packet and returns it, if it stands at a time.
     fn take_at(&mut self, at: Timestamp) -> Option<&'a Packet>
         ensures found { option_copied result ≡ front_at at self.old.packets }
         ensures packets { self.new.packets

@@ -99,7 +99,7 @@ fn is_shown(policy: Policy, ports: u32, chosen: Option<u32>, port: u32) -> bool
     }
 }
 
-/// Passes the packets of a port up to a time, and returns the one that stands at it, where the port is shown.
+/// Passes the packets of a port up to a time, and returns the packet that stands at it, if the port is shown.
 fn read_port(rest: &mut Rest<'_>, at: Timestamp, shown: bool) -> Result<Option<Packet>, AllocError>
     requires { IsPrefix rest.old }
     ensures packet { IfOk result (λ packet. packet ≡ (if shown then packet_at at rest.old.packets else None)) }

@@ -15,7 +15,7 @@ use Rattle.mg_stream.specs.declared.chain.Chain.{Chain}
 use Rattle.mg_stream.proofs.QueueSteps.{appended_fields}
 use Rattle.mg_stream.proofs.Linked.{linked-same, key_of_chain, last_of_chain, last_key-push, IsKey-push_from, packets_of-push}
 
--- the entries come to be others, and the chain of a port another
+-- the entries change to others, and the chain of a port to another
 pub record Changes (slots now : List (Option Entry)) (chains : List Chain) (port : ℕ) (c : Chain) : Type 0 where
   pub there : port < length chains
   pub others : (other : ℕ) → other ≢ port → entries_of now (chain_at chains other) ≡ entries_of slots (chain_at chains other)
@@ -149,7 +149,7 @@ pop_changes slots now chains port c p laid there waits list is kept = record {
     is_bound : c.bound ≡ (chain_at chains port).bound
     is_bound = ap (λ (d : Chain). d.bound) is
 
--- an entry comes behind the last of a port's chain
+-- an entry comes after the last of a port's chain
 pub push_changes : (slots now : List (Option Entry)) (chains : List Chain) (port key : ℕ) (c : Chain) (p : Stamped Plain)
     → AreLaid slots chains → port < length chains
     → MayCome (queue_of 0 (backlog_in slots (chain_at chains port))) p.at

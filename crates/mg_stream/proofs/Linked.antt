@@ -13,11 +13,11 @@ use Rattle.mg_stream.specs.Code.Chain.{entry_at, linked, keys_of, packets_of, la
 use Rattle.mg_stream.specs.declared.chain.Chain.{Chain}
 use Rattle.mg_stream.specs.declared.chain.Entry.{Entry}
 
--- the first entry, where it is there
+-- the first entry, if it is there
 pub linked-one : (slots : List (Option Entry)) (n key : ℕ) (e : Entry) → entry_at slots key ≡ Some e → linked slots (suc n) key ≡ (key, e.packet) ∷ linked slots n e.next
 linked-one slots n key e is = ap (λ (o : Option Entry). unwrap_or (option_map (λ f. (key, f.packet) ∷ linked slots n f.next) o) []) is
 
--- where so many are there, the first is, and the others are
+-- if so many entries are there, the first is, and so are the others
 pub first_there : (slots : List (Option Entry)) (n key : ℕ) → length (linked slots (suc n) key) ≡ suc n → (e : Entry) × (entry_at slots key ≡ Some e) × (length (linked slots n e.next) ≡ n)
 first_there slots n key full = go (entry_at slots key) refl
   where
@@ -52,7 +52,7 @@ linked-same slots now (suc n) key full same =
     ∙ ap (λ (rest : List (ℕ × Stamped Plain)). (key, e.packet) ∷ rest) (linked-same slots now n e.next first.2 (λ k is. keeps k (inr is)))
     ∙ sym list
 
--- where the times rise, no key comes twice: the first isn't among the others
+-- if the times rise, no key comes twice: the first isn't among the others
 pub first_apart : (slots : List (Option Entry)) (n key a : ℕ) (e : Entry) → entry_at slots key ≡ Some e → length (linked slots n e.next) ≡ n
     → Rises a (times_of (packets_of (linked slots (suc n) key))) → IsKey key (keys_of (linked slots n e.next)) → ⊥
 first_apart slots n key a e is full rises among =
@@ -74,7 +74,7 @@ last_among slots n key d full =
     let first = first_there slots n key full in
     rw (linked-one slots n key first.0 first.1) (last_there d (key, first.0.packet) (linked slots n first.0.next))
 
--- an entry behind the last, which comes to name it
+-- an entry after the last one, which then names it
 pub linked-push : (slots now : List (Option Entry)) (n key d last fresh a : ℕ) (new : Entry) → length (linked slots (suc n) key) ≡ suc n
     → Rises a (times_of (packets_of (linked slots (suc n) key))) → last_key d (linked slots (suc n) key) ≡ last
     → entry_at slots fresh ≡ None → entry_at now fresh ≡ Some new
@@ -103,7 +103,7 @@ linked-push slots now (suc n) key d last fresh a new full rises is_last free the
     ∙ ap (λ (rest : List (ℕ × Stamped Plain)). (key, e.packet) ∷ rest) (linked-push slots now n e.next key last fresh (e.packet.at + 1) new first.2 up.1 later free there others names)
     ∙ ap (λ (front : List (ℕ × Stamped Plain)). front ++ (fresh, new.packet) ∷ []) (sym list)
 
--- the keys and the last of a list with an entry behind it
+-- the keys and the last entry of a list with a further entry after it
 pub last_key-push : (d k : ℕ) (p : Stamped Plain) (es : List (ℕ × Stamped Plain)) → last_key d (es ++ (k, p) ∷ []) ≡ k
 last_key-push d k p [] = refl
 last_key-push d k p (e ∷ es) = last_key-push e.0 k p es
@@ -124,7 +124,7 @@ packets_of-push k p (e ∷ es) = ap (λ (rest : List (Stamped Plain)). e.1 ∷ r
 pub chain_rises : (slots : List (Option Entry)) (c : Chain) → IsWhole slots c → Rises 0 (times_of (packets_of (entries_of slots c)))
 chain_rises slots c whole = prefix-rises (rest_of (queue_of 0 (backlog_in slots c))) whole.queue.rest
 
--- the first entry of a chain that isn't empty, and the others behind it
+-- the first entry of a chain that isn't empty, and the entries after it
 pub record Begins (slots : List (Option Entry)) (c : Chain) : Type 0 where
   pub entry : Entry
   pub there : entry_at slots c.first ≡ Some entry
@@ -169,7 +169,7 @@ key_of_chain slots c k whole among = let found = key_there slots c.waiting c.fir
 pub last_entry : (slots : List (Option Entry)) (c : Chain) → IsWhole slots c → 0 < c.waiting → (e : Entry) × (entry_at slots c.last ≡ Some e)
 last_entry slots c whole waits = key_of_chain slots c c.last whole (last_of_chain slots c whole waits)
 
--- the entries behind the first, once it is gone
+-- the entries after the first, once the first is gone
 pub popped_entries : (slots now : List (Option Entry)) (c : Chain) (e : Entry) → IsWhole slots c → 0 < c.waiting → entry_at slots c.first ≡ Some e
     → ((k : ℕ) → k ≢ c.first → entry_at now k ≡ entry_at slots k)
     → entries_of slots c ≡ (c.first, e.packet) ∷ linked now (c.waiting - 1) e.next
@@ -194,7 +194,7 @@ last_kept s t c key new whole waits free comes =
 pub last_contained : (s t : Slab Entry) (c : Chain) (key : ℕ) (new : Entry) → IsWhole s.slots c → 0 < c.waiting → get s key ≡ None → Updates s t key (Some new) → ContainsKey t c.last
 last_contained s t c key new whole waits free comes = let last = last_kept s t c key new whole waits free comes in rw last.2 refl
 
--- an entry behind the last of a chain
+-- an entry after the last of a chain
 pub pushed_behind : (s t : Slab Entry) (c : Chain) (key : ℕ) (new f : Entry) → IsWhole s.slots c → 0 < c.waiting → get s key ≡ None → Updates s t key (Some new)
     → get t c.last ≡ Some f
     → linked (with_value t c.last (record f { next = key })).slots (c.waiting + 1) c.first ≡ entries_of s.slots c ++ (key, new.packet) ∷ []

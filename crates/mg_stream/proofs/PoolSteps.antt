@@ -118,7 +118,7 @@ pop_step p now port old c packet pool there read is pops = (
 
 -- A packet comes --
 
--- what putting an entry behind a chain leaves
+-- what is left when an entry is put after the end of a chain
 pub record Pushes (p now : Inside) (old c : Chain) (packet : Stamped Plain) (key : ℕ) : Type 0 where
   pub entries : entries_of now.entries.slots c ≡ entries_of p.entries.slots old ++ (key, packet) ∷ []
   pub chain : c ≡ record old { first = c.first; last = key; waiting = old.waiting + 1; bound = next packet.at }
@@ -235,7 +235,7 @@ waiting_few slots c whole =
     let long : length (packets_of (entries_of slots c)) ≡ length (entries_of slots c) = length-map (entries_of slots c) (λ e. e.1) in
     omega (arith, counted, most, full, long)
 
--- where a packet waits at a port, its chain isn't empty
+-- if a packet waits at a port, its chain isn't empty
 pub chain_waits : (p : Inside) (v : Pooled Plain) (port : ℕ) (c : Chain) → pool_view p ≡ v → IsPool p → port < length v.ports → c ≡ get_or p.chains.items port c
     → 0 < length (queue_at v port).packets → 0 < c.waiting
 chain_waits p v port c seen pool in_v read some =
@@ -250,7 +250,7 @@ view_new p n none chains room =
     ap₂ (λ (ports : List (Backlog Plain)) (m : ℕ). (let v : Pooled Plain = record { ports = ports; spare = m } in v))
     (ap₂ (λ (slots : List (Option Entry)) (cs : List Chain). map (backlog_in slots) cs) none chains ∙ view_none n) spare
 
--- what waits at a port is a prefix, also where there is no such port
+-- what waits at a port is a prefix, also if there is no such port
 pub rests_all : (p : Inside) (v : Pooled Plain) → pool_view p ≡ v → IsPool p → (port : ℕ) → IsPrefix (rest_of (queue_at v port))
 rests_all p v seen pool port = subst (λ (w : Pooled Plain). IsPrefix (rest_of (queue_at w port))) seen (elim (cases_lt port (length p.chains.items)) [
   | inl there ↦ subst (λ (q : Waiting Plain). IsPrefix (rest_of q)) (sym (queue_at-view p port there)) (pool.laid.each port).queue.rest

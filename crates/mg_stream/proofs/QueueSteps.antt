@@ -83,6 +83,6 @@ pub put_fields : {X : Type 0} (q r : Waiting X) (p : Stamped X) → r.gone ≡ q
     → r ≡ (let w : Waiting X = record (with_packet q p) { spare = q.spare - 1 } in w)
 put_fields q r p gone packets bound spare = λ i. record { gone = gone i; packets = packets i; bound = bound i; spare = spare i }
 
--- a packet behind some that are the same as others
+-- a packet after some that are the same as others
 pub pushed_items : {X : Type 0} (new mid old : List (Stamped X)) (p : Stamped X) → new ≡ mid ++ p ∷ [] → mid ≡ old → new ≡ old ++ p ∷ []
 pushed_items {X} new mid old p pushed same = pushed ∙ ap (λ (ps : List (Stamped X)). ps ++ p ∷ []) same

@@ -35,7 +35,8 @@ queues_of pool = map (queue_of pool.spare) pool.ports
 abbrev pub queue_at : {X : Type 0} → Pooled X → ℕ → Waiting X
 queue_at pool port = queue_of pool.spare (slice_index_or pool.ports port empty_backlog)
 
--- the pool with a queue at a port, in place of the one that was there; the queue's room becomes the room of the whole pool
+-- the pool with a queue at a port, in place of the queue that was there. The new queue's room becomes the room of the whole
+-- pool
 abbrev pub with_queue : {X : Type 0} → Pooled X → ℕ → Waiting X → Pooled X
 with_queue pool port q = record { ports = slice_set pool.ports port (backlog_of q); spare = q.spare }
 

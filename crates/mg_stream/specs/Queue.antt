@@ -32,8 +32,8 @@ pub record IsLike {X : Type 0} (q r : Waiting X) : Type 0 where
 abbrev pub empty_queue : {X : Type 0} → Waiting X
 empty_queue = record { gone = 0; packets = []; bound = pre_stream; spare = 0 }
 
--- a queue stands for a prefix of its stream: as many first packets of the prefix as are gone, then the packets that
--- wait, and the bound
+-- a queue stands for a prefix of its stream. As many first packets of the prefix are gone as the queue counts. The packets that
+-- wait are the others, and the bound is the prefix's
 pub record StandsFor {X : Type 0} (q : Waiting X) (s : StreamPrefix X) : Type 0 where
   pub prefix : IsPrefix s
   pub gone : q.gone ≤ length s.packets
@@ -46,7 +46,7 @@ pub record MayCome {X : Type 0} (q : Waiting X) (t : ℕ) : Type 0 where
   pub above : q.bound ≤ t
   pub alone : t ≡ post_stream → count_of q ≡ 0
 
--- a queue with a packet behind those that wait
+-- a queue with one more packet after those that wait
 abbrev pub with_packet : {X : Type 0} → Waiting X → Stamped X → Waiting X
 with_packet q p = record q { packets = q.packets ++ p ∷ []; bound = next p.at }
 
@@ -54,11 +54,11 @@ with_packet q p = record q { packets = q.packets ++ p ∷ []; bound = next p.at 
 abbrev pub raised_to : {X : Type 0} → Waiting X → ℕ → Waiting X
 raised_to q b = record q { bound = max q.bound b }
 
--- a queue whose first packet is gone, which leaves room for another
+-- a queue without its first packet, and with room for one more
 abbrev pub popped : {X : Type 0} → Waiting X → Waiting X
 popped q = record { gone = q.gone + 1; packets = drop 1 q.packets; bound = q.bound; spare = q.spare + 1 }
 
--- a queue whose first packet is gone where it stands at a time, and the queue itself otherwise
+-- a queue without its first packet if that packet stands at a time, and otherwise the queue itself
 abbrev pub popped_at : {X : Type 0} → ℕ → Waiting X → Waiting X
 popped_at t q = if is_some (front_at t q.packets) then popped q else q
 
@@ -66,8 +66,8 @@ popped_at t q = if is_some (front_at t q.packets) then popped q else q
 abbrev pub cut_back : {X : Type 0} → ℕ → ℕ → Waiting X → Waiting X
 cut_back waiting bound q = record q { packets = take waiting q.packets; bound = bound }
 
--- what holds of every queue: what waits is itself a prefix of a stream, and no more packets came than there are times
--- below the bound
+-- what holds of every queue. What waits is itself a prefix of a stream, and no more packets came than there are times below the
+-- bound
 pub record IsQueue {X : Type 0} (q : Waiting X) : Type 0 where
   pub rest : IsPrefix (rest_of q)
   pub counted : count_of q + pre_stream ≤ q.bound

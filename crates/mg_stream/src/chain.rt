@@ -8,7 +8,7 @@ use mg_time::Timestamp;
 use mg_value::Packet;
 use slab::Slab;
 
-/// A packet that waits, and the key of the entry behind it.
+/// A packet that waits, and the key of the entry after it.
 #[derive(Debug, Drop)]
 pub(crate) struct Entry {
     pub(crate) packet: Packet,

@@ -1,7 +1,7 @@
 use mg_value::Packet;
 use thiserror::Error;
 
-/// Why a queue refuses a packet. Where more than one of these holds, the first is the cause.
+/// Why a queue refuses a packet. If more than one of these holds, the first is the cause.
 #[derive(Clone, Copy, Debug, PartialEq, Eq, Drop, Error)]
 pub enum StreamFault {
     /// No packet may carry this timestamp.

@@ -5,8 +5,8 @@ ghost use Rattle.mg_settled.specs.Prefix.{StreamPrefix};
 ghost use Rattle.mg_stream.specs.Queue.{Waiting, StandsFor, IsLike};
 ghost use Rattle.mg_stream.specs.Pool.{Pooled, queue_at, with_queue};
 
-/// Where a queue is put at a port of a pool, that port has it, and each other port keeps its queue but for the room, and stands for the
-/// same prefixes as before.
+/// If a queue is put at a port of a pool, that port has it. Each other port keeps its queue but for the room, and stands for
+/// the same prefixes as before.
 pub fn a_step_stays_at_its_port()
     ensures here { (pool : Pooled Plain) (port : ℕ) (q : Waiting Plain) → port < length pool.ports → queue_at (with_queue pool port q) port ≡ q }
     ensures others { (pool : Pooled Plain) (port other : ℕ) (q : Waiting Plain) → other ≢ port → IsLike (queue_at (with_queue pool port q) other) (queue_at pool other) }

@@ -85,8 +85,8 @@ impl Pool {
         Ok(())
     }
 
-    /// Puts a packet behind those that wait at a port, and moves the bound to what may follow it. Where it is refused,
-    /// the packet comes back, and the pool is as before.
+    /// Puts a packet after those that wait at a port, and moves the bound to what may follow it. If the packet is refused, it
+    /// comes back, and the pool is as before.
     pub fn append(&mut self, port: u32, packet: Packet) -> Result<(), Refused>
         requires { port < length self.old.ports }
         ensures ok { OnOk result (self.new ≡ with_queue self.old port (record (with_packet (queue_at self.old port) packet) { spare = self.new.spare })) }
@@ -123,8 +123,8 @@ impl Pool {
         Err(Refused { packet, cause })
     }
 
-    /// Puts a packet that may come behind those that wait at a port, and moves the bound to what may follow it. Where there is no
-    /// memory the packet is dropped, and the pool is as before.
+    /// Puts a packet that may come after those that wait at a port, and moves the bound to what may follow it. If there is no
+    /// memory, the packet is dropped, and the pool is as before.
     pub fn bring(&mut self, port: u32, packet: Packet) -> Result<(), AllocError>
         requires port { port < length self.old.ports }
         requires may_come { MayCome (queue_at self.old port) packet.at }
@@ -251,7 +251,7 @@ impl Pool {
         packet
     }
 
-    // Puts a packet that may come behind those that wait at a port. There must be room for it.
+    // Puts a packet that may come after those that wait at a port. There must be room for it.
     fn put(&mut self, port: u32, packet: Packet)
         requires port { port < length self.old.ports }
         requires may_come { MayCome (queue_at self.old port) packet.at }

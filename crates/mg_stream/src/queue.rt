@@ -65,8 +65,8 @@ impl Queue {
         self.packets.reserve(more as usize)
     }
 
-    /// Puts a packet behind those that wait, and moves the bound to what may follow it. Where it is refused, the
-    /// packet comes back, and the queue is as before.
+    /// Puts a packet after those that wait, and moves the bound to what may follow it. If the packet is refused, it comes back,
+    /// and the queue is as before.
     pub fn append(&mut self, packet: Packet) -> Result<(), Refused>
         ensures ok { OnOk result (IsLike self.new (with_packet self.old packet)) }
         ensures may_come { OnOk result (MayCome self.old packet.at) }
@@ -105,7 +105,8 @@ impl Queue {
         Err(Refused { packet, cause })
     }
 
-    /// Puts a packet that may come behind those that wait, and moves the bound to what may follow it. There must be room for the packet.
+    /// Puts a packet that may come after those that wait, and moves the bound to what may follow it. There must be room for the
+    /// packet.
     #[inline(always)]
     pub fn put(&mut self, packet: Packet)
         requires may_come { MayCome self.old packet.at }
@@ -128,8 +129,8 @@ impl Queue {
         }
     }
 
-    /// Takes back what came last: keeps the first `waiting` of the packets that wait and drops the others, and sets the bound to `bound`,
-    /// where it stood then.
+    /// Takes back what came last: keeps the first `waiting` of the packets that wait and drops the others. Sets the bound to
+    /// `bound`, where it stood then.
     pub fn cut_back(&mut self, waiting: u64, bound: Timestamp)
         requires { IsQueue (cut_back waiting bound self.old) }
         ensures { IsLike self.new (cut_back waiting bound self.old) }
@@ -155,7 +156,7 @@ impl Queue {
         Some(self.packets.front()?.at)
     }
 
-    /// The packet at a place among those that wait, counted from 0, or `None` where fewer wait.
+    /// Returns the packet at a place among those that wait, counted from 0, or `None` if fewer packets wait.
     pub fn get(&self, place: u64) -> Option<&Packet>
         ensures { option_copied result ≡ slice_get self.now.packets place }
     {

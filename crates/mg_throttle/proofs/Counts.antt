@@ -1,4 +1,4 @@
--- The counts of full queues, where a queue is noted, stops or is relaxed, and what stays of the limits.
+-- The counts of full queues, if a queue is noted, stops or is relaxed, and what stays of the limits.
 use Rattle.std.proofs.Common.{◌≡◌, ℕ, ◌+◌, ◌^◌, ◌<◌, zero, suc, Bool, true, false, ◌&&◌, cond, eqb, leb, List, [], ◌∷◌, ◌++◌, length, map, take, drop, get_or, slice_set, replicate, All, Some, ◌∙◌, sym, ap, subst, inl, inr, refl, arith, length-set, get_or-set_same, get_or-set_other}
 use Rattle.std.proofs.Math.Seq.{map-set_same, take-append_seam}
 use Rattle.std.proofs.lemmas.Bool.{cases_eq, cases_Bool, false≢true, and_left, and_right, lt-leb}
@@ -26,7 +26,7 @@ press_part rows f q = go (is_full q) (is_reached rows f q.node)
     go false true = refl
     go false false = refl
 
--- the count where one queue is noted
+-- the count if one queue is noted
 pub count-noted : (rows : List (List Bool)) (f : ℕ) (queues : List Queue) (i : ℕ) (q : Queue) (packets : ℕ) → i < length queues → q ≡ get_or queues i q
     → count_by (presses rows f) (slice_set queues i (with_packets q packets)) + part (is_reached rows f q.node) (cond (is_full q) 1 0)
     ≡ count_by (presses rows f) queues + part (is_reached rows f q.node) (cond (is_full (with_packets q packets)) 1 0)
@@ -45,7 +45,7 @@ node_noted queues i q packets j e within read = elim (cases_eq j i) [
   | inr other ↦ ap (λ x. x.node) (get_or-set_other queues i j (with_packets q packets) e other)
 ]
 
--- limits where one queue is noted are kept, if the counts are those of the new queues
+-- limits are kept if one queue is noted and the counts are those of the new queues
 pub IsKept-noted : (queues : List Queue) (rows : List (List Bool)) (counts new : List ℕ) (i : ℕ) (q : Queue) (packets : ℕ) → IsKept queues rows counts
     → i < length queues → q ≡ get_or queues i q → packets + 1 < 2 ^ 64 → length new ≡ length counts
     → ((f : ℕ) → f < length counts → get_or new f 0 + part (is_reached rows f q.node) (cond (is_full q) 1 0)
@@ -92,7 +92,7 @@ View-noted queues rows count old i packets q is_old within read =
     subst (λ t. now ≡ limits_with (noted t.queues i packets) t.reached t.feeders) is_old
     (ap (λ qs. limits_with qs rows count) (noted-set queues i packets q within read))
 
--- other queues of the same nodes, of which those of the collector don't count, are of the same plan
+-- other queues of the same nodes are of the same plan, if those of the collector don't count
 AreLimitsOf-kept : (plan : Plan) (queues more : List Queue) (rows : List (List Bool)) (count : ℕ) → AreLimitsOf plan (limits_with queues rows count)
     → map (λ q. q.node) more ≡ map (λ q. q.node) queues → All (λ q. q.node ≡ length plan.nodes → q.counts ≡ false) more
     → AreLimitsOf plan (limits_with more rows count)

@@ -1,4 +1,4 @@
--- The first marked place whose count is 0, found word by word, and which feeders these are.
+-- The first marked place that has the count 0, found word by word, and which feeders these are.
 use Rattle.std.proofs.Common.{◌≡◌, ℕ, ◌+◌, ◌*◌, ◌<◌, ◌≤◌, Bool, true, false, ◌&&◌, eqb, List, [], length, get_or, slice_set, slice_get, map, Option, Some, None, MatchOption, IfSome, IfNone, ◌∙◌, sym, ap, subst, inl, inr, refl, arith, get_or-set_other, length-set, ◌↔◌}
 use Rattle.std.proofs.lemmas.Bool.{cases_eq, cases_lt, false≢true}
 use Rattle.std.proofs.lemmas.List.{get_or-map, get_or_default, get_or_past, length-map}
@@ -116,7 +116,7 @@ module _ (queues : List Queue) (rows : List (List Bool)) (counts : List ℕ) (co
             false≢true (sym (get_or_past (reached_at rows node) f false (omega (arith, past, long))) ∙ sym (row_read rows node row f within read) ∙ marked))
       ]
 
--- who is let go where a queue is noted reaches the consumer
+-- who is let go when a queue is noted reaches the consumer
 pub let_go_reaches : (queues : List Queue) (rows : List (List Bool)) (count : ℕ) (old : QueueLimits) (i packets : ℕ) (q : Queue) → limits_with queues rows count ≡ old
     → (plan : Plan) (f : Feeder) (e : Edge) → AreLimitsOf plan old → slice_get plan.edges i ≡ Some e → IsThrottled plan old f
     → ¬ IsThrottled plan (limits_with (slice_set queues i (with_packets q packets)) rows count) f → FeederReaches plan f e.node

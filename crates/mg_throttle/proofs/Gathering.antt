@@ -46,7 +46,7 @@ GathersTo-all plan rows node k old row others so_far = record {
       so_far.marks f small ∙ ap (λ b. is_marked old f || b) (sym whole);
 }
 
--- the edge after the last of a node is another's, and so are all behind it
+-- the edge after the last edge of a node is another node's, and so are all edges after it
 pub GathersTo-broken : (plan : Plan) (rows : List (List Bool)) (edges : List Edge) (node first k : ℕ) (e : Edge) (old row : List Bool) → edges ≡ plan.edges
     → IsNonDecreasingBy (λ x. x.node) plan.edges → IsPartitionPoint (λ x. x.node < node) (λ x. node ≤ x.node) edges first
     → first ≤ k → k < length edges → (get_or edges k e).node ≢ node

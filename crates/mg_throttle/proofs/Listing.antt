@@ -102,7 +102,7 @@ relaxes_all old now first listed any h empty =
     of true some none = sym (some refl)
     of false some none = sym (list_any_none is_full old (λ k d within. none refl k d within (empty k)))
 
--- where none is full, none is relaxed
+-- if no queue is full, no queue is relaxed
 pub none_relaxed : (queues : List Queue) → list_any is_full queues ≡ false → map relaxed queues ≡ queues
 none_relaxed queues none = same_lists (map relaxed queues) queues (length-map queues relaxed)
     (λ k d within. let long = length-map queues relaxed in
@@ -116,7 +116,7 @@ none_relaxed queues none = same_lists (map relaxed queues) queues (length-map qu
         go true is = absurd (not_full is)
         go false is = rw is refl
 
--- where no queue is full, all counts are 0
+-- if no queue is full, all counts are 0
 pub none_counted : (queues : List Queue) (rows : List (List Bool)) (counts : List ℕ) → IsKept queues rows counts → list_any is_full queues ≡ false
     → counts ≡ replicate (length counts) 0
 none_counted queues rows counts kept none =

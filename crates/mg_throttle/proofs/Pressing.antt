@@ -87,7 +87,7 @@ part_zero : (b : Bool) → part b 0 ≡ 0
 part_zero true = refl
 part_zero false = refl
 
--- what one queue gives to the count, and what it takes where its node stops
+-- what one queue gives to the count, and what it takes if its node stops
 one_stopped : (rows : List (List Bool)) (f node : ℕ) (q : Queue)
     → cond (presses rows f (stopped node q)) 1 0 + part (is_reached rows f node) (cond (is_full_at node q) 1 0) ≡ cond (presses rows f q) 1 0
 one_stopped rows f node q = elim (cases_eq q.node node) [
@@ -192,7 +192,7 @@ both_true : (a b : Bool) → (a && b) ≡ true → (a ≡ true) × (b ≡ true)
 both_true true b e = (refl, e)
 both_true false b e = absurd (false≢true e)
 
--- a feeder is throttled exactly where its count isn't 0
+-- a feeder is throttled exactly if its count isn't 0
 pub throttled_by_count : (queues : List Queue) (rows : List (List Bool)) (counts : List ℕ) (count f : ℕ) (x : ℕ) → IsKept queues rows counts → f < length counts → x ≡ get_or counts f x
     → (plan : Plan) (feeder : Feeder) → AreLimitsOf plan (limits_with queues rows count) → slice_get (feeders plan) f ≡ Some feeder
     → (eqb x 0 ≡ false) ↔ IsThrottled plan (limits_with queues rows count) feeder

@@ -65,7 +65,7 @@ StopsTo-all node k old now full so_far others =
     ap (count_by p) (sym (take-append-drop k old)) ∙ count-append p (take k old) (drop k old) ∙ omega arith in
     (same_lists now (map (stopped node) old) len each, so_far.counted ∙ sym whole)
 
--- at the end of the queues, and where the next is another node's
+-- at the end of the queues, and if the next is another node's
 pub StopsTo-end : (node k : ℕ) (old now : List Queue) (full : ℕ) → StopsTo node k old now full → length now ≤ k
     → (now ≡ map (stopped node) old) × (full ≡ count_by (is_full_at node) old)
 StopsTo-end node k old now full so_far past = StopsTo-all node k old now full so_far (λ j d high inside. absurd (omega (arith, so_far.len)))

@@ -58,7 +58,7 @@ marks-set len words p old row within read =
       | inr other ↦ ap (λ x. eqb x 1) (bit k other) ∙ sym (is_marked-bit len words k fits) ∙ sym (get_or-set_other (marks_of len words) p k true false other)
     ])
 
--- a bit of two words' bits is marked where one of them is
+-- a bit of two words' bits is marked if one of them is
 or_bits : (a b : ℕ) → a < 2 → b < 2 → eqb (max a b) 1 ≡ (eqb a 1 || eqb b 1)
 or_bits a b p q = elim (cases_eq a 1) [
   | inl one ↦ rw (one, eq-eqb (max 1 b) 1 (omega arith)) refl
@@ -200,7 +200,7 @@ word_read len words value i word same inside read k low high within =
     let long : length value ≡ len = sym (ap length same) ∙ length-marks len words in
     rw (← same, get_or_read words i word inside read 0) (is_marked-word len words i k low high (omega arith))
 
--- a count is enough where a word's bit is set and the rest is as it was
+-- a count is enough if a word's bit is set and the rest is as it was
 pub enough_at : (test : ℕ → Bool) (more less i word : ℕ) (old now : List ℕ) → ChangesBelow test more less (i * 64) old now
     → ((k : ℕ) → i * 64 ≤ k → k < i * 64 + 64 → k < length old → test k ≡ bit_in word (i * 64) k)
     → ((k : ℕ) → test k ≡ true → less ≤ get_or old k 0)

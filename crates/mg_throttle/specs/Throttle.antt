@@ -10,8 +10,8 @@ use Rattle.mg_throttle.specs.declared.queue.Queue.{Queue}
 
 -- Which nodes a feeder reaches.
 
--- a feeder reaches a node over edges that aren't back edges: a source reaches itself, a graph input reaches a node that
--- reads it, and whoever reaches a node reaches those that read its streams
+-- a feeder reaches a node over edges that aren't back edges. A source reaches itself, and a graph input reaches a node that
+-- reads it. A feeder that reaches a node reaches the nodes that read that node's streams
 pub data FeederReaches (plan : Plan) (feeder : Feeder) : ℕ → Type 0 where
   itself : (n : ℕ) → feeder ≡ source_node n → FeederReaches plan feeder n
   reads : (e : Edge) (input : ℕ) → Contains plan.edges e → e.back ≡ false
@@ -45,7 +45,7 @@ noted [] edge packets = []
 noted (q ∷ qs) zero packets = record q { waiting = packets } ∷ qs
 noted (q ∷ qs) (suc edge) packets = q ∷ noted qs edge packets
 
--- a queue whose limit is relaxed: where it is full, the limit becomes its length and one more
+-- a queue whose limit is relaxed: if the queue is full, the limit becomes one more than its length
 abbrev pub relaxed : Queue → Queue
 relaxed q = if is_full q then record q { limit = Some (q.waiting + 1) } else q
 

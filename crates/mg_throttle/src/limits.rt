@@ -128,7 +128,8 @@ fn numbers_below(alloc: Global, count: u32) -> Result<NumberList, AllocError>
     Ok(BlockList::from_vec(numbers)?)
 }
 
-// Relaxes the limits of the full queues, all of which are listed, and returns whether there was one. No queue is listed then.
+// Relaxes the limits of the full queues, and returns whether there was one. All full queues are listed before, and no queue is
+// listed afterwards.
 fn relax_listed(queues: &mut [Queue], listed: &mut Ready) -> bool
     requires lengths { All (λ q. q.waiting + 1 < 2 ^ 64) queues.old }
     requires listed { AreListed queues.old listed.old }
@@ -177,8 +178,8 @@ impl Limits {
         })
     }
 
-    /// Notes how many packets wait in the queue of an edge. The feeders that reach its consumer are looked at only where it becomes full,
-    /// and where it stops being full.
+    /// Notes how many packets wait in the queue of an edge. Looks at the feeders that reach its consumer only if the queue
+    /// becomes full or stops being full.
     #[inline(always)]
     pub fn note(&mut self, edge: u32, packets: u64)
         requires edge { edge < length self.old.queues }
@@ -242,9 +243,9 @@ impl Limits {
         self.rows[node as usize].uncounted(&self.counts, from)
     }
 
-    /// Relaxes the limits: the limit of each full queue becomes one more than the packets that wait in it. Returns whether there was a full
-    /// queue. It looks once at each queue that became full, or stopped being so, since limits were relaxed last, and at the feeders only
-    /// if there was a full queue.
+    /// Relaxes the limits: the limit of each full queue becomes one more than the packets that wait in it. Returns whether
+    /// there was a full queue. Looks once at each queue that became full, or stopped being so, since limits were relaxed last.
+    /// Looks at the feeders only if there was a full queue.
     pub fn relax(&mut self) -> bool
         ensures any { result ≡ list_any is_full self.old.queues }
         ensures relaxed { self.new ≡ record self.old { queues = map relaxed self.old.queues } }

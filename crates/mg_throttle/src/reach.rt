@@ -23,7 +23,7 @@ pub(crate) fn sources(alloc: Global, nodes: &[PlanNode]) -> Result<Vec<usize>, A
     Ok(found)
 }
 
-// Returns `nodes` rows of `feeders` places, none of which is marked.
+// Returns `nodes` rows of `feeders` places. No place is marked.
 fn blank_rows(alloc: Global, nodes: usize, feeders: usize) -> Result<Vec<Row>, AllocError>
     requires { feeders < 2 ^ 60 }
     ensures { IfOk result (λ v. AreBlank nodes feeders v.items) }
@@ -35,7 +35,7 @@ fn blank_rows(alloc: Global, nodes: usize, feeders: usize) -> Result<Vec<Row>, A
     Ok(rows)
 }
 
-// Marks each source in its own row, at its place behind the graph inputs.
+// Marks each source in its own row, at its place after the graph inputs.
 fn mark_sources(rows: &mut [Row], sources: &[usize], inputs: usize, feeders: usize)
     requires blank { AreBlank (length rows.old) feeders rows.old }
     requires sources { All (λ node. node < length rows.old) sources.now }

@@ -56,8 +56,8 @@ fn change_word(counts: &mut [usize], word: u64, first: usize, more: usize, less:
     }
 }
 
-// Returns the first place from `from` on whose bit is set in a word and whose count is 0. The word has the bits of the 64 places from
-// `first` on.
+// Returns the first place from `from` on that has its bit set in a word and has the count 0. The word has the bits of the 64
+// places from `first` on.
 fn uncounted_in(counts: &[usize], word: u64, first: usize, from: usize) -> Option<usize>
     requires { first < 2 ^ 60 }
     ensures { MatchOption result (NoneFrom (is_uncounted (bit_in word first) counts.now) from (length counts.now))
@@ -74,7 +74,7 @@ fn uncounted_in(counts: &[usize], word: u64, first: usize, from: usize) -> Optio
 }
 
 impl Row {
-    /// Returns a row of `len` places, none of which is marked.
+    /// Returns a row of `len` places. No place is marked.
     pub(crate) fn new(alloc: Global, len: usize) -> Result<Row, AllocError>
         requires { len < 2 ^ 60 }
         ensures { IfOk result (λ r. r ≡ replicate len false) }

@@ -54,7 +54,7 @@ pub engine_again : {laws : Laws} (n n₃ : Sat) (node : ℕ) (k f : PartView) (h
 engine_again {laws} n n₃ node k f has g slots follows back = subst (λ (s : Sat). GivesPlainly laws s (2 * node + 1) f) (sym back)
     (record { word = g.u.word; tally = g.u.tally; note = f }, [], record { slot = slots; turns = ap (λ (l : List Turn). with_note f (left l)) g.gives.turns; word_is = g.node; grows = part_same f; follows = follows }, like_self f, joins_self f)
 
--- what is out are an engine and an intake
+-- the two parts that are out are an engine and an intake
 pub pair_engine : {laws : Laws} (m n : Sat) (key : LayoutView) (node : ℕ) (p q : PartView) (r s : ℕ) → m.0.key ≡ key → node < nodes_in key → TakenPair laws m (2 * node + 1) p r (2 * node) q s n → Follows laws key (2 * node + 1) p
 pair_engine {laws} m n key node p q r s key-is within t = subst (λ (k : LayoutView). Follows laws k (2 * node + 1) p) key-is t.1.1.follows
 

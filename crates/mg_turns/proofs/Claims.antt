@@ -100,7 +100,7 @@ goes_in p e f w is g = record {
       ];
 }
 
--- where the engine is the same
+-- if the engine is the same
 same_outs : (n : ℕ) (p : PartView) (e f : EngineView) → p.engine ≡ Some e → f ≡ e → Outs n p (an_engine f) None None
 same_outs n p e f is same = inl (
   refl,
@@ -112,7 +112,7 @@ nothing_at : (window : List EntryView) (place : ℕ) (x : EntryView) → window 
 nothing_at [] place x none at = none-some x at
 nothing_at (y ∷ ys) place x none at = absurd (omega (arith, ap length none))
 
--- where nothing is in the window, before or after
+-- if nothing is in the window, before or after
 none_outs : (n : ℕ) (p : PartView) (e f : EngineView) → p.engine ≡ Some e → e.window ≡ [] → f.window ≡ [] → Outs n p (an_engine f) None None
 none_outs n p e f is none none' = inl (
   refl,

@@ -1,4 +1,4 @@
--- How many works are committed, and what is laid where one is.
+-- How many works are committed, and what is laid if one is.
 use Rattle.std.proofs.Common.{◌≡◌, ◌≢◌, ℕ, zero, suc, ℤ, ◌+◌, ◌-◌, ◌≤◌, ◌⊎◌, ◌||◌, cond, Bool, true, false, List, [], ◌∷◌, ◌++◌, set, Option, Some, None, Result, option_map, is_some, IsSome, IfSome, slice_get, inl, inr, refl, ap, sym, subst, ◌∙◌, arith, if◌then◌else◌}
 use Rattle.std.proofs.lemmas.Bool.{cases_Bool, false≢true}
 use Rattle.std.proofs.lemmas.Option.{none-some}
@@ -86,7 +86,7 @@ goes_closed f goes = by f.closed (is_some f.fault) goes
     by true b e = e
     by false b e = refl
 
--- where the first entry isn't ready nothing is laid; where it is, it is laid, and then what follows
+-- if the first entry isn't ready, nothing is laid. If it is ready, it is laid, and then what follows
 abbrev next_front : Option ℤ → EntryView → List EntryView → PerformedView → Front → Front
 next_front offset entry entries p front = answer_laid offset entry.phase p.work.context p.answer entries front
 
@@ -96,7 +96,7 @@ first_by offset entry entries front o goes ready =
     ap (λ (b : Bool). if b then front else with_ready (ready_of entry) front (λ q. front_laid offset entries (next_front offset entry entries q front))) goes
     ∙ ap (λ (x : Option PerformedView). with_ready x front (λ q. front_laid offset entries (next_front offset entry entries q front))) ready
 
--- how the front of a window is laid, where its first entry isn't ready, and where it is
+-- how the front of a window is laid, if its first entry isn't ready, and if it is
 abbrev Steps : Option ℤ → EntryView → List EntryView → Front → Option PerformedView → Type 0
 Steps offset entry entries front o = front_laid offset (entry ∷ entries) front ≡ with_ready o front (λ q. front_laid offset entries (next_front offset entry entries q front))
 
@@ -111,7 +111,7 @@ laid_more offset (entry ∷ entries) front = elim (cases_Bool (has_stopped front
   | inr goes ↦ more_by offset entry entries front (ready_of entry) (λ f. laid_more offset entries f) (first_by offset entry entries front (ready_of entry) goes refl)
 ]
 
--- what is laid was committed, and stays so
+-- each work that is laid was committed, and stays so
 counts_by : (offset : Option ℤ) (entry : EntryView) (entries : List EntryView) (front : Front) (o : Option PerformedView) → ((f : Front) → f.window ≡ entries → front_count (front_laid offset entries f) ≡ front_count f)
     → front.window ≡ entry ∷ entries → (entry.phase ≡ Open → ⊥) → ready_of entry ≡ o → has_stopped front ≡ false → front_count (front_laid offset (entry ∷ entries) front) ≡ front_count front
 counts_by offset entry entries front None later is works ready goes = ap front_count (first_by offset entry entries front None goes ready)
@@ -133,7 +133,7 @@ front_counts offset (entry ∷ entries) front is works = elim (cases_Bool (has_s
   | inr goes ↦ counts_by offset entry entries front (ready_of entry) (λ f same. front_counts offset entries f same (λ i x at opens. works (suc i) x at opens)) is (works 0 entry refl) refl goes
 ]
 
--- an entry that is ready is laid, where all before it are, unless the node ends
+-- an entry that is ready is laid, if all before it are, unless the node ends
 abbrev IsPast : Front → ℕ → Type 0
 IsPast f n = (has_stopped f ≡ true) ⊎ (f.laid ≡ n → ⊥)
 

@@ -172,7 +172,7 @@ changed {laws} key s o i j new v w hs me near same-key same-portion alive parity
           (at_set s.views j k w u e);
     }
 
--- what the rule says of the sights holds where the seat j has another view that saw no more
+-- what the rule says of the sights holds if the seat j has another view that saw no more
 kept : (s : State (Option PartView) View) (j : ℕ) (v w : View) (r : ℕ) (b : PartView) → get_elem? s.views j ≡ some v → Less w v r → ((l : ℕ) (u : View) → get_elem? s.views l ≡ some u → Sights r b u.seen)
     → (l : ℕ) (u : View) → get_elem? (set s.views j w) l ≡ some u → Sights r b u.seen
 kept s j v w r b me less old l u e = ⊎_elim
@@ -295,7 +295,7 @@ pub alike_same : (ts : List Turn) → Alike ts ts
 alike_same [] = tt
 alike_same (t ∷ ts) = (refl, refl, part_same t.note, alike_same ts)
 
--- where the seat saw one more part of the word i
+-- if the seat saw one more part of the word i
 less_else : (v w : View) (i : ℕ) (p : PartView) (r : ℕ) → w.seen ≡ record { word = i; part = p } ∷ v.seen → r ≢ i → Less w v r
 less_else v w i p r e ne q h = subst (λ (l : List Sight). Sights r q l) (sym e) ((λ z. absurd (ne (sym z))), h)
 

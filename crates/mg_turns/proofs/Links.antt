@@ -211,7 +211,7 @@ module _ {laws : Laws} (key : LayoutView) (s : St) (o : Orderly laws key s) (l :
   other_home : (R : PartView → PartView → Type 0) → ((d : PartView) → R d d) → (r : ℕ) → r ≢ i → (q : PartView) → get_elem? (set s.homes i (some (Some p))) r ≡ some (some (Some q)) → WasBy R s.homes s.views r q
   other_home R self r ne q at-r = (q, inl (sym (set_else s.homes i r (some (Some p)) ne) ∙ at-r), self q)
 
-  -- where the seat's other turns stay as they are
+  -- if the seat's other turns stay as they are
   was_left : (R : PartView → PartView → Type 0) → ((d : PartView) → R d d) → w.turns ≡ left v.turns → R t.note p → (r : ℕ) (d : PartView) → Shown (set s.homes i (some (Some p))) (set s.views j w) r d → WasBy R s.homes s.views r d
   was_left R self rest fits r = carried R self s.homes (set s.homes i (some (Some p))) s.views j w r
       (λ q at-r. dite (ℕ_discrete r i)

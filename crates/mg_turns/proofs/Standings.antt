@@ -22,7 +22,7 @@ chosen_by false a b n m is low = omega arith
 chosen : (a b n m : ℕ) → (a ≡ b → n ≤ m) → cond (a == b) n 0 ≤ m
 chosen a b n m low = chosen_by (a == b) a b n m refl low
 
--- what was seen is no more than a part that is no less than each sight
+-- if a part is no less than each sight of it, the greatest number that was seen is at most the part's number
 pub most_below : (number : PartView → ℕ) → Rises number → (word : ℕ) (p : PartView) (xs : List Sight) → Sights word p xs → most_seen number word xs ≤ number p
 most_below number rises word p [] s = omega arith
 most_below number rises word p (x ∷ xs) s = max-le (chosen x.word word (number x.part) (number p) (λ e. rises x.part p (s.0 e))) (most_below number rises word p xs s.1)
@@ -42,7 +42,7 @@ second_counts number word x p xs = (let a = last_counts number word p xs in let 
 pub further_count : (number : PartView → ℕ) (word : ℕ) (x y : Sight) (xs : List Sight) → most_seen number word xs ≤ most_seen number word (x ∷ y ∷ xs)
 further_count number word x y xs = (let a = others_count number word y xs in let b = others_count number word x (y ∷ xs) in omega (arith, a, b))
 
--- the greatest number over a list of sights is at most that over the list with others behind it
+-- the greatest number over a list of sights is at most that over the list with further sights after it
 pub first_count : (number : PartView → ℕ) (word : ℕ) (xs ys : List Sight) → most_seen number word xs ≤ most_seen number word (xs ++ ys)
 first_count number word [] ys = omega arith
 first_count number word (x ∷ xs) ys =

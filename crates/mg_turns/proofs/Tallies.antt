@@ -13,7 +13,7 @@ use Rattle.mg_turns.specs.Parts.{LayoutView, at, owner_in, an_engine, an_intake,
 use Rattle.mg_turns.specs.Rule.{doubled, word_of}
 use Rattle.mg_turns.specs.Code.Plays.{CellWords}
 
--- where each port counts the same number of packets, so do all together
+-- if each port counts the same number of packets, so do all together
 pub came_same : (v w : Pending) (n : ℕ) → ((port : ℕ) → count_of (port_queue w port) ≡ count_of (port_queue v port)) → came_to w n ≡ came_to v n
 came_same v w zero same = refl
 came_same v w (suc n) same = omega (arith, came_same v w n same, same n)

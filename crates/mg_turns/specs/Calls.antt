@@ -75,7 +75,7 @@ abbrev pub TriesRaise : Laws → Tried Bool → ℕ → View → View → Type 0
 TriesRaise laws (Done result) node v w = HasRaised laws result node v w
 TriesRaise laws (Busy word) node v w = Missed laws (2 * node + 1) (2 * node) word v w
 
--- a call has made `done` rounds on the cell that it found, at most `most`; where these are fewer, no further work could be done
+-- a call has made `done` rounds on the cell that it found, at most `most`. If these are fewer, no further work could be done
 pub record HasMadeRounds (laws : Laws) (done most node : ℕ) (v w : View) : Type 0 where
   pub engine : EngineView
   pub engine_then : EngineView
@@ -150,8 +150,8 @@ pub record FoundNone (laws : Laws) (outcome : OutcomeView) (v w : View) : Type 0
   pub found : Finds laws v (2 * outcome.work.node + 1) (an_engine engine)
   pub left : w ≡ left_one v (2 * outcome.work.node + 1) (an_engine engine) v.work
 
--- what a call says that tries to commit: it has committed, or the turn was missed, or memory was short; in the two last cases the outcome
--- comes back
+-- what a call says that tries to commit: it has committed, or the turn was missed, or memory was short. In the two last cases
+-- the outcome comes back
 abbrev pub TriesCommit : (laws : Laws) {X : Type 0} → TriedCommit X → OutcomeView → View → View → Type 0
 TriesCommit laws (Laid n) outcome v w = HasCommitted laws n outcome v w
 TriesCommit laws (CommitBusy word o) outcome v w = MissedOne (2 * outcome.work.node + 1) word v w × (o ≡ outcome)

@@ -1,4 +1,5 @@
--- What a shared net gives back at its end: each part is what became of the one that was shared; the cells agree, and no work is out.
+-- What a shared net gives back at its end. Each part is what became of the part that was shared, the cells agree, and no work
+-- is out.
 use Rattle.std.specs.Prelude.{◌≡◌, ℕ, ◌+◌, ◌*◌, ◌<◌, List, Some, length, slice_get}
 use Rattle.mg_turns.specs.Parts.{PartView, LayoutView, at, nodes_in, Follows, AgreeParts, IsMissingIn, source_at, JoinedParts}
 use Rattle.mg_calc.specs.Rules.{Laws}

@@ -77,8 +77,8 @@ ports_by key (engine_of owner) = 0
 abbrev pub tally_of : LayoutView → ℕ → PartView → ℕ
 tally_of key word p = tally_by (ports_by key (owner_in key word)) p.engine p.intake
 
--- the tally of a part: how many packets came to an intake, on all ports together, since it was shared, or how many sets, calls or answers
--- an engine laid since then
+-- the tally of a part since it was shared. For an intake it is how many packets came, on all ports together. For an engine it
+-- is how many sets, calls or answers it laid
 abbrev pub tally_since : LayoutView → ℕ → PartView → ℕ
 tally_since key word p = tally_of key word p - tally_of key word (at key word)
 
@@ -114,7 +114,7 @@ abbrev pub gone_by : Option EngineView → List ℕ
 gone_by None = []
 gone_by (Some e) = map (λ (b : Backlog Plain). b.gone) e.outputs
 
--- how many packets a part has given up at each output, where it is an engine
+-- how many packets a part has given up at each output, if it is an engine
 abbrev pub gone_in : PartView → List ℕ
 gone_in p = gone_by p.engine
 
@@ -136,7 +136,7 @@ abbrev pub first_by : Option EngineView → ℕ
 first_by None = 0
 first_by (Some e) = e.first
 
--- the number of the stream at a part's first output, where it is an engine
+-- the number of the stream at a part's first output, if it is an engine
 abbrev pub first_in : PartView → ℕ
 first_in p = first_by p.engine
 
@@ -145,7 +145,7 @@ abbrev pub arrived_by : Option IntakeView → ℕ → ℕ
 arrived_by None port = 0
 arrived_by (Some i) port = count_of (port_queue i.waits port)
 
--- how many packets came to a port of a part, where it is an intake
+-- how many packets came to a port of a part, if it is an intake
 abbrev pub arrived_in : PartView → ℕ → ℕ
 arrived_in p port = arrived_by p.intake port
 
@@ -154,8 +154,9 @@ abbrev pub claimed_by : Option IntakeView → ℕ
 claimed_by None = 0
 claimed_by (Some i) = i.claimed
 
--- a part is what became of the one that was shared at this word: it is of its kind and lawful for each job for which all that was shared
--- is, its standing grew, and it gave up no packet. Of the collector's intake, whose word is behind those of the nodes, nothing was claimed.
+-- a part is what became of the part that was shared at this word. It is of its kind, its standing grew, and it gave up no
+-- packet. It is lawful for each job for which all that was shared is lawful. Of the collector's intake, whose word is after
+-- those of the nodes, nothing was claimed.
 pub record Follows (laws : Laws) (key : LayoutView) (word : ℕ) (p : PartView) : Type 0 where
   pub kind : IsKind (owner_in key word) p
   pub lawful : (job : LoggedJob laws) → Fits job key → LawfulPart job (owner_in key word) p
@@ -204,8 +205,8 @@ pub record IsEngineWord (key : LayoutView) (word : ℕ) : Type 0 where
 abbrev pub JoinedParts : PartView → Edge → PartView → Type 0
 JoinedParts p e q = (g : EngineView) (i : IntakeView) → p.engine ≡ Some g → q.intake ≡ Some i → HasGrown (port_queue i.waits e.port) (output_at g e)
 
--- what the rule wants of the plan: edges lead from engines to intakes, and no two to one port; and an engine still keeps the first
--- packet that a port hasn't got
+-- what the rule wants of the plan. Edges lead from engines to intakes, and no two edges to one port. An engine still keeps the
+-- first packet that a port hasn't got
 pub record EdgesFit (key : LayoutView) : Type 0 where
   pub sources : (k : ℕ) (e : Edge) → slice_get key.plan.edges k ≡ Some e → IsEngineWord key (source_at key.plan e)
   pub consumers : (k : ℕ) (e : Edge) → slice_get key.plan.edges k ≡ Some e → e.node ≤ nodes_in key

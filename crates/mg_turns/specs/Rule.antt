@@ -25,7 +25,8 @@ doubled tally = tally * 2 % 18446744073709551616
 abbrev pub word_of : LayoutView → ℕ → PartView → ℕ
 word_of key word p = doubled (tally_since key word p)
 
--- the part of a free word is in its slot, the word has its tally, and it is what became of the part that was shared there
+-- the part of a free word is in its slot, and the word has the part's tally. The part is what became of the part that was
+-- shared there
 abbrev pub Lies : Laws → LayoutView → List (maybe.Option (Option PartView)) → ℕ → ℕ → Type 0
 Lies laws key homes i w = (p : PartView) × (get_elem? homes i ≡ some (some (Some p))) × (w ≡ word_of key i p) × Follows laws key i p
 
@@ -34,7 +35,7 @@ abbrev pub Sights : ℕ → PartView → List Sight → Type 0
 Sights i p [] = Unit {0}
 Sights i p (x ∷ xs) = (x.word ≡ i → PartGrows x.part p) × Sights i p xs
 
--- 1 where a turn is that of a word, and otherwise 0
+-- 1 if a turn is that of a word, and otherwise 0
 abbrev pub is_turn_of : ℕ → Turn → ℕ
 is_turn_of i t = cond (t.word == i) 1 0
 
@@ -74,7 +75,7 @@ WorksApart views = (j k : ℕ) (v u : View) (w x : WorkView) → j ≢ k → get
 pub record Linked (key : LayoutView) (homes : Homes) (views : List View) : Type 0 where
   -- the engine and the intake of a node agree
   pub matched : (n : ℕ) (p q : PartView) → n < nodes_in key → Shown homes views (2 * n + 1) p → Shown homes views (2 * n) q → AgreeParts p q
-  -- each work of a view is out of its engine, no two views have the same one, and each work that is out is in a view
+  -- each work of a view is out of its engine, and no two views have the same work. Each work that is out is in a view
   pub within : (j : ℕ) (v : View) (w : WorkView) → get_elem? views j ≡ some v → v.work ≡ Some w → w.node < nodes_in key
   pub out : (j : ℕ) (v : View) (w : WorkView) (p : PartView) → get_elem? views j ≡ some v → v.work ≡ Some w → Shown homes views (2 * w.node + 1) p → IsOutIn p w
   pub apart : WorksApart views
@@ -95,13 +96,13 @@ pub record Orderly (laws : Laws) (key : LayoutView) (s : State (Option PartView)
   -- the portions add up to the whole, and a view without a portion has no turn
   pub whole : total (λ (v : View). v.portion) s.views ≡ 4294967296
   pub spent : (j : ℕ) (v : View) → get_elem? s.views j ≡ some v → v.portion ≡ 0 → length v.turns ≡ 0
-  -- no two views have the same turn, and a word is odd exactly where a view has its turn
+  -- no two views have the same turn, and a word is odd exactly if a view has its turn
   pub turns : (i : ℕ) → i < length s.homes → total (has_turn i) s.views ≡ slice_index s.words i % 2
   -- half of a held word is the tally that its holder found
   pub tallies : (j k : ℕ) (v : View) (t : Turn) → get_elem? s.views j ≡ some v → get_elem? v.turns k ≡ some t → slice_index s.words t.word / 2 ≡ t.tally
   -- a free word is twice the tally of the part in its slot, which is what became of the one that was shared
   pub free : (i : ℕ) → i < length s.homes → slice_index s.words i % 2 ≡ 0 → Lies laws key s.homes i (slice_index s.words i)
-  -- a slot is empty where its word is held
+  -- a slot is empty if its word is held
   pub taken : (i : ℕ) → i < length s.homes → slice_index s.words i % 2 ≡ 1 → get_elem? s.homes i ≡ some none
   -- no view saw more of a part than what stands in its slot
   pub seen_free : (i : ℕ) (p : PartView) → i < length s.homes → slice_index s.words i % 2 ≡ 0 → get_elem? s.homes i ≡ some (some (Some p)) → (j : ℕ) (v : View) → get_elem? s.views j ≡ some v → Sights i p v.seen
@@ -121,8 +122,8 @@ pub record Ready (key : LayoutView) : Type 0 where
 abbrev pub Ruled : Laws → LayoutView → State (Option PartView) View → Type 0
 Ruled laws key s = Orderly laws key s × Linked key s.homes s.views
 
--- every eighth word, from the first on, a number of them: the words of the parts stand eight apart in the table, so that those of two parts
--- are never in one line of a cache, and the words between them are not used
+-- this many words of a list: every eighth word, from the first on. The words of the parts stand eight apart in the table, so
+-- that those of two parts are never in one line of a cache. The words between them are not used
 abbrev pub each_eighth : ℕ → List ℕ → List ℕ
 each_eighth zero words = []
 each_eighth (suc n) words = slice_index words 0 ∷ each_eighth n (drop 8 words)

@@ -10,8 +10,8 @@ use Rattle.mg_turns.specs.Turns.{Sight}
 use Rattle.mg_turns.specs.Rule.{view, Sights}
 use Rattle.mg_turns.specs.declared.view.View.{View}
 
--- a part that a call found at a word: it is what became of the part that was shared there, and no less than any sight that the seat had of
--- it
+-- a part that a call found at a word. It is what became of the part that was shared there, and no less than any sight that the
+-- seat had of it
 pub record Finds (laws : Laws) (v : View) (word : ℕ) (p : PartView) : Type 0 where
   pub follows : Follows laws v.key word p
   pub sights : Sights word p v.seen
@@ -20,8 +20,8 @@ pub record Finds (laws : Laws) (v : View) (word : ℕ) (p : PartView) : Type 0 w
 abbrev pub sight : ℕ → PartView → Sight
 sight word p = record { word = word; part = p }
 
--- Of the two words that a call uses one was found held: the seat counts one more miss, and names the word. Where the call had taken the
--- first turn by then, that part is back as it was found, and the seat has a sight of it.
+-- Of the two words that a call uses one was found held: the seat counts one more miss, and names the word. If the call had
+-- taken the first turn by then, that part is back as it was found. The seat has a sight of the part then.
 abbrev pub Missed : Laws → ℕ → ℕ → ℕ → View → View → Type 0
 Missed laws first second word v w =
     (((word ≡ first) ⊎ (word ≡ second)) × (w ≡ view v.key v.portion (v.misses + 1) v.splits (Some word) v.turns v.work v.seen))

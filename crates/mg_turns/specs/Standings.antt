@@ -44,7 +44,7 @@ sets_laid_by (Some e) = e.laid
 abbrev pub sets_in : PartView → ℕ
 sets_in p = sets_laid_by p.engine
 
--- the greatest value of a number over a seat's sights of a word, and 0 where it has none
+-- the greatest value of a number over a seat's sights of a word, and 0 if it has none
 abbrev pub most_seen : (PartView → ℕ) → ℕ → List Sight → ℕ
 most_seen number word [] = 0
 most_seen number word (x ∷ xs) = max (cond (x.word == word) (number x.part) 0) (most_seen number word xs)

@@ -51,7 +51,7 @@ pub record TellsMoved (n : ℕ) (key : LayoutView) (e : Edge) (v w : View) : Typ
   pub came : HasCome n e v w
   -- all that was laid is there, or 256 packets more came
   pub enough : HasAll key e w ⊎ HasCome 256 e v w
-  -- where all packets that were laid are at the port, the bound is there too
+  -- if all packets that were laid are at the port, the bound is there too
   pub bound : HasAll key e w → known_laid_bound w (source_at key.plan e) (output_of key e) ≤ known_bound w e.node e.port
 
 -- what the answer of a delivery tells
@@ -62,7 +62,7 @@ AppendTells (Busy word) key e v w = ⊤
 
 -- Calls on a node.
 
--- the seat's two newest sights are those of a node's engine and intake, of which `Says` holds
+-- the seat's two newest sights are those of a node's engine and intake, and `Says` holds of these two
 pub record LeftCell (node : ℕ) (v w : View) (Says : EngineView → IntakeView → Type 0) : Type 0 where
   pub engine : EngineView
   pub intake : IntakeView
@@ -83,19 +83,19 @@ abbrev pub RaiseTells : Tried Bool → ℕ → View → View → Type 0
 RaiseTells (Done moved) node v w = LeftCell node v w (AreRaised node w) × (moved ≡ true → SomeRose node v w)
 RaiseTells (Busy word) node v w = ⊤
 
--- what prefixes of MAIN and LOOP tell where the first k packets of MAIN are answered: there is a next answer; or none comes any more; or
--- there is none so far
+-- what prefixes of MAIN and LOOP tell if the first k packets of MAIN are answered. There is a next answer, or none comes any
+-- more, or there is none so far
 abbrev pub RepliesTell : Readiness → ℕ → StreamPrefix Plain → StreamPrefix Plain → Type 0
 RepliesTell (Ready t) k main loop = k < length (replies main loop)
 RepliesTell AtEnd k main loop = (length main.packets ≡ k) × (main.bound ≡ done)
 RepliesTell NotYet k main loop = (length (replies main loop) ≡ k) × ((length main.packets ≡ k) → main.bound ≢ done)
 
--- what all that came to an intake tells where the first k sets or answers are claimed, with the packets that are gone with these
+-- what all that came to an intake tells if the first k sets or answers are claimed, with the packets that are gone with these
 abbrev pub AllTells : Readiness → ℕ → Pending → Type 0
 AllTells readiness k (WaitingSets inbox) = (came : List (StreamPrefix Plain)) → StandAfter inbox.policy k (queues_of inbox.pool) came → TellsOf inbox.policy k came readiness
 AllTells readiness k (WaitingLoop held) = (main loop : StreamPrefix Plain) → StandsAfter k held main loop → RepliesTell readiness k main loop
 
--- no set or answer stands behind those that are claimed, and more may come; a source can always tell
+-- no set or answer stands after those that are claimed, and more may come. A source can always tell
 abbrev pub IsStill : Role → IntakeView → Type 0
 IsStill (Source calls) i = ⊥
 IsStill role i = AllTells NotYet i.claimed i.waits
@@ -117,7 +117,7 @@ ClaimSays Draining e i = (e.laid < claimed_to e) × MayClose e.role e.claimed i
 ClaimSays Ended e i = has_ended e ≡ true
 ClaimSays _ e i = ⊤
 
--- where a loopback has answered, more of its answers are known to be laid than before
+-- if a loopback has answered, more of its answers are known to be laid than before
 abbrev pub AnswerTells : {X : Type 0} → Claimed X → ℕ → View → View → Type 0
 AnswerTells Answered node v w = known_sets v node < known_sets w node
 AnswerTells _ node v w = ⊤
@@ -132,7 +132,8 @@ abbrev pub count_committed : List EntryView → ℕ
 count_committed [] = 0
 count_committed (x ∷ xs) = cond x.committed 1 0 + count_committed xs
 
--- how many works of an engine are committed: those that are laid, Close too, and those that wait behind one that isn't committed
+-- how many works of an engine are committed: those that are laid, Close too, and those that wait after a work that isn't
+-- committed
 abbrev pub committed_in : EngineView → ℕ
 committed_in e = e.laid + cond e.closed 1 0 + count_committed e.window
 
@@ -146,7 +147,7 @@ pub record StandsBack (e : EngineView) : Type 0 where
 abbrev pub RunEnds : EngineView → IntakeView → Type 0
 RunEnds e i = GivesNone e e i i ⊎ StandsBack e
 
--- at least `done` works were committed since the seat last saw the engine; where these are fewer than `most`, `RunEnds` says why
+-- at least `done` works were committed since the seat last saw the engine. If these are fewer than `most`, `RunEnds` says why
 pub record RunSays (done most node : ℕ) (v : View) (e : EngineView) (i : IntakeView) : Type 0 where
   pub committed : known_sets v node + done ≤ committed_in e
   pub ends : done < most → RunEnds e i
@@ -158,8 +159,8 @@ RunTells (Busy word) most node v w = ⊤
 
 -- Commits.
 
--- at least n more sets or calls are known to be laid; and where the work was performed, it isn't the next one to lay, unless the node has
--- ended
+-- at least n more sets or calls are known to be laid. If the work was performed, it isn't the next work to lay, unless the node
+-- has ended
 pub record TellsLaid (n : ℕ) (outcome : OutcomeView) (v w : View) : Type 0 where
   pub engine : EngineView
   pub seen : w.seen ≡ sight (2 * outcome.work.node + 1) (an_engine engine) ∷ v.seen

@@ -27,7 +27,8 @@ pub(crate) fn counted(word: u64, more: u64) -> u64
     word.wrapping_add(more << 1)
 }
 
-/// The engine and the intake of a node that are out of their slots, with what their words were, and how many sets were laid then.
+/// The engine and the intake of a node that are out of their slots. Their words are noted as they were, and so is how many sets
+/// were laid then.
 #[derive(Drop)]
 pub(crate) struct HeldCell<C: NodeCalculator> {
     pub engine: Box<Engine<C>>,
@@ -38,7 +39,7 @@ pub(crate) struct HeldCell<C: NodeCalculator> {
 }
 
 impl<C: NodeCalculator> Pair<C> {
-    /// The cell of a pair of which one is an engine and the other an intake.
+    /// Returns the cell of a pair whose parts are an engine and an intake.
     pub fn into_cell(self) -> HeldCell<C>
         requires { (is_some self.engine.part.engine ≡ true) × (is_some self.intake.part.intake ≡ true) }
         ensures engine { self.engine.part.engine ≡ Some result.engine.value }

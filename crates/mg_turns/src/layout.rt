@@ -2,8 +2,8 @@ use crate::Part;
 use mg_calc::{NodeCalculator, Plan};
 use std::marker::Model;
 
-/// A plan and the parts of its net, each at the place of its word: with n nodes, the intake of node i at 2i and its engine at 2i + 1,
-/// the collector's intake at 2n, and the engine of graph input j at 2n + 1 + j.
+/// A plan and the parts of its net, each at the place of its word. With n nodes, the intake of node i is at 2i and its engine
+/// at 2i + 1. The collector's intake is at 2n. The engine of graph input j is at 2n + 1 + j.
 #[derive(Drop)]
 pub struct Layout<C: NodeCalculator> {
     pub(crate) plan: Plan,

@@ -1,5 +1,5 @@
-//! Nets that threads share: the parts of a net lie in the slots of one table, and each call holds the turns of the parts that it
-//! changes. Answers to the definitions of `specs/Rule.antt`.
+//! Nets that threads share. The parts of a net lie in the slots of one table, and each call holds the turns of the parts that
+//! it changes. Answers to the definitions of `specs/Rule.antt`.
 #![tactic(auto)]
 
 mod held;

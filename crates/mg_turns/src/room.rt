@@ -5,7 +5,8 @@ ghost use Rattle.mg_turns.specs.Code.Stored.{Stored};
 use atomic_table::{Refused, Table, TableRule};
 use std::alloc::{AllocError, Global};
 
-/// The rule of the table in which a room lies: its one slot has an empty vector with room for as many elements as the key says.
+/// The rule of the table in which a room lies. The table's one slot has an empty vector with room for as many elements as the
+/// key says.
 pub struct Keeps;
 
 impl<T> TableRule<Vec<T>, (), usize> for Keeps {

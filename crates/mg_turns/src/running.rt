@@ -13,7 +13,7 @@ use mg_edge::Gate;
 use mg_node::{Claimed, Engine, Intake, Outcome, Work, perform};
 use std::alloc::Global;
 
-/// Commits a work, or puts it back into its window where there is no memory. Returns whether the work is committed.
+/// Commits a work, or puts it back into its window if there is no memory. Returns whether the work is committed.
 fn take_in<C: NodeCalculator>(engine: &mut Engine<C>, outcome: Outcome<C>) -> bool
     requires out { IsOut engine.old outcome.work }
     requires lawful { SomeJobHasEngine C.laws engine.old }
@@ -30,7 +30,7 @@ fn take_in<C: NodeCalculator>(engine: &mut Engine<C>, outcome: Outcome<C>) -> bo
     }
 }
 
-/// Performs a work, and commits it. Where there is no memory the work is put back into its window. Returns whether it is committed.
+/// Performs a work, and commits it. Out of memory: puts the work back into its window. Returns whether it is committed.
 fn run_work<C: NodeCalculator, G: Gate>(
     alloc: Global,
     engine: &mut Engine<C>,

@@ -55,7 +55,7 @@ impl<C: NodeCalculator> SharedNet<C> {
         self.ways.len()
     }
 
-    /// Shares the parts of a layout. The seat has the whole portion, 2^32. Where there is no memory the layout comes back.
+    /// Shares the parts of a layout. The seat has the whole portion, 2^32. If there is no memory, the layout comes back.
     pub fn share(alloc: Global, layout: Layout<C>) -> Result<(SharedNet<C>, NetSeat<C>), Layout<C>>
         requires ready { Ready layout }
         requires few { length layout.parts ≤ 2 ^ 32 }

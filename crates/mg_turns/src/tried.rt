@@ -10,8 +10,8 @@ pub enum Tried<T> {
     Busy { word: u32 },
 }
 
-/// What a commit gives: how many sets or calls were laid; or the outcome again, where another seat has the turn, or where there is no
-/// memory.
+/// What a commit gives: how many sets or calls were laid, or the outcome again. The outcome comes back if another seat has the
+/// turn, or if there is no memory.
 #[derive(Drop)]
 pub enum TriedCommit<C: NodeCalculator> {
     /// The work is committed, and this many sets or calls were laid with it.
@@ -22,7 +22,7 @@ pub enum TriedCommit<C: NodeCalculator> {
     OutOfMemory(Outcome<C>),
 }
 
-/// What shelving gives: the work stands in its window; or the outcome again, where another seat has the turn.
+/// What shelving gives: the work stands in its window. Or the outcome comes back, if another seat has the turn.
 #[derive(Drop)]
 pub enum TriedShelf<C: NodeCalculator> {
     /// The work stands in its window.

@@ -104,7 +104,7 @@ module _ {laws : Laws} (job : LoggedJob laws) (ps : PartsView) (h : ArePartsOf j
     abbrev place : IsInPlace ps k e
     place = in_place job ps k e h there
 
-    -- the engine from which the edge leads is the part at its word, where these are the engines and the intakes
+    -- the engine from which the edge leads is the part at its word, if these are the engines and the intakes
     abbrev Leads : List EngineView → List IntakeView → EngineView → Option Producer → Type 0
     Leads es is engine o =
         (owner : Owner) × (owner_in key (word_at n (engine_of (writer_by o))) ≡ engine_of owner) × (word_at n (engine_of (writer_by o)) < length key.parts)

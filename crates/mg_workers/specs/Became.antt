@@ -8,8 +8,8 @@ use Rattle.mg_sched.specs.Taking.{taken_out}
 use Rattle.mg_sched.specs.Looks.{HasFrom}
 use Rattle.mg_sched.specs.ComesApart.{PartsView, HasComeApart, IsPutTogether}
 
--- A net is what another one became: it stands for each job for which that one stood. As many sets were taken of its outputs, its plan and
--- the calculators that no node uses are the same, and no packet of a stream was given up in between.
+-- A net is what another net became: it stands for each job for which the other net stood. As many sets were taken of its
+-- outputs. Its plan and the calculators that no node uses are the same. No packet of a stream was given up in between.
 pub record Became (laws : Laws) (before now : NetView) : Type 0 where
   pub stands : (job : LoggedJob laws) → StandsFor job before → StandsFor job now
   pub taken : taken_out now ≡ taken_out before

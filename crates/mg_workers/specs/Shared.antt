@@ -45,7 +45,8 @@ pub record KeptView : Type 0 where
 abbrev pub kept_code : Coded KeptView
 kept_code = code_by (Plan × RestView) (coded× plan_code rest_code) (λ k. (k.plan, k.rest)) (λ p. record { plan = p.0; rest = p.1 }) (λ _. refl)
 
--- a net came apart into the parts that are shared and what is kept aside; for each job for which it stood, these are the parts of one net
+-- a net came apart into the parts that are shared and what is kept aside. For each job for which the net stood, these are the
+-- parts of one net
 pub record IsSharedOf (laws : Laws) (before : NetView) (key : LayoutView) (kept : KeptView) : Type 0 where
   pub parts : PartsView
   pub apart : HasComeApart before parts

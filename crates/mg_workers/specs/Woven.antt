@@ -1,12 +1,13 @@
--- The parts of a net in the order of their words: of each node its intake and its engine, then the collector's intake, and then the
--- engines of the graph inputs.
+-- The parts of a net in the order of their words. First come of each node its intake and its engine, then the collector's
+-- intake, and then the engines of the graph inputs.
 use Rattle.std.specs.Prelude.{ℕ, zero, suc, List, [], ◌∷◌, ◌++◌, map, length}
 use Rattle.mg_node.specs.Views.{IntakeView, EngineView}
 use Rattle.mg_calc.specs.declared.plan.Plan.{Plan}
 use Rattle.mg_sched.specs.ComesApart.{PartsView}
 use Rattle.mg_turns.specs.Parts.{PartView, LayoutView, an_engine, an_intake}
 
--- the intakes and engines of a net as one list in the order of their words: those of each node in turn, and then the others
+-- the intakes and engines of a net as one list, in the order of their words. Those of each node in turn come first, and then
+-- the others
 abbrev pub woven : ℕ → List EngineView → List IntakeView → List PartView
 woven zero es is = map an_intake is ++ map an_engine es
 woven (suc n) [] is = map an_intake is

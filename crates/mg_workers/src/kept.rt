@@ -3,8 +3,8 @@ use mg_node::{Engine, Intake};
 use mg_sched::{IndexedPlan, NetRest};
 use std::marker::Model;
 
-/// What stays aside while a net is shared: its plan, what doesn't go into the shared table, and the two lists in which its parts lay, which
-/// are empty and have room for them again.
+/// What stays aside while a net is shared: its plan, and what doesn't go into the shared table. With them stay the two lists in
+/// which its parts lay. These lists are empty and have room for the parts again.
 #[derive(Drop)]
 pub struct Kept<C: NodeCalculator> {
     pub(crate) plan: IndexedPlan,

@@ -24,7 +24,7 @@ use std::alloc::{AllocError, Global};
 /// A net that is shared, its first seat, which has the whole portion, and what stays aside.
 pub type Shared<C> = (SharedNet<C>, NetSeat<C>, Kept<C>);
 
-// Returns an empty list with room for the parts of a net. More than 2^32 parts count as want of memory: there are no more words.
+// Returns an empty list with room for the parts of a net. More than 2^32 parts count as out of memory: there are no more words.
 fn make_room<C: NodeCalculator>(
     alloc: Global,
     engines: usize,
@@ -40,7 +40,7 @@ fn make_room<C: NodeCalculator>(
     Vec::with_capacity(alloc, many)
 }
 
-// Shares engines and intakes, whose lists are emptied. Where there is no memory nothing changes.
+// Shares engines and intakes, whose lists are emptied. If there is no memory, nothing changes.
 fn share_parts<C: NodeCalculator>(
     alloc: Global,
     plan: &Plan,
@@ -76,8 +76,8 @@ fn share_parts<C: NodeCalculator>(
     }
 }
 
-/// Shares a net whose nodes are begun. The works in its work queues stand in their windows again, as they are. The first seat has the whole
-/// portion, 2^32. Where there is no memory the net comes back, as it was but for these works.
+/// Shares a net whose nodes are begun. The works in its work queues stand in their windows again, as they are. The first seat
+/// has the whole portion, 2^32. If there is no memory, the net comes back, as it was but for these works.
 pub fn share<C: NodeCalculator>(alloc: Global, net: Net<C>) -> Result<Shared<C>, Net<C>>
     requires running { IsRunning net }
     requires stands { StandsForSome C.laws net }

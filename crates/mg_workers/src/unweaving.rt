@@ -16,8 +16,8 @@ fn is_intake(nodes: u32, word: usize) -> bool
     word <= 2 * nodes as usize && word % 2 == 0
 }
 
-/// Moves parts, which stand in the order of their words, to the lists of engines and of intakes. What these lists still have, the last ones
-/// first, stands behind the moved ones then, in its own order. There is room for all.
+/// Moves parts, which stand in the order of their words, to the lists of engines and of intakes. What these lists still have,
+/// the last ones first, then stands after the moved parts, in its own order. There is room for all.
 pub(crate) fn unweave<C: NodeCalculator>(
     nodes: u32,
     parts: Vec<Part<C>>,

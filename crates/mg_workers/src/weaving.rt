@@ -9,7 +9,8 @@ use mg_node::{Engine, Intake};
 use mg_turns::Part;
 use std::alloc::Global;
 
-// The last item of a list, in a box of its own. Where there is none, or no memory for the box, nothing changes.
+// Takes the last item off a list, and returns it in a box of its own. If there is none, or no memory for the box, nothing
+// changes.
 fn box_last<T>(alloc: Global, items: &mut Vec<T>) -> Option<Box<T>>
     ensures boxed { IfSome result (λ last. items.old.items ≡ items.new.items ++ last.value ∷ []) }
     ensures unchanged { IfNone result (items.new.items ≡ items.old.items) }
@@ -25,8 +26,8 @@ fn box_last<T>(alloc: Global, items: &mut Vec<T>) -> Option<Box<T>>
     }
 }
 
-// Moves the parts of the nodes from their lists, which have the last ones first: of each node its intake and its engine. Tells whether
-// there was memory for all.
+// Moves the parts of the nodes from their lists, which have the last ones first: of each node its intake and its engine.
+// Returns whether there was memory for all.
 fn weave_nodes<C: NodeCalculator>(
     alloc: Global,
     nodes: u32,
@@ -53,7 +54,8 @@ fn weave_nodes<C: NodeCalculator>(
     true
 }
 
-// Moves the engines of the graph inputs from their list, behind all other parts. Tells whether there was memory for all.
+// Moves the engines of the graph inputs from their list to the end, after all other parts. Returns whether there was memory for
+// all.
 fn weave_inputs<C: NodeCalculator>(
     alloc: Global,
     engines: &mut Vec<Engine<C>>,
@@ -72,8 +74,8 @@ fn weave_inputs<C: NodeCalculator>(
     engines.is_empty()
 }
 
-/// Moves the engines and the intakes of a net to `parts`, in the order of their words. Tells whether there was memory for all. If there
-/// wasn't for one, those before it are parts, and the others lie in their lists, the last ones first.
+/// Moves the engines and the intakes of a net to `parts`, in the order of their words. Returns whether there was memory for
+/// all. If there was no memory for one, the ones before it are parts. The others lie in their lists, the last ones first.
 pub(crate) fn weave<C: NodeCalculator>(
     alloc: Global,
     nodes: u32,

@@ -5,11 +5,11 @@ use Rattle.mg_levels.specs.declared.levels.Levels.{Levels}
 use Rattle.mg_levels.specs.declared.seat.LevelSeat.{LevelSeat}
 use Rattle.mg_crew.specs.declared.putting.Place.{Place}
 
--- where there is a seat, it is one at these levels
+-- if there is a seat, it is one at these levels
 abbrev pub IsAnyOf : Levels → Option LevelSeat → Type 0
 IsAnyOf levels seat = IfSome seat (λ s. IsSeatOf levels s)
 
--- where there is a seat, at least so much of the portion is left to it
+-- if there is a seat, at least so much of the portion is left to it
 abbrev pub LeavesPortion : ℕ → Option LevelSeat → Type 0
 LeavesPortion portion seat = IfSome seat (λ s. portion ≤ portion_of s)
 
@@ -18,6 +18,6 @@ pub record IsPlaceAt (levels : Levels) (place : Place) : Type 0 where
   pub seat : IsAnyOf levels place.seat
   pub kept : IfSome place.kept (λ node. Contains (order_of levels) node)
 
--- where a place has a seat, at least so much of the portion is left to it
+-- if a place has a seat, at least so much of the portion is left to it
 abbrev pub HasPortion : ℕ → Place → Type 0
 HasPortion portion place = LeavesPortion portion place.seat

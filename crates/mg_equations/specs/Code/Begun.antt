@@ -1,5 +1,6 @@
--- What has become of a node before it reads a packet, by its law: a source has been called and has ended, a loopback has answered
--- nothing, and every other node is opened. Its side packets are those at its ports, and its law is one of the table.
+-- What has become of a node before it reads a packet, by its law. A source has been called and has ended, a loopback has
+-- answered nothing, and every other node is opened. The node's side packets are those at its ports, and its law is one of the
+-- table.
 use Rattle.std.specs.Prelude.{List, Option, length}
 use Rattle.mg_value.specs.Payload.{Plain}
 use Rattle.mg_calc.specs.declared.law.Law.{Law}

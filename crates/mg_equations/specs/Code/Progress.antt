@@ -70,7 +70,7 @@ pub record IsShownMore (node : PlanNode) (ss : List (StreamPrefix Plain)) (befor
   pub read : now.read.items ≡ gone_of ss left
   pub reached : now.reached ≡ reach node.policy (without_first before.read.items ss)
 
--- a node was shown further sets, or, where its sets have reached the end of all times, stays as it was
+-- a node was shown further sets. Or, if its sets have reached the end of all times, it stays as it was
 abbrev pub ShowsMore : Bool → PlanNode → List (StreamPrefix Plain) → Progress → Progress → Type 0
 ShowsMore true node ss before now = now ≡ before
 ShowsMore false node ss before now = IsShownMore node ss before now

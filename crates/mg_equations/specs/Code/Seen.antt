@@ -25,19 +25,20 @@ seen outcome = record { state = outcome.state; outputs = outcome.outputs.items; 
 abbrev pub with_outputs : PlainOutcome → List (StreamPrefix Plain) → PlainOutcome
 with_outputs outcome outputs = record outcome { outputs = outputs }
 
--- an outcome whose only output has further packets and another bound, and which has another count
+-- an outcome with another count, whose only output has further packets and another bound
 abbrev pub with_answers : PlainOutcome → List (Stamped Plain) → ℕ → ℕ → PlainOutcome
 with_answers outcome packets bound taken = record outcome {
   outputs = record { packets = (slice_index_or outcome.outputs 0 empty_prefix).packets ++ packets; bound = bound } ∷ [];
   taken = taken;
 }
 
--- an outcome has become one that failed of a cause; want of memory isn't a cause, so no outcome fails of it
+-- an outcome has become one that failed of a cause. Running out of memory isn't a cause, so no outcome fails of it
 abbrev pub Fails : CalcFault → Phase → PlainOutcome → PlainOutcome → Type 0
 Fails (Fault cause) phase before now = now ≡ failed phase cause before
 Fails OutOfMemory phase before now = ⊥
 
--- the answer to a call of a calculator that has kept its new state itself is taken: its emission is laid, or the node has failed
+-- a calculator that has kept its new state itself has answered a call, and the answer is taken. Its emission is laid, or the
+-- node has failed
 abbrev pub TakesEmission : Option ℤ → Phase → Result (List Laid) CalcFault → PlainOutcome → PlainOutcome → Type 0
 TakesEmission offset phase (Ok emission) before now = now ≡ after_laying phase before (laid_behind offset phase before.outputs emission)
 TakesEmission offset phase (Err fault) before now = Fails fault phase before now

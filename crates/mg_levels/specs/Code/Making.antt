@@ -6,7 +6,7 @@ use Rattle.mg_levels.specs.Hands.{hand_view, hand_id, queue_id, fresh}
 use Rattle.mg_levels.specs.Places.{room_for}
 use Rattle.mg_levels.specs.declared.making.Made.{Made}
 
--- a level for so many nodes was made behind the others
+-- a level for so many nodes was made after the others
 pub record MakesLevel (nodes : ℕ) (old new : Made) : Type 0 where
   pub rooms : map ruled_capacity new.queues.items ≡ map ruled_capacity old.queues.items ++ (4 * nodes) ∷ []
   pub hands : map hand_view new.hands.items ≡ map hand_view old.hands.items ++ fresh whole ∷ []

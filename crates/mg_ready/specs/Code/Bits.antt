@@ -2,7 +2,7 @@
 use Rattle.std.specs.Prelude.{◌≡◌, ◌≢◌, ℕ, ◌/◌, ◌%◌, ◌<◌, List, length, slice_index}
 use Rattle.std.specs.Int.{bit_at}
 
--- the bit of a number: 1 where it is in the set
+-- the bit of a number: 1 if it is in the set
 abbrev pub bit_of : List ℕ → ℕ → ℕ
 bit_of words n = bit_at (slice_index words (n / 64)) (n % 64)
 

@@ -1,5 +1,5 @@
--- Places in buckets of 32, as slots of linked lists. Between two buckets, below the first and above the last, there is
--- one slot more, which is always linked: slot 0, 33, 66 and so on.
+-- Places in buckets of 32, as slots of linked lists. Between two buckets, below the first and above the last, there is one slot
+-- more. It is always linked: slot 0, 33, 66 and so on.
 use Rattle.std.specs.Prelude.{◌≡◌, ℕ, ◌+◌, ◌-◌, ◌*◌, ◌/◌, ◌%◌, ◌^◌, ◌<◌, ◌≤◌, ◌==◌, ◌||◌, Bool, true, false, List, length, slice_index, slice_index_or}
 
 -- the slot of a place, and the place of a slot between two buckets' ends
@@ -9,7 +9,7 @@ slot_of place = place / 32 * 33 + place % 32 + 1
 abbrev pub place_of : ℕ → ℕ
 place_of slot = slot / 33 * 32 + slot % 33 - 1
 
--- the slot above all places, where there are `places` of them
+-- the slot above all places, if there are `places` of them
 abbrev pub top_of : ℕ → ℕ
 top_of places = (places + 31) / 32 * 33
 

@@ -3,7 +3,7 @@ use Rattle.std.specs.Prelude.{◌≡◌, ℕ, ◌+◌, ◌/◌, ◌^◌, ◌<◌
 use Rattle.mg_ready.specs.Code.Bits.{bit_of}
 use Rattle.mg_ready.specs.Code.Links.{IsEmptyIn}
 
--- each bucket has its bit set exactly where one of its places is in
+-- each bucket has its bit set exactly if one of its places is in
 pub record IsMarked (places : List Bool) (words : List ℕ) : Type 0 where
   pub few : length places < 2 ^ 32
   pub words_len : length words ≡ (length places + 2047) / 2048

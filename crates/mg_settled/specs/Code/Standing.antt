@@ -9,7 +9,7 @@ pub record MayStand (count lowest at : ℕ) : Type 0 where
   pub above : lowest ≤ at
   pub alone : at ≡ post_stream → count ≡ 1
 
--- some packets may stand one behind the other, the first no lower than `lowest`, and all up to a bound
+-- some packets may stand one after the other, the first no lower than `lowest`, and all up to a bound
 abbrev pub Stand : {X : Type 0} → ℕ → ℕ → List (Stamped X) → ℕ → Type 0
 Stand count lowest [] bound = lowest ≤ bound
 Stand count lowest (p ∷ ps) bound = MayStand count lowest p.at × Stand count (next p.at) ps bound

@@ -12,7 +12,8 @@ use Rattle.mg_stream.specs.declared.chain.Chain.{Chain}
 abbrev pub entry_at : List (Option Entry) → ℕ → Option Entry
 entry_at slots key = slice_index_or slots key None
 
--- the keys and packets of a number of entries, the first at a key and each next one at the key that the one before names
+-- the keys and packets of a number of entries. The first entry is at a key, and each next one at the key that the entry before
+-- names
 abbrev pub linked : List (Option Entry) → ℕ → ℕ → List (ℕ × Stamped Plain)
 linked slots zero key = []
 linked slots (suc n) key = unwrap_or (option_map (λ e. (key, e.packet) ∷ linked slots n e.next) (entry_at slots key)) []
@@ -25,7 +26,7 @@ keys_of es = map (λ e. e.0) es
 abbrev pub packets_of : List (ℕ × Stamped Plain) → List (Stamped Plain)
 packets_of es = map (λ e. e.1) es
 
--- the key of the last entry, or another key where there is no entry
+-- the key of the last entry, or another key if there is no entry
 abbrev pub last_key : ℕ → List (ℕ × Stamped Plain) → ℕ
 last_key key [] = key
 last_key key (e ∷ es) = last_key e.0 es
@@ -51,7 +52,8 @@ empty_chain = record { first = 0; last = 0; waiting = 0; gone = 0; bound = pre_s
 abbrev pub chain_at : List Chain → ℕ → Chain
 chain_at chains port = slice_index_or chains port empty_chain
 
--- a chain is whole: as many entries are there as it counts, the last of them is the one that it names, and what it holds is a queue
+-- a chain is whole: as many entries are there as it counts, and the last of them is the one that it names. The chain holds a
+-- queue
 pub record IsWhole (slots : List (Option Entry)) (c : Chain) : Type 0 where
   pub full : length (entries_of slots c) ≡ c.waiting
   pub last : last_key c.last (entries_of slots c) ≡ c.last

@@ -20,7 +20,7 @@ pub record AreBlank (nodes feeders : ℕ) (rows : List (List Bool)) : Type 0 whe
   pub len : length rows ≡ nodes
   pub blank : All (λ row. row ≡ replicate feeders false) rows
 
--- the mark of a row is that of one of the first `count` sources, at its place behind the graph inputs
+-- the mark of a row is that of one of the first `count` sources, at its place after the graph inputs
 pub record IsMarkOf (numbers : List ℕ) (inputs count f node : ℕ) : Type 0 where
   pub place : ℕ
   pub among : place < count
@@ -69,7 +69,7 @@ abbrev pub IsReachedBy : Plan → List (List Bool) → ℕ → Type 0
 IsReachedBy plan rows node =
     (f : ℕ) (feeder : Feeder) → slice_get (feeders plan) f ≡ Some feeder → (is_reached rows f node ≡ true) ↔ FeederReaches plan feeder node
 
--- a node has no mark yet but that of itself, where it is a source
+-- a node has no mark yet but that of itself, if it is a source
 abbrev pub IsOwn : Plan → List (List Bool) → ℕ → Type 0
 IsOwn plan rows node =
     (f : ℕ) (feeder : Feeder) → slice_get (feeders plan) f ≡ Some feeder → (is_reached rows f node ≡ true) ↔ (feeder ≡ source_node node)

@@ -25,7 +25,7 @@ pub record Joins (one two both : List Bool) : Type 0 where
   pub len : length both ≡ length one
   pub marks : (k : ℕ) → k < length one → is_marked both k ≡ (is_marked one k || is_marked two k)
 
--- a number where a test holds, and 0 elsewhere
+-- a number if a test holds, and otherwise 0
 abbrev pub part : Bool → ℕ → ℕ
 part b n = if b then n else 0
 
@@ -33,12 +33,13 @@ part b n = if b then n else 0
 abbrev pub bit_in : ℕ → ℕ → ℕ → Bool
 bit_in word first k = nat_le first k && (nat_lt k (first + 64) && (bit_at word (k - first) == 1))
 
--- a number is added to the counts where a test holds, and another taken from them
+-- of the counts, those at places that pass a test grow by one number and shrink by another
 pub record Changes (test : ℕ → Bool) (more less : ℕ) (old new : List ℕ) : Type 0 where
   pub len : length new ≡ length old
   pub counts : (k : ℕ) → k < length old → slice_index new k + part (test k) less ≡ slice_index old k + part (test k) more
 
--- a number is added to the counts below a place where a test holds, and another taken from them; the other counts are as they were
+-- of the counts below a place, those at places that pass a test grow by one number and shrink by another. The other counts are
+-- as they were
 pub record ChangesBelow (test : ℕ → Bool) (more less place : ℕ) (old new : List ℕ) : Type 0 where
   pub len : length new ≡ length old
   pub changed : (k : ℕ) → k < place → k < length old → slice_index new k + part (test k) less ≡ slice_index old k + part (test k) more

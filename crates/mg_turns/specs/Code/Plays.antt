@@ -33,12 +33,13 @@ left (t ∷ ts) = ts
 abbrev pub with_miss : View → ℕ → View
 with_miss v word = view v.key v.portion (v.misses + 1) v.splits (Some word) v.turns v.work v.seen
 
--- the turn of a word, of which the seat notes this part
+-- the turn of a word, with this part as the seat's note
 abbrev pub turn_of_word : LayoutView → ℕ → PartView → Turn
 turn_of_word key word p = record { word = word; tally = word_of key word p / 2; note = p }
 
--- what is known of a part whose turn is taken: it is what became of the one that was shared, and no less than what the seat saw; it agrees
--- with the engine whose turn the seat has, the seat's work is out of it, and no more came to it along an edge than is laid there
+-- what is known of a part whose turn is taken. It is what became of the part that was shared, and no less than what the seat
+-- saw. If the seat has the turn of the node's engine, the part agrees with that engine. The seat's work is out of it. If the
+-- seat has the turn of the engine from which an edge leads, no more came along the edge than is laid there
 pub record Found (laws : Laws) (word : ℕ) (p : PartView) (v : View) : Type 0 where
   pub follows : Follows laws v.key word p
   pub sights : Sights word p v.seen
@@ -102,12 +103,12 @@ abbrev pub Returns : View → ℕ → PartView → View → Type 0
 Returns v word p w =
     Alike w.turns (left v.turns) × (w.key ≡ v.key) × (w.portion ≡ v.portion) × (w.seen ≡ record { word = word; part = p } ∷ v.seen)
 
--- the note of the turn that was taken last, or another part where there is no turn
+-- the note of the turn that was taken last, or another part if there is no turn
 abbrev pub note_or : PartView → List Turn → PartView
 note_or d [] = d
 note_or d (t ∷ ts) = t.note
 
--- the turn is given back with a part of which nothing was claimed or laid
+-- the turn is given back with a part at which nothing was claimed or laid
 abbrev pub Plainly : View → ℕ → PartView → View → Type 0
 Plainly v word p w = (w.turns ≡ left v.turns) × (w.work ≡ v.work) × Like (note_or p v.turns) p × Joins (note_or p v.turns) p
 
@@ -122,7 +123,7 @@ pub record Lays (v : View) (word : ℕ) (p : PartView) (w : View) : Type 0 where
   pub back : Back (note_or p v.turns) p it
   pub joins : Joins (note_or p v.turns) p
 
--- the works that are out of the part stay the same; or one more is out, and the seat that had none has it
+-- the works that are out of the part stay the same. Or one more work is out, and the seat that had none has it
 abbrev pub Outs : ℕ → PartView → PartView → Option WorkView → Option WorkView → Type 0
 Outs n q p had has = ((has ≡ had) × ((x : WorkView) → IsOutIn q x → IsOutIn p x) × ((k : ℕ) → IsMissingIn p k → IsMissingIn q k))
     ⊎ ((x : WorkView) × (had ≡ None) × (has ≡ Some x) × (x.node ≡ n) × Goes q p x)
@@ -143,8 +144,8 @@ pub record ClaimsInTurn (v : View) (word : ℕ) (p : PartView) (w : View) : Type
   pub joins : Joins u.note t.note
   pub joins_there : Joins (note_or p v.turns) p
 
--- the turn of the intake to which an edge leads is given back, and more came along the edge, but no more than was laid at the engine, whose
--- turn the seat has; the other ports have what they had
+-- the turn of the intake to which an edge leads is given back, and more came along the edge. No more came than was laid at the
+-- edge's engine, and the seat has that engine's turn. The other ports have what they had
 pub record BringsInTurn (v : View) (word : ℕ) (p : PartView) (w : View) : Type 0 where
   pub k : ℕ
   pub e : Edge
@@ -159,8 +160,8 @@ pub record BringsInTurn (v : View) (word : ℕ) (p : PartView) (w : View) : Type
   pub joined : JoinedParts u.note e p
   pub others : (l : ℕ) (x : Edge) (r : PartView) → l ≢ k → slice_get v.key.plan.edges l ≡ Some x → x.node ≡ e.node → JoinedParts r x (note_or p v.turns) → JoinedParts r x p
 
--- how a turn is given back: with a part of which nothing was claimed or laid, with an engine to which a work came back, with an intake of
--- whose node something was claimed, or with an intake to which an edge brought more
+-- how a turn is given back, in one of four ways. Nothing was claimed or laid at the part, or a work came back to the engine. Or
+-- something was claimed at the intake's node, or an edge brought more to the intake
 abbrev pub GivesTurnBack : View → ℕ → PartView → View → Type 0
 GivesTurnBack v word p w = Plainly v word p w ⊎ (Lays v word p w ⊎ (ClaimsInTurn v word p w ⊎ BringsInTurn v word p w))
 
@@ -172,7 +173,7 @@ saw v word p = record { word = word; part = p } ∷ v.seen
 abbrev pub gave : View → ℕ → PartView → View
 gave v word p = view v.key v.portion v.misses v.splits v.missed (left v.turns) v.work (saw v word p)
 
--- the seat took this slot last, with a part of which P holds
+-- the seat took this slot last, with a part for which P holds
 abbrev pub Holds : Sat → ℕ → (PartView → Type 0) → Type 0
 Holds m word P = (p : PartView) × (m.1 ≡ (word, Some p) ∷ rest m.1) × P p
 
@@ -200,7 +201,7 @@ pub record MayGiveBack (laws : Laws) (m : Sat) (word : ℕ) (p : PartView) (t : 
   pub grows : PartGrows t.note p
   pub follows : Follows laws m.0.key word p
 
--- a seat may give back a part of which nothing was claimed or laid
+-- a seat may give back a part at which nothing was claimed or laid
 abbrev pub GivesPlainly : Laws → Sat → ℕ → PartView → Type 0
 GivesPlainly laws m word p = (t : Turn) × (ts : List Turn) × MayGiveBack laws m word p t ts × Like t.note p × Joins t.note p
 

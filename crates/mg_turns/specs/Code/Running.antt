@@ -1,5 +1,5 @@
--- Works that are done while the turns of both parts of a node are held, as if they were claimed, performed and committed one after the
--- other.
+-- Works that a seat does while it holds the turns of both parts of a node. They are done as if they were claimed, performed and
+-- committed one after the other.
 use Rattle.mg_calc.specs.Rules.{Laws}
 use Rattle.std.specs.Prelude.{◌≡◌, ◌≢◌, ◌<◌, ◌≤◌, ◌⊎◌, ℕ, map}
 use Rattle.mg_value.specs.Payload.{Plain}
@@ -17,8 +17,8 @@ use Rattle.mg_turns.specs.Rounds.{Round, CellRounds, IsOutcomeOf, Stops}
 use Rattle.mg_turns.specs.Parts.{IsMissingAt}
 use Rattle.mg_turns.specs.Told.{committed_in, StandsBack}
 
--- a work of a number came back to its engine, committed or as it is; the engine stays lawful for each job for which it was and of which
--- `Good` holds
+-- a work of a number came back to its engine, committed or as it is. For each job that is `Good`, the engine stays lawful if it
+-- was lawful
 pub record Returned (laws : Laws) (e f : EngineView) (number : ℕ) (Good : LoggedJob laws → Type 0) : Type 0 where
   pub out : (x : WorkView) → IsOut e x → x.number ≢ number → IsOut f x
   pub only : (n : ℕ) → IsMissingAt f n → IsMissingAt e n × (n ≢ number)
@@ -58,7 +58,8 @@ IsPutBack laws work e f = (o : OutcomeView) × IsOutcomeOf laws work o × (f ≡
 abbrev pub SomeRound : Laws → EngineView → EngineView → IntakeView → IntakeView → Type 0
 SomeRound laws e f i k = (laid : ℕ) × Round laws laid e f i k
 
--- `done` rounds were made, at most `most`. Where these are fewer, no further one could be made, for one of the reasons of `Stops`.
+-- `done` rounds were made, at most `most`. If these are fewer, no further round could be made, for one of the reasons of
+-- `Stops`.
 abbrev pub RanRounds : Laws → ℕ → ℕ → EngineView → EngineView → IntakeView → IntakeView → Type 0
 RanRounds laws done most e f i k = (m : EngineView) × (l : IntakeView) × (laid : ℕ) × CellRounds laws done laid e m i l × (done ≤ most)
     × (((done ≡ most) × (f ≡ m) × (k ≡ l)) ⊎ ((done < most) × Stops laws m f l k))

@@ -65,7 +65,7 @@ impl<C: NodeCalculator> SharedNet<C> {
         }
     }
 
-    // Brings packets along an edge, which comes with its number and the word of the engine from which it leads.
+    // Brings packets along an edge. The edge comes with its number and the word of the engine from which it leads.
     fn append_at(
         &self,
         seat: &mut NetSeat<C>,

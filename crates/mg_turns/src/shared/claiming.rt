@@ -69,9 +69,10 @@ impl<C: NodeCalculator> SharedNet<C> {
         tried
     }
 
-    /// Claims, performs and commits at most `most` works of a node, one after the other, while it holds both of the node's turns, and
-    /// returns how many. An answer of a loopback counts as one, and so does Close. What is committed behind a work that another seat has is
-    /// laid once that one is back. A work that finds no memory is put back into its window, and the call ends there.
+    /// Claims, performs and commits at most `most` works of a node, one after the other, and returns how many. Holds both of
+    /// the node's turns meanwhile. An answer of a loopback counts as one, and so does Close. If another seat has a work, works
+    /// that are committed after it are laid once that work is back. A work that finds no memory is put back into its window,
+    /// and the call ends there.
     pub fn try_run<G: Gate>(
         &self,
         alloc: Global,

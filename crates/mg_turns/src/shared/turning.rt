@@ -33,7 +33,7 @@ impl<C: NodeCalculator> SharedNet<C> {
         found % 2 == 1
     }
 
-    // Takes the turn of a word, or counts a miss where another seat has it. Returns what the word was: odd where the turn was missed.
+    // Takes the turn of a word, or counts a miss if another seat has it. Returns what the word was: odd if the turn was missed.
     fn try_turn(&self, seat: &mut Seat<C>, word: u32) -> u64
         requires { (seat.old.table_id ≡ self.now.table.shared.table_id) × (word < self.now.size) × (0 < seat.old.me.0.portion) × (has_turn word seat.old.me.0 ≡ 0) }
         ensures id { seat.new.table_id ≡ seat.old.table_id }
@@ -58,7 +58,7 @@ impl<C: NodeCalculator> SharedNet<C> {
         }
     }
 
-    // Takes the turn of a word and its part, or counts a miss and returns `None` where another seat has the turn.
+    // Takes the turn of a word and its part, or counts a miss and returns `None` if another seat has the turn.
     pub(super) fn take(&self, seat: &mut Seat<C>, word: u32) -> Option<Held<C>>
         requires { (seat.old.table_id ≡ self.now.table.shared.table_id) × (word < self.now.size) × (0 < seat.old.me.0.portion) × (has_turn word seat.old.me.0 ≡ 0) }
         ensures id { seat.new.table_id ≡ seat.old.table_id }
@@ -76,8 +76,8 @@ impl<C: NodeCalculator> SharedNet<C> {
         }
     }
 
-    // Takes the turns of an engine and an intake, in this order, with their parts. Where the second is missed, the first is given back. The
-    // error is the word that was missed.
+    // Takes the turns of an engine and an intake, in this order, with their parts. If the second turn is missed, the first is
+    // given back. The error is the word that was missed.
     fn take_both(&self, seat: &mut Seat<C>, engine: u32, intake: u32) -> Result<Pair<C>, u32>
         requires id { (seat.old.table_id ≡ self.now.table.shared.table_id) × (engine < self.now.size) × (intake < self.now.size) × (engine ≢ intake) }
         requires idle { (0 < seat.old.me.0.portion) × (length seat.old.me.0.turns ≡ 0) }
@@ -97,8 +97,8 @@ impl<C: NodeCalculator> SharedNet<C> {
         })
     }
 
-    // Takes the turns of an engine and an intake like `take_both`, but looks at the second word first: where it is held, the first turn
-    // isn't taken at all.
+    // Takes the turns of an engine and an intake like `take_both`, but looks at the second word first. If that word is held,
+    // the first turn isn't taken at all.
     pub(super) fn take_pair(
         &self,
         seat: &mut Seat<C>,
@@ -133,7 +133,7 @@ impl<C: NodeCalculator> SharedNet<C> {
         self.table.shared.store::<Give<N>>(seat, place(word), new)
     }
 
-    // Gives back a part of which nothing was claimed or laid.
+    // Gives back a part at which nothing was claimed or laid.
     pub(super) fn give_plain(&self, seat: &mut Seat<C>, word: u32, held: Held<C>)
         requires id { (seat.old.table_id ≡ self.now.table.shared.table_id) × (word < self.now.size) }
         requires word { held.word ≡ word_of seat.old.me.0.key word held.part }

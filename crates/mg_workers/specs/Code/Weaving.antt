@@ -17,7 +17,8 @@ intakes_in parts = filter_map (λ (p : PartView). p.intake) parts
 abbrev pub AreKinds : ℕ → List PartView → Type 0
 AreKinds nodes parts = (word : ℕ) → word < length parts → IsKind (whose nodes word) (slice_index_or parts word blank_part)
 
--- the first of some engines and intakes are parts, in the order of their words, and the others still lie in two lists, the last ones first
+-- the first of some engines and intakes are parts, in the order of their words. The others still lie in two lists, the last
+-- ones first
 pub record IsWovenFrom (nodes : ℕ) (es : List EngineView) (is : List IntakeView) (parts : List PartView) (engines : List EngineView) (intakes : List IntakeView) : Type 0 where
   pub engines_are : engines_in parts ++ reverse engines ≡ es
   pub intakes_are : intakes_in parts ++ reverse intakes ≡ is

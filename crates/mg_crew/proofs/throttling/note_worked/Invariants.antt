@@ -1,4 +1,4 @@
--- Each edge stands behind the last one.
+-- Each edge stands after the one before it.
 use Rattle.std.proofs.Common.{◌<◌, IfSome}
 use Rattle.mg_sched.proofs.Sweeping.{edges_left}
 use Rattle.mg_workers.specs.Shared.{StaysShared}

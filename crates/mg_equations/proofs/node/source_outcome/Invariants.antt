@@ -1,4 +1,4 @@
--- With the calls that are left it comes to the same.
+-- With the calls that are left the result is the same.
 use Rattle.std.proofs.Common.{length, None}
 use Rattle.mg_calc.specs.Law.{table_rules}
 use Rattle.mg_calc.specs.Outcome.{opened}

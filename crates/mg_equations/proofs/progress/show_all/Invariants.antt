@@ -1,4 +1,4 @@
--- With the sets that are left it comes to the same.
+-- With the sets that are left the result is the same.
 use Rattle.mg_equations.specs.Code.Seen.{seen}
 use Rattle.mg_equations.proofs.OutcomeSteps.{IsShown}
 use Rattle.mg_equations.proofs.progress.show_all.Given as goal

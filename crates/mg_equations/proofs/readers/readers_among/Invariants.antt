@@ -1,4 +1,4 @@
--- With the streams that are left it comes to the same.
+-- With the streams that are left the result is the same.
 use Rattle.std.proofs.Common.{◌≡◌, ◌++◌, [], drop, get_or}
 use Rattle.std.specs.List.{flat_map}
 use Rattle.mg_equations.proofs.readers.readers_among.Given as goal

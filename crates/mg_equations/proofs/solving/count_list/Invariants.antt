@@ -1,4 +1,4 @@
--- With the nodes that are left it comes to the same.
+-- With the nodes that are left the result is the same.
 use Rattle.std.proofs.Common.{◌≡◌, ◌++◌, map, drop}
 use Rattle.mg_equations.specs.Code.Progress.{outcomes}
 use Rattle.mg_equations.proofs.solving.count_list.Given as goal

@@ -1,4 +1,4 @@
--- With the nodes that are left it comes to the same.
+-- With the nodes that are left the result is the same.
 use Rattle.std.proofs.Common.{◌≡◌, ◌++◌, map, drop}
 use Rattle.std.specs.List.{filter_map, enumerate_from}
 use Rattle.mg_equations.specs.Code.Progress.{outcomes}

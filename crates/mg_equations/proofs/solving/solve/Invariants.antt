@@ -1,4 +1,5 @@
--- The streams are those of a round, the nodes have come to what becomes of them, and each round leaves less room for further ones.
+-- The streams are those of a round, and the nodes have gone on as far as these let them. Each round leaves less room for
+-- further rounds.
 use Rattle.mg_calc.specs.Rules.{Laws}
 use Rattle.mg_equations.proofs.Changing.{room}
 use Rattle.mg_equations.proofs.SolveSteps.{IsUnderWay}

@@ -1,4 +1,4 @@
--- With the parts that are left it comes to the same, and there is room for all.
+-- With the parts that are left the result is the same, and there is room for all.
 use Rattle.std.proofs.Common.{◌≡◌, ◌≤◌, ◌++◌, reverse, length, vec_len, vec_capacity}
 use Rattle.mg_workers.specs.Code.Weaving.{engines_in, intakes_in, IsWovenFrom}
 use Rattle.mg_workers.proofs.unweaving.unweave.Given as goal

@@ -1,4 +1,4 @@
--- The engines of the first graph inputs are woven, behind the parts of the nodes.
+-- The engines of the first graph inputs are woven, after the parts of the nodes.
 use Rattle.std.proofs.Common.{◌≡◌, ℕ, ◌+◌, ◌*◌, ◌<◌, ◌≤◌, List, length, vec_len, vec_capacity}
 use Rattle.mg_node.specs.Views.{IntakeView, EngineView}
 use Rattle.mg_workers.specs.Code.Weaving.{IsWovenFrom}

@@ -1,4 +1,4 @@
--- With what is left it comes to the same.
+-- With what is left the result is the same.
 use Rattle.std.proofs.Common.{◌≡◌, drop}
 use Rattle.mg_settled.specs.Prefix.{all_appended}
 use Rattle.mg_equations.proofs.output.Output.append_all.Given as goal

@@ -1,4 +1,4 @@
--- The first of them stand behind its own.
+-- The first of the further packets stand after the stream's own.
 use Rattle.std.proofs.Common.{◌≡◌, ◌++◌, take}
 use Rattle.mg_equations.proofs.output.Output.extend.Given as goal
 
