@@ -1,4 +1,4 @@
--- A node whose ports and options fit a built-in calculator has a law with parameters in their ranges, and its law's shape; and it has a
+-- A node whose ports and options fit a built-in calculator has a law with parameters in their ranges, and its law's shape. It has a
 -- constant for each side packet that it writes.
 use Rattle.std.proofs.Common.{bytes_eq, ◌≡◌, ◌≢◌, ℕ, zero, suc, ◌≤◌, List, [], ◌∷◌, ◌++◌, length, map, Bool, true, false, not, ◌&&◌, ◌==◌, ℤ, pos, Option, None, Some, option_map, if◌then◌else◌, refl, sym, ap, subst, ◌∙◌, arith, inl, inr, ◌⊎◌, append-nil, eqb-true, codes}
 use Rattle.std.specs.Prelude.{option_and_then}

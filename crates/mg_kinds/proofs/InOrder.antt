@@ -43,7 +43,7 @@ by_order P p q qs more less equal greater = by (port_cmp p q) refl
 turned : (p q : PortKind) → port_cmp p q ≡ Greater → port_cmp q p ≡ Less
 turned p q e = port_total.antisymm q p ∙ ap ordering_reverse e
 
--- what is put behind a port comes after it
+-- a port that comes before some ports still does once a later port is put among them
 put_after : (q : PortKind) (ps : List PortKind) (p : PortKind) → port_cmp q p ≡ Less → IsBefore q ps → IsBefore q (put_in_order ps p)
 put_after q [] p below all = (below, tt)
 put_after q (r ∷ ps) p below all = by_order (IsBefore q) p r ps (put_in_order ps p) (λ e. (below, all)) (λ e. all) (λ e. (all.0, put_after q ps p below all.1))

@@ -80,7 +80,7 @@ tag_from tag kind from (suc count) = (one_before tag kind from (from + 1) count 
 pub ports-ascend : (tag : List ℕ) (kind : Kind) (count : ℕ) → ArePorts (ports tag count kind)
 ports-ascend tag kind count = tag_from tag kind 0 count
 
--- Ports that are just those wanted have each once, where those ascend: put in order, they are as many.
+-- Ports that are just those wanted have each once, if those ascend: put in order, they are as many.
 
 all_among : (given : List Port) (wanted : List PortKind) → list_all (λ p. has_port p.tag p.index given) wanted ≡ true → AreAmong wanted (in_order given)
 all_among given [] h = tt

@@ -17,7 +17,7 @@ use Rattle.mg_kinds.specs.Kinds.{names_of}
 use Rattle.mg_kinds.specs.Options.{are_known, are_once, set_to}
 use Rattle.mg_kinds.specs.Views.{fields_of}
 
--- what is left from an element on is that element, and what is left behind it
+-- what is left from an element on is that element, and what is left after it
 drop_suc : {X : Type 0} (xs : List X) (i : ℕ) (x : X) → i < length xs → x ≡ get_or xs i x → drop i xs ≡ x ∷ drop (suc i) xs
 drop_suc [] i x inside here = absurd (omega arith)
 drop_suc (y ∷ xs) zero x inside here = ap (λ z. z ∷ xs) (sym here)

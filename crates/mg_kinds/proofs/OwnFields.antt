@@ -27,7 +27,7 @@ own_message calculator f tree slice own is same =
 pub other_name : (calculator : List ℕ) (f : Field) → is_own calculator f.name ≡ false → None ≡ own_fields calculator (field_view f)
 other_name calculator f other = sym (ap (own_fields calculator) (field-record f) ∙ own_by calculator f.name (value_view f.value) false other)
 
--- options put behind those so far
+-- options put after those so far
 put_more : (a b : List Entry) (rest : Option (List Entry)) → option_map (λ more. a ++ more) (option_map (λ more. b ++ more) rest) ≡ option_map (λ more. (a ++ b) ++ more) rest
 put_more a b None = refl
 put_more a b (Some more) = ap Some (sym (append_assoc a b more))

@@ -9,7 +9,7 @@ use Rattle.mg_calc.specs.declared.port_kind.PortKind.{PortKind}
 use Rattle.mg_calc.specs.Shape.{ports}
 use Rattle.mg_kinds.specs.Ports.{port}
 
--- a port has a place where it is among the ports
+-- a port has a place if it is among the ports
 pub has_place : (tag : List ℕ) (index : ℕ) (given : List Port) (found : Option ℕ) → found ≡ place_of tag index given → is_some found ≡ has_port tag index given
 has_place tag index given found is = ap is_some is ∙ sym (any_has_place (is_at tag index) given)
 

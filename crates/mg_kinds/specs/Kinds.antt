@@ -103,8 +103,8 @@ one tag kind = many tag kind 1
 abbrev pub many_and : Tag → Kind → ℕ → Tag → Kind → Row
 many_and tag kind count last_tag last_kind = record { tag = tag; kind = kind; count = count; last = Some (record { tag = last_tag; kind = last_kind }) }
 
--- the number of lanes: of inputs that are treated alike, beside the last one where the calculator has a control; and
--- of the side packets that a ConstantSidePacketCalculator writes
+-- the number of lanes: of inputs that are treated alike, without the last one if the calculator has a control. For a
+-- ConstantSidePacketCalculator it is the number of side packets that the calculator writes.
 abbrev pub lanes_of : CalculatorKind → NodeView → ℕ
 lanes_of Gate node = length node.inputs - 1
 lanes_of Mux node = length node.inputs - 1
@@ -118,11 +118,11 @@ lanes_of kind node = 1
 abbrev pub disallows : NodeView → Bool
 disallows node = has_port (tag_text Disallow) 0 node.inputs
 
--- the tag of a gate's control: DISALLOW where the node has that port, and otherwise ALLOW
+-- the tag of a gate's control: DISALLOW if the node has that port, and otherwise ALLOW
 abbrev pub control_of : NodeView → Tag
 control_of node = if disallows node then Disallow else Allow
 
--- the output tag of a SidePacketToStreamCalculator, which says at which time its only packet stands
+-- the output tag of a SidePacketToStreamCalculator; the tag says at what time the calculator's only packet stands
 abbrev pub moment_of : NodeView → Tag
 moment_of node =
     if has_port (tag_text AtPreStream) 0 node.outputs then AtPreStream
@@ -210,7 +210,7 @@ kind_ports kind node = rowed_ports kind node
 abbrev pub names_of : List (Bor (List ℕ)) → List (List ℕ)
 names_of names = map (λ name. name.now) names
 
--- whether a calculator has all of these options, and none that may be set only once is set twice
+-- whether a calculator has all of these options, and no option that may be set only once is set twice
 abbrev pub are_options : CalculatorKind → List Entry → Bool
 are_options kind options = are_known (all_options kind) options && are_once (single_options kind) options
 

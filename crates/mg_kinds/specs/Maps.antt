@@ -12,7 +12,7 @@ use Rattle.mg_kinds.specs.declared.maps.MapKind.TheVariants.{Operand}
 abbrev pub map_named : List ℕ → Option MapKind
 map_named name = if bytes_eq name (codes "IntMapCalculator") then Some Operand else None
 
--- the options of a calculator, each of which may be set at most once
+-- the options of a calculator; each option may be set at most once
 abbrev pub map_options : MapKind → List (List ℕ)
 map_options Operand = codes "op" ∷ codes "operand" ∷ []
 

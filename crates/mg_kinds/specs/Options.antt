@@ -6,8 +6,8 @@ use Rattle.mg_text.specs.View.{Value, simple, inner, Entry}
 use Rattle.mg_config.specs.Number.{is_one_of}
 use Rattle.mg_config.specs.Values.{entries, has_name, values_of, first, long_number_in_value}
 
--- the names of a calculator's options message, as an extension and as the type of an Any
--- (Protocol Buffers text format: extension and Any field names)
+-- the names of a calculator's options message as an extension and as an Any's type (Protocol Buffers text format: extension and Any field
+-- names)
 abbrev pub extension_name : List ℕ → List ℕ
 extension_name calculator = codes "[mediapipe." ++ calculator ++ codes "Options.ext]"
 
@@ -18,12 +18,12 @@ any_name calculator = codes "[type.googleapis.com/mediapipe." ++ calculator ++ c
 abbrev pub is_own : List ℕ → List ℕ → Bool
 is_own calculator name = bytes_eq name (extension_name calculator) || bytes_eq name (any_name calculator)
 
--- the fields of a value that is a message; none where it is a scalar
+-- the fields of a value that is a message; none if it is a scalar
 abbrev pub fields_inside : Value → Option (List Entry)
 fields_inside (simple kind bytes) = None
 fields_inside (inner fields) = Some (entries fields)
 
--- the fields inside a field that is a calculator's own options message; none where it isn't
+-- the fields inside a field that is a calculator's own options message; none if it isn't
 abbrev pub own_fields : List ℕ → Entry → Option (List Entry)
 own_fields calculator field = if is_own calculator field.name then fields_inside field.value else None
 

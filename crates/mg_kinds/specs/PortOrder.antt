@@ -8,7 +8,7 @@ use Rattle.mg_calc.specs.declared.port_kind.PortKind.{PortKind}
 use Rattle.mg_calc.specs.Shape.{port_cmp}
 use Rattle.mg_kinds.specs.Ports.{port}
 
--- a port p put into a list of q and ports, by how p compares with q; more is the list of ports with p put into it
+-- a port `p` put into a list of `q` and `ports`, by how `p` compares with `q`. The list `more` is `ports` with `p` put into it.
 abbrev pub put_by : Ordering → PortKind → PortKind → List PortKind → List PortKind → List PortKind
 put_by Less p q ports more = p ∷ q ∷ ports
 put_by Equal p q ports more = q ∷ ports
@@ -23,6 +23,6 @@ put_in_order (q ∷ ports) p = put_by (port_cmp p q) p q ports (put_in_order por
 abbrev pub any_port : Port → PortKind
 any_port p = port p.tag Any p.index
 
--- the ports of a node in order, each of which takes any payload
+-- the ports of a node in order; each port takes any payload
 abbrev pub in_order : List Port → List PortKind
 in_order ports = fold (λ done p. put_in_order done (any_port p)) [] ports

@@ -23,7 +23,7 @@ last_port (Some last) = port (tag_text last.tag) last.kind 0 ∷ []
 abbrev pub ports_in : Row → List PortKind
 ports_in row = ports (tag_text row.tag) row.count row.kind ++ last_port row.last
 
--- whether ports, of which none is given twice, are just the wanted ones by tag and index
+-- whether the given ports are just the wanted ones by tag and index, provided that no port is given twice
 abbrev pub has_just : List Port → List PortKind → Bool
 has_just given wanted = (length given == length wanted) && list_all (λ p. has_port p.tag p.index given) wanted
 

@@ -16,7 +16,7 @@ abbrev pub or_absent : {A : Type 0} → A → (Value → Option A) → Option Va
 or_absent absent read None = Some absent
 or_absent absent read (Some value) = read value
 
--- what a required option says, by its value; none where it is absent
+-- what a required option says, by its value; none if it is absent
 abbrev pub required : {A : Type 0} → (Value → Option A) → Option Value → Option A
 required read value = option_and_then read value
 
@@ -118,7 +118,7 @@ abbrev pub payload_in : Value → Option Plain
 payload_in (simple kind bytes) = None
 payload_in (inner fields) = payload_by (entries fields)
 
--- the payload that each value gives, in order, or none where one of the values gives none
+-- the payload that each value gives, in order, or none if one of the values gives none
 abbrev pub payloads_in : List Value → Option (List Plain)
 payloads_in [] = Some []
 payloads_in (value ∷ values) = option_and_then (λ payload. option_map (λ payloads. payload ∷ payloads) (payloads_in values)) (payload_in value)

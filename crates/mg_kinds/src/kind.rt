@@ -186,7 +186,7 @@ pub fn lanes_of(kind: CalculatorKind, node: &NodeConfig) -> u32
     }
 }
 
-/// Whether a gate's control port is DISALLOW.
+/// Returns whether a gate's control port is DISALLOW.
 pub fn disallows(node: &NodeConfig) -> bool
     ensures { result ≡ table.disallows (node_view node.now) }
 {
@@ -203,7 +203,7 @@ fn control_of(node: &NodeConfig) -> Tag
     }
 }
 
-/// Returns the output tag of a SidePacketToStreamCalculator, which says at which time its only packet stands.
+/// Returns the output tag of a SidePacketToStreamCalculator. The tag says at what time the calculator's only packet stands.
 pub fn moment_of(node: &NodeConfig) -> Tag
     ensures { result ≡ table.moment_of (node_view node.now) }
 {

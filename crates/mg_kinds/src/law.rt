@@ -142,7 +142,7 @@ fn merge_law(node: &NodeConfig) -> Law
     }
 }
 
-/// Returns the law of a calculator at a node with these options, or none where the options don't set it.
+/// Returns the law of a calculator at a node with these options, or none if the options don't set it.
 pub fn law_with(kind: CalculatorKind, node: &NodeConfig, options: &[&Field]) -> Option<Law>
     ensures { result ≡ laws.law_with kind (node_view node.now) (fields_of options.now) }
 {

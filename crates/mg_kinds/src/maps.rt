@@ -28,7 +28,7 @@ pub fn map_named(name: &[u8]) -> Option<MapKind>
     }
 }
 
-/// Returns the names of a calculator's options, each of which may be set at most once.
+/// Returns the names of a calculator's options. Each option may be set at most once.
 pub fn map_options(kind: MapKind) -> &'static [&'static str]
     ensures { names_of result.now ≡ maps.map_options kind }
 {
@@ -45,7 +45,7 @@ fn operand_map(options: &[&Field]) -> Option<(MapOp, i64)>
     Some((op, operand))
 }
 
-/// Returns a calculator's operation and operand, or none where its options don't set them.
+/// Returns a calculator's operation and operand, or none if its options don't set them.
 pub fn map_with(kind: MapKind, options: &[&Field]) -> Option<(MapOp, i64)>
     ensures { result ≡ maps.map_with kind (fields_of options.now) }
 {

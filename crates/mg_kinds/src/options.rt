@@ -33,7 +33,7 @@ fn is_own(names: &OwnNames, name: &[u8]) -> bool
     is(name, names.extension.as_bytes()) || is(name, names.any.as_bytes())
 }
 
-/// Returns the fields inside a field that is the calculator's own options message, or none where it isn't.
+/// Returns the fields inside a field that is the calculator's own options message, or none if it isn't.
 #[tactic(auto, using(crate::proofs::OwnFields::own_message, crate::proofs::OwnFields::other_name))]
 fn own_fields<'a>(names: &OwnNames, field: &'a Field) -> Option<&'a [Field]>
     ensures { (calculator : List ℕ) → AreOwn names.now calculator → option_map (λ list. map field_view list.now) result ≡ rules.own_fields calculator (field_view field.now) }
@@ -57,8 +57,8 @@ fn append<'a>(out: &mut Vec<&'a Field>, fields: &'a [Field]) -> Result<(), Alloc
     Ok(())
 }
 
-/// Returns the options that stand in the fields, or none where a field isn't an options message of the calculator. Most nodes have no
-/// such field, and then no name of a message is made.
+/// Returns the options that stand in the fields, or none if a field isn't an options message of the calculator. Most nodes have no such
+/// field, and then no name of a message is made.
 pub fn options_in<'a>(
     alloc: Global,
     calculator: &str,
@@ -72,7 +72,7 @@ pub fn options_in<'a>(
     }
 }
 
-// Returns the options of fields, of which there may be some.
+// Returns what `options_in` returns, for any number of fields.
 #[tactic(auto, using(crate::proofs::OwnFields::options_step, crate::proofs::OwnFields::options_other, crate::proofs::OwnFields::options_end))]
 fn own_options<'a>(
     alloc: Global,
@@ -104,7 +104,7 @@ fn is_one_of(names: &[&str], name: &[u8]) -> bool
     false
 }
 
-/// Whether each option has one of these names.
+/// Returns whether each option has one of these names.
 #[tactic(auto, using(crate::proofs::Lists::known_not, crate::proofs::Lists::known_next, crate::proofs::Lists::known_end))]
 pub fn are_known(names: &[&str], options: &[&Field]) -> bool
     ensures { result ≡ rules.are_known (names_of names.now) (fields_of options.now) }
@@ -133,7 +133,7 @@ fn count_of(name: &str, options: &[&Field]) -> usize
         .count()
 }
 
-/// Whether none of these names is the name of two options.
+/// Returns whether none of these names is the name of two options.
 #[tactic(auto, using(crate::proofs::Lists::once_not, crate::proofs::Lists::once_next, crate::proofs::Lists::once_end))]
 pub fn are_once(names: &[&str], options: &[&Field]) -> bool
     ensures { result ≡ rules.are_once (names_of names.now) (fields_of options.now) }
@@ -159,7 +159,7 @@ pub fn set_to<'a>(name: &str, options: &[&'a Field]) -> Option<&'a TreeValue>
     None
 }
 
-/// Returns the number that an option is set to, or none where it isn't set or its value is no number of 64 signed bits.
+/// Returns the number that an option is set to, or none if it isn't set or its value is no number of 64 signed bits.
 pub fn number(name: &str, options: &[&Field]) -> Option<i64>
     ensures { result ≡ rules.number name.now (fields_of options.now) }
 {

@@ -62,7 +62,7 @@ fn payload_in(alloc: Global, value: &TreeValue) -> Result<Option<Payload>, Alloc
     }
 }
 
-/// Returns the payload that each option's value gives, in order, or none where one of the values gives none.
+/// Returns the payload that each option's value gives, in order, or none if one of the values gives none.
 #[tactic(auto, using(crate::proofs::Payloads::payloads_step, crate::proofs::Payloads::payloads_other, crate::proofs::Payloads::payloads_end))]
 pub fn payloads_in(
     alloc: Global,

@@ -22,7 +22,7 @@ pub struct Ports {
     pub sides: PortKindList,
 }
 
-/// Whether a node's ports have one of this tag and index.
+/// Returns whether a node's ports have one of this tag and index.
 #[tactic(auto, using(crate::proofs::PortLists::has_place))]
 pub fn has_port(ports: &PortMap, tag: &[u8], index: u8) -> bool
     ensures { result ≡ has_it tag.now index ports.now }
@@ -38,7 +38,7 @@ fn has_all(ports: &PortMap, wanted: &[PortKind]) -> bool
         .all(|port| has_port(ports, port.tag.as_bytes(), port.index))
 }
 
-/// Whether a node's ports are just the wanted ones, by tag and index.
+/// Returns whether a node's ports are just the wanted ones, by tag and index.
 pub fn has_just(ports: &PortMap, wanted: &PortKindList) -> bool
     ensures { result ≡ table.has_just ports.now wanted.now }
 {
@@ -118,7 +118,7 @@ fn rowed_ports(
     }))
 }
 
-/// Returns the ports that a calculator has at a node, or none where the node's streams and side packets don't fit it.
+/// Returns the ports that a calculator has at a node, or none if the node's streams and side packets don't fit it.
 pub fn kind_ports(
     alloc: Global,
     kind: CalculatorKind,

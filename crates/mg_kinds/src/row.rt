@@ -9,7 +9,7 @@ use mg_calc::{PortKind, PortKindList};
 use mg_value::{BlockList, Kind, MgText};
 use std::alloc::{AllocError, Global};
 
-/// A port of index 0 that comes behind the others of a row and has another tag.
+/// A port of index 0 that comes after the other ports of a row and has another tag.
 #[derive(Clone, Copy, Debug, PartialEq, Eq)]
 pub struct LastPort {
     pub tag: Tag,

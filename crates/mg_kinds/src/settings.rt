@@ -24,14 +24,14 @@ pub struct Settings {
     pub constants: Vec<Arc<Payload>>,
 }
 
-/// Whether a calculator has all of these options, and none that may be set only once is set twice.
+/// Returns whether a calculator has all of these options, and no option that may be set only once is set twice.
 fn are_options(kind: CalculatorKind, options: &[&Field]) -> bool
     ensures { result ≡ laws.are_options kind (fields_of options.now) }
 {
     are_known(all_options(kind), options) && are_once(single_options(kind), options)
 }
 
-/// Returns the payloads of the side packets that a calculator writes, or none where the options don't set just those.
+/// Returns the payloads of the side packets that a calculator writes, or none if the options don't set just those.
 fn constants_with(
     alloc: Global,
     kind: CalculatorKind,
@@ -80,7 +80,7 @@ fn node_options<'a>(
     options_in(alloc, node.calculator.as_str(), node.options.as_slice())
 }
 
-/// Returns what the options of a node set, or none where they aren't options of its calculator.
+/// Returns what the options of a node set, or none if they aren't options of its calculator.
 pub fn kind_settings(
     alloc: Global,
     kind: CalculatorKind,
@@ -94,7 +94,7 @@ pub fn kind_settings(
     settings_with(alloc, kind, node, options.as_slice())
 }
 
-/// Whether a node has no options, but perhaps empty options messages of its calculator.
+/// Returns whether a node has no options, but perhaps empty options messages of its calculator.
 pub fn has_no_options(alloc: Global, node: &NodeConfig) -> Result<bool, AllocError>
     ensures { IfOk result (λ none. none ≡ laws.has_no_options (node_view node.now)) }
 {

@@ -87,7 +87,7 @@ pub fn keep_in(value: &TreeValue) -> Option<Keep>
     }
 }
 
-/// Whether a value is `ASYNC`, the only thinner type that PacketThinnerCalculator has here.
+/// Returns whether a value is `ASYNC`, the only thinner type that PacketThinnerCalculator has here.
 pub fn is_asynchronous(value: &TreeValue) -> bool
     ensures { result ≡ values.is_asynchronous (value_view value.now) }
 {

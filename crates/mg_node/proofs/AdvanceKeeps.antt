@@ -1,4 +1,4 @@
--- An engine of which the outputs are raised by what waits at its node stays lawful.
+-- An engine stays lawful when what waits at its node raises its outputs.
 use Rattle.std.proofs.Common.{◌≡◌, ℕ, suc, ℤ, ◌+◌, ◌≤◌, Bool, true, false, List, [], ◌∷◌, length, map, Option, Some, None, option_map, unwrap_or, slice_get, is_some, count_by as number_of, cond, ap, sym, refl, subst, ◌∙◌, arith, if◌then◌else◌}
 use Rattle.std.specs.List.{AllZip}
 use Rattle.std.proofs.lemmas.List.Sums.{sum_by-cons}

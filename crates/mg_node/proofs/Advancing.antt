@@ -70,7 +70,7 @@ pub never_advanced : (e : EngineView) (w : Pending) → has_ended e ≡ false �
 never_advanced e w goes never =
     sym (ap (λ (b : Bool). if b then None else raised_by e.role e.offset (until_claimed e.window (horizon_of w))) goes ∙ never_by e.role e.offset (until_claimed e.window (horizon_of w)) never)
 
--- what a function leaves of a vector's elements is all of them, where it keeps their number
+-- what a function leaves of a vector's elements is all of them, if it keeps their number
 pub whole : {X : Type 0} (n : ℕ) (old new : List X) → n ≡ length old → length new ≡ length old → take n (new ++ drop (length new) old) ≡ new
 whole {X} n old new long kept = ap (λ (k : ℕ). take k (new ++ drop (length new) old)) (long ∙ sym kept) ∙ take-append_seam new (drop (length new) old)
 

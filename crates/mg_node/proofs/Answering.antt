@@ -58,7 +58,7 @@ parts_of (x ∷ rs) (suc k) r p at is =
     cons_front None xs ys = refl
     cons_front (Some y) xs ys = refl
 
--- what stands behind the same
+-- what follows the same first elements in the same list is the same
 pub same_rest : {X : Type 0} (xs us vs : List X) → xs ++ us ≡ xs ++ vs → us ≡ vs
 same_rest [] us vs e = e
 same_rest (x ∷ xs) us vs e = same_rest xs us vs cc

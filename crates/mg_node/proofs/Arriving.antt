@@ -62,7 +62,7 @@ pub came_packets : (o q : Waiting Plain) (h : AreOfOne o q) (n : ℕ) → n ≤ 
 came_packets o q h zero le = record { now = h.came; stands = h.stands_there; extended = h.extended_there; further = extended_by_itself h.came; gone = refl }
 came_packets o q h (suc n) le = came_further o q h n (missing o q) refl le (λ p next more. came_packets o (with_packet q p) next n more)
 
--- what stands behind more stands behind less
+-- what holds of all elements after fewer first ones holds of all elements after more
 suffix_has : {X : Type 0} (P : X → Type 0) (ps qs us vs : List X) → ps ++ us ≡ qs ++ vs → length qs ≤ length ps → AllByRecursion P vs → AllByRecursion P us
 suffix_has P ps [] us vs same le a = last_have P ps us (subst (AllByRecursion P) (sym same) a)
 suffix_has P [] (y ∷ qs) us vs same le a = absurd (omega (arith, le))

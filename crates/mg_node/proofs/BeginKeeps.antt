@@ -71,7 +71,7 @@ first_outputs plan number node valid there =
     let own = outputs_in plan.nodes number node (0 + length plan.inputs) (length (flat_map (λ n. n.outputs) plan.nodes)) all.1 there in
     from_first node.outputs own.0 own.1
 
--- What an opened node has come to is its first stage.
+-- The outcome of an opened node is its first stage.
 
 loop_zero : (law : Law) (job : Job) (streams : List (StreamPrefix Plain)) (node : PlanNode) (offset : Option ℤ) (outputs : ℕ) (sides : List (Option Plain)) → law ≡ Loopback → outputs ≡ 1 → stage_by law job streams node 0 ≡ opened (rules_of job.laws law) offset outputs sides
 loop_zero law job streams node offset outputs sides is one =

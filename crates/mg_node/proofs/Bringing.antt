@@ -21,7 +21,7 @@ at_place [] (suc n) x h = absurd cc
 at_place (y ∷ xs) zero x h = (omega arith, cc)
 at_place (y ∷ xs) (suc n) x h = (let later = at_place xs n x h in (omega (arith, later.0), later.1))
 
--- the first of what is left stands behind as many of the output's packets as have come
+-- the first of what is left stands after as many of the output's packets as have come
 pub first_at : {X : Type 0} (xs : List X) (n : ℕ) → slice_get (drop n xs) 0 ≡ slice_get xs n
 first_at [] zero = refl
 first_at [] (suc n) = refl
@@ -82,7 +82,7 @@ brought_same o port n before now next spare b is =
       left = ap (missing o) here ∙ b.left;
     }
 
--- none is left where there is no next one, and one is left where there is
+-- if there is no next packet, none is left; if there is a next packet, some are left
 pub none_left : (o : Waiting Plain) (port n most : ℕ) (before now : Pending) → Brought o port n before now → n ≤ most → slice_get (missing o (port_queue now port)) 0 ≡ None
     → n ≡ min most (length (missing o (port_queue before port)))
 none_left o port n most before now b le none =

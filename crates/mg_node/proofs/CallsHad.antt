@@ -1,4 +1,4 @@
--- The calls that a calculator which was handed in has had, once its cell has come to rest and is wound up: all that its node has.
+-- The calls that a user-supplied calculator has had, once its cell has come to rest and is wound up: all that its node has.
 use Rattle.std.proofs.Common.{◌≡◌, ℕ, ℤ, ◌+◌, ◌<◌, Bool, true, false, not, List, [], ◌∷◌, ◌++◌, length, map, take, append-nil, Option, Some, None, option_map, is_some, Result, Ok, Err, slice_get, ◌⊎◌, inl, inr, refl, ap, ap₂, sym, subst, ◌∙◌, arith, if◌then◌else◌}
 use Rattle.std.specs.Prelude.{◌&&◌, ⊤}
 use Rattle.std.specs.List.{AllByRecursion, fold, filter_map}
@@ -99,7 +99,7 @@ last_of_close job streams node n is last =
     subst (λ (o : Outcome). IsOfClose o.fault) (sym (outer_last job streams node n is last))
     (closing_fails offset up ((rules_at job node).finish up.state) last.good)
 
--- So Close is had once, or by winding up, but where Open fails.
+-- So the calculator had Close once, in the run or by winding up, unless Open fails.
 
 abbrev fault_with : ℕ → Failure → NodeFault
 fault_with number f = record { node = number; phase = f.phase; cause = f.cause }

@@ -88,7 +88,7 @@ record Closes (laws : Laws) (before now : HolderView) : Type 0 where
   shape : now.shape ≡ before.shape
   same_handed : now.handed ≡ before.handed
 
--- what Close leaves of what the node has come to
+-- what Close leaves of the state that the node has reached
 closed_of : {laws : Laws} (job : LoggedJob laws) (streams : List (StreamPrefix Plain)) (node : PlanNode) (held : HolderView) (n : ℕ) → held_rules laws held ≡ rules_at job.job node → held.state ≡ (stage job.job streams node n).state
     → kept_after ((held_rules laws held).finish held.state) held.state ≡ state_by job.job streams node n true
 closed_of {laws} job streams node held n same state =
@@ -210,7 +210,7 @@ lacks_going {laws} job number engine h idle = elim (cases_Bool (has_ended engine
       ap (λ (b : Bool). b && not engine.closed && closes_despite engine.fault) h.begun ∙ ap₂ (λ (b : Bool) (f : Option NodeFault). true && not b && closes_despite f) on.0 (none_if engine.fault on.1))
 ]
 
--- the one idle context, where Close was lacking
+-- the one idle context, if Close was lacking
 
 lacks_not : (begun closed other : Bool) → (begun && not closed && other) ≡ true → closed ≡ false
 lacks_not begun false other lacks = refl
@@ -255,7 +255,7 @@ ended_closed {laws} job number engine engine_now h told context boxed outer idle
       closed = inl (refl, past_open job.job h.streams h.node engine.laid outer past);
     })
 
--- and where it wasn't: Close is laid, or Open failed
+-- and if Close wasn't lacking: Close is laid, or Open failed
 
 lacks_why : (closed : Bool) (fault : Option NodeFault) → (not closed && closes_despite fault) ≡ false → (closed ≡ true) ⊎ ((closed ≡ false) × ((f : NodeFault) × (fault ≡ Some f) × (closes_after f.phase ≡ false)))
 lacks_why true fault is = inl refl

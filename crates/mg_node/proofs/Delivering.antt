@@ -13,7 +13,7 @@ use Rattle.mg_stream.proofs.QueueSteps.{stands_appended}
 use Rattle.mg_node.specs.Ports.{with_room}
 use Rattle.mg_node.specs.Delivery.{missing, with_packets, AreOfOne}
 
--- the first of some packets, and what stands behind it
+-- the first of some packets, and what follows it
 pub first_is : {X : Type 0} (xs : List X) (x : X) → slice_get xs 0 ≡ Some x → xs ≡ x ∷ drop 1 xs
 first_is [] x h = absurd cc
 first_is {X} (y ∷ xs) x h = (let same : y ≡ x = cc in ap (λ (z : X). z ∷ xs) same)
@@ -42,7 +42,7 @@ same_behind (x ∷ ps) [] us vs p (suc n) same is first = absurd cc
 same_behind (x ∷ ps) (y ∷ qs) us vs p zero same is first = absurd (omega (arith, is))
 same_behind (x ∷ ps) (y ∷ qs) us vs p (suc n) same is first = same_behind ps qs us vs p n (cc) (omega (arith, is)) first
 
--- of a stream, the packet behind what came may follow it, and the stream extends what came with it
+-- of a stream, the packet after what came may follow it, and the stream extends what came with that packet
 pub record GoesOn (stream came : StreamPrefix Plain) (p : Stamped Plain) : Type 0 where
   pub may : MayFollow came p
   pub extended : IsExtendedBy (appended came p) stream
@@ -80,7 +80,7 @@ goes_on stream came laid p is e f first =
 pub counted : (q : Waiting Plain) (s : StreamPrefix Plain) → StandsFor q s → count_of q ≡ length s.packets
 counted q s h = (let gone = h.gone in omega (arith, gone, ap length h.waiting, length-drop q.gone s.packets))
 
--- what a port hasn't got is what stands behind that in what was laid
+-- what a port hasn't got is what was laid after the packets that it has got
 pub missing-is : (o q : Waiting Plain) (h : AreOfOne o q) → missing o q ≡ drop (length h.came.packets) h.laid.packets
 missing-is o q h =
     let n : count_of q ≡ length h.came.packets = counted q h.came h.stands_there in

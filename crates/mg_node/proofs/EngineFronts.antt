@@ -57,7 +57,7 @@ some_stand e qs is h = record { whole = h.whole; stand = queues_stand qs h.whole
 
 -- A node that has ended lays nothing.
 
--- what is made of a value is there where the value is
+-- what is made of a value is there if the value is
 pub is_some_map : {A B : Type 0} (f : A → B) (o : Option A) → is_some (option_map f o) ≡ is_some o
 is_some_map f None = refl
 is_some_map f (Some x) = refl

@@ -22,7 +22,7 @@ use Rattle.mg_node.proofs.FewWait.{prefix_counted}
 use Rattle.mg_node.proofs.Giving.{with_outputs}
 use Rattle.mg_node.proofs.Knowing.{input_known}
 
--- what ascends behind other packets ascends
+-- what ascends after other packets ascends by itself
 ascends_behind : (ps qs : List (Stamped Plain)) (b : ℕ) → Ascends (ps ++ qs) b → Ascends qs b
 ascends_behind [] qs b asc = asc
 ascends_behind (p ∷ ps) qs b asc = ascends_behind ps qs b asc.1
@@ -50,7 +50,7 @@ lengthened_from q full r more ps b may ps_is b_is gone packets below above grows
     subst (λ (m : StreamPrefix Plain). backlog_of r ≡ lengthened (backlog_of q) m) same
     (lengthened_so q full r given (subst (MayLengthen q) (sym same) may) gone packets below above grows raised)
 
--- a queue of which what came last was taken back
+-- a queue from which what came last was taken back
 
 -- what stands for a prefix is a queue
 stands_queue : (q : Waiting Plain) (s : StreamPrefix Plain) → StandsFor q s → IsQueue q
@@ -77,7 +77,7 @@ pub left_same : (q full r : Waiting Plain) (waiting bound : ℕ) → waiting ≡
 left_same q full r waiting bound waiting_is bound_is left like =
     same_backlog (backlog_of r) (backlog_of q) (like.gone ∙ left.gone) (like.packets ∙ ap (λ (n : ℕ). take n full.packets) waiting_is ∙ left.packets) (like.bound ∙ bound_is)
 
--- a queue that was lengthened, without what stands behind
+-- a queue that was lengthened, without the packets that came last
 back_again : (b : Backlog Plain) (q : Waiting Plain) (more : StreamPrefix Plain) (bound : ℕ) → backlog_of q ≡ lengthened b more → b.bound ≡ bound → backlog_of (cut_back (length q.packets - length more.packets) bound q) ≡ b
 back_again b q more bound is bound_was =
     let packets : q.packets ≡ b.packets ++ more.packets = ap (λ (c : Backlog Plain). c.packets) is in
@@ -126,7 +126,7 @@ extended_lawful {laws} job later input streams longer engine more h solves furth
       fault = h.fault;
     }
 
--- with nothing behind an engine is as it was
+-- an engine that is extended by nothing is as it was
 nothing_behind : (outputs : List (Backlog Plain)) (s : StreamPrefix Plain) → StandForAll outputs (s ∷ []) → map (λ b. lengthened b empty_prefix) outputs ≡ outputs
 nothing_behind [] s stand = refl
 nothing_behind (b ∷ []) s stand =

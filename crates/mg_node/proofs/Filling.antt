@@ -24,7 +24,7 @@ next_ascends [] b i p r le is = absurd (omega (arith, le))
 next_ascends (x ∷ ps) b zero p r le is = (let same : x ≡ p = is in subst (λ (y : Stamped Plain). next y.at ≤ first_time ps b) same r.0)
 next_ascends (x ∷ ps) b (suc i) p r le is = next_ascends ps b i p r.1 (omega (arith, le)) is
 
--- the first packets stand behind those of a queue, a number of them, and its bound is at most the next one's time
+-- the first `i` packets stand after those of a queue, and the queue's bound is at most the next packet's time
 pub record IsFilled (start q : Waiting Plain) (ps : List (Stamped Plain)) (i : ℕ) : Type 0 where
   pub gone : q.gone ≡ start.gone
   pub packets : q.packets ≡ start.packets ++ take i ps
@@ -32,7 +32,7 @@ pub record IsFilled (start q : Waiting Plain) (ps : List (Stamped Plain)) (i : �
   pub above : (b : ℕ) → start.bound ≤ b → start.bound ≤ first_time (take i ps) b
   pub grows : start.bound ≤ q.bound
 
--- the first time of some packets with one behind
+-- the first time of some packets with another one after them
 first_behind : (ps : List (Stamped Plain)) (p : Stamped Plain) (a b : ℕ) → a ≤ p.at → (a ≤ b → a ≤ first_time ps b) → a ≤ b → a ≤ first_time (ps ++ p ∷ []) b
 first_behind [] p a b here above le = here
 first_behind (x ∷ ps) p a b here above le = above le
@@ -93,7 +93,7 @@ input_lawful {laws} job streams plan input s there is same solves given =
 
 -- Giving up.
 
--- a queue of which so many first packets are given up, and so many are to be
+-- a queue on its way to give up its first `got` packets
 pub record GivesUp (old now : Waiting Plain) (got : ℕ) : Type 0 where
   pub from : old.gone ≤ now.gone
   pub upto : now.gone ≤ max old.gone got

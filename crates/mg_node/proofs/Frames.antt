@@ -22,7 +22,7 @@ same_put [] i x h = refl
 same_put {X} (y ∷ xs) zero x h = (let same : Some y ≡ Some x = h in let e : y ≡ x = cc in ap (λ (z : X). z ∷ xs) (sym e))
 same_put {X} (y ∷ xs) (suc i) x h = ap (λ (zs : List X). y ∷ zs) (same_put xs i x h)
 
--- the first elements of a longer list, its last one, and what is left behind some first ones
+-- the first elements of a longer list, its last one, and what is left after some first ones
 pub get_first : {X : Type 0} (xs ys : List X) (i : ℕ) (x : X) → slice_get xs i ≡ Some x → slice_get (xs ++ ys) i ≡ Some x
 get_first [] ys i x h = absurd (none-some x h)
 get_first (z ∷ xs) ys zero x h = h

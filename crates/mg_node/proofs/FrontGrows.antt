@@ -1,4 +1,4 @@
--- The standing of an engine only grows where what is ready at the front of its window is laid.
+-- The standing of an engine only grows when what is ready at the front of its window is laid.
 use Rattle.std.proofs.Common.{◌≡◌, ℕ, ℤ, ◌+◌, ◌≤◌, ◌||◌, Bool, true, false, List, [], ◌∷◌, length, length-append, map, Option, Some, None, inl, inr, Result, Ok, Err, IfOk, OnErr, refl, ap, sym, subst, ◌∙◌, arith, if◌then◌else◌}
 use Rattle.std.specs.List.{AllZip, AllByRecursion}
 use Rattle.std.proofs.lemmas.List.{length-map}

@@ -107,7 +107,7 @@ pub single_room : (qs : List (Waiting Plain)) (r : Waiting Plain) (answer : Resu
 single_room qs r answer more one is room = λ output le.
     answer_room qs 0 r answer more (omega (arith, one)) is room (λ k less. absurd (omega (arith, less))) output (let long = length-set qs 0 r in omega (arith, le, one, long))
 
--- a front that was laid so far: with what is left of the window it comes to the same, whatever the outputs stand for
+-- a front that was laid so far: laying what is left of the window gives the wanted front, whatever the outputs stand for
 pub record Reaches (offset : Option ℤ) (now : List (Waiting Plain)) (window_now : List EntryView) (idle_now : List ContextView) (laid : ℕ) (wanted : Front) : Type 0 where
   pub whole : List (StreamPrefix Plain)
   pub stand : Stand now whole
@@ -123,7 +123,7 @@ way_begins offset qs window idle = record {
   reaches = λ whole laid stand. (let same : laid ≡ laid + 0 = omega arith in record { whole = whole; stand = stand; same = ap (λ (n : ℕ). front_laid offset window (start_of whole n window idle)) (sym same) });
 }
 
--- a front of which the first entry is laid
+-- a front once the first entry is laid
 abbrev pub laid_once : Option ℤ → Phase → PerformedView → List EntryView → Front → Front
 laid_once offset phase p rest front = answer_laid offset phase p.work.context p.answer rest front
 

@@ -10,7 +10,7 @@ use Rattle.mg_node.specs.Commits.{Front, answer_laid, has_stopped, with_ready, f
 not_ready : (entry : EntryView) → entry.committed ≡ false → is_some (ready_of entry) ≡ false
 not_ready entry open_yet = ap (λ (b : Bool). is_some (if b then option_and_then performed_of entry.outcome else None)) open_yet
 
--- an entry that isn't committed is put in place of another one, or behind all
+-- an entry that isn't committed is put in place of another one, or at the end
 pub set_waits : (window : List EntryView) (place : ℕ) (entry : EntryView) → entry.committed ≡ false → starts_ready window ≡ false → starts_ready (set window place entry) ≡ false
 set_waits [] place entry open_yet h = h
 set_waits (x ∷ window) zero entry open_yet h = not_ready entry open_yet
@@ -34,7 +34,7 @@ pub laid_waits : (offset : Option ℤ) (entries : List EntryView) (front : Front
 laid_waits offset [] front window goes = ap starts_ready window
 laid_waits offset (entry ∷ entries) front window goes = ends_by offset front entry entries window (λ next w g. laid_waits offset entries next w g) (has_stopped front) (ready_of entry) refl refl goes
 
--- an engine has ended where its front has stopped
+-- an engine has ended exactly if its front has stopped
 pub stops_by : (node : ℕ) (closed : Bool) (fault : Option Failure) → (closed || is_some (option_map (fault_at node) fault)) ≡ false → (closed || is_some fault) ≡ false
 stops_by node closed None goes = goes
 stops_by node closed (Some f) goes = goes
@@ -43,7 +43,7 @@ pub stopped_by : (node : ℕ) (closed : Bool) (fault : Option Failure) → (clos
 stopped_by node closed None stops = stops
 stopped_by node closed (Some f) stops = stops
 
--- and a front of an engine has stopped where the engine has ended
+-- and an engine has ended if the front made of it has stopped
 pub ended_by : (closed : Bool) (fault : Option NodeFault) → (closed || is_some (option_map (λ (f : NodeFault). (let it : Failure = record { phase = f.phase; cause = f.cause } in it)) fault)) ≡ true → (closed || is_some fault) ≡ true
 ended_by closed None stops = stops
 ended_by closed (Some f) stops = stops

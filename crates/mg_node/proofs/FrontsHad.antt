@@ -1,4 +1,5 @@
--- The calls that a calculator which was handed in has had at any time: a front of those that its node's calculator has.
+-- The calls that a user-supplied calculator has had at any time: a prefix of those that its node's calculator has, and perhaps Close after
+-- them.
 use Rattle.std.proofs.Common.{◌≡◌, ℕ, zero, suc, ◌+◌, ◌-◌, ◌<◌, ◌≤◌, Bool, true, false, List, [], ◌∷◌, ◌++◌, length, map, take, append-nil, Option, Some, None, IfSome, option_map, is_some, Result, slice_get, inl, inr, refl, ap, ap₂, sym, subst, ◌∙◌, arith, if◌then◌else◌}
 use Rattle.std.specs.List.{filter_map}
 use Rattle.std.proofs.lemmas.Bool.{cases_Bool}
@@ -41,7 +42,7 @@ use Rattle.mg_node.proofs.StatesKept.{next_state, answered_state, come_state, op
 use Rattle.mg_node.proofs.TaskLogs.{shown_calls, shown_call, set_logged, task_within}
 use Rattle.mg_node.proofs.HeldRules.{rules_fit}
 
--- The calls before a number of sets are a front, where so many are counted.
+-- The calls before a number of sets are a prefix, if so many are counted.
 
 take_front : {X : Type 0} (n count : ℕ) (xs : List X) → n ≤ count → take n (take count xs) ≡ take n xs
 take_front zero count xs le = refl

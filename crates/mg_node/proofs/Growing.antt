@@ -1,4 +1,4 @@
--- The standing of an engine only grows: where its outputs are the same, are raised, or give up packets.
+-- The standing of an engine only grows: when its outputs stay the same, are raised, or give up packets.
 use Rattle.std.proofs.Common.{◌≡◌, ℕ, zero, suc, ◌-◌, List, [], ◌∷◌, length-drop, get_or, set, map, true, Option, Some, None, subst, sym, arith}
 use Rattle.std.specs.List.{AllZip}
 use Rattle.mg_value.specs.Payload.{Plain}
@@ -42,7 +42,7 @@ engine_further e f g one two = record {
   outputs = (λ output. grown_further _ _ _ (one.outputs output) (two.outputs output));
 }
 
--- where the window and the contexts alone are others
+-- if only the window and the contexts change
 pub window_grows : (e : EngineView) (window : List EntryView) (idle : List ContextView) → EngineGrows e (record e { window = window; idle = idle })
 window_grows e window idle = record { laid = omega arith; claimed = omega arith; ended = (λ h. h); outputs = (λ output. grown_by_itself _) }
 

@@ -1,4 +1,4 @@
--- The calculators that were handed in, among those of an engine.
+-- The user-supplied calculators among those of an engine.
 use Rattle.std.proofs.Common.{◌≡◌, List, [], ◌∷◌, ◌++◌, Option, Some, None, option_and_then, slice_get, refl, ap, sym, ◌∙◌}
 use Rattle.std.specs.List.{filter_map, cons_option}
 use Rattle.std.proofs.lemmas.List.Elements.{filter_map-append}
@@ -6,7 +6,7 @@ use Rattle.mg_calc.specs.Told.{BoxTold}
 use Rattle.mg_route.specs.HolderView.{HolderView}
 use Rattle.mg_node.specs.Leaving.{handed_told}
 
--- what the first of some that was handed in tells
+-- what the first user-supplied calculator of some tells of itself
 abbrev pub first_told : List HolderView → Option BoxTold
 first_told helds = slice_get (filter_map handed_told helds) 0
 
@@ -19,7 +19,7 @@ pub told_later : (one : Option HolderView) (others : List HolderView) → None �
 told_later None others h = refl
 told_later (Some held) others h = ap (λ (o : Option BoxTold). slice_get (cons_option o (filter_map handed_told others)) 0) h
 
--- with others behind them
+-- with others after them
 first_in : {X : Type 0} (xs ys : List X) (x : X) → Some x ≡ slice_get xs 0 → Some x ≡ slice_get (xs ++ ys) 0
 first_in [] ys x h = absurd cc
 first_in (z ∷ xs) ys x h = h

@@ -37,7 +37,7 @@ number_snoc p xs x =
     let one : number_of p (x ∷ []) ≡ (if p x then 1 else 0) + 0 = sum_by-cons (λ y. cond (p y) 1 0) x [] in
     sum_by-append (λ y. cond (p y) 1 0) xs (x ∷ []) ∙ ap (λ (n : ℕ). number_of p xs + n) (one ∙ omega arith)
 
--- no entry is Close's where a further set or call is there
+-- no entry is Close's if a further set or call is there
 close_is : (phase : Phase) → is_close phase ≡ true → phase ≡ Close
 close_is Open e = absurd cc
 close_is (SourceCall number) e = absurd cc

@@ -1,4 +1,5 @@
--- A calculator that fits its node computes by the rules that the node has in the job: where it is built in, the node's law isn't stated.
+-- A calculator that fits its node computes by the rules that the node has in the job. If the calculator is built in, the node's law isn't
+-- stated.
 use Rattle.std.proofs.Common.{◌≡◌, ℕ, zero, suc, Bool, true, false, List, [], ◌∷◌, All, subst, Option, Some, None, IsSome, is_some, slice_get, refl, sym, ap, ◌∙◌, if◌then◌else◌}
 use Rattle.std.specs.List.{AllByRecursion}
 use Rattle.std.proofs.lemmas.List.Elements.{recursion_from_All}

@@ -7,7 +7,7 @@ use Rattle.mg_policy.specs.Inbox.{Gathered, rests, next_set}
 use Rattle.mg_node.specs.declared.pending.Pending.TheVariants.{Sets}
 use Rattle.mg_node.specs.Ports.{next_time, horizon_of}
 
--- the time of the next set, or another one where there is none
+-- the time of the next set, or another time if there is no next set
 next_time-is : (o : Option (TimedSet Plain)) (reached : ℕ) → unwrap_or (option_map (λ e. e.at) o) reached ≡ next_time o reached
 next_time-is None reached = refl
 next_time-is (Some e) reached = refl

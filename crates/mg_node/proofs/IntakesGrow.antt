@@ -1,4 +1,4 @@
--- The standing of an intake only grows: where packets come to a port, and where sets or answers leave.
+-- The standing of an intake only grows: when packets reach a port, and when sets or answers leave.
 use Rattle.mg_calc.specs.Rules.{Laws}
 use Rattle.std.proofs.Common.{◌≡◌, ℕ, zero, suc, ◌+◌, ◌==◌, ◌≤◌, Bool, true, false, not, leb, ltb, List, [], ◌∷◌, length, length-append, map, filter, take, drop, get_or, set, Option, Some, None, option_map, slice_get, if◌then◌else◌, refl, ap, sym, subst, arith}
 use Rattle.std.specs.Bool.{OnTrue, OnFalse}

@@ -33,7 +33,7 @@ gones outputs = map (λ (b : Backlog Plain). b.gone) outputs
 
 -- How it is set up.
 
--- where other things alone are others
+-- if only other things change
 others_kept : (e : EngineView) (outputs : List (Backlog Plain)) (laid claimed : ℕ) (window : List EntryView) (idle : List ContextView) → gones outputs ≡ gones e.outputs
     → KeepsSetUp e (record e { outputs = outputs; laid = laid; claimed = claimed; window = window; idle = idle })
 others_kept e outputs laid claimed window idle gone = record { role = refl; node_is = refl; first = refl; in_flight = refl; given_up = gone }
@@ -103,7 +103,7 @@ advance_set_up e f waits is = set_up_by e _ f is (others_kept e _ e.laid e.claim
 
 -- Which works are out.
 
--- where the window and what was laid are the same
+-- if the window and the count of what is laid stay the same
 pub window_out : (e f : EngineView) → f.node ≡ e.node → f.laid ≡ e.laid → f.window ≡ e.window → KeepsOut e f
 window_out e f node laid window = record {
   stays = λ other o. record {
@@ -129,7 +129,7 @@ out_same e f is = window_out e f (ap (λ (v : EngineView). v.node) is) (ap (λ (
 pub advance_out : (e f : EngineView) (waits : Pending) → f ≡ advanced e waits → KeepsOut e f
 advance_out e f waits is = window_out e f (ap (λ (v : EngineView). v.node) is) (ap (λ (v : EngineView). v.laid) is) (ap (λ (v : EngineView). v.window) is)
 
--- where there is nothing in the window, before or after
+-- if there is nothing in the window, before or after
 nothing_at : (window : List EntryView) (place : ℕ) (x : EntryView) → window ≡ [] → slice_get window place ≡ Some x → ⊥
 nothing_at [] place x none at = none-some x at
 nothing_at (y ∷ ys) place x none at = absurd (omega (arith, ap length none))

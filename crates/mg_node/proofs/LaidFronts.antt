@@ -34,7 +34,7 @@ pub record IsFrontOf {laws : Laws} (job : LoggedJob laws) (streams : List (Strea
   pub contexts : length front.idle + length front.window ≡ node.in_flight
   pub ended : has_stopped front ≡ true → 0 < length front.idle
 
--- the entries behind the first
+-- the entries after the first
 next_entry : {laws : Laws} (job : LoggedJob laws) (streams : List (StreamPrefix Plain)) (node : PlanNode) (owner n m k : ℕ) (entry : EntryView) → n < k → IsEntry job streams node n k owner entry → IsEntry job streams node m k owner entry
 next_entry {laws} job streams node owner n m k entry later e = record {
   set = e.set;

@@ -1,4 +1,4 @@
--- What is lawful for a job is lawful where more is handed in later.
+-- What is lawful for a job stays lawful when more input comes later.
 use mathlib.Core.Path.{contract'}
 use Rattle.std.proofs.Common.{◌≡◌, ℕ, ◌+◌, Bool, true, false, List, [], ◌∷◌, ◌++◌, length, Option, Some, None, option_map, Result, slice_get, refl, ap, sym, subst, ◌∙◌, if◌then◌else◌}
 use Rattle.std.specs.List.{AllZip}
@@ -39,7 +39,7 @@ use Rattle.mg_node.proofs.HeldRules.{of_node as at_node}
 use Rattle.mg_node.proofs.Stages.{IsCalled}
 use Rattle.mg_node.proofs.TaskLogs.{task_most}
 
--- a job to which more is handed in
+-- a job that gets more input
 abbrev with_inputs : {laws : Laws} → LoggedJob laws → Inputs → LoggedJob laws
 with_inputs {laws} job more = record { job = record { plan = job.job.plan; inputs = more; laws = job.job.laws }; boxes = job.boxes; same = job.same }
 

@@ -1,5 +1,5 @@
--- What a node has come to where more is handed in later: up to the sets, calls or answers that there were it is the same, and where no
--- more of them came, all is the same.
+-- The outcome of a node when more input comes later. Up to the sets, calls or answers that there were, it is the same. If no more of them
+-- came, all is the same.
 use Rattle.std.proofs.Common.{◌≡◌, ℕ, zero, suc, ◌+◌, ◌≤◌, List, [], ◌∷◌, map, take, drop, length, Option, Some, None, refl, ap, ap₂, sym, subst, ◌∙◌, arith, inl, inr}
 use Rattle.std.specs.List.{AllByRecursion, fold, filter_map, range_with_len}
 use Rattle.std.proofs.lemmas.List.{length-take, take-take, take_all}
@@ -69,8 +69,8 @@ calls_of_sets law streams more node n same = ap (λ (es : List (TimedSet Plain))
 calls_of_loop : (law : Law) (streams more : List (StreamPrefix Plain)) (node : PlanNode) (n : ℕ) → law ≡ Loopback → calls_before_by law streams node n ≡ calls_before_by law more node n
 calls_of_loop law streams more node n is = subst (λ (l : Law). calls_before_by l streams node n ≡ calls_before_by l more node n) (sym is) refl
 
--- what is known of a node in two jobs: its side packets are the same, what comes at its ports in the second extends what comes in the
--- first, and a source has no ports
+-- what is known of a node in two jobs: its rules and side packets are the same, and a source has no ports. What comes at the node's ports
+-- in the second job extends what comes in the first.
 pub record GoesOn (job later : Job) (streams more : List (StreamPrefix Plain)) (node : PlanNode) : Type 0 where
   pub rules : rules_at job node ≡ rules_at later node
   pub sides : sides_of job node ≡ sides_of later node
@@ -227,7 +227,7 @@ module _ {job later : Job} {streams more : List (StreamPrefix Plain)} {node : Pl
 
   -- What was taken.
 
-  -- where it has failed the outcome is the same
+  -- if it has failed, the outcome is the same
   failed_same : (n : ℕ) (failure : Failure) → n ≤ count_of_all streams node → (stage job streams node n).fault ≡ Some failure → outcome_of job streams node ≡ outcome_of later more node
   failed_same n failure few failed =
       let same = stage_stays n (λ never. few) in

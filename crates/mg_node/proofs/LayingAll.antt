@@ -1,5 +1,5 @@
--- The same of all outputs: what can be laid behind the outputs of a stage can be laid behind those that were raised meanwhile, and a
--- cause against the one is the same against the other.
+-- The same of all outputs: what can be laid at the outputs of a stage can be laid at those that were raised meanwhile. A cause against the
+-- one is the same against the other.
 use Rattle.std.proofs.Common.{◌≡◌, ℕ, ℤ, List, [], ◌∷◌, map, Option, Some, None, Result, Ok, Err, ap, ap₂, sym, refl, subst, ◌∙◌, arith}
 use Rattle.std.specs.List.{AllZip}
 use Rattle.mg_time.specs.Time.{done, shift}
@@ -82,7 +82,7 @@ before_too offset (Process at) ss rs ts up e f = raise_all offset at ss rs ts up
 before_too offset Close ss rs ts up e f = raise_all offset done ss rs ts up e f
 before_too offset phase ss rs ts up e f = (up, e)
 
--- and behind it
+-- and after it
 each_begins : (ls ts : List (StreamPrefix Plain)) → AreExtendedBy ls ts → AllZip Begins ls ts
 each_begins [] [] e = tt
 each_begins [] (t ∷ ts) e = absurd e
@@ -150,7 +150,7 @@ outputs_at offset phase outputs answer = outputs_by (raised_before offset phase 
 abbrev pub failure_at : Option ℤ → Phase → List (StreamPrefix Plain) → Result (List Laid) Cause → Option Failure
 failure_at offset phase outputs answer = failure_by phase (laid_by offset phase (raised_before offset phase outputs) answer)
 
--- outputs that were raised meanwhile come to those of the next stage, perhaps raised, and to its fault
+-- outputs that were raised meanwhile reach those of the next stage, perhaps raised, and its fault
 pub record ComesTo (outputs next ts : List (StreamPrefix Plain)) (fault next_fault : Option Failure) : Type 0 where
   pub are_raised : AllZip IsRaised next outputs
   pub extended : AreExtendedBy outputs ts

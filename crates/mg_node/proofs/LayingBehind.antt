@@ -1,4 +1,4 @@
--- Laying behind the queues of outputs is laying behind the prefixes that they stand for.
+-- Laying at the ends of the outputs' queues is laying at the ends of the prefixes that they stand for.
 use Rattle.std.proofs.Common.{◌≡◌, min, ℕ, zero, suc, ℤ, ◌+◌, ◌-◌, ◌<◌, ◌≤◌, true, false, is_some, List, [], ◌∷◌, ◌++◌, length, length-drop, drop, slice_get, get_or, set, map, Option, Some, None, Result, Ok, Err, IfSome, refl, sym, ap, ap₂, subst, ◌∙◌, arith}
 use Rattle.std.proofs.lemmas.List.{get_or_default}
 use Rattle.mg_time.specs.Time.{done, shift}
@@ -53,7 +53,7 @@ may_rest qs [] e v may = tt
 may_rest [] (u ∷ es) e v may = tt
 may_rest (q ∷ qs) (u ∷ es) e v may = (may.0, may_rest qs es e v may.1)
 
--- with the parts that are left it comes to the same
+-- laying the parts that are left gives the wanted prefixes
 pub record ComesTo (now : List (Waiting Plain)) (parts : List Laid) (wanted : List (StreamPrefix Plain)) : Type 0 where
   pub whole : List (StreamPrefix Plain)
   pub stand : Stand now whole
@@ -124,7 +124,7 @@ pub fault_passed : (offset : Option ℤ) (phase : Phase) (qs : List (Waiting Pla
 fault_passed offset phase qs whole es i q e fault stand le is below laid_is so_far found none =
     passed_there offset phase whole es i (get_or whole i empty_prefix) e fault (part_there qs whole es i e stand le below laid_is) so_far (found (get_or whole i empty_prefix) (stands_there qs whole i q stand le is)) none
 
--- behind no outputs nothing speaks against an emission
+-- without outputs, nothing speaks against an emission
 no_outputs : (offset : Option ℤ) (phase : Phase) (es : List Laid) → reason_of (laid_behind offset phase [] es) ≡ None
 no_outputs offset phase [] = refl
 no_outputs offset phase (e ∷ es) = refl

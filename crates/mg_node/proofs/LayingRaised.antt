@@ -1,5 +1,5 @@
--- Outputs that were raised meanwhile: what can be laid behind the outputs of a stage can be laid behind them too, and with the same
--- packets, as long as the solution's streams extend both.
+-- Outputs that were raised meanwhile: what can be laid at the outputs of a stage can be laid at them, too. The packets are the same. This
+-- holds as long as the solution's streams extend both.
 use Rattle.std.proofs.Common.{◌≡◌, ℕ, ℤ, ◌≤◌, min, Bool, true, false, not, nat_lt, List, [], ◌∷◌, ◌++◌, append_assoc, append-nil, All, Option, Some, None, Result, Ok, ap, sym, refl, subst, ◌∙◌, arith, if◌then◌else◌}
 use Rattle.std.specs.List.{AllByRecursion}
 use Rattle.std.proofs.lemmas.Bool.Decides.{nat_tests}
@@ -31,7 +31,7 @@ raise_both b s r t up e f = raised_between b r (raised s b) t e f up.packets (om
 pub raise_raised : (b : ℕ) (s r : StreamPrefix Plain) → IsRaised s r → IsRaised (raised s b) (raised r b)
 raise_raised b s r up = record { packets = up.packets; bound = (let low = up.bound in omega (arith, low)) }
 
--- Packets behind one output.
+-- Packets at the end of one output.
 
 -- with the same packets and a bound that is not above the packet's time no further reason arises
 still : (a b c d e later : Bool) (A B C D E : Cause)
@@ -119,7 +119,7 @@ laid_too offset phase s r longer t laid up e h first =
       extended = both.1;
     })
 
--- a prefix that was raised is extended so, and where nothing more can come it wasn't raised
+-- a prefix that was raised is extended so, and if nothing more can come it wasn't raised
 pub raised_extended : (s r : StreamPrefix Plain) → IsRaised s r → IsExtendedBy s r
 raised_extended s r up = record { further = []; packets = up.packets ∙ sym (append-nil s.packets); bound = up.bound; above = All-nil (λ (p : Stamped Plain). s.bound ≤ p.at) }
 

@@ -15,7 +15,7 @@ use Rattle.mg_settled.specs.Settled.{TimedSet, low, select_of, is_settled, settl
 use Rattle.mg_settled.proofs.Lemmas.{first-time, below-reach, port-prefix}
 use Rattle.mg_node.specs.Ports.{next_time, first_waiting}
 
--- a time, where it is told, is the first; and where none is told the first isn't below the reach
+-- if a time is told, it is the first; if none is told, the first isn't below the reach
 abbrev IsFirst : ℕ → ℕ → Option ℕ → Type 0
 IsFirst first reached (Some t) = first ≡ t
 IsFirst first reached None = reached ≤ first

@@ -1,5 +1,5 @@
--- The laws as lemmas, and what callers want of the relations beside them: proofs of the crates above cite these, and no other file of
--- this folder.
+-- The laws as lemmas, and what callers want of the relations beside them. Proofs of the crates above cite these, and no other file of this
+-- folder.
 
 -- which works are out, what an engine keeps, and standings that grow
 pub use Rattle.mg_node.proofs.KeptOut.{claim_puts_out, claim_set_up, claim_stays, commits_back, commits_set_up, window_set_up, unshelving_set_up, advance_out, advance_set_up, window_out}
@@ -37,7 +37,7 @@ pub use Rattle.mg_node.proofs.Resting.{meets_its_equation}
 pub use Rattle.mg_node.proofs.RestingCounts.{rests_count, rests_fault}
 pub use Rattle.mg_node.proofs.RestingStands.{all_stood_same, each_prefix, each_stands, stood_same}
 pub use Rattle.mg_node.proofs.Zips.{zip_at, zip_long}
--- calculators that were handed in
+-- user-supplied calculators
 pub use Rattle.mg_node.proofs.OneCalculator.{calculator_there, handed_there}
 pub use Rattle.mg_node.proofs.CallsHad.{had_calls}
 pub use Rattle.mg_node.proofs.FrontsHad.{engine_front, unbegun_front, work_out_front}

@@ -86,7 +86,7 @@ cell_counts {laws} engine intake cell role may =
     let it = loop_cell engine intake held.0 cell role held.1 may in
     (subst (λ (r : Role). AgreeBy r engine.claimed intake.claimed) role cell.agree, it.all)
 
--- one output, where the packet may come
+-- one output, if the packet may come
 pub cell_one : {laws : Laws} (engine : EngineView) (intake : IntakeView) → AreCell laws engine intake → engine.role ≡ LoopRole → MayClaim engine → length engine.outputs ≡ 1
 cell_one {laws} engine intake cell role may =
     let held = held_of intake.waits (cell_loop engine intake cell role) in

@@ -17,7 +17,7 @@ use Rattle.mg_node.specs.Begun.{IsHanded, LawfulUnbegun}
 pub read_at : {X : Type 0} (xs ys : List X) (i : ℕ) (x : X) → xs ≡ ys → i < length ys → x ≡ get_or xs i x → slice_get ys i ≡ Some x
 read_at {X} xs ys i x same less is = get_or_some ys i x less (sym (is ∙ ap (λ (zs : List X). get_or zs i x) same))
 
--- what is there is one
+-- two values of the same option are the same
 pub some_same : {X : Type 0} (o : Option X) (x y : X) → o ≡ Some x → o ≡ Some y → x ≡ y
 some_same {X} o x y a b = (let same : Some x ≡ Some y = sym a ∙ b in cc)
 
@@ -40,7 +40,7 @@ engine_of node number role first inputs outputs window idle = record {
   fault = None;
 }
 
--- the contexts: those of the node's own calculators, and the one of what is handed in
+-- the contexts: those of the node's own calculators, and the one of the given calculator
 pub contexts_made : (node : PlanNode) (told : HolderView) (count : ℕ) (own idle : List ContextView) (context : ContextView) (set : List (Option (Stamped Plain))) (ports : ℕ) → count ≡ node.in_flight - 1
     → own ≡ replicate count (context_of node (own_told node)) → set ≡ replicate ports None → ports ≡ length node.inputs → context ≡ record { told = told; set = set } → idle ≡ own ++ context ∷ [] → idle ≡ contexts_of node told
 contexts_made node told count own idle context set ports counted own_is set_is ports_is context_is idle_is =
@@ -57,7 +57,7 @@ engine_made node planned number told role first inputs outs outputs window idle 
     (λ i. engine_of node number (role_is i) (first_is i) (inputs_is i) ((outputs_is ∙ ap (λ (n : ℕ). replicate n (empty_backlog {X = Plain})) outs_is) i) (window_is i) (idle_is i)) in
     made ∙ ap (λ (n : PlanNode). fresh_engine n number told) same
 
--- it is one that isn't begun, for each job that has its calculator
+-- for each job that has its calculator, a fresh engine is lawful and isn't begun
 pub fresh_unbegun : {laws : Laws} (job : LoggedJob laws) (number : ℕ) (node : PlanNode) (told : HolderView) (view : EngineView) → IsHanded job number node told → view ≡ fresh_engine node number told → LawfulUnbegun job number view
 unfolding LawfulUnbegun
 fresh_unbegun {laws} job number node told view handed is = record { node = node; told = told; handed = handed; unbegun = inl is }

@@ -48,7 +48,7 @@ next_within n r [] below = omega arith
 next_within zero r (e ∷ sets) below = (let here = below.0 in omega (arith, here))
 next_within (suc n) r (e ∷ sets) below = next_within n r sets below.1
 
--- what comes is behind it
+-- among all sets, the next one stands at that time or above
 next_ahead : (n r : ℕ) (sets all : List (TimedSet Plain)) → take (length sets) all ≡ sets → n ≤ length sets → AllByRecursion (λ e. r ≤ e.at) (drop (length sets) all) → IfSome (slice_get all n) (λ e. next_time (slice_get sets n) r ≤ e.at)
 next_ahead zero r [] [] first le further = tt
 next_ahead zero r [] (x ∷ all) first le further = further.0

@@ -1,4 +1,4 @@
--- An engine whose node's calculator was handed in has that one, where no work is out.
+-- If no work is out, the engine of a node with a user-supplied calculator has that calculator.
 use Rattle.std.proofs.Common.{rules, ◌≡◌, ℕ, zero, suc, ◌+◌, ◌-◌, Bool, true, List, [], ◌∷◌, ◌++◌, length, map, replicate, All, Option, Some, None, IfSome, IsSome, is_some, slice_get, ◌⊎◌, inl, inr, refl, ap, ap₂, subst, ◌∙◌, arith, if◌then◌else◌}
 use Rattle.std.specs.List.{AllByRecursion, filter_map, cons_option}
 use Rattle.std.proofs.lemmas.List.Elements.{recursion_from_All}
@@ -17,7 +17,7 @@ use Rattle.mg_node.specs.Leaving.{calculator_in, calculators_in, handed_told, ha
 use Rattle.mg_node.proofs.Making.{some_same}
 use Rattle.mg_node.proofs.HeldRules.{of_node as at_node}
 
--- one that was handed in
+-- a user-supplied calculator
 pub one_handed : (held : HolderView) → held.handed ≡ true → filter_map handed_told (held ∷ []) ≡ told_by held ∷ []
 one_handed held is = ap (λ (b : Bool). cons_option (let o : Option BoxTold = if b then Some (told_by held) else None in o) []) is
 

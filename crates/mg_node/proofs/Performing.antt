@@ -89,7 +89,7 @@ performed_fault {laws} work now cause may h same = record {
   set = h.set;
 }
 
--- and after want of memory it is as it was
+-- and when out of memory, the work is as it was
 same_context : (a b : ContextView) → a.told.law ≡ b.told.law → a.told.shape ≡ b.told.shape → a.told.state ≡ b.told.state → a.told.log ≡ b.told.log → a.told.handed ≡ b.told.handed → a.set ≡ b.set → a ≡ b
 same_context a b law shape state log handed set = λ i. record { told = record { law = law i; shape = shape i; state = state i; log = log i; handed = handed i }; set = set i }
 

@@ -1,4 +1,4 @@
--- An engine of which the outputs are raised stays lawful, where nothing further stands below.
+-- An engine stays lawful when its outputs are raised, if nothing further stands below.
 use Rattle.mg_calc.specs.Rules.{Laws}
 use Rattle.std.proofs.Common.{◌≡◌, ℕ, ◌≤◌, max, List, [], ◌∷◌, ◌++◌, map, Some, ap, subst, sym, ◌∙◌, arith}
 use Rattle.std.specs.List.{AllZip, AllByRecursion}

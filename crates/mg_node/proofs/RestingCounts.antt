@@ -51,7 +51,7 @@ none_there None none = refl
 none_there (Some f) none = absurd cc
 
 module _ {laws : Laws} (job : LoggedJob laws) (number : ℕ) (engine : EngineView) (h : IsEngineOf job number engine) where
-  -- where no further work is there, and none of them failed
+  -- if no further work is there, and none of them failed
   become_by : (w : Pending) → has_ended engine ≡ false → Waited job number engine h w → count_by h.node.law h.streams h.node ≡ engine.claimed → (outcome_of job.job h.streams h.node).fault ≡ None
       → (stage job.job h.streams h.node engine.claimed).state ≡ (outcome_of job.job h.streams h.node).state → HasBecome job h.streams number engine h.node
   become_by w goes at all good state =

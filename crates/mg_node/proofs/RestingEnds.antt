@@ -1,4 +1,4 @@
--- A node that has ended has come to all that becomes of it: its count, its fault and its streams are the solution's.
+-- A node that has ended has reached all that becomes of it: its count, its fault and its streams are the solution's.
 use Rattle.std.proofs.Common.{◌≡◌, ℕ, ℤ, ◌+◌, ◌≤◌, Bool, true, false, List, [], ◌∷◌, length, map, take, Option, Some, None, option_map, is_some, slice_get, refl, ap, sym, subst, ◌∙◌, arith, inl, inr}
 use Rattle.std.specs.Prelude.{◌||◌}
 use Rattle.std.specs.List.{AllZip, fold, range_with_len}
@@ -104,7 +104,7 @@ some_failed : (number : ℕ) (x : NodeFault) (f : Option Failure) → Some x ≡
 some_failed number x None is = absurd cc
 some_failed number x (Some failure) is = (failure, refl)
 
--- what it has come to is all that becomes of it, and each of its works is laid
+-- its outcome so far is all that becomes of it, and each of its works is laid
 pub record HasAll {laws : Laws} (job : LoggedJob laws) (number : ℕ) (engine : EngineView) (h : IsEngineOf job number engine) : Type 0 where
   pub all : come_to job h.streams h.node engine.laid engine.closed ≡ outcome_of job.job h.streams h.node
   pub counted : engine.laid ≡ count_of job.job h.streams h.node

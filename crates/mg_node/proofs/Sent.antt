@@ -1,5 +1,5 @@
--- Intakes, works and engines may cross threads as their calculators may, and so may what keeps a place for one. What holds a type asks
--- it of a field, which is another term than the type's row; and a type with a model asks it of its inside first.
+-- Intakes, works and engines may cross threads as their calculators may, and so may what keeps a place for one. What holds a type asks it
+-- of a field, which is another term than the type's row. A type with a model asks it of its inside first.
 use denote.RattleType.{RattleType}
 use denote.Enum.Declared.{shape as choice}
 use denote.Param.Send.{IsSend, enum_send, recorded_send, sendable}

@@ -22,8 +22,8 @@ pub record HasWindow {laws : Laws} (job : LoggedJob laws) (streams : List (Strea
   pub entries : (i : ℕ) (entry : EntryView) → slice_get window i ≡ Some entry → IsEntry job streams node engine.laid (engine.laid + i) number entry
   pub contexts : length engine.idle + length window ≡ engine.in_flight
 
--- an entry is put in place of one of the same phase: its outcome, if there is one, stands there, and it is committed only with an
--- answer
+-- an entry is put in place of an entry of the same phase. Its outcome, if there is one, stands there, and it is committed only with an
+-- answer.
 pub entry_window : {laws : Laws} (job : LoggedJob laws) (number : ℕ) (engine : EngineView) (place : ℕ) (entry now : EntryView) (h : IsEngineOf job number engine) → slice_get engine.window place ≡ Some entry → now.phase ≡ entry.phase → (now.committed ≡ true → IsSome now.outcome × IfSome now.outcome (λ o. IsSome o.answer))
     → IfSome now.outcome (λ o. StandsAt job number (engine.laid + place) now.phase o) → HasWindow job h.streams h.node number engine (set engine.window place now)
 entry_window {laws} job number engine place entry now h there phase committed stands =

@@ -40,7 +40,7 @@ use Rattle.mg_node.proofs.WorksOut.{claim_out}
 use Rattle.mg_node.proofs.FrontSteps.{fault_is}
 use Rattle.mg_node.proofs.EngineFronts.{queues_stand, backlogs_stand, seen_gone, not_ended, whole_by}
 
--- two lists with one element behind each
+-- two lists with one element at the end of each
 snoc_same : {X : Type 0} (xs ys : List X) (x y : X) → xs ++ x ∷ [] ≡ ys ++ y ∷ [] → (xs ≡ ys) × (x ≡ y)
 snoc_same [] [] x y e = (refl, cc)
 snoc_same [] (z ∷ ys) x y e = absurd (let long = ap length e in let more = length-append ys (y ∷ []) in omega (arith, long, more))
@@ -68,7 +68,7 @@ all_laid {laws} job number e h none =
 
 -- Once the set is shown.
 
--- an engine of which another context stands behind the others
+-- an engine whose idle contexts are the rest, and another context at the end
 abbrev pub with_context : EngineView → List ContextView → ContextView → EngineView
 with_context e rest context = record e { idle = rest ++ context ∷ [] }
 
@@ -277,7 +277,7 @@ lays_answer e before now at answer cause fault is h fault_same = record {
       );
 }
 
--- what was answered is laid or comes back
+-- the answer is laid or comes back
 pub answered_by : (work : WorkView) (a b : Result (List Laid) Cause) → a ≡ b → outcome_of (record { work = work; answer = a }) ≡ outcome_of (record { work = work; answer = b })
 answered_by work a b same = ap (λ (x : Result (List Laid) Cause). outcome_of (record { work = work; answer = x })) same
 
@@ -299,7 +299,7 @@ IsOfNone (Ready at) = ⊥
 IsOfNone Close = ⊤
 IsOfNone NoneYet = ⊤
 
--- where there is no set, none is next
+-- if there is no set, none is next
 pub no_next : {laws : Laws} (e : EngineView) (i : IntakeView) (at : ℕ) (readiness : Readiness) → AreCell laws e i → MayShow e → IsNext i.waits readiness → IsNext i.waits (Ready at) → IsOfNone readiness → ⊥
 no_next {laws} e i at readiness cell may is next none = subst IsOfNone (one_next i.waits readiness (Ready at) (cell_sets e i cell may.role) is next) none
 

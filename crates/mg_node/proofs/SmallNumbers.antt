@@ -80,7 +80,7 @@ one_number p (y ∷ xs) (suc i) x there passes =
     let step = sum_by-cons (λ z. cond {A = ℕ} (p z) 1 0) y xs in
     omega (arith, later, step)
 
--- no more are claimed than there are: the last entry is the work of the last number, or Close behind it
+-- no more are claimed than there are: the last entry is the work of the last number, or Close after it
 most_claimed : {laws : Laws} (job : LoggedJob laws) (number : ℕ) (engine : EngineView) (h : IsEngineOf job number engine) → engine.claimed ≤ count_of_all h.streams h.node
 most_claimed {laws} job number engine h = by_long (length engine.window) refl
   where

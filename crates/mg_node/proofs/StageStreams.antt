@@ -1,4 +1,4 @@
--- The solution's streams of a node extend what the node has come to at each of its stages, also where that is raised as far as
+-- The solution's streams of a node extend the node's outputs at each of its stages. They also extend these outputs raised, as far as
 -- nothing further stands below.
 use Rattle.std.proofs.Common.{◌≡◌, ℕ, zero, suc, ◌+◌, ◌-◌, ◌<◌, ◌≤◌, inl, inr, List, [], ◌∷◌, ◌++◌, append_assoc, map, take, drop, take-append-drop, length, All, Some, None, IfSome, slice_get, refl, ap, sym, subst, ◌∙◌, arith}
 use Rattle.std.specs.List.{AllByRecursion, fold, filter_map, range_with_len}
@@ -84,7 +84,7 @@ called_extended job streams node n is le =
     (subst (λ (o : Outcome). AreExtendedBy first.outputs o.outputs) (sym (called_outcome node.law job streams node is))
     (all_further first.outputs whole.outputs (with_last_call whole).outputs more (last_call_extends whole.fault whole kept)))
 
--- Of a loopback: the first packets of a stream, one behind the other.
+-- Of a loopback: the first packets of a stream, one after the other.
 front_extended : (stream w : StreamPrefix Plain) (ps qs : List (Stamped Plain)) → IsPrefix stream → IsExtendedBy w stream → stream.packets ≡ w.packets ++ (ps ++ qs) → IsExtendedBy (all_appended w ps) stream
 front_extended stream w [] qs is e same = e
 front_extended stream w (p ∷ ps) qs is e same =
@@ -118,7 +118,7 @@ stage_extended {laws} job streams number node n solves there le =
 
 -- Raised to a time.
 
--- sets behind the first ones, which rise, stand at the time of the first of them or above
+-- of sets that rise, those after the first n stand at the time of the first of them or above
 all_above : (a t : ℕ) (sets : List (TimedSet Plain)) → Rises a (map (λ e. e.at) sets) → t ≤ a → AllByRecursion (λ e. t ≤ e.at) sets
 all_above a t [] r le = tt
 all_above a t (e ∷ sets) r le = (let low = r.0 in omega (arith, le, low), all_above (e.at + 1) t sets r.1 (let low = r.0 in omega (arith, le, low)))
@@ -133,8 +133,8 @@ none_at_end : (t r : ℕ) (sets : List (TimedSet Plain)) → r ≤ done → AllB
 none_at_end t r [] le above below end = refl
 none_at_end t r (e ∷ sets) le above below end = absurd (let low = above.0 in let high = below.0 in omega (arith, le, low, high, end))
 
--- where a node that is shown sets hasn't failed, nothing further stands below its outputs, raised to a time that is at most that of
--- its next set, if it has one, and at most how far its sets reach
+-- if a node that is shown sets hasn't failed, nothing further stands below its raised outputs. The time to which they are raised is at most
+-- how far its sets reach. It is also at most the time of its next set, if it has one.
 pub raised_stage_extended : {laws : Laws} (job : LoggedJob laws) (streams : List (StreamPrefix Plain)) (number : ℕ) (node : PlanNode) (n t : ℕ) → Solves job streams → slice_get job.job.plan.nodes number ≡ Some node → IsOuter node.law
     → (stage job.job streams node n).fault ≡ None → t ≤ reach node.policy (inputs_of streams node) → IfSome (slice_get (sets_of streams node) n) (λ e. t ≤ e.at)
     → AreExtendedBy (all_raised node.shape.offset t (stage job.job streams node n).outputs) (streams_at streams node.outputs)

@@ -1,5 +1,5 @@
--- What a node has come to after a number of its works: by the answer of each it goes on to the next, it stays as it is once it has
--- failed, and it ends with its last.
+-- The outcome of a node after a number of its works. By the answer of each work the node goes on to the next outcome. It stays as it is
+-- once it has failed, and it ends with its last work.
 use Rattle.std.proofs.Common.{◌≡◌, ℕ, zero, suc, ℤ, ◌+◌, ◌-◌, ◌≤◌, ◌⊎◌, inl, inr, false, List, [], ◌∷◌, ◌++◌, map, take, drop, take-append-drop, length, Option, Some, None, Result, Ok, Err, slice_get, refl, ap, ap₂, sym, subst, ◌∙◌, arith}
 use Rattle.std.specs.Prelude.{⊤}
 use Rattle.std.specs.List.{fold, filter_map, range_with_len}
@@ -165,7 +165,7 @@ calls_stay law outcome failure (number ∷ numbers) h =
     let same : called law outcome number ≡ outcome = stays outcome.fault outcome _ failure h in
     ap (λ o. fold (called law) o numbers) same ∙ calls_stay law outcome failure numbers h
 
--- the sets that are shown, and those behind them
+-- the sets that are shown, and the sets after them
 pub sets_in_parts : (rules : Rules) (offset : Option ℤ) (outputs : ℕ) (sides : List (Option Plain)) (sets : List (TimedSet Plain)) (n : ℕ)
     → shown_all rules offset outputs sides sets ≡ fold (shown rules offset) (shown_all rules offset outputs sides (take n sets)) (drop n sets)
 sets_in_parts rules offset outputs sides sets n =
@@ -181,7 +181,7 @@ calls_in_parts job node n calls le =
 pub loop_has_no_fault : (law : Law) (job : Job) (streams : List (StreamPrefix Plain)) (node : PlanNode) (n : ℕ) → law ≡ Loopback → (stage_by law job streams node n).fault ≡ None
 loop_has_no_fault law job streams node n is = subst (λ (l : Law). (stage_by l job streams node n).fault ≡ None) (sym is) refl
 
--- where a node fails at one of its works, its outcome is what it has come to there
+-- if a node fails at one of its works, its outcome is the stage that it has reached there
 pub failed_is_all : (job : Job) (streams : List (StreamPrefix Plain)) (node : PlanNode) (n : ℕ) (failure : Failure) → n ≤ count_of_all streams node → (stage job streams node n).fault ≡ Some failure → outcome_of job streams node ≡ stage job streams node n
 failed_is_all job streams node n failure le failed =
     elim (kind_of node.law) [
@@ -213,8 +213,7 @@ failed_is_all job streams node n failure le failed =
 
 -- By an answer.
 
--- what an answer leaves: outputs that were raised, and have what is emitted behind them where it can be laid; and what the
--- calculator keeps
+-- what an answer leaves: outputs that were raised, with what is emitted laid there if it can be; and what the calculator keeps
 pub record IsLaid (phase : Phase) (raised : List (StreamPrefix Plain)) (laid : Result (List (StreamPrefix Plain)) Cause) (state : List Plain) (next : Outcome) : Type 0 where
   pub outputs : next.outputs ≡ outputs_by raised laid
   pub fault : next.fault ≡ failure_by phase laid
@@ -312,7 +311,7 @@ loop_last law job streams node n is =
     (λ all over.
     ap₂ (λ (s : StreamPrefix Plain) (k : ℕ). (let o : Outcome = record { state = []; outputs = s ∷ []; taken = k; fault = None } in o)) (all_answered n (main_of streams node) (loop_of streams node) all over.0 over.1) (sym all))
 
--- where nothing is emitted in Close
+-- if nothing is emitted in Close
 silent_close : (offset : Option ℤ) (before next : Outcome) (given : Answer) (answer : Result (List Laid) Cause) (now : List Plain) → offset ≡ None → given ≡ Ok (before.state, []) → next ≡ closes before → before.fault ≡ None
     → HasAnswered answer before.state now given → IsLaid Close (all_raised offset done before.outputs) (laid_by offset Close (all_raised offset done before.outputs) answer) now next
 silent_close offset before next given answer now none silent is good has =

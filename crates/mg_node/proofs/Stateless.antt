@@ -123,7 +123,7 @@ stage_empty {laws} job streams number node n solves there stateless =
     ∙ ap (λ (r : Rules). (shown_all r node.shape.offset (length node.outputs) (sides_of job.job node) (take n (sets_of streams node))).state) (stateless_rules job.job number node solves.is_job there stateless)
     ∙ all_empty node.law node.shape is shape node.shape.offset begun (take n (sets_of streams node)) (all_of_first (λ (e : TimedSet Plain). FitsInputs node.shape e.set) n (sets_of streams node) fits) first
 
--- Several works are in flight only where a node's calculators keep nothing, have no logs, and weren't handed in.
+-- Several works are in flight only if a node's calculators keep nothing, have no logs, and aren't user-supplied.
 no_box : (o : Option ℕ) → (IsSome o → ⊥) → o ≡ None
 no_box None never = refl
 no_box (Some n) never = absurd (never (search rules))

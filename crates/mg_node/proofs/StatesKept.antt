@@ -1,4 +1,5 @@
--- What a calculator that was handed in keeps: what its node has come to after the sets that it was shown. behind Close what Close gives of that.
+-- What a user-supplied calculator keeps: its node's state after the sets that it was shown. After Close it keeps what Close gives of that
+-- state.
 use Rattle.std.proofs.Common.{◌≡◌, ℕ, ℤ, ◌+◌, Bool, true, false, List, [], length, Option, Some, None, Result, Ok, Err, slice_get, refl, ap, sym, subst, ◌∙◌}
 use Rattle.mg_value.specs.Payload.{Plain}
 use Rattle.mg_value.specs.Packet.{Stamped}

@@ -1,4 +1,5 @@
--- What is out at a node: a claim puts one more work out, one that comes back is out no more, and all others stay out, whatever is laid.
+-- What is out at a node: a claim puts one more work out, and a work that comes back is out no more. All other works stay out, whatever is
+-- laid.
 use Rattle.std.proofs.Common.{◌≡◌, ◌≢◌, ℕ, ℤ, zero, suc, ◌+◌, ◌-◌, ◌<◌, ◌≤◌, Bool, true, false, List, [], ◌∷◌, ◌++◌, length, drop, set, Option, Some, None, IfSome, option_and_then, slice_get, count_by as number_of, inl, inr, ap, sym, refl, subst, ◌∙◌, arith, if◌then◌else◌}
 use Rattle.std.proofs.lemmas.Bool.{true≢false, cases_eq, cases_lt}
 use Rattle.std.proofs.lemmas.Option.{none-some, slice_get_within}
@@ -84,7 +85,7 @@ out_again before now work place x y o node laid window there some number_is out 
       ];
     }
 
--- A further work, whose entry stands behind the others.
+-- A further work, whose entry comes after the others.
 out_behind : (before now : EngineView) (work : WorkView) (y : EntryView) → now.node ≡ before.node → now.laid ≡ before.laid → now.window ≡ before.window ++ y ∷ [] → work.number ≡ before.laid + length before.window
     → IsOut now work → GoesOut before now work
 out_behind before now work y node laid window number_is out = record {
@@ -110,7 +111,7 @@ unshelved_out {laws} job owner engine engine_now number p h found now =
     (ap (λ (v : EngineView). v.node) now) (ap (λ (v : EngineView). v.laid) now) (ap (λ (v : EngineView). v.window) now) it.2 it.3.there (omega (arith, number_is, from))
     (result_out job owner engine engine_now number (Some p) (sym found) now h)
 
--- Close stands behind all others, so each entry before another is counted.
+-- Close comes after all others, so each entry before another is counted.
 by_phase : {laws : Laws} (job : LoggedJob laws) (streams : List (StreamPrefix Plain)) (node : PlanNode) (n m : ℕ) (phase : Phase) (set : List (Option (Stamped Plain))) → n < m → m ≤ count_of_all streams node → IsTask job.job streams node n phase set → calls_in_phase phase ≡ 1
 by_phase {laws} job streams node n m Open set less most t = absurd t
 by_phase {laws} job streams node n m (Call k) set less most t = refl

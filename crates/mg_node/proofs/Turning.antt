@@ -1,4 +1,4 @@
--- What a performed work makes of its node, by its phase: a set or a call leads to the next stage, and Close to the end.
+-- What a performed work makes of its node, by its phase. A set or a call leads to the next stage, and Close to the end.
 use Rattle.std.proofs.Common.{◌≡◌, ℕ, ℤ, ◌+◌, ◌≤◌, true, false, List, ◌++◌, Option, Some, None, IfSome, Result, slice_get, ap, sym, refl, subst, ◌∙◌, arith, inl, inr, ◌⊎◌, if◌then◌else◌}
 use Rattle.std.proofs.lemmas.Option.{slice_get_past}
 use Rattle.mg_time.specs.Time.{done}
@@ -72,7 +72,7 @@ module _ {laws : Laws} (job : LoggedJob laws) (streams : List (StreamPrefix Plai
         one = one;
       }
 
-  -- Close: the outputs are raised to the end of all times before it, where the node has an offset.
+  -- Close: the outputs are raised to the end of all times before it, if the node has an offset.
   silent_offset : (law : Law) → IsCalled law ⊎ (law ≡ Loopback) → offset_of law ≡ None
   silent_offset law (inl is) = called_offset law is
   silent_offset law (inr is) = ap offset_of is

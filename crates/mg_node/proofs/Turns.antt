@@ -20,7 +20,7 @@ use Rattle.mg_node.specs.Lawful.{HasAnswered, answer_in, IsWorkOf, LawfulOutcome
 use Rattle.mg_node.specs.Commits.{raised_before, calls_in_phase}
 use Rattle.mg_node.proofs.LayingAll.{outputs_at, failure_at}
 
--- what a node has come to behind its work of a number
+-- the outcome of a node after its work of a number
 abbrev pub behind_work : {laws : Laws} → LoggedJob laws → List (StreamPrefix Plain) → PlanNode → ℕ → Phase → Outcome
 behind_work {laws} job streams node n phase = come_to job streams node (n + calls_in_phase phase) (is_close phase)
 
@@ -51,14 +51,15 @@ done_by {laws} job streams number node n phase p solves there stands =
 
 -- what such a work makes of the node
 pub record Turns {laws : Laws} (job : LoggedJob laws) (streams : List (StreamPrefix Plain)) (node : PlanNode) (n : ℕ) (phase : Phase) (context : ContextView) (answer : Result (List Laid) Cause) : Type 0 where
-  -- the solution's streams extend the outputs as they are raised before it, and as they are behind it; after a fault they are those
+  -- the solution's streams extend the outputs as they are raised before the work, and as they are after it. After a fault the streams are
+  -- the outputs after it.
   pub before : AreExtendedBy (raised_before node.shape.offset phase (stage job.job streams node n).outputs) (streams_at streams node.outputs)
   pub extended : AreExtendedBy (behind_work job streams node n phase).outputs (streams_at streams node.outputs)
   pub frozen : (f : Failure) → (behind_work job streams node n phase).fault ≡ Some f → streams_at streams node.outputs ≡ (behind_work job streams node n phase).outputs
   -- it lays the answer
   pub outputs : (behind_work job streams node n phase).outputs ≡ outputs_at node.shape.offset phase (stage job.job streams node n).outputs answer
   pub fault : (behind_work job streams node n phase).fault ≡ failure_at node.shape.offset phase (stage job.job streams node n).outputs answer
-  -- what the calculator keeps and its log has is what the node has come to; other calculators keep nothing
+  -- the calculator keeps the state that the node has reached, and its log has the node's calls; other calculators keep nothing
   pub state : context.told.state ≡ (behind_work job streams node n phase).state
   pub log : calls_before streams node n ++ calls_in phase context.set ≡ calls_by streams node (n + calls_in_phase phase) (is_close phase)
   pub nothing : node.shape.stateless ≡ true → (behind_work job streams node n phase).state ≡ (stage job.job streams node n).state

@@ -65,7 +65,7 @@ handed_out engine engine_now phase more context work t order node_is number_is p
       phase_is = sym phase_is;
     }
 
--- where a further set or call comes, no Close is claimed
+-- if a further set or call comes, no Close is claimed
 none_before : {laws : Laws} (job : LoggedJob laws) (number : ℕ) (engine engine_now : EngineView) (phase : Phase) (more : ℕ) (context : ContextView) → LawfulEngine job (of_node number) engine → LawfulEngine job (of_node number) engine_now → is_close phase ≡ false
     → Hands engine engine_now phase more context → engine.laid + length engine.window ≡ engine.claimed
 unfolding LawfulEngine
@@ -125,7 +125,7 @@ claim_out {laws} Draining engine engine_now intake intake_now cell claims = tt
 claim_out {laws} Ended engine engine_now intake intake_now cell claims = tt
 claim_out {laws} OutOfMemory engine engine_now intake intake_now cell claims = tt
 
--- A work that is found in its window is that of its number there, and out once it is taken; and it can be put back.
+-- A work that is found in its window is the work of its number there. It is out once it is taken, and it can be put back.
 
 record IsFoundAt {laws : Laws} (job : LoggedJob laws) (owner number : ℕ) (engine : EngineView) (p : PerformedView) : Type 0 where
   pub laid : engine.laid ≤ number

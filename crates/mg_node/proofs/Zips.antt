@@ -17,7 +17,7 @@ module _ {X Y : Type 0} (R : X → Y → Type 0) where
   zip_set (u ∷ xs) (v ∷ ys) zero x y z r = (r, z.1)
   zip_set (u ∷ xs) (v ∷ ys) (suc i) x y z r = (z.0, zip_set xs ys i x y z.1 r)
 
-  -- where only the left one changes
+  -- if only the left one changes
   pub zip_left : (xs : List X) (ys : List Y) (i : ℕ) (x : X) (e : Y) → AllZip R xs ys → i < length xs → R x (get_or ys i e) → AllZip R (set xs i x) ys
   zip_left [] [] i x e z le r = z
   zip_left [] (v ∷ ys) i x e z le r = absurd z
@@ -37,7 +37,7 @@ map-set f [] i x = refl
 map-set f (u ∷ xs) zero x = refl
 map-set {X} {Y} f (u ∷ xs) (suc i) x = ap (λ (ys : List Y). f u ∷ ys) (map-set f xs i x)
 
--- a pair at a place, where there is one
+-- a pair at a place, if there is one
 pub zip_put : {X Y : Type 0} (R : X → Y → Type 0) (xs : List X) (ys : List Y) (i : ℕ) (x : X) (y : Y) → AllZip R xs ys → (i < length xs → R x y) → AllZip R (set xs i x) (set ys i y)
 zip_put R [] [] i x y z r = z
 zip_put R [] (v ∷ ys) i x y z r = absurd z

@@ -12,18 +12,18 @@ use Rattle.mg_node.specs.Views.{EntryView, EngineView}
 use Rattle.mg_node.specs.Ports.{horizon_of}
 use Rattle.mg_node.specs.Windows.{has_ended}
 
--- the lesser of a time and the time of a phase, where that is a set
+-- the lesser of a time and the time of a phase, if the phase has a set
 abbrev pub until_phase : Phase → ℕ → ℕ
 until_phase (Process at) t = min at t
 until_phase phase t = t
 
--- the lesser of a time and the time of the first set that is claimed and not laid, if there is one; the sets of a window are in order
+-- the lesser of a time and the time of the first set that is claimed and not laid, if there is one. The sets of a window are in order.
 abbrev pub until_claimed : List EntryView → ℕ → ℕ
 until_claimed [] t = t
 until_claimed (entry ∷ entries) t = until_phase entry.phase t
 
--- the bound to which a time t raises the outputs of a node: t itself at a loopback, t moved by the offset at a node with an offset, and
--- none at every other node
+-- the bound to which a time t raises the outputs of a node. At a loopback this bound is t itself, and at a node with an offset it is t
+-- moved by the offset. Every other node has no such bound.
 abbrev pub raised_by : Role → Option ℤ → ℕ → Option ℕ
 raised_by Loop offset t = Some t
 raised_by role None t = None

@@ -1,5 +1,5 @@
--- The work of a node's next set that is claimed, performed and committed in one call, which leaves what the three calls leave one after the
--- other.
+-- The work of a node's next set that is claimed, performed and committed in one call. This call leaves what the three calls leave one after
+-- the other.
 use Rattle.mg_calc.specs.Rules.{Laws}
 use Rattle.std.specs.Prelude.{◌≡◌, ℕ, ◌<◌, false, [], length, ⊤}
 use Rattle.mg_node.specs.declared.at_once.AtOnce.{AtOnce}

@@ -1,5 +1,5 @@
--- How the engine of a node is begun: its calculator is opened with the node's side packets, and what it emits is laid. Where memory for
--- laying is short, the calculator isn't opened again later: its answer stands in the window until it is laid.
+-- How the engine of a node is begun: its calculator is opened with the node's side packets, and the emission is laid. If memory for laying
+-- is short, the calculator isn't opened again later: its answer stands in the window until it is laid.
 use Rattle.std.specs.Prelude.{◌≡◌, ℕ, ◌-◌, ◌⊎◌, List, [], ◌∷◌, ◌++◌, length, map, replicate, Option, Some, option_map, Result, true, slice_get}
 use Rattle.mg_value.specs.Payload.{Plain}
 use Rattle.mg_calc.specs.Rules.{Laws, Rules}
@@ -20,8 +20,8 @@ use Rattle.mg_node.specs.Lawful.{HasAnswered}
 use Rattle.mg_node.specs.Outputs.{kept_whole}
 use Rattle.mg_node.specs.Fresh.{own_told, context_of, fresh_engine}
 
--- a calculator was opened with side packets: it has answered what its law gives, keeps the new state, or nothing where the answer is a
--- cause, and has the call in its log
+-- a calculator was opened with side packets. It has answered what its law gives, and has the call in its log. It keeps the new state, or
+-- nothing if the answer is a cause.
 pub record IsOpened (laws : Laws) (before now : HolderView) (sides : List (Option Plain)) (answer : Result (List Laid) Cause) : Type 0 where
   pub answered : HasAnswered answer [] now.state ((held_rules laws before).opening sides)
   pub log : now.log ≡ with_call before.log Begun
@@ -52,7 +52,7 @@ pub record HasOpened (laws : Laws) (node : PlanNode) (number : ℕ) (told : Hold
 abbrev pub IsUnbegun : Laws → PlanNode → ℕ → HolderView → List (Option Plain) → EngineView → Type 0
 IsUnbegun laws node number told sides view = (view ≡ fresh_engine node number told) ⊎ HasOpened laws node number told sides view
 
--- what a node has come to once it is opened, by the rules of its calculator
+-- the outcome of a node once it is opened, by the rules of its calculator
 abbrev pub opened_node : Rules → PlanNode → List (Option Plain) → Outcome
 opened_node rules node sides = opened rules node.shape.offset (length node.outputs) sides
 
@@ -71,15 +71,15 @@ pub record HasBegun (laws : Laws) (node : PlanNode) (number : ℕ) (told : Holde
     fault = option_map (λ f. record { node = number; phase = f.phase; cause = f.cause }) (opened_node (held_rules laws told) node sides).fault;
   }
 
--- a calculator is the one that a job has for a node at the start: it fits the node, and its log and state are as the job tells them
+-- a calculator is the one that a job has for a node at the start. It fits the node, and its log and state are as the job tells them.
 pub record IsHanded {laws : Laws} (job : LoggedJob laws) (number : ℕ) (node : PlanNode) (told : HolderView) : Type 0 where
   pub there : slice_get job.job.plan.nodes number ≡ Some node
   pub fits : FitsHolder node told
   pub log : told.log ≡ first_log job node
   pub kept : KeepsFirst job node told.state
 
--- an engine that isn't begun is lawful for a job: it is made of the node and of the job's calculator for it, and where that was opened, it
--- was with the node's side packets
+-- an engine that isn't begun is lawful for a job: it is made of the node and of the job's calculator for it. If the calculator was opened,
+-- it was opened with the node's side packets.
 pub record IsUnbegunOf {laws : Laws} (job : LoggedJob laws) (number : ℕ) (view : EngineView) : Type 0 where
   pub node : PlanNode
   pub told : HolderView
@@ -90,8 +90,8 @@ pub record IsUnbegunOf {laws : Laws} (job : LoggedJob laws) (number : ℕ) (view
 unfoldable pub LawfulUnbegun : {laws : Laws} → LoggedJob laws → ℕ → EngineView → Type 0
 LawfulUnbegun {laws} job number view = IsUnbegunOf job number view
 
--- an engine isn't begun: it is made of some node, number and calculator, and where the calculator was opened, it was with these side
--- packets
+-- an engine isn't begun: it is made of some node, number and calculator. If the calculator was opened, it was opened with these side
+-- packets.
 pub record SomeUnbegun (laws : Laws) (sides : List (Option Plain)) (view : EngineView) : Type 0 where
   pub node : PlanNode
   pub number : ℕ

@@ -1,5 +1,5 @@
--- Claims: what an engine and its intake give next, and what that leaves. Each answer is given only where its case holds. No two cases hold
--- at once, but for want of memory, which may stand in place of another answer at a loopback.
+-- Claims: what an engine and its intake give next, and what that leaves. Each answer is given only if its case holds. No two cases hold at
+-- once, with one exception: at a loopback, out of memory may stand in place of another answer.
 use Rattle.std.specs.Prelude.{◌≡◌, ℕ, ◌+◌, ◌<◌, ◌≤◌, Bool, true, false, List, [], ◌∷◌, ◌++◌, length, slice_get, slice_set, Option, Some, None, IsSomeAnd, is_some, ◌⊎◌, if◌then◌else◌, ⊤}
 use Rattle.mg_time.specs.Time.{next as next_time}
 use Rattle.mg_value.specs.Payload.{Plain}
@@ -42,7 +42,7 @@ abbrev pub first_unrun : ℕ → List EntryView → Option ℕ
 first_unrun n [] = None
 first_unrun n (entry ∷ entries) = if is_unrun entry then Some n else first_unrun (n + 1) entries
 
--- no more works come but Close: a source has had its calls, and at every other node nothing comes any more
+-- no more works come but Close: all calls of a source are claimed, and at every other node nothing comes any more
 abbrev pub IsOver : Role → ℕ → Pending → Type 0
 IsOver (Source calls) claimed waits = calls ≤ claimed
 IsOver role claimed waits = IsNext waits AtEnd
@@ -52,9 +52,9 @@ abbrev pub IsEarly : Role → Pending → Type 0
 IsEarly (Source calls) waits = ⊥
 IsEarly role waits = IsNext waits NotYet
 
--- the next input set of an intake is taken. The set has these packets, which are those of its number in the solution of every job for which
--- the intake is lawful; the intake stays lawful, and its standing grows. At each port the packets that go with the set are gone, and no
--- others; as many are counted as before, and the bound is the same.
+-- the next input set of an intake is taken. The set has these packets. For every job for which the intake is lawful, they are the packets
+-- of the solution's set of the same number. The intake stays lawful, and its standing grows. At each port the packets that go with the set
+-- are gone, and no others. Each port counts as many packets as before, and its bound is the same.
 pub record Takes (intake now : IntakeView) (set : List (Option (Stamped Plain))) : Type 0 where
   pub shown : IsSomeAnd (next_set_of intake.waits) (λ e. set ≡ e.set)
   pub counted : now.claimed ≡ intake.claimed + 1
@@ -66,12 +66,12 @@ pub record Takes (intake now : IntakeView) (set : List (Option (Stamped Plain)))
   pub stays_lawful : {laws : Laws} (job : LoggedJob laws) (consumer : ℕ) → LawfulIntake job consumer intake → LawfulIntake job consumer now
   pub in_solution : {laws : Laws} (job : LoggedJob laws) (consumer : ℕ) (streams : List (StreamPrefix Plain)) → Solves job streams → LawfulIntake job consumer intake → HasSet job streams consumer intake.claimed set
 
--- an output with a loopback's answer behind its packets, where that isn't nothing
+-- an output with a loopback's answer after its packets, if the answer isn't nothing
 abbrev pub with_reply : Option (Stamped Plain) → Backlog Plain → Backlog Plain
 with_reply None b = b
 with_reply (Some p) b = record { gone = b.gone; packets = b.packets ++ p ∷ []; bound = next_time p.at }
 
--- the outputs of a loopback, of which there is one, with its answer
+-- the outputs of a loopback with its answer; a loopback has one output
 abbrev pub with_answer : Option (Stamped Plain) → List (Backlog Plain) → List (Backlog Plain)
 with_answer answer [] = []
 with_answer answer (b ∷ bs) = with_reply answer b ∷ bs
@@ -101,8 +101,8 @@ pub record TakesUnrun (engine engine_now : EngineView) (work : WorkView) : Type 
   pub hands : HandsOut engine.window engine_now.window place work
   pub now : engine_now ≡ record engine { window = engine_now.window }
 
--- a work is claimed, with the last idle context: it has the next number, and its entry stands behind the others in the window. The count of
--- claims grows by `more`, which is 0 for Close.
+-- a work is claimed, with the last idle context: it has the next number, and its entry comes last in the window. The count of claims grows
+-- by `more`, which is 0 for Close.
 pub record Hands (engine engine_now : EngineView) (phase : Phase) (more : ℕ) (context : ContextView) : Type 0 where
   pub idle : engine.idle ≡ engine_now.idle ++ context ∷ []
   pub now : engine_now ≡ record engine {

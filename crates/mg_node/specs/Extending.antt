@@ -10,11 +10,11 @@ use Rattle.mg_node.specs.Job.{LoggedJob}
 use Rattle.mg_node.specs.Lawful.{LawfulEngine, of_input}
 use Rattle.mg_node.specs.Outputs.{laid_at}
 
--- a prefix with a further one behind it; the greater of the two bounds stands
+-- a prefix with a further prefix after it; the greater of the two bounds stands
 abbrev pub joined : {X : Type 0} → StreamPrefix X → StreamPrefix X → StreamPrefix X
 joined s more = record { packets = s.packets ++ more.packets; bound = max s.bound more.bound }
 
--- an output with a prefix behind what it keeps; what was given up stays given up
+-- an output with a prefix after what it keeps; what was given up stays given up
 abbrev pub lengthened : Backlog Plain → StreamPrefix Plain → Backlog Plain
 lengthened output more = record { gone = output.gone; packets = output.packets ++ more.packets; bound = max output.bound more.bound }
 
@@ -22,13 +22,13 @@ lengthened output more = record { gone = output.gone; packets = output.packets +
 abbrev pub extended : EngineView → StreamPrefix Plain → EngineView
 extended engine more = record engine { outputs = map (λ output. lengthened output more) engine.outputs }
 
--- a queue may be lengthened by a prefix: what it stands for, with that behind, is still a prefix
+-- a queue may be lengthened by a prefix: what it stands for, with that prefix after it, is still a prefix
 pub record MayLengthen (q : Waiting Plain) (more : StreamPrefix Plain) : Type 0 where
   pub whole : StreamPrefix Plain
   pub stands : StandsFor q whole
   pub is_prefix : IsPrefix (joined whole more)
 
--- an engine may be extended: there is a job for which it is the lawful engine of a graph input, and its output may be lengthened
+-- an engine may be extended: for some job it is the lawful engine of a graph input, and its output may be lengthened
 pub record MayExtend (laws : Laws) (engine : EngineView) (more : StreamPrefix Plain) : Type 0 where
   pub job : LoggedJob laws
   pub input : ℕ

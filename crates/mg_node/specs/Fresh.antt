@@ -1,5 +1,5 @@
--- How the engine of a node is made: nothing is laid and nothing is claimed. One calculator is handed in; where several sets may be
--- worked on at once, the node's law and shape give the others, which keep nothing.
+-- How the engine of a node is made: nothing is laid and nothing is claimed. The engine is given one calculator. If several sets may be
+-- worked on at once, the node's law and shape give the other calculators, and these keep nothing.
 use Rattle.std.specs.Prelude.{ℕ, ◌-◌, List, [], ◌∷◌, ◌++◌, length, replicate, None, false, slice_index_or}
 use Rattle.mg_stream.specs.Pool.{empty_backlog}
 use Rattle.mg_calc.specs.declared.plan_node.PlanNode.{PlanNode}
@@ -7,7 +7,7 @@ use Rattle.mg_route.specs.HolderView.{HolderView}
 use Rattle.mg_node.specs.Views.{ContextView, EngineView}
 use Rattle.mg_node.specs.Job.{role_of}
 
--- a calculator of the node's own kind, before it is opened: it wasn't handed in
+-- a calculator that the node makes itself, before it is opened; it isn't user-supplied
 abbrev pub own_told : PlanNode → HolderView
 own_told node = record { law = node.law; shape = node.shape; state = []; log = None; handed = false }
 
@@ -15,7 +15,7 @@ own_told node = record { law = node.law; shape = node.shape; state = []; log = N
 abbrev pub context_of : PlanNode → HolderView → ContextView
 context_of node told = record { told = told; set = replicate (length node.inputs) None }
 
--- the contexts of a node: as many as works may be claimed, the last one with the calculator that is handed in
+-- the contexts of a node: as many as works may be claimed, the last one with the given calculator
 abbrev pub contexts_of : PlanNode → HolderView → List ContextView
 contexts_of node told = replicate (node.in_flight - 1) (context_of node (own_told node)) ++ context_of node told ∷ []
 

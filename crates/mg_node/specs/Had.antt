@@ -1,4 +1,4 @@
--- The calls that a calculator which was handed in has had, beside those that its node has in the solution.
+-- The calls that a user-supplied calculator has had, compared with those that its node has in the solution.
 use Rattle.std.specs.Prelude.{◌≡◌, ◌⊎◌, ℕ, suc, ◌≤◌, Bool, true, false, List, Some, [], ◌∷◌, ◌++◌, map, take, if◌then◌else◌, Option, None}
 use Rattle.mg_value.specs.Payload.{Plain}
 use Rattle.mg_settled.specs.Prefix.{StreamPrefix}
@@ -16,7 +16,7 @@ use Rattle.mg_calc.specs.declared.node_fault.Phase.{Phase}
 use Rattle.mg_node.specs.Job.{LoggedJob, KeepsFirst, stage, log_after}
 use Rattle.mg_node.specs.Lawful.{kept_after}
 
--- whether a node with this fault, or with none, had its calculator closed: not where Open failed
+-- whether a node with this fault, or with none, had its calculator closed: not if Open failed
 abbrev pub opens_well : Phase → Bool
 opens_well Open = false
 opens_well phase = true
@@ -25,7 +25,7 @@ abbrev pub had_close : Option Failure → Bool
 had_close None = true
 had_close (Some failure) = opens_well failure.phase
 
--- what a node's calculator keeps after its first sets, and perhaps Close behind them
+-- what a node's calculator keeps after its first `shown` sets, and after Close too if `close` is true
 abbrev pub state_by : Job → List (StreamPrefix Plain) → PlanNode → ℕ → Bool → List Plain
 state_by job solution node shown close =
     if close then kept_after ((rules_at job node).finish (stage job solution node shown).state) (stage job solution node shown).state
@@ -37,14 +37,15 @@ pub record HadCalls {laws : Laws} (job : LoggedJob laws) (solution : List (Strea
   pub log : told.log ≡ log_after job node (log_of job.job solution node)
   pub fits : FitsNode node told.law told.shape
 
--- the first calls of a node's calculator, a number of them: Open, and a Process for each set that the node is shown; and perhaps Close
--- behind them
+-- the first `count` calls of a node's calculator: Open, and a Process for each set that the node is shown. Close follows them if `close` is
+-- true.
 abbrev pub front_calls : {laws : Laws} → LoggedJob laws → List (StreamPrefix Plain) → PlanNode → ℕ → Bool → List Call
 front_calls {laws} job solution node count close =
     take count (Begun ∷ map (λ e. Shown e.at e.set) (shown_sets job.job solution node)) ++ (if close then Finished ∷ [] else [])
 
--- a calculator had a front of its node's calls; it had Close only behind Open; before Open it keeps what it kept at the start, and from
--- Open on what its node has come to after the sets that it was shown, and what Close gives of that where it had Close
+-- a calculator had a prefix of its node's calls, and perhaps Close after them; it had Close only after Open. Before Open it keeps what it
+-- kept at the start. From Open on it keeps its node's state after the sets that it was shown. If it had Close, it keeps what Close gives of
+-- that state.
 pub record HadFront {laws : Laws} (job : LoggedJob laws) (solution : List (StreamPrefix Plain)) (node : PlanNode) (told : BoxTold) : Type 0 where
   pub count : ℕ
   pub close : Bool
@@ -60,7 +61,8 @@ pub record FailsToOpen (job : Job) (streams : List (StreamPrefix Plain)) (node :
   pub fails : (outcome_of job streams node).fault ≡ Some failure
   pub in_open : failure.phase ≡ Open
 
--- a calculator isn't left open: it had a front of its node's calls with Open, and Close behind it, or no Close where Open failed
+-- a calculator isn't left open: it had a prefix of its node's calls with Open, and Close after it. If the node fails in Open, the
+-- calculator had no Close.
 pub record HadClose {laws : Laws} (job : LoggedJob laws) (solution : List (StreamPrefix Plain)) (node : PlanNode) (told : BoxTold) : Type 0 where
   pub front : HadFront job solution node told
   pub begun : 1 ≤ front.count

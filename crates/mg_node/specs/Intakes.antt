@@ -20,8 +20,8 @@ use Rattle.mg_node.specs.Views.{IntakeView}
 use Rattle.mg_node.specs.Job.{LoggedJob, ports_of, policy_of, law_of, streams_at}
 use Rattle.mg_node.specs.Lawful.{HoldsWaits, LawfulIntake}
 
--- what waits at a consumer to which nothing came yet: an empty loopback where that is the consumer's law, and otherwise an empty inbox with
--- the consumer's policy and ports
+-- what waits at a consumer to which nothing came yet: an empty loopback if that is the consumer's law, and otherwise an empty inbox. The
+-- inbox has the consumer's policy and ports.
 abbrev pub HoldsNone : Plan → ℕ → Pending → Type 0
 HoldsNone plan consumer (Sets inbox) = ¬ (law_of plan consumer ≡ Some Loopback)
     × (inbox ≡ record { policy = policy_of plan consumer; pool = record { ports = replicate (length (ports_of plan consumer)) empty_backlog; spare = 0 } })
@@ -32,13 +32,13 @@ pub record IsFresh (plan : Plan) (consumer : ℕ) (intake : IntakeView) : Type 0
   pub claimed : intake.claimed ≡ 0
   pub holds : HoldsNone plan consumer intake.waits
 
--- the input set that is claimed next, where there is one; a loopback has none
+-- the input set that is claimed next, if there is one; a loopback has none
 abbrev pub next_set_of : Pending → Option (TimedSet Plain)
 next_set_of (Sets inbox) = next_set inbox.policy (queues_of inbox.pool)
 next_set_of (Loop held) = None
 
--- what waits once the next set is claimed: at each port what waited before, without the packets that go with the set; the policy is the
--- same
+-- what waits once the next set is claimed: at each port what waited before, without the packets that go with the set. The policy is the
+-- same.
 abbrev pub IsLeft : Pending → Pending → Type 0
 IsLeft (Sets inbox) (Sets now) = (now.policy ≡ inbox.policy) × (rests (queues_of now.pool) ≡ after_sets inbox.policy 1 (rests (queues_of inbox.pool)))
 IsLeft waits now = ⊥
@@ -55,8 +55,8 @@ pub record HasSet {laws : Laws} (job : LoggedJob laws) (streams : List (StreamPr
   pub at : ℕ
   pub is : slice_get (settled_sets (policy_of job.job.plan consumer) (streams_at streams (ports_of job.job.plan consumer))) number ≡ Some (record { at = at; set = set })
 
--- the next set of what waits is claimed: one more set is claimed of what waits then, still a number of 64 bits, and the set is the one of
--- its number in the solution
+-- the next set of what waits is claimed, and it is the set of its number in the solution. One more set is claimed of what waits then; the
+-- number of claimed sets still has 64 bits.
 pub record ClaimsSet {laws : Laws} (job : LoggedJob laws) (streams : List (StreamPrefix Plain)) (consumer claimed : ℕ) (now : Pending) (set : List (Option (Stamped Plain))) : Type 0 where
   pub holds : HoldsWaits job streams consumer (claimed + 1) now
   pub few : claimed + 1 ≤ done
@@ -77,7 +77,7 @@ abbrev pub HasLoop : Pending → Type 0
 HasLoop (Sets inbox) = ⊥
 HasLoop (Loop held) = ⊤
 
--- what an intake answers to the next packet of MAIN, and what that leaves: nothing changes where the answer can't be told
+-- what an intake answers to the next packet of MAIN, and what that leaves: nothing changes if the answer can't be told
 abbrev pub AnswersBy : Pending → Answered → IntakeView → IntakeView → Type 0
 AnswersBy (Sets inbox) result before now = ⊥
 AnswersBy (Loop held) result before now =

@@ -1,5 +1,5 @@
--- What a job makes of each of its nodes, after a number of its sets, calls or answers: the solution's whole streams tell
--- which sets there are, and what becomes of the node at each of them.
+-- What a job makes of each of its nodes, after a number of its sets, calls or answers. The solution's whole streams tell which sets there
+-- are, and what becomes of the node at each of them.
 use Rattle.std.specs.Prelude.{◌≡◌, ℕ, ◌<◌, List, [], ◌∷◌, ◌++◌, map, take, length, Option, Some, None, option_map, unwrap_or, slice_get, slice_index_or, ⊤}
 use Rattle.std.specs.List.{fold, filter_map, range_with_len}
 use Rattle.std.specs.Option.{option_and_then}
@@ -27,13 +27,13 @@ use Rattle.mg_calc.specs.Equations.{Job, IsJob, IsSolution, sides_of, inputs_of,
 use Rattle.mg_node.specs.declared.role.Role.{Role}
 use Rattle.mg_node.specs.declared.role.Role.TheVariants.{Source, Loop, Sets}
 
--- a job whose stated laws have these rules, and the calculators that are handed in, as each was at its start
+-- a job whose stated laws have these rules, and the user-supplied calculators, as each was at its start
 pub record LoggedJob (laws : Laws) : Type 0 where
   pub job : Job
   pub boxes : List BoxTold
   pub same : job.laws ≡ laws
 
--- some streams are the solution of a job, whose plan is valid and whose inputs fit it
+-- some streams are the solution of a job; the job's plan is valid, and its inputs fit the plan
 pub record Solves {laws : Laws} (job : LoggedJob laws) (streams : List (StreamPrefix Plain)) : Type 0 where
   pub is_job : IsJob job.job
   pub solution : IsSolution job.job streams
@@ -88,8 +88,8 @@ count_by law streams node = length (sets_of streams node)
 abbrev pub count_of_all : List (StreamPrefix Plain) → PlanNode → ℕ
 count_of_all streams node = count_by node.law streams node
 
--- no more sets or answers of a node come, by its law: its sets reach the end of all times; at a loopback each packet of MAIN is answered,
--- and MAIN has ended; a source never has more than its calls
+-- no more sets or answers of a node come, by its law: its sets reach the end of all times. At a loopback each packet of MAIN is answered,
+-- and MAIN has ended. Of a source this always holds, as it never has more than its calls.
 abbrev pub IsOverBy : Law → List (StreamPrefix Plain) → PlanNode → Type 0
 IsOverBy (Count count start step) streams node = ⊤
 IsOverBy (SideOnce at) streams node = ⊤
@@ -102,8 +102,8 @@ IsOverBy law streams node = reach node.policy (inputs_of streams node) ≡ done
 abbrev pub answered : ℕ → StreamPrefix Plain → StreamPrefix Plain → StreamPrefix Plain
 answered n main loop = all_appended empty_prefix (filter_map packet_of (take n (replies main loop)))
 
--- what a node has come to after its first n sets, calls or answers, by its law: it was opened, and then shown these sets or called so
--- often, up to its first fault
+-- the outcome of a node after its first n sets, calls or answers, by its law. The node was opened, and then shown these sets or called so
+-- often, up to its first fault.
 abbrev pub stage_by : Law → Job → List (StreamPrefix Plain) → PlanNode → ℕ → Outcome
 stage_by (Count count start step) job streams node n = fold (called node.law) (opened (rules_at job node) None (length node.outputs) (sides_of job node)) (range_with_len 0 n)
 stage_by (SideOnce at) job streams node n = fold (called node.law) (opened (rules_at job node) None (length node.outputs) (sides_of job node)) (range_with_len 0 n)
@@ -111,7 +111,7 @@ stage_by Constants job streams node n = fold (called node.law) (opened (rules_at
 stage_by Loopback job streams node n = record { state = []; outputs = answered n (main_of streams node) (loop_of streams node) ∷ []; taken = n; fault = None }
 stage_by law job streams node n = shown_all (rules_at job node) node.shape.offset (length node.outputs) (sides_of job node) (take n (sets_of streams node))
 
--- what a node has come to after its first n sets, calls or answers
+-- the outcome of a node after its first n sets, calls or answers
 abbrev pub stage : Job → List (StreamPrefix Plain) → PlanNode → ℕ → Outcome
 stage job streams node n = stage_by node.law job streams node n
 
@@ -130,7 +130,7 @@ IsTask job streams node number Close set = IsLastWork job streams node number
 
 -- Logs.
 
--- the log that a node's calculator had at the start, where it tells one
+-- the log that a node's calculator had at the start, if it tells one
 abbrev pub first_log : {laws : Laws} → LoggedJob laws → PlanNode → Option (List Call)
 first_log {laws} job node = option_and_then (λ number. option_and_then (λ box. box.log) (slice_get job.boxes number)) node.box_number
 
@@ -138,7 +138,7 @@ first_log {laws} job node = option_and_then (λ number. option_and_then (λ box.
 abbrev pub KeepsFirst : {laws : Laws} → LoggedJob laws → PlanNode → List Plain → Type 0
 KeepsFirst {laws} job node state = (number : ℕ) (box : BoxTold) → node.box_number ≡ Some number → slice_get job.boxes number ≡ Some box → state ≡ box.state
 
--- the log of a node's calculator after some calls, where it tells one
+-- the log of a node's calculator after some calls, if it tells one
 abbrev pub log_after : {laws : Laws} → LoggedJob laws → PlanNode → List Call → Option (List Call)
 log_after {laws} job node calls = option_map (λ before. before ++ calls) (first_log job node)
 

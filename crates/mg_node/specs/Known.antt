@@ -7,8 +7,8 @@ use Rattle.mg_node.specs.Views.{EngineView}
 use Rattle.mg_node.specs.Job.{LoggedJob}
 use Rattle.mg_node.specs.Lawful.{IsSetUp}
 
--- the engine of a node: it is set up by the node and begun, it has an output for each of the node's, no more is laid than is claimed,
--- and each of its contexts is idle or with a work
+-- the engine of a node: it is set up by the node and begun, and has an output for each output of the node. No more is laid than is claimed,
+-- and each of its contexts is idle or with a work.
 pub record IsKnown (node : PlanNode) (number : ℕ) (view : EngineView) : Type 0 where
   pub set_up : IsSetUp node number view
   pub begun : view.begun ≡ true

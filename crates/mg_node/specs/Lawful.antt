@@ -37,23 +37,23 @@ use Rattle.mg_node.specs.Job.{LoggedJob, Solves, ports_of, policy_of, law_of, st
 
 -- Intakes.
 
--- what waits for sets is lawful: what came at each port is a prefix that the solution's stream at that port extends; the first `claimed`
--- sets of what came are claimed, and what waits is the rest
+-- what waits for sets is lawful: what came at each port is a prefix that the solution's stream at that port extends. The first `claimed`
+-- sets of what came are claimed, and what waits is the rest.
 pub record HoldsSets {laws : Laws} (job : LoggedJob laws) (streams : List (StreamPrefix Plain)) (consumer claimed : ℕ) (inbox : Gathered) : Type 0 where
   pub policy : inbox.policy ≡ policy_of job.job.plan consumer
   pub came : List (StreamPrefix Plain)
   pub extended : AreExtendedBy came (streams_at streams (ports_of job.job.plan consumer))
   pub stands : StandAfter inbox.policy claimed (queues_of inbox.pool) came
 
--- what waits at a loopback is lawful: what came at MAIN and LOOP are prefixes that the solution's streams extend, and of these the first
--- `claimed` answers are given
+-- what waits at a loopback is lawful: what came at MAIN and LOOP are prefixes that the solution's streams extend. The first `claimed`
+-- answers to these prefixes are given.
 pub record HoldsLoop {laws : Laws} (job : LoggedJob laws) (streams : List (StreamPrefix Plain)) (consumer claimed : ℕ) (held : Held Plain) : Type 0 where
   pub main : StreamPrefix Plain
   pub loop : StreamPrefix Plain
   pub extended : AreExtendedBy (loop ∷ main ∷ []) (streams_at streams (ports_of job.job.plan consumer))
   pub stands : StandsAfter claimed held main loop
 
--- what waits at a consumer is lawful: a loopback's where that is the consumer's law, and otherwise what waits for sets
+-- what waits at a consumer is lawful: a loopback's if that is the consumer's law, and otherwise what waits for sets
 abbrev pub HoldsWaits : {laws : Laws} → LoggedJob laws → List (StreamPrefix Plain) → ℕ → ℕ → Pending → Type 0
 HoldsWaits {laws} job streams consumer claimed (WaitingSets inbox) = ¬ (law_of job.job.plan consumer ≡ Some Loopback) × HoldsSets job streams consumer claimed inbox
 HoldsWaits {laws} job streams consumer claimed (WaitingLoop held) = (law_of job.job.plan consumer ≡ Some Loopback) × HoldsLoop job streams consumer claimed held
@@ -78,12 +78,12 @@ answer_in rules law state (SourceCall number) set = call law state number
 answer_in rules law state (Process at) set = rules.step state at set
 answer_in rules law state Close set = rules.finish state
 
--- a calculator has answered: it keeps the new state of its answer, or still the old one where the answer is a cause
+-- a calculator has answered: it keeps the new state of its answer, or still the old state if the answer is a cause
 abbrev pub HasAnswered : Result (List Laid) Cause → List Plain → List Plain → Answer → Type 0
 HasAnswered (Ok emission) before now answer = answer ≡ Ok (now, emission)
 HasAnswered (Err cause) before now answer = (answer ≡ Err cause) × (now ≡ before)
 
--- what a calculator keeps once it has answered: the new state, or still the old one where the answer is a cause
+-- what a calculator keeps once it has answered: the new state, or still the old state if the answer is a cause
 abbrev pub kept_after : Answer → List Plain → List Plain
 kept_after (Ok given) before = given.0
 kept_after (Err cause) before = before
@@ -98,8 +98,8 @@ IsAtWork {laws} job streams node work (Some answer) =
     (answer_in (rules_at job.job node) node.law (stage job.job streams node work.number).state work.phase work.context.set)
     × (work.context.told.log ≡ log_after job node (calls_before streams node work.number ++ calls_in work.phase work.context.set))
 
--- a work of a job, perhaps with its answer: its calculator fits the node, it is one of the node's works, and its set is the one of its
--- number
+-- a work of a job, perhaps with its answer. The work is one of its node's works, and its calculator fits the node. Its set is the set of
+-- its number.
 pub record IsWorkOf {laws : Laws} (job : LoggedJob laws) (view : OutcomeView) : Type 0 where
   pub streams : List (StreamPrefix Plain)
   pub solves : Solves job streams
@@ -147,11 +147,11 @@ pub record IsRaised (s raised : StreamPrefix Plain) : Type 0 where
   pub packets : raised.packets ≡ s.packets
   pub bound : s.bound ≤ raised.bound
 
--- what a node has come to once `laid` of its sets, calls or answers are laid, and Close too where it is `closed`
+-- the outcome of a node once `laid` of its sets, calls or answers are laid, and Close too if it is `closed`
 abbrev pub come_to : {laws : Laws} → LoggedJob laws → List (StreamPrefix Plain) → PlanNode → ℕ → Bool → Outcome
 come_to {laws} job streams node laid closed = if closed then outcome_of job.job streams node else stage job.job streams node laid
 
--- the calls that a node's calculator has had once `laid` of its sets are laid, and Close too where it is `closed`
+-- the calls that a node's calculator has had once `laid` of its sets are laid, and Close too if it is `closed`
 abbrev pub calls_by : List (StreamPrefix Plain) → PlanNode → ℕ → Bool → List Call
 calls_by streams node laid closed = calls_before streams node laid ++ (if closed then Finished ∷ [] else [])
 
@@ -174,7 +174,7 @@ pub record StandsAt {laws : Laws} (job : LoggedJob laws) (node number : ℕ) (ph
   pub phase_is : outcome.work.phase ≡ phase
   pub lawful : LawfulOutcome job outcome
 
--- an entry of a window, by its number: its work is out, or came back unrun or performed. Only what was performed is committed, and Close is
+-- an entry of a window, by its number: its work is out, or came back unrun or performed. Only a performed work is committed, and Close is
 -- claimed once all else is laid.
 pub record IsEntry {laws : Laws} (job : LoggedJob laws) (streams : List (StreamPrefix Plain)) (node : PlanNode) (laid number : ℕ) (owner : ℕ) (entry : EntryView) : Type 0 where
   pub set : List (Option (Stamped Plain))
@@ -191,7 +191,7 @@ pub record IsEngineOf {laws : Laws} (job : LoggedJob laws) (number : ℕ) (view 
   pub there : slice_get job.job.plan.nodes number ≡ Some node
   pub set_up : IsSetUp node number view
   pub begun : view.begun ≡ true
-  -- what is laid is claimed, and no more than the node has; Close is laid only behind all of it
+  -- no more is laid than is claimed, and no more than the node has; Close is laid only after all of it
   pub claimed : view.laid ≤ view.claimed
   pub taken : view.laid ≤ count_of job.job streams node
   pub closed : view.closed ≡ true → IsLastWork job.job streams node view.laid
@@ -244,7 +244,7 @@ AgreeBy role claimed of_intake = claimed ≡ of_intake
 abbrev pub Agree : EngineView → IntakeView → Type 0
 Agree engine intake = AgreeBy engine.role engine.claimed intake.claimed
 
--- an engine and an intake are one cell: there is a job of which both are lawful parts of one node, and they agree
+-- an engine and an intake are one cell: for some job both are lawful parts of one node, and they agree
 pub record AreCell (laws : Laws) (engine : EngineView) (intake : IntakeView) : Type 0 where
   pub job : LoggedJob laws
   pub number : ℕ

@@ -19,8 +19,8 @@ pub record HasStream (engine : EngineView) (e : Edge) : Type 0 where
   pub from : engine.first ≤ e.stream
   pub below : e.stream < engine.first + length engine.outputs
 
--- an edge leads from an engine to an intake: there is a job of which both are lawful parts, the edge's stream stands at the
--- port, and the output still keeps the first packet that the port hasn't got
+-- an edge leads from an engine to an intake: for some job both are lawful parts. The edge's stream is one of the engine's outputs, and
+-- stands at the port. The output still keeps the first packet that the port hasn't got.
 pub record Leads (laws : Laws) (engine : EngineView) (e : Edge) (intake : IntakeView) : Type 0 where
   pub job : LoggedJob laws
   pub owner : Owner

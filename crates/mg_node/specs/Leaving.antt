@@ -1,5 +1,5 @@
--- The calculators that stand in an engine, and those of them that were handed in: where no work is out, the calculator of the engine's node
--- is among them.
+-- The calculators that stand in an engine, and the user-supplied ones among them. If no work is out, the calculator of the engine's node is
+-- among them.
 use Rattle.std.specs.Prelude.{◌≡◌, ℕ, true, List, [], ◌∷◌, ◌++◌, map, All, Option, Some, None, option_map, is_some, slice_get, ◌⊎◌, Result, if◌then◌else◌}
 use Rattle.std.specs.List.{filter_map}
 use Rattle.mg_value.specs.Payload.{Plain}
@@ -24,15 +24,15 @@ calculator_in entry = option_map (λ o. o.work.context.told) entry.outcome
 abbrev pub calculators_in : EngineView → List HolderView
 calculators_in engine = map (λ b. b.told) engine.idle ++ filter_map calculator_in engine.window
 
--- what a calculator tells of itself, where it was handed in
+-- what a calculator tells of itself, if it is user-supplied
 abbrev pub handed_told : HolderView → Option BoxTold
 handed_told held = if held.handed then Some (told_by held) else None
 
--- what the calculators in an engine that were handed in tell of themselves, in order
+-- what the user-supplied calculators in an engine tell of themselves, in order
 abbrev pub handed_in : EngineView → List BoxTold
 handed_in engine = filter_map handed_told (calculators_in engine)
 
--- what the first calculator in an engine that was handed in tells of itself
+-- what the first user-supplied calculator in an engine tells of itself
 abbrev pub first_handed : EngineView → Option BoxTold
 first_handed engine = slice_get (handed_in engine) 0
 
@@ -57,7 +57,7 @@ pub record IsInWindow {laws : Laws} (job : LoggedJob laws) (engine : EngineView)
   pub held_is : held ≡ outcome.work.context.told
   pub lawful : LawfulOutcome job outcome
 
--- an engine has one calculator, which was handed in for its node; it is at rest, or stands in the window
+-- an engine has one calculator, which is user-supplied for its node; it is at rest, or stands in the window
 pub record HasCalculator {laws : Laws} (job : LoggedJob laws) (node : PlanNode) (engine : EngineView) : Type 0 where
   pub held : HolderView
   pub only : calculators_in engine ≡ held ∷ []
@@ -70,7 +70,7 @@ pub record IsOpenedFor {laws : Laws} (job : LoggedJob laws) (node : PlanNode) (t
   pub answer : Result (List Laid) Cause
   pub opened : IsOpened laws told held (sides_of job.job node) answer
 
--- an engine that isn't begun has one calculator that was handed in, as its job has it for the node, or opened since
+-- an engine that isn't begun has one user-supplied calculator, as its job has it for the node, or opened since
 pub record HasHanded {laws : Laws} (job : LoggedJob laws) (number : ℕ) (node : PlanNode) (engine : EngineView) : Type 0 where
   pub told : HolderView
   pub handed : IsHanded job number node told

@@ -1,5 +1,5 @@
--- What is out at a node: the works that were claimed and whose entries have no outcome. A claim puts one more out, one that comes back
--- is out no more, and all others stay out, whatever is laid. And what stays of an engine in each of these steps.
+-- What is out at a node: the works that were claimed and whose entries have no outcome. A claim puts one more work out, and a work that
+-- comes back is out no more. All others stay out, whatever is laid. And what stays of an engine in each of these steps.
 use Rattle.std.specs.Prelude.{◌≡◌, ◌≢◌, ℕ, ◌+◌, map, Some, None, slice_get, ◌⊎◌}
 use Rattle.mg_node.specs.declared.claimed.Claimed.{Claimed}
 use Rattle.mg_node.specs.declared.claimed.Claimed.TheVariants.{Work}
@@ -31,13 +31,13 @@ pub record KeepsOut (before now : EngineView) : Type 0 where
   pub stays : (other : WorkView) → IsOut before other → IsOut now other
   pub only : (place : ℕ) (entry : EntryView) → slice_get now.window place ≡ Some entry → entry.outcome ≡ None → IsMissing before (now.laid + place)
 
--- a claim that hands out a work puts it out, and every other one leaves out what was
+-- a claim that hands out a work puts it out, and every other claim leaves out what was out
 abbrev pub PutsOut : {C : Type 0} → Claimed C → EngineView → EngineView → Type 0
 PutsOut (Work work) before now = GoesOut before now work
 PutsOut _ before now = KeepsOut before now
 
--- what a claim, a commit, an advance and a work that comes back or is taken again leave of an engine: its role, its number, that of its
--- first output's stream, how many works it may have, and how many packets were given up at each output
+-- what stays of an engine at a claim, a commit and an advance, and when a work comes back or is taken again. Its role, its number and the
+-- number of its first output's stream stay. So do how many works it may have, and how many packets were given up at each output.
 pub record KeepsSetUp (before now : EngineView) : Type 0 where
   pub role : now.role ≡ before.role
   pub node_is : now.node ≡ before.node

@@ -19,11 +19,11 @@ count_at engine output = (slice_index_or engine.outputs output empty_backlog).go
 abbrev pub packets_kept : EngineView → ℕ
 packets_kept engine = sum_by (λ b. length b.packets) engine.outputs
 
--- an output of which the first `got` packets are given up, or as many as were before where those are more
+-- an output with its first `got` packets given up, or as many as before, if those are more
 abbrev pub without_first : ℕ → Backlog Plain → Backlog Plain
 without_first got output = record { gone = max output.gone got; packets = drop (got - output.gone) output.packets; bound = output.bound }
 
--- a prefix as an output of which all packets are kept
+-- a prefix as an output that keeps all packets
 abbrev pub kept_whole : StreamPrefix Plain → Backlog Plain
 kept_whole s = record { gone = 0; packets = s.packets; bound = s.bound }
 

@@ -44,26 +44,26 @@ with_port (Loop held) port q = Loop (held_with held port q)
 abbrev pub with_room : Waiting Plain → ℕ → Waiting Plain
 with_room q spare = record q { spare = spare }
 
--- what may be claimed next: an input set, or the answer to the next packet of MAIN, at its time; or nothing comes any more; or
--- neither can be told yet
+-- what may be claimed next: an input set, or the answer to the next packet of MAIN, at its time. Otherwise nothing comes any more, or
+-- neither can be told yet.
 abbrev pub IsNext : Pending → Readiness → Type 0
 IsNext (Sets inbox) readiness = Tells inbox.policy readiness (queues_of inbox.pool)
 IsNext (Loop held) (Ready at) = IsSomeAnd (next_reply held) (λ r. r.at ≡ at)
 IsNext (Loop held) Close = (held.main.packets ≡ []) × (held.main.bound ≡ done)
 IsNext (Loop held) NotReady = (next_reply held ≡ None) × ¬ ((held.main.packets ≡ []) × (held.main.bound ≡ done))
 
--- the time of a set, or another one where there is none
+-- the time of a set, or another time if there is no set
 abbrev pub next_time : Option (TimedSet Plain) → ℕ → ℕ
 next_time None reached = reached
 next_time (Some e) reached = e.at
 
--- the first time at which a packet waits, and Done where none does: by default on any port, and under Mux on SELECT
+-- the first time at which a packet waits, or Done if none waits: by default on any port, and under Mux on SELECT
 abbrev pub first_waiting : Policy → List (StreamPrefix Plain) → ℕ
 first_waiting Default ss = earliest ss
 first_waiting Mux ss = first_time (select_of ss).packets done
 
--- below this time no further set is claimed, and no further answer given: the time of the next set, or the reach where there is
--- none; and for a loopback the time up to which its stream is told
+-- below this time no further set is claimed, and no further answer is given. It is the time of the next set, or the reach if there is none.
+-- For a loopback it is the time up to which its stream is told.
 abbrev pub horizon_of : Pending → ℕ
 horizon_of (Sets inbox) = next_time (next_set inbox.policy (queues_of inbox.pool)) (reach inbox.policy (rests (queues_of inbox.pool)))
 horizon_of (Loop held) = reached held

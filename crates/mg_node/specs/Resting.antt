@@ -14,8 +14,8 @@ use Rattle.mg_node.specs.Advances.{is_advanced}
 use Rattle.mg_node.specs.Job.{LoggedJob, Solves, streams_at}
 use Rattle.mg_node.specs.Lawful.{StandForAll}
 
--- A cell rests: its node has ended, or else all that it claimed is laid, and neither a work nor the end can be told yet; and what
--- waits raises none of its outputs.
+-- A cell rests: its node has ended, or all that it claimed is laid and neither a work nor the end can be told yet. What waits raises none
+-- of its outputs.
 pub record IsResting (engine : EngineView) (intake : IntakeView) : Type 0 where
   pub claims : (has_ended engine ≡ true) ⊎ ((engine.window ≡ []) × IsEarly engine.role intake.waits)
   pub raised : is_advanced engine intake.waits ≡ false
@@ -25,8 +25,8 @@ pub record HasCome (intake : IntakeView) (came : List (StreamPrefix Plain)) : Ty
   pub ports : length came ≡ ports_in intake.waits
   pub stands : (port : ℕ) → port < length came → StandsFor (port_queue intake.waits port) (slice_index_or came port empty_prefix)
 
--- what came to the cell of a node is what some streams have at its ports, and `laid` is what it laid, in whole; the solution's streams
--- extend both
+-- what came to the cell of a node is what some streams have at its ports, and `laid` is what it laid, in whole. The solution's streams
+-- extend both.
 pub record HasCarried {laws : Laws} (job : LoggedJob laws) (solution streams : List (StreamPrefix Plain)) (node : PlanNode) (engine : EngineView) (intake : IntakeView) (laid : List (StreamPrefix Plain)) : Type 0 where
   pub solves : Solves job solution
   pub came : HasCome intake (inputs_of streams node)

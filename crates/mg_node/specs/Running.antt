@@ -17,7 +17,8 @@ use Rattle.mg_node.specs.Job.{LoggedJob, calls_in}
 use Rattle.mg_node.specs.Lawful.{LawfulWork, HasAnswered, answer_in}
 use Rattle.mg_route.specs.HolderView.{held_rules}
 
--- a context's calculator may be run in a phase: it is a source that has this call, or is shown sets with as many places as this one
+-- a context's calculator may be run in a phase. For a call, it is a source that has this call. For a set, it is shown sets with as many
+-- places as this set. It may always be closed, and it is never opened this way.
 abbrev pub MayRun : Phase → ContextView → Type 0
 MayRun Open context = ⊥
 MayRun (SourceCall number) context = IsSource context.told.law × (number < calls_of context.told.law)
@@ -31,8 +32,8 @@ LogsPhase result before now (SourceCall number) set = now ≡ before
 LogsPhase result before now (Process at) set = Logs result before now (Shown at set)
 LogsPhase result before now Close set = Logs result before now Finished
 
--- a calculator has run in a phase: it answers what its law gives and keeps the new state; a cause, and want of memory, keep the
--- old one
+-- a calculator has run in a phase: it answers what its law gives and keeps the new state. At a cause, or out of memory, it keeps the old
+-- state.
 pub record HasRun (laws : Laws) (result : Result (List Laid) CalcFault) (phase : Phase) (before now : ContextView) : Type 0 where
   pub answer : GivesEmission result now.told.state (answer_in (held_rules laws before.told) before.told.law before.told.state phase before.set)
   pub kept : OnErr result (now.told.state ≡ before.told.state)

@@ -19,7 +19,7 @@ back outcome = record { phase = outcome.work.phase; outcome = Some outcome; comm
 abbrev pub shelved : EngineView → OutcomeView → EngineView
 shelved engine outcome = record engine { window = slice_set engine.window (outcome.work.number - engine.laid) (back outcome) }
 
--- what was performed, where an outcome is that of a work that was run
+-- what was performed, if the outcome's work was run
 abbrev pub performed_of : OutcomeView → Option PerformedView
 performed_of outcome = option_map (λ answer. record { work = outcome.work; answer = answer }) outcome.answer
 
@@ -35,12 +35,12 @@ shelf_of entry = if entry.committed then None else option_and_then performed_of 
 abbrev pub shelf_at : EngineView → ℕ → Option PerformedView
 shelf_at engine number = if nat_lt number engine.laid then None else option_and_then shelf_of (slice_get engine.window (number - engine.laid))
 
--- a performed work is taken out of a window at a place: its entry has no outcome any more; where there is no work, nothing changes
+-- a performed work is taken out of a window at a place: its entry has no outcome any more. If there is no work, nothing changes.
 abbrev pub IsTakenOut : Option PerformedView → List EntryView → List EntryView → ℕ → Type 0
 IsTakenOut None window now place = now ≡ window
 IsTakenOut (Some p) window now place = now ≡ slice_set window place (record { phase = p.work.phase; outcome = None; committed = false })
 
--- the performed work of a number is taken out of an engine's window: it is out again; where there is no such work, nothing changes
+-- the performed work of a number is taken out of an engine's window: it is out again; if there is no such work, nothing changes
 abbrev pub Unshelves : Option PerformedView → EngineView → EngineView → ℕ → Type 0
 Unshelves None engine engine_now number = engine_now ≡ engine
 Unshelves (Some p) engine engine_now number = engine_now ≡ record engine { window = slice_set engine.window (number - engine.laid) (record { phase = p.work.phase; outcome = None; committed = false }) }

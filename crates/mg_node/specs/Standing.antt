@@ -5,9 +5,9 @@ use Rattle.mg_node.specs.Outputs.{laid_at}
 use Rattle.mg_node.specs.Windows.{has_ended}
 use Rattle.mg_node.specs.IntakeStanding.{HasGrown}
 
--- the standing of an engine has grown: no fewer sets, calls or answers are laid, and no fewer are claimed; where its node had failed or
--- closed, it still has; and each output has grown, as packets are counted with those that were given up. A number past the last output
--- stands for one at which nothing is laid.
+-- the standing of an engine has grown: no fewer sets, calls or answers are laid, and no fewer are claimed. If its node had failed or
+-- closed, it still has. Each output has grown, counting the packets that were given up. A number past the last output stands for an output
+-- at which nothing is laid.
 pub record EngineGrows (before now : EngineView) : Type 0 where
   pub laid : before.laid ≤ now.laid
   pub claimed : before.claimed ≤ now.claimed

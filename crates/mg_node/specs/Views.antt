@@ -16,13 +16,13 @@ pub record IntakeView : Type 0 where
   pub claimed : ℕ
   pub waits : Pending
 
--- a context: what its calculator tells of itself and whether it was handed in, and what its set has
+-- a context: what its calculator tells of itself, whether the calculator is user-supplied, and what the context's set has
 pub record ContextView : Type 0 where
   pub told : HolderView
   pub set : List (Option (Stamped Plain))
 
--- a work: whose it is, its number, what is to be done, and the context where it is done. A source's calls and Close have no set;
--- what the context's set has then is left over.
+-- a work: its node, its number, what is to be done, and the context where it is done. A source's calls and Close have no set; what the
+-- context's set has then is left over.
 pub record WorkView : Type 0 where
   pub node : ℕ
   pub number : ℕ

@@ -1,5 +1,5 @@
--- How an engine is wound up once a run has ended: a node that was opened and had no Close is closed, also one that has failed at a set or
--- in a call, and one whose work came back and stands in its window. What its calculator answers is dropped.
+-- How an engine is wound up once a run has ended: a node that was opened and had no Close is closed. So is a node that has failed at a set
+-- or in a call. So is a node whose work came back and stands in its window. What its calculator answers is dropped.
 use Rattle.std.specs.Prelude.{◌≡◌, ◌&&◌, ◌<◌, Bool, true, false, not, List, [], ◌∷◌, ◌++◌, length, Option, Some, None, is_some}
 use Rattle.mg_calc.specs.Rules.{Laws}
 use Rattle.mg_calc.specs.declared.call.Call.TheVariants.{Finished}
@@ -11,7 +11,7 @@ use Rattle.mg_node.specs.Views.{ContextView, OutcomeView, EntryView, EngineView}
 use Rattle.mg_node.specs.Lawful.{kept_after, is_close}
 use Rattle.mg_route.specs.HolderView.{held_rules}
 
--- whether a node that failed in this phase is still to be closed: not where Open or Close itself failed
+-- whether a node that failed in this phase is still to be closed: not if Open or Close itself failed
 abbrev pub closes_after : Phase → Bool
 closes_after Open = false
 closes_after (Call number) = true
@@ -82,8 +82,8 @@ pub record FinishesFront (laws : Laws) (before now : EngineView) : Type 0 where
   pub finishes : FinishesFirst laws before.window window
   pub is : now ≡ record before { window = window }
 
--- an engine is wound up: where it lacks Close, the calculator of its last idle context is closed, and where no context is idle, that of the
--- first work in its window; otherwise nothing changes
+-- an engine is wound up: if it lacks Close, the calculator of its last idle context is closed. If no context is idle, the calculator of the
+-- first work in its window is closed. If the engine doesn't lack Close, nothing changes.
 pub record WindsUp (laws : Laws) (before now : EngineView) : Type 0 where
   pub finishes : lacks_close before ≡ true → 0 < length before.idle → FinishesLast laws before now
   pub had_close : lacks_close before ≡ false → now ≡ before

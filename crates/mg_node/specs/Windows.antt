@@ -7,7 +7,7 @@ use Rattle.mg_node.specs.Shelves.{performed_of}
 abbrev pub has_ended : EngineView → Bool
 has_ended engine = engine.closed || is_some engine.fault
 
--- what was performed, where an entry is committed; every other entry isn't ready
+-- what was performed, if an entry is committed; every other entry isn't ready
 abbrev pub ready_of : EntryView → Option PerformedView
 ready_of entry = if entry.committed then option_and_then performed_of entry.outcome else None
 

@@ -8,9 +8,9 @@ pub enum AtOnce<C: NodeCalculator> {
     Other,
     /// Neither a set nor the end can be told yet. Nothing has changed.
     NotReady,
-    /// The work is claimed, and there was no memory to perform it.
+    /// The work is claimed; memory didn't suffice to perform it.
     Claimed(Work<C>),
-    /// The work of this number is performed and stands in the node's window, as there was no memory to commit it.
+    /// The work of this number is performed and stands in the node's window; memory didn't suffice to commit it.
     Performed(u64),
     /// The work of this number is committed.
     Committed(u64),

@@ -1,10 +1,10 @@
 use crate::Work;
 use mg_calc::NodeCalculator;
 
-/// What a claim gives. Where more than one of these holds, `Engine::claim` says which is given.
+/// What a claim gives. If more than one of these holds, `Engine::claim` says which is given.
 #[derive(Drop)]
 pub enum Claimed<C: NodeCalculator> {
-    /// A work: one that came back unrun, or the next set, call or Close.
+    /// A work: a work that came back unrun, or the next set, call or Close.
     Work(Work<C>),
     /// The loopback has answered the next packet of MAIN.
     Answered,
@@ -16,6 +16,6 @@ pub enum Claimed<C: NodeCalculator> {
     Draining,
     /// The node has failed, or closed.
     Ended,
-    /// There was no memory, and nothing has changed.
+    /// Out of memory: nothing has changed.
     OutOfMemory,
 }

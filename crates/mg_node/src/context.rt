@@ -41,7 +41,7 @@ impl<C: NodeCalculator> Model for Context<C> {
 }
 
 impl<C: NodeCalculator> Context<C> {
-    /// Returns a context of a calculator and a set, or the calculator where there is no memory.
+    /// Returns a context of a calculator and a set. Out of memory: returns the calculator.
     pub fn new(alloc: Global, holder: Holder<C>, set: InputSet) -> Result<Context<C>, Holder<C>>
         ensures made { IfOk result (λ b. b ≡ record { told = holder; set = set }) }
         ensures returned { IfErr result (λ h. h ≡ holder) }
@@ -52,7 +52,7 @@ impl<C: NodeCalculator> Context<C> {
         }
     }
 
-    /// Returns the context with a calculator that is handed in, in the place of its own.
+    /// Returns the context with a user-supplied calculator in place of its own.
     pub(crate) fn with(self, calculator: C) -> Context<C>
         ensures { result ≡ record { told = holder_view true (C.told calculator); set = self.set } }
     {
@@ -61,7 +61,7 @@ impl<C: NodeCalculator> Context<C> {
         Context { holder, set }
     }
 
-    /// Opens the calculator with side packets. Want of memory changes nothing.
+    /// Opens the calculator with side packets. Out of memory: nothing has changed.
     pub(crate) fn begin(&mut self, alloc: Global, sides: &GivenList) -> Result<Emission, CalcFault>
         ensures answer { GivesEmission result self.new.told.state ((held_rules C.laws self.old.told).opening sides.now) }
         ensures kept { KeepsAtOpen result self.old.told.state self.new.told.state }
@@ -74,7 +74,7 @@ impl<C: NodeCalculator> Context<C> {
         self.holder.begin(alloc, sides)
     }
 
-    /// Opens the calculator with side packets, and returns its answer, or `None` where there is no memory. Want of memory changes nothing.
+    /// Opens the calculator with side packets, and returns its answer. Out of memory: returns `None`, and nothing has changed.
     pub(crate) fn open(
         &mut self,
         alloc: Global,
@@ -91,7 +91,7 @@ impl<C: NodeCalculator> Context<C> {
         }
     }
 
-    /// Runs the calculator in a phase: it is shown the set, called by a number, or closed. Want of memory changes nothing.
+    /// Runs the calculator in a phase: it is shown the set, called by a number, or closed. Out of memory: nothing has changed.
     #[inline(always)]
     pub(crate) fn run(&mut self, alloc: Global, phase: Phase) -> Result<Emission, CalcFault>
         requires { MayRun phase self.old }
@@ -105,7 +105,7 @@ impl<C: NodeCalculator> Context<C> {
         }
     }
 
-    /// Shows the calculator the context's set, and returns its answer, or `None` where there is no memory. Want of memory changes nothing.
+    /// Shows the calculator the context's set, and returns its answer. Out of memory: returns `None`, and nothing has changed.
     #[inline(always)]
     pub(crate) fn show(&mut self, alloc: Global, at: Timestamp) -> Option<Result<Emission, Cause>>
         requires { MayRun (Process at) self.old }
@@ -119,7 +119,7 @@ impl<C: NodeCalculator> Context<C> {
         }
     }
 
-    /// Closes the calculator, and drops what it answers. Want of memory changes nothing.
+    /// Closes the calculator, and drops what it answers. Out of memory: nothing has changed.
     pub(crate) fn finish(&mut self, alloc: Global) -> Result<(), AllocError>
         ensures finished { OnOk result (IsFinished C.laws self.old self.new) }
         ensures unchanged { OnErr result (self.new ≡ self.old) }
@@ -144,7 +144,7 @@ impl<C: NodeCalculator> Context<C> {
         intake.claim_at(at, &mut self.set);
     }
 
-    /// The calculator, if it was handed in.
+    /// Returns the calculator, if it is user-supplied.
     pub(crate) fn into_calculator(self) -> Option<C>
         ensures there { is_some result ≡ self.told.handed }
         ensures told { IfSome result (λ c. C.told c ≡ told_by self.told) }

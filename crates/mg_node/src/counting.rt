@@ -5,7 +5,7 @@ ghost use Rattle.mg_stream.specs.Pool.{pool_len};
 use mg_policy::Inbox;
 use mg_stream::Queue;
 
-/// How many packets some queues hold.
+/// Returns how many packets some queues hold.
 pub(crate) fn held_at(queues: &[Queue]) -> u64
     ensures { result ≡ min (sum_by (λ q. length q.packets) queues.now) (2 ^ 64 - 1) }
 {
@@ -16,7 +16,7 @@ pub(crate) fn held_at(queues: &[Queue]) -> u64
     held
 }
 
-/// How many packets wait in an inbox.
+/// Returns how many packets wait in an inbox.
 pub(crate) fn held_in(inbox: &Inbox) -> u64
     ensures { result ≡ min (pool_len inbox.now.pool) (2 ^ 64 - 1) }
 {

@@ -27,8 +27,8 @@ pub(crate) fn deliver(output: &Queue, intake: &mut Intake, port: u32, most: u32)
     Delivered::Moved { packets, raised }
 }
 
-/// Brings at most `most` packets of an output to a port that hasn't got them, and returns how many came. The error is that number too,
-/// where there was no memory for the next one.
+/// Brings at most `most` packets of an output to a port that hasn't got them, and returns how many came. Out of memory for the next packet:
+/// the error is that number, too.
 fn bring_all(output: &Queue, intake: &mut Intake, port: u32, most: u32) -> Result<u32, u32>
     requires port { port < ports_in intake.old.waits }
     requires of_one { AreOfOne output.now (port_queue intake.old.waits port) }
@@ -50,7 +50,7 @@ fn bring_all(output: &Queue, intake: &mut Intake, port: u32, most: u32) -> Resul
     Ok(packets)
 }
 
-/// The place, among the packets that wait at an output, of the first that a port hasn't got.
+/// Returns the place of the first packet that a port hasn't got, among the packets that wait at an output.
 fn first_missing(output: &Queue, intake: &Intake, port: u32) -> u64
     requires port { port < ports_in intake.now.waits }
     requires of_one { AreOfOne output.now (port_queue intake.now.waits port) }
@@ -61,7 +61,7 @@ fn first_missing(output: &Queue, intake: &Intake, port: u32) -> u64
     intake.count(port) - gone
 }
 
-/// Puts a packet behind those that came to a port. The payload is shared.
+/// Puts a packet after those that came to a port. The payload is shared.
 fn bring(packet: &Packet, intake: &mut Intake, port: u32) -> Result<(), AllocError>
     requires port { port < ports_in intake.old.waits }
     requires may_come { MayCome (port_queue intake.old.waits port) packet.now.at }
@@ -73,7 +73,7 @@ fn bring(packet: &Packet, intake: &mut Intake, port: u32) -> Result<(), AllocErr
     intake.put(port, packet)
 }
 
-/// Raises a port to the bound of an output, where it has all of the output's packets, and returns whether the port's bound rose.
+/// Raises a port to the bound of an output, if the port has all of the output's packets, and returns whether the port's bound rose.
 fn raise_behind(output: &Queue, intake: &mut Intake, port: u32) -> bool
     requires port { port < ports_in intake.old.waits }
     requires of_one { AreOfOne output.now (port_queue intake.old.waits port) }

@@ -8,8 +8,8 @@ use mg_calc::{CalcFault, NodeCalculator};
 use mg_edge::Gate;
 use std::alloc::Global;
 
-/// Does a work: its calculator is shown the set, called by its number, or closed. The gate is entered before and left after each
-/// call but Close. Where there is no memory, the work comes back as it was.
+/// Does a work: its calculator is shown the set, called by its number, or closed. The gate is entered before and left after each call but
+/// Close. Out of memory: the work comes back as it was.
 pub fn perform<C: NodeCalculator, G: Gate>(
     alloc: Global,
     work: Work<C>,

@@ -86,42 +86,42 @@ impl<C: NodeCalculator> Model for Engine<C> {
 }
 
 impl<C: NodeCalculator> Engine<C> {
-    /// How many sets, calls or answers were laid. Close isn't counted.
+    /// Returns how many sets, calls or answers were laid. Close isn't counted.
     pub fn laid(&self) -> u64
         ensures { result ≡ self.now.laid }
     {
         self.laid
     }
 
-    /// How many sets, calls or answers were claimed. Close isn't counted.
+    /// Returns how many sets, calls or answers were claimed. Close isn't counted.
     pub fn claimed(&self) -> u64
         ensures { result ≡ self.now.claimed }
     {
         self.claimed
     }
 
-    /// Whether the node has failed, or closed.
+    /// Returns whether the node has failed, or closed.
     pub fn has_ended(&self) -> bool
         ensures { result ≡ (self.now.closed || is_some self.now.fault) }
     {
         self.closed || self.fault.is_some()
     }
 
-    /// The fault of the node, if it has failed.
+    /// Returns the fault of the node, if it has failed.
     pub fn fault(&self) -> Option<NodeFault>
         ensures { result ≡ self.now.fault }
     {
         self.fault
     }
 
-    /// How many outputs there are.
+    /// Returns how many outputs there are.
     pub fn outputs(&self) -> u32
         ensures { result ≡ length self.now.outputs }
     {
         self.outputs.len() as u32
     }
 
-    /// How many packets were laid at an output, those that were given up included.
+    /// Returns how many packets were laid at an output, those that were given up included.
     pub fn count(&self, output: u32) -> u64
         requires { output < length self.now.outputs }
         ensures { result ≡ count_at self.now output }
@@ -129,14 +129,14 @@ impl<C: NodeCalculator> Engine<C> {
         self.outputs[output as usize].count()
     }
 
-    /// How many packets are kept at all outputs, at most `u64::MAX`.
+    /// Returns how many packets are kept at all outputs, at most `u64::MAX`.
     pub fn held(&self) -> u64
         ensures { result ≡ min (packets_kept self.now) (2 ^ 64 - 1) }
     {
         held_at(&self.outputs)
     }
 
-    /// The bound of an output: the lowest timestamp that a further packet may have there.
+    /// Returns the bound of an output: the lowest timestamp that a further packet may have there.
     pub fn bound(&self, output: u32) -> Timestamp
         requires { output < length self.now.outputs }
         ensures { result ≡ (slice_index_or self.now.outputs output empty_backlog).bound }

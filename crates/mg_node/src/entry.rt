@@ -33,7 +33,8 @@ impl<C: NodeCalculator> Model for Entry<C> {
     ghost view = { λ e. record { phase = e.phase; outcome = e.outcome; committed = e.committed } };
 }
 
-// Closes the calculator of the work that came back, if there is one, unless that was a performed Close. Want of memory changes nothing.
+// Closes the calculator of the work that came back, if there is one, unless that was a performed Close. Out of memory: nothing has
+// changed.
 fn finish_back<C: NodeCalculator>(
     outcome: &mut Option<Outcome<C>>,
     alloc: Global,
@@ -48,7 +49,7 @@ fn finish_back<C: NodeCalculator>(
 }
 
 impl<C: NodeCalculator> Entry<C> {
-    /// The entry of a work that is handed out.
+    /// Makes the entry of a work that is handed out.
     pub(crate) fn out(phase: Phase) -> Entry<C>
         ensures { result ≡ record { phase = phase; outcome = None; committed = false } }
     {
@@ -59,14 +60,14 @@ impl<C: NodeCalculator> Entry<C> {
         }
     }
 
-    /// What is to be done: Process, Call or Close.
+    /// Returns what is to be done: Process, Call or Close.
     pub(crate) fn phase(&self) -> Phase
         ensures { result ≡ self.now.phase }
     {
         self.phase
     }
 
-    /// Whether the entry's work came back unrun.
+    /// Returns whether the entry's work came back unrun.
     pub(crate) fn is_unrun(&self) -> bool
         ensures { result ≡ is_unrun self.now }
     {
@@ -89,7 +90,7 @@ impl<C: NodeCalculator> Entry<C> {
         }
     }
 
-    /// The entry of a work that came back, not committed.
+    /// Makes the entry of a work that came back, not committed.
     pub(crate) fn back(outcome: Outcome<C>) -> Entry<C>
         ensures { result ≡ back outcome }
     {
@@ -100,7 +101,7 @@ impl<C: NodeCalculator> Entry<C> {
         }
     }
 
-    /// The entry of a work that came back, committed if it was performed.
+    /// Makes the entry of a work that came back, committed if it was performed.
     pub(crate) fn committed(outcome: Outcome<C>) -> Entry<C>
         ensures { result ≡ committed_entry outcome }
     {
@@ -111,7 +112,7 @@ impl<C: NodeCalculator> Entry<C> {
         }
     }
 
-    /// The entry of a calculator that was opened, with its answer, committed.
+    /// Makes the entry of a calculator that was opened, with its answer, committed.
     pub(crate) fn opened(
         node: u32,
         context: Context<C>,
@@ -123,7 +124,7 @@ impl<C: NodeCalculator> Entry<C> {
         Entry::committed(Outcome::ran(Performed::new(work, answer)))
     }
 
-    /// Whether the entry is ready to be laid: it is committed, and its work was performed.
+    /// Returns whether the entry is ready to be laid: it is committed, and its work was performed.
     pub(crate) fn is_ready(&self) -> bool
         ensures { result ≡ is_some (ready_of self.now) }
     {
@@ -136,7 +137,7 @@ impl<C: NodeCalculator> Entry<C> {
         }
     }
 
-    /// How many packets an entry that is ready has at an output.
+    /// Returns how many packets an entry that is ready has at an output.
     pub(crate) fn packets_at(&self, output: u32) -> u32
         ensures { (p : PerformedView) → ready_of self.now ≡ Some p → result ≡ packets_by output p.answer }
     {
@@ -146,7 +147,7 @@ impl<C: NodeCalculator> Entry<C> {
         }
     }
 
-    /// The performed work of an entry, which must be ready.
+    /// Returns the performed work of an entry, which must be ready.
     pub(crate) fn into_performed(self) -> Performed<C>
         requires { is_some (ready_of self) ≡ true }
         ensures { ready_of self ≡ Some result }
@@ -158,7 +159,7 @@ impl<C: NodeCalculator> Entry<C> {
         }
     }
 
-    /// The outcome that stands in the entry. There must be one.
+    /// Returns the outcome that stands in the entry. There must be one.
     pub(crate) fn into_outcome(self) -> Outcome<C>
         requires { is_some self.outcome ≡ true }
         ensures { self.outcome ≡ Some result }
@@ -170,7 +171,7 @@ impl<C: NodeCalculator> Entry<C> {
         }
     }
 
-    /// Whether the entry has a performed work that isn't committed.
+    /// Returns whether the entry has a performed work that isn't committed.
     pub(crate) fn is_shelf(&self) -> bool
         ensures { result ≡ is_some (shelf_of self.now) }
     {
@@ -197,8 +198,8 @@ impl<C: NodeCalculator> Entry<C> {
         performed
     }
 
-    /// Closes the calculator of the work that came back, if there is one, unless that was a performed Close. Want of memory changes
-    /// nothing.
+    /// Closes the calculator of the work that came back, if there is one, unless that was a performed Close. Out of memory: nothing
+    /// has changed.
     pub(crate) fn finish(&mut self, alloc: Global) -> Result<(), AllocError>
         ensures finished { OnOk result (FinishesEntry C.laws self.old self.new) }
         ensures unchanged { OnErr result (self.new ≡ self.old) }
@@ -206,7 +207,7 @@ impl<C: NodeCalculator> Entry<C> {
         finish_back(&mut self.outcome, alloc)
     }
 
-    /// The calculator of the outcome that stands here, if there is one and it was handed in.
+    /// Returns the calculator of the outcome that stands here, if there is one and it is user-supplied.
     pub(crate) fn into_calculator(self) -> Option<C>
         ensures { option_map C.told result ≡ option_and_then handed_told (calculator_in self) }
     {

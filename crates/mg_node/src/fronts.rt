@@ -102,8 +102,8 @@ fn packets_by(answer: &Result<Emission, Cause>, output: u32) -> u32
     }
 }
 
-// How many packets the entries that are ready at the front of a window have at an output. A number past 32 bits is an error, as if there
-// were no memory.
+// How many packets the entries that are ready at the front of a window have at an output. A number past 32 bits is an error, as if out of
+// memory.
 #[tactic(auto, using(crate::proofs::FrontSteps::needed_more, crate::proofs::FrontSteps::needed_end, crate::proofs::FrontSteps::needed_all))]
 fn needed<C: NodeCalculator>(window: &VecDeque<Entry<C>>, output: u32) -> Result<u32, AllocError>
     ensures { IfOk result (λ n. n ≡ needed_at output window.now.items) }
@@ -123,7 +123,7 @@ fn needed<C: NodeCalculator>(window: &VecDeque<Entry<C>>, output: u32) -> Result
 }
 
 /// Lays the entries that are ready at the front of a window, up to the one at which the node fails or closes. Their contexts are idle
-/// afterwards. It takes no memory.
+/// afterwards. Takes no memory.
 pub(crate) fn lay_front<C: NodeCalculator>(
     offset: Option<i64>,
     node: u32,
@@ -188,7 +188,7 @@ fn lay_first<C: NodeCalculator>(
     end(node, &phase, cause)
 }
 
-// What laying an entry of a phase comes to, where `cause` is why it couldn't be laid.
+// The result of laying an entry of a phase; `cause` is why the entry couldn't be laid, if it couldn't.
 fn end(node: u32, phase: &Phase, cause: Option<Cause>) -> FrontEnd
     ensures { result ≡ front_end_of node phase.now cause }
 {
@@ -199,7 +199,7 @@ fn end(node: u32, phase: &Phase, cause: Option<Cause>) -> FrontEnd
     }
 }
 
-/// The fault of a node, where `cause` is why an entry of a phase couldn't be laid; `None` where there is no cause.
+/// Returns the fault of a node, where `cause` is why an entry of a phase couldn't be laid, or `None` if there is no cause.
 pub(crate) fn fault_of(node: u32, phase: &Phase, cause: Option<Cause>) -> Option<NodeFault>
     ensures { result ≡ (front_end_of node phase.now cause).fault }
 {

@@ -45,7 +45,8 @@ impl Model for Intake {
 }
 
 impl Intake {
-    /// The intake, to which nothing came yet, of a consumer of a plan: of a node by its number, or of the collector by the number of nodes.
+    /// Makes the intake of a consumer of a plan, to which nothing came yet. The consumer is a node by its number, or the collector by the
+    /// number of nodes.
     pub fn new(alloc: Global, plan: &Plan, consumer: u32) -> Result<Intake, AllocError>
         requires valid { IsValid plan.now }
         requires consumer { consumer ≤ length plan.now.nodes }
@@ -59,8 +60,8 @@ impl Intake {
         Ok(Intake { waits, claimed: 0 })
     }
 
-    /// Claims the next input set, and returns whether there was one: the set is then in `into`, and its packets are gone. Where there is
-    /// none nothing changes. A loopback has no sets.
+    /// Claims the next input set, and returns whether there was one: the set is then in `into`, and its packets are gone. If there is none,
+    /// nothing changes. A loopback has no sets.
     pub fn claim(&mut self, into: &mut InputSet) -> bool
         requires places { length into.old ≡ ports_in self.old.waits }
         requires lawful { SomeJobHasIntake self.old }
@@ -103,14 +104,14 @@ impl Intake {
         self.claimed += 1;
     }
 
-    /// How many input sets were claimed, or packets of MAIN answered.
+    /// Returns how many input sets were claimed, or packets of MAIN answered.
     pub fn claimed(&self) -> u64
         ensures { result ≡ self.now.claimed }
     {
         self.claimed
     }
 
-    /// How many ports there are.
+    /// Returns how many ports there are.
     pub fn ports(&self) -> u32
         ensures { result ≡ ports_in self.now.waits }
     {
@@ -120,7 +121,7 @@ impl Intake {
         }
     }
 
-    /// The timestamp of the first packet that waits at a port.
+    /// Returns the timestamp of the first packet that waits at a port.
     pub fn first(&self, port: u32) -> Option<Timestamp>
         requires { port < ports_in self.now.waits }
         ensures { result ≡ option_map (λ p. p.at) (slice_get (port_queue self.now.waits port).packets 0) }
@@ -131,7 +132,7 @@ impl Intake {
         }
     }
 
-    /// The lowest timestamp that a further packet of a port may have.
+    /// Returns the lowest timestamp that a further packet of a port may have.
     pub fn bound(&self, port: u32) -> Timestamp
         requires { port < ports_in self.now.waits }
         ensures { result ≡ (port_queue self.now.waits port).bound }
@@ -142,7 +143,7 @@ impl Intake {
         }
     }
 
-    /// How many packets wait at a port.
+    /// Returns how many packets wait at a port.
     pub fn waiting(&self, port: u32) -> u64
         requires { port < ports_in self.now.waits }
         ensures { result ≡ length (port_queue self.now.waits port).packets }
@@ -153,7 +154,7 @@ impl Intake {
         }
     }
 
-    /// How many packets wait at all ports, at most `u64::MAX`.
+    /// Returns how many packets wait at all ports, at most `u64::MAX`.
     pub fn held(&self) -> u64
         ensures { result ≡ min (waiting_in self.now.waits) (2 ^ 64 - 1) }
     {
@@ -163,7 +164,7 @@ impl Intake {
         }
     }
 
-    /// How many packets came at a port, those that are gone included.
+    /// Returns how many packets came at a port, those that are gone included.
     pub fn count(&self, port: u32) -> u64
         requires { port < ports_in self.now.waits }
         ensures { result ≡ count_of (port_queue self.now.waits port) }
@@ -174,7 +175,7 @@ impl Intake {
         }
     }
 
-    /// Whether there is a next input set, and at which time, or why there is none. The intake must not be a loopback's.
+    /// Returns whether there is a next input set, and at which time, or why there is none. The intake must not be a loopback's.
     pub(crate) fn set_readiness(&self) -> Readiness
         requires { HasSets self.now.waits }
         ensures { IsNext self.now.waits result }
@@ -185,7 +186,7 @@ impl Intake {
         }
     }
 
-    /// Whether a loopback is at its end: no packet waits on MAIN, and none comes there any more. The intake must be a loopback's.
+    /// Returns whether a loopback is at its end: no packet waits on MAIN, and none comes there any more. The intake must be a loopback's.
     pub(crate) fn is_over(&self) -> bool
         requires { HasLoop self.now.waits }
         ensures yes { result ≡ true → IsNext self.now.waits Readiness.Close }
@@ -198,7 +199,7 @@ impl Intake {
         }
     }
 
-    /// Answers the next packet of MAIN, where its answer can be told. The intake must be a loopback's.
+    /// Answers the next packet of MAIN, if its answer can be told. The intake must be a loopback's.
     pub(crate) fn answer(&mut self) -> Answered
         requires looped { HasLoop self.old.waits }
         requires few { self.old.claimed + 1 < 2 ^ 64 }
@@ -215,7 +216,7 @@ impl Intake {
         answered
     }
 
-    /// The time below which no further set is claimed, or answer given, whatever comes.
+    /// Returns the time below which no further set is claimed, or answer given, whatever comes.
     pub fn horizon(&self) -> Timestamp
         ensures { result ≡ horizon_of self.now.waits }
     {
@@ -225,8 +226,7 @@ impl Intake {
         }
     }
 
-    /// Puts a packet that may come behind those that wait at a port. Where there is no memory, the packet is dropped, and nothing but the
-    /// room changes.
+    /// Puts a packet that may come after those that wait at a port. Out of memory: drops the packet, and nothing but the room changes.
     pub(crate) fn put(&mut self, port: u32, packet: Packet) -> Result<(), AllocError>
         requires port { port < ports_in self.old.waits }
         requires may_come { MayCome (port_queue self.old.waits port) packet.at }
@@ -255,7 +255,7 @@ impl Intake {
     }
 }
 
-/// What waits at a consumer to which nothing came yet.
+/// Returns what waits at a consumer to which nothing came yet.
 fn waits_at(alloc: Global, plan: &Plan, consumer: u32) -> Result<Pending, AllocError>
     requires { IsValid plan.now }
     ensures { IfOk result (λ w. HoldsNone plan.now consumer w) }
@@ -267,7 +267,7 @@ fn waits_at(alloc: Global, plan: &Plan, consumer: u32) -> Result<Pending, AllocE
     waits_of(alloc, node)
 }
 
-/// What waits at a node to which nothing came yet.
+/// Returns what waits at a node to which nothing came yet.
 fn waits_of(alloc: Global, node: &PlanNode) -> Result<Pending, AllocError>
     requires { HasPorts node.now.policy (record { ports = replicate (length node.now.inputs) empty_backlog; spare = 0 }) }
     ensures { IfOk result (λ w. NoneWaits node.now w) }

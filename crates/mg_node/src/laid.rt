@@ -24,7 +24,7 @@ pub(crate) fn queue_of(alloc: Global, prefix: &Prefix) -> Result<Queue, AllocErr
     Ok(queue)
 }
 
-/// Puts packets behind those of a queue. Payloads are shared.
+/// Puts packets after those of a queue. Payloads are shared.
 fn fill(queue: &mut Queue, packets: &[Packet]) -> Result<(), AllocError>
     ensures gone { OnOk result (queue.new.gone ≡ queue.old.gone) }
     ensures packets { OnOk result (queue.new.packets ≡ queue.old.packets ++ packets.now) }
@@ -32,7 +32,7 @@ fn fill(queue: &mut Queue, packets: &[Packet]) -> Result<(), AllocError>
     ensures above { (b : ℕ) → queue.old.bound ≤ b → OnOk result (queue.old.bound ≤ first_time packets.now b) }
     ensures grows { OnOk result (queue.old.bound ≤ queue.new.bound) }
 
-    // At want of memory what was there before is still there, with some of the further packets behind it perhaps.
+    // Out of memory: what was there before is still there, perhaps with some of the further packets after it.
     ensures left { OnErr result (IsLike (cut_back (length queue.old.packets) queue.old.bound queue.new) queue.old) }
 {
     for packet in packets {
@@ -43,8 +43,8 @@ fn fill(queue: &mut Queue, packets: &[Packet]) -> Result<(), AllocError>
     Ok(())
 }
 
-/// Puts the packets of a prefix behind those of a queue, and raises the queue's bound to that of the prefix. Payloads are shared. Where
-/// memory is short, the packets that came by then are taken back, and the queue is as before.
+/// Puts the packets of a prefix after those of a queue, and raises the queue's bound to that of the prefix. Payloads are shared. Out of
+/// memory: takes back the packets that came by then, and the queue is as before.
 pub(crate) fn lengthen(queue: &mut Queue, more: &Prefix) -> Result<(), AllocError>
     requires { MayLengthen queue.old more.now }
     ensures longer { OnOk result (backlog_of queue.new ≡ lengthened (backlog_of queue.old) more.now) }
@@ -83,7 +83,7 @@ pub(crate) fn give_up(queue: &mut Queue, got: u64)
     }
 }
 
-/// Puts a packet that may come behind those of an output. There must be room for it.
+/// Puts a packet that may come after those of an output. There must be room for it.
 #[inline(always)]
 pub(crate) fn append(output: &mut Queue, packet: Packet)
     requires may_come { MayCome output.old packet.at }

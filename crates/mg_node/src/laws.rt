@@ -36,12 +36,12 @@ ghost use Rattle.mg_node.specs.Resting.{IsResting, HasCome, HasCarried};
 ghost use Rattle.mg_node.specs.Carried.{HasLaid, HasReached};
 ghost use Rattle.mg_node.specs.Shelves.{IsOut, shelved, outcome_of, shelf_at, performed_of, Unshelves};
 
-/// A performed work that was shelved is found in its window again, and none is found where the work came back unrun.
+/// A performed work that was shelved is found in its window again. No work is found there if the work came back unrun.
 pub fn what_is_shelved_is_found()
     ensures { (engine : EngineView) (outcome : OutcomeView) → IsOut engine outcome.work → shelf_at (shelved engine outcome) outcome.work.number ≡ performed_of outcome }
 {}
 
-/// After a work came back unrun there is one that a claim hands out again.
+/// After a work came back unrun, there is a work that a claim hands out again.
 pub fn what_came_back_unrun_is_claimed()
     ensures { (engine : EngineView) (outcome : OutcomeView) → IsOut engine outcome.work → outcome.answer ≡ None → is_some (first_unrun 0 (shelved engine outcome).window) ≡ true }
 {}
@@ -52,21 +52,21 @@ pub fn horizons_are_least_times()
         → next_time (slice_get (settled_sets policy ss) 0) (reach policy ss) ≡ min (reach policy ss) (first_waiting policy ss) }
 {}
 
-/// The engine of a node whose calculator was handed in has that one and no other, where no work is out: it is idle, or stands in an
-/// outcome in the window.
+/// If no work is out, the engine of a node with a user-supplied calculator has that calculator and no other. The calculator is idle, or
+/// stands in an outcome in the window.
 pub fn what_is_handed_in_is_there()
     ensures { (laws : Laws) (job : LoggedJob laws) (number : ℕ) (node : PlanNode) (engine : EngineView) → LawfulEngine job (of_node number) engine
         → slice_get job.job.plan.nodes number ≡ Some node → is_some node.box_number ≡ true → NoneOut engine → HasCalculator job node engine }
 {}
 
-/// The engine of a node whose calculator was handed in has that one before it is begun, too, beside those that it makes itself.
+/// The engine of a node with a user-supplied calculator has that calculator before it is begun, too, beside those that it makes itself.
 pub fn what_is_handed_in_waits_to_begin()
     ensures { (laws : Laws) (job : LoggedJob laws) (number : ℕ) (node : PlanNode) (engine : EngineView) → LawfulUnbegun job number engine
         → slice_get job.job.plan.nodes number ≡ Some node → is_some node.box_number ≡ true → HasHanded job number node engine }
 {}
 
-/// While the input of a run comes in batches, a part that is lawful for the job of the lines so far is lawful for the job of more
-/// lines. The engine of a graph input isn't among them: its output has all that was handed in.
+/// While the input of a run comes in batches, parts stay lawful. A part that is lawful for the job of the lines so far is lawful for the
+/// job of more lines. The engine of a graph input isn't among these parts: its output is the job's whole stream of that input.
 pub fn stays_lawful()
     ensures intake { (laws : Laws) (first later : LoggedJob laws) (consumer : ℕ) (intake : IntakeView) → Grows first later → LawfulIntake first consumer intake → LawfulIntake later consumer intake }
     ensures engine { (laws : Laws) (first later : LoggedJob laws) (number : ℕ) (engine : EngineView) → Grows first later → LawfulEngine first (of_node number) engine → LawfulEngine later (of_node number) engine }
@@ -132,8 +132,8 @@ pub fn outputs_only_rise()
     ensures same { (outcome : OutcomeView) (laid : ℕ) (before now : EngineView) → Commits outcome laid before now → length now.outputs ≡ length before.outputs }
 {}
 
-/// What a claim answers and leaves tells which works are out then, that the engine stays as it was set up, and that at each port as many
-/// packets are counted as before; and both standings grow.
+/// What a claim answers and leaves tells which works are out then. The engine stays as it was set up, and each port counts as many packets
+/// as before. Both standings grow.
 pub fn claims_put_works_out()
     ensures out { (laws : Laws) (result : Claimed ℕ) (engine engine_now : EngineView) (intake intake_now : IntakeView) → AreCell laws engine intake
         → Claims result engine engine_now intake intake_now → PutsOut result engine engine_now }
@@ -147,8 +147,8 @@ pub fn claims_put_works_out()
         → Claims result engine engine_now intake intake_now → IntakeGrows intake intake_now }
 {}
 
-/// A work that is committed, or shelved, is out no more; one that is found in its window and taken is out again. All others that were out
-/// stay so, and the engine stays as it was set up.
+/// A work that is committed, or shelved, is out no more. A work that is found in its window and taken is out again. All other works that
+/// were out stay so, and the engine stays as it was set up.
 pub fn works_come_back_one_by_one()
     ensures committed { (laws : Laws) (outcome : OutcomeView) (laid : ℕ) (before now : EngineView) → IsOut before outcome.work → SomeJobHasEngine laws before
         → Commits outcome laid before now → ComesBack before now outcome.work.number }
@@ -206,7 +206,8 @@ pub fn what_has_ended_has_the_solution()
         → slice_get job.job.plan.nodes number ≡ Some node → LawfulEngine job (of_node number) engine → has_ended engine ≡ true → StandForAll engine.outputs (streams_at solution node.outputs) }
 {}
 
-/// The solution's streams extend what was laid at the outputs of a node; and what was laid at that of a graph input is its stream.
+/// The solution's streams extend what was laid at the outputs of a node. What was laid at the output of a graph input is the input's
+/// stream.
 pub fn what_is_laid_is_of_the_solution()
     ensures node { (laws : Laws) (job : LoggedJob laws) (number : ℕ) (node : PlanNode) (engine : EngineView) (solution : List (StreamPrefix Plain)) → Solves job solution
         → slice_get job.job.plan.nodes number ≡ Some node → LawfulEngine job (of_node number) engine → HasLaid engine (streams_at solution node.outputs) }
@@ -230,8 +231,7 @@ pub fn what_rests_has_the_solution()
         → IsResting engine intake → HasCome intake (inputs_of solution node) → engine.fault ≡ fault_of job.job solution (number, node) }
 {}
 
-/// Where a run came to rest and was wound up, the calculator of a node that was handed in had all its calls, and keeps what the node
-/// comes to.
+/// Once a run came to rest and was wound up, the user-supplied calculator of a node had all its calls, and keeps what these leave.
 pub fn what_was_wound_up_had_its_calls()
     ensures { (laws : Laws) (job : LoggedJob laws) (number : ℕ) (node : PlanNode) (engine engine_now : EngineView) (intake : IntakeView) (solution : List (StreamPrefix Plain)) → Solves job solution
         → slice_get job.job.plan.nodes number ≡ Some node → is_some node.box_number ≡ true → IsOuter node.law → LawfulEngine job (of_node number) engine → LawfulIntake job number intake
@@ -239,7 +239,8 @@ pub fn what_was_wound_up_had_its_calls()
         → (told : BoxTold) × (first_handed engine_now ≡ Some told) × HadCalls job solution node told }
 {}
 
-/// At any time the calculator of a node that was handed in, wherever in its cell it stands, had a front of its node's calls.
+/// At any time the user-supplied calculator of a node had a prefix of its node's calls, and perhaps Close after them. It may stand anywhere
+/// in its cell.
 pub fn what_is_under_way_had_a_front()
     ensures engine { (laws : Laws) (job : LoggedJob laws) (number : ℕ) (node : PlanNode) (engine : EngineView) (solution : List (StreamPrefix Plain)) (told : BoxTold) → Solves job solution
         → slice_get job.job.plan.nodes number ≡ Some node → is_some node.box_number ≡ true → IsOuter node.law → LawfulEngine job (of_node number) engine
@@ -255,8 +256,8 @@ pub fn what_is_under_way_had_a_front()
         → first_handed engine_now ≡ Some told → HadFront job solution node told }
 {}
 
-/// Where an engine was wound up, the calculator of its node, if it stands there, isn't left open, whatever had been done: it had Close
-/// behind Open and some of its sets, or its Open failed. A calculator whose work is out doesn't stand there.
+/// Once an engine was wound up, a calculator of its node that stands there isn't left open, whatever had been done. It had Close after Open
+/// and some of its sets, or its Open failed. A calculator whose work is out doesn't stand there.
 pub fn what_was_wound_up_had_close()
     ensures { (laws : Laws) (job : LoggedJob laws) (number : ℕ) (node : PlanNode) (engine engine_now : EngineView) (solution : List (StreamPrefix Plain)) (told : BoxTold) → Solves job solution
         → slice_get job.job.plan.nodes number ≡ Some node → is_some node.box_number ≡ true → IsOuter node.law → LawfulEngine job (of_node number) engine → WindsUp laws engine engine_now

@@ -1,5 +1,5 @@
-//! Putting what a call emits behind the queues of a node's outputs (MediaPipe, Calculators and Synchronization). The packets are moved
-//! there, into room that was made before, so that laying takes no memory.
+//! Putting what a call emits at the ends of the queues of a node's outputs (MediaPipe, Calculators and Synchronization). The packets are
+//! moved there, into room that was made before, so that laying takes no memory.
 ghost use Rattle.std.specs.Prelude.{◌≡◌, ◌<◌, ◌≤◌, ◌^◌, List, [], ◌∷◌, length, map, Ok, slice_index_or, slice_set};
 ghost use Rattle.mg_time.specs.Time.{done};
 ghost use Rattle.mg_value.specs.Payload.{Plain};
@@ -19,7 +19,7 @@ use mg_time::Timestamp;
 use mg_time::laws::done_is_greatest;
 use mg_value::Packet;
 
-/// Raises outputs as the phase asks for, and lays an answer behind them, or returns the cause why it can't be laid. There must be room.
+/// Raises outputs as the phase asks for, and lays an answer at their ends, or returns the cause why it can't be laid. There must be room.
 #[inline(always)]
 pub(crate) fn lay(
     offset: Option<i64>,
@@ -38,7 +38,7 @@ pub(crate) fn lay(
     }
 }
 
-/// How many packets an emission has at an output.
+/// Returns how many packets an emission has at an output.
 pub(crate) fn packets_in(emission: &Emission, output: u32) -> u32
     ensures { result ≡ packets_in_part output emission.now }
 {
@@ -74,8 +74,8 @@ fn raise_by(offset: Option<i64>, at: Timestamp, outputs: &mut [Queue])
     }
 }
 
-// Lays an emission behind outputs, all of it or nothing. Most calls emit one part of one packet: that goes its own way, on which the
-// compiler knows how long both lists are, and makes neither in memory.
+// Lays an emission at the ends of outputs, all of it or nothing. Most calls emit one part of one packet. Such an emission goes its own way:
+// there the compiler knows how long both lists are, and makes neither in memory.
 #[inline(always)]
 fn lay_emission(
     offset: Option<i64>,
@@ -95,7 +95,7 @@ fn lay_emission(
     }
 }
 
-// Lays an emission of one part behind outputs, all of it or nothing.
+// Lays an emission of one part at the ends of outputs, all of it or nothing.
 #[inline(always)]
 fn lay_one(offset: Option<i64>, phase: &Phase, outputs: &mut [Queue], laid: Laid) -> Option<Cause>
     requires stands { StandForSome outputs.old }
@@ -114,7 +114,7 @@ fn lay_one(offset: Option<i64>, phase: &Phase, outputs: &mut [Queue], laid: Laid
     }
 }
 
-// Lays an emission of one part with any number of packets behind outputs, all of it or nothing.
+// Lays an emission of one part with any number of packets at the ends of outputs, all of it or nothing.
 #[inline(never)]
 fn lay_several(
     offset: Option<i64>,
@@ -134,7 +134,7 @@ fn lay_several(
     lay_whole(offset, phase, outputs, one_output(Laid { packets, bound }))
 }
 
-// Lays an emission of any number of parts behind outputs, all of it or nothing.
+// Lays an emission of any number of parts at the ends of outputs, all of it or nothing.
 #[inline(never)]
 fn lay_many(
     offset: Option<i64>,
@@ -153,7 +153,7 @@ fn lay_many(
     lay_whole(offset, phase, outputs, emission)
 }
 
-// Lays a whole emission behind outputs, or nothing of it.
+// Lays a whole emission at the ends of outputs, or nothing of it.
 #[inline(always)]
 fn lay_whole(
     offset: Option<i64>,
@@ -173,7 +173,7 @@ fn lay_whole(
     None
 }
 
-// Why packets can't be put behind an output, one after the other, or `None` if they can.
+// Returns why packets can't be put at the end of an output, one after the other, or `None` if they can.
 #[inline(always)]
 fn output_fault(
     offset: Option<i64>,
@@ -186,7 +186,7 @@ fn output_fault(
     packets_fault(offset, phase, output.bound(), output.count() > 0, packets)
 }
 
-// Why an emission can't be put behind outputs, or `None` if it can.
+// Returns why an emission can't be put at the ends of outputs, or `None` if it can.
 #[inline(always)]
 fn emission_fault(
     offset: Option<i64>,
@@ -203,7 +203,7 @@ fn emission_fault(
     parts_fault(offset, phase, outputs, emission)
 }
 
-// Why an emission of this part alone can't be put behind outputs, if there is a reason.
+// Returns why an emission of this part alone can't be put at the ends of outputs, if there is a reason.
 #[inline(always)]
 fn part_fault(offset: Option<i64>, phase: &Phase, outputs: &[Queue], laid: &Laid) -> Option<Cause>
     ensures { (whole : List (StreamPrefix Plain)) → Stand outputs.now whole → result ≡ reason_of (laid_behind offset phase.now whole (laid.now ∷ [])) }
@@ -214,7 +214,7 @@ fn part_fault(offset: Option<i64>, phase: &Phase, outputs: &[Queue], laid: &Laid
     output_fault(offset, phase, &outputs[0], &laid.packets)
 }
 
-// Why an emission can't be put behind outputs, part by part.
+// Returns why an emission can't be put at the ends of outputs, part by part.
 #[inline(never)]
 fn parts_fault(
     offset: Option<i64>,
@@ -236,7 +236,7 @@ fn parts_fault(
     None
 }
 
-// Puts packets behind those of an output. There must be room for them.
+// Puts packets after those of an output. There must be room for them.
 #[inline(always)]
 fn append_all(output: &mut Queue, packets: LaidPackets)
     requires { MayAllCome output.old packets }
@@ -248,7 +248,7 @@ fn append_all(output: &mut Queue, packets: LaidPackets)
     }
 }
 
-// Puts packets behind those of an output one by one.
+// Puts packets after those of an output, one by one.
 fn append_each(output: &mut Queue, packets: Vec<Packet>)
     requires { MayAllCome output.old packets.items }
     ensures { output.new ≡ all_appended output.old packets.items }
@@ -258,7 +258,7 @@ fn append_each(output: &mut Queue, packets: Vec<Packet>)
     }
 }
 
-// Puts what is emitted at an output behind it, and raises the output to the bound, if there is one.
+// Puts what is emitted at an output at its end, and raises the output to the bound, if there is one.
 #[inline(always)]
 fn lay_part(output: &mut Queue, laid: Laid)
     requires { MayAllCome output.old laid.packets }
@@ -273,7 +273,7 @@ fn lay_part(output: &mut Queue, laid: Laid)
     }
 }
 
-// Puts what is emitted at an output behind the output at a place, if there is one.
+// Puts what is emitted at an output at the end of the output at a place, if there is one.
 #[inline(always)]
 fn lay_at(outputs: &mut [Queue], place: usize, laid: Laid)
     requires { place < length outputs.old → MayAllCome (slice_index_or outputs.old place empty_queue) laid.packets }
@@ -285,7 +285,7 @@ fn lay_at(outputs: &mut [Queue], place: usize, laid: Laid)
     }
 }
 
-// Puts an emission behind outputs, each part behind its own output.
+// Puts an emission at the ends of outputs, each part at the end of its own output.
 #[inline(always)]
 fn lay_all(outputs: &mut [Queue], emission: Emission)
     requires { MayBeLaid outputs.old emission }
@@ -298,7 +298,7 @@ fn lay_all(outputs: &mut [Queue], emission: Emission)
     }
 }
 
-// Puts the parts of an emission behind outputs, each behind its own, from the last on.
+// Puts the parts of an emission at the ends of outputs, each at its own output, from the last part on.
 fn lay_parts(outputs: &mut [Queue], parts: Vec<Laid>)
     requires { MayBeLaid outputs.old parts.items }
     ensures laid { outputs.new ≡ laid_each with_part outputs.old parts.items }
@@ -310,7 +310,7 @@ fn lay_parts(outputs: &mut [Queue], parts: Vec<Laid>)
     }
 }
 
-// Closes the outputs where the phase is Close.
+// Closes the outputs if the phase is Close.
 #[inline(always)]
 fn close_behind(phase: &Phase, outputs: &mut [Queue])
     ensures { outputs.new ≡ queues_after phase.now outputs.old }

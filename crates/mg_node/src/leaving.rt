@@ -1,4 +1,4 @@
-//! Calculators that were handed in, as they leave the contexts and the window where they stand.
+//! How user-supplied calculators leave the contexts and the window where they stand.
 ghost use Rattle.std.specs.Prelude.{◌≡◌, map, option_map, slice_get};
 ghost use Rattle.std.specs.List.{filter_map};
 ghost use Rattle.mg_node.specs.Leaving.{calculator_in, handed_told};
@@ -8,7 +8,7 @@ use crate::entry::Entry;
 use mg_calc::NodeCalculator;
 use std::collections::VecDeque;
 
-/// The first calculator that was handed in, of those in some contexts.
+/// Returns the first user-supplied calculator of those in some contexts.
 pub(crate) fn from_contexts<C: NodeCalculator>(contexts: Vec<Context<C>>) -> Option<C>
     ensures { option_map C.told result ≡ slice_get (filter_map handed_told (map (λ b. b.told) contexts.items)) 0 }
 {
@@ -20,7 +20,7 @@ pub(crate) fn from_contexts<C: NodeCalculator>(contexts: Vec<Context<C>>) -> Opt
     None
 }
 
-/// The first calculator that was handed in, of those in the outcomes of a window.
+/// Returns the first user-supplied calculator of those in the outcomes of a window.
 pub(crate) fn from_window<C: NodeCalculator>(window: VecDeque<Entry<C>>) -> Option<C>
     ensures { option_map C.told result ≡ slice_get (filter_map handed_told (filter_map calculator_in window.items)) 0 }
 {

@@ -1,6 +1,6 @@
-//! Cells: what waits at a node, and what works on it. Each node has an intake, which claims input sets, and an engine, which
-//! holds its calculator, the works that were claimed, and what was laid at its outputs.
-//! Answers to the definitions of `specs/Lawful.antt`.
+//! Cells: what waits at a node, and what works on it. Each node has an intake and an engine. The intake claims input sets. The engine holds
+//! the node's calculator, the works that were claimed, and what was laid at the node's outputs. Answers to the definitions of
+//! `specs/Lawful.antt`.
 #![tactic(auto)]
 
 mod at_once;

@@ -32,7 +32,7 @@ impl<C: NodeCalculator> Model for Outcome<C> {
 }
 
 impl<C: NodeCalculator> Outcome<C> {
-    /// The outcome of a work that wasn't run.
+    /// Makes the outcome of a work that wasn't run.
     pub fn unrun(work: Work<C>) -> Outcome<C>
         ensures outcome { result ≡ record { work = work; answer = None } }
 
@@ -42,7 +42,7 @@ impl<C: NodeCalculator> Outcome<C> {
         Outcome { work, answer: None }
     }
 
-    /// The outcome of a work that was performed.
+    /// Makes the outcome of a work that was performed.
     pub fn ran(performed: Performed<C>) -> Outcome<C>
         ensures outcome { result ≡ outcome_of performed }
 
@@ -56,28 +56,28 @@ impl<C: NodeCalculator> Outcome<C> {
         }
     }
 
-    /// The number of the node whose work it is.
+    /// Returns the number of the node whose work it is.
     pub fn node(&self) -> u32
         ensures { result ≡ self.now.work.node }
     {
         self.work.node()
     }
 
-    /// The work's number, counted from 0.
+    /// Returns the work's number, counted from 0.
     pub fn number(&self) -> u64
         ensures { result ≡ self.now.work.number }
     {
         self.work.number()
     }
 
-    /// What was to be done: Process, Call or Close.
+    /// Returns what was to be done: Process, Call or Close.
     pub fn phase(&self) -> Phase
         ensures { result ≡ self.now.work.phase }
     {
         self.work.phase()
     }
 
-    /// Whether the work wasn't run.
+    /// Returns whether the work wasn't run.
     pub(crate) fn is_unrun(&self) -> bool
         ensures { result ≡ (if is_some self.now.answer then false else true) }
     {
@@ -87,7 +87,7 @@ impl<C: NodeCalculator> Outcome<C> {
         }
     }
 
-    /// Whether the work was Close and was performed.
+    /// Returns whether the work was Close and was performed.
     fn was_closed(&self) -> bool
         ensures { result ≡ was_closed self.now }
     {
@@ -97,7 +97,7 @@ impl<C: NodeCalculator> Outcome<C> {
         self.answer.is_some()
     }
 
-    /// Closes the calculator, unless the work was a performed Close. Want of memory changes nothing.
+    /// Closes the calculator, unless the work was a performed Close. Out of memory: nothing has changed.
     pub(crate) fn finish(&mut self, alloc: Global) -> Result<(), AllocError>
         ensures finished { OnOk result (FinishesWork C.laws self.old self.new) }
         ensures unchanged { OnErr result (self.new ≡ self.old) }
@@ -108,7 +108,7 @@ impl<C: NodeCalculator> Outcome<C> {
         self.work.finish(alloc)
     }
 
-    /// How many packets were emitted at an output.
+    /// Returns how many packets were emitted at an output.
     pub(crate) fn packets_at(&self, output: u32) -> u32
         ensures { (answer : Result (List Laid) Cause) → self.now.answer ≡ Some answer → result ≡ packets_by output answer }
     {
@@ -119,7 +119,7 @@ impl<C: NodeCalculator> Outcome<C> {
         }
     }
 
-    /// The work, which must not have been run.
+    /// Returns the work, which must not have been run.
     pub(crate) fn into_work(self) -> Work<C>
         requires { self.answer ≡ None }
         ensures { self ≡ record { work = result; answer = None } }
@@ -128,7 +128,7 @@ impl<C: NodeCalculator> Outcome<C> {
         work
     }
 
-    /// The performed work. The work must have been performed.
+    /// Returns the performed work. The work must have been performed.
     pub(crate) fn into_performed(self) -> Performed<C>
         requires { is_some self.answer ≡ true }
         ensures { performed_of self ≡ Some result }
@@ -140,7 +140,7 @@ impl<C: NodeCalculator> Outcome<C> {
         }
     }
 
-    /// The context of the work.
+    /// Returns the context of the work.
     pub(crate) fn into_context(self) -> Context<C>
         ensures { result ≡ self.work.context }
     {

@@ -13,7 +13,7 @@ use mg_stream::Queue;
 use mg_value::NumberList;
 use std::alloc::{AllocError, Global};
 
-/// The role of the engine of a node with this law.
+/// Returns the role of the engine of a node with this law.
 pub(crate) fn role_of(law: &Law) -> Role
     ensures { result ≡ role_by law.now }
 {
@@ -26,7 +26,7 @@ pub(crate) fn role_of(law: &Law) -> Role
     }
 }
 
-/// The first of some numbers, or 0 where there is none.
+/// Returns the first of some numbers, or 0 if there is none.
 pub(crate) fn first_of(numbers: &NumberList) -> u32
     ensures { result ≡ slice_index_or numbers.now 0 0 }
 {

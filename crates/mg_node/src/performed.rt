@@ -23,14 +23,14 @@ impl<C: NodeCalculator> Model for Performed<C> {
 }
 
 impl<C: NodeCalculator> Performed<C> {
-    /// A work with its answer.
+    /// Makes a work with its answer.
     pub(crate) fn new(work: Work<C>, answer: Result<Emission, Cause>) -> Performed<C>
         ensures { result ≡ record { work = work; answer = answer } }
     {
         Performed { work, answer }
     }
 
-    /// The work, and the answer.
+    /// Returns the work, and the answer.
     pub(crate) fn into_parts(self) -> (Work<C>, Result<Emission, Cause>)
         ensures work { result.0 ≡ self.work }
         ensures answer { result.1 ≡ self.answer }
@@ -39,21 +39,21 @@ impl<C: NodeCalculator> Performed<C> {
         (work, answer)
     }
 
-    /// The number of the node whose work it was.
+    /// Returns the number of the node whose work it was.
     pub fn node(&self) -> u32
         ensures { result ≡ self.now.work.node }
     {
         self.work.node()
     }
 
-    /// The work's number, counted from 0.
+    /// Returns the work's number, counted from 0.
     pub fn number(&self) -> u64
         ensures { result ≡ self.now.work.number }
     {
         self.work.number()
     }
 
-    /// What was done: Process, Call or Close.
+    /// Returns what was done: Process, Call or Close.
     pub fn phase(&self) -> Phase
         ensures { result ≡ self.now.work.phase }
     {

@@ -18,7 +18,7 @@ fn is_below(output: &Queue, bound: Timestamp) -> bool
     output.bound() < bound
 }
 
-/// Whether a bound is higher than the bound of at least one output.
+/// Returns whether a bound is higher than the bound of at least one output.
 #[tactic(auto, using(crate::proofs::Advancing::moved_here, crate::proofs::Advancing::moved_next, crate::proofs::Advancing::moved_none))]
 pub(crate) fn moves_one(outputs: &[Queue], bound: Timestamp) -> bool
     ensures { result ≡ any_moved bound (map backlog_of outputs.now) }
@@ -77,7 +77,7 @@ fn until(phase: Phase, time: Timestamp) -> Timestamp
     }
 }
 
-/// The lesser of a time and the time of the first set that is claimed and not laid, if there is one.
+/// Returns the lesser of a time and the time of the first set that is claimed and not laid, if there is one.
 #[tactic(auto, using(crate::proofs::Advancing::until_first, crate::proofs::Advancing::until_none))]
 pub(crate) fn until_claimed<C: NodeCalculator>(
     window: &VecDeque<Entry<C>>,
@@ -91,7 +91,7 @@ pub(crate) fn until_claimed<C: NodeCalculator>(
     until(window[0].phase(), time)
 }
 
-/// Whether the outputs of a node are never raised by what waits.
+/// Returns whether the outputs of a node are never raised by what waits.
 pub(crate) fn never_raises(role: Role, offset: Option<i64>) -> bool
     ensures { result ≡ never_raised role offset }
 {
@@ -104,7 +104,7 @@ pub(crate) fn never_raises(role: Role, offset: Option<i64>) -> bool
     }
 }
 
-/// The bound to which a time raises the outputs of a node, if it does.
+/// Returns the bound to which a time raises the outputs of a node, if it does.
 pub(crate) fn raised_by(role: Role, offset: Option<i64>, time: Timestamp) -> Option<Timestamp>
     ensures { result ≡ raised_by_role role offset time }
 {

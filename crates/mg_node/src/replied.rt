@@ -15,11 +15,11 @@ pub enum Replied {
     Laid,
     /// The answer can't be told yet, and nothing has changed.
     NotYet,
-    /// There was no memory, and nothing has changed.
+    /// Out of memory: nothing has changed.
     OutOfMemory,
 }
 
-/// Lays the answer to the next packet of MAIN, where it can be told.
+/// Lays the answer to the next packet of MAIN, if the answer can be told.
 pub(crate) fn reply(output: &mut Queue, intake: &mut Intake) -> Replied
     requires looped { HasLoop intake.old.waits }
     requires few { intake.old.claimed + 1 < 2 ^ 64 }

@@ -14,7 +14,7 @@ use std::alloc::{AllocError, Global};
 use std::collections::VecDeque;
 use std::mem;
 
-/// The place of the first entry whose work came back unrun, if there is one.
+/// Returns the place of the first entry whose work came back unrun, if there is one.
 #[tactic(auto, using(crate::proofs::Unrun::unrun_here, crate::proofs::Unrun::unrun_next, crate::proofs::Unrun::unrun_none))]
 pub(crate) fn first_unrun<C: NodeCalculator>(window: &VecDeque<Entry<C>>) -> Option<usize>
     ensures { result ≡ first_unrun_from 0 window.now.items }
@@ -37,7 +37,7 @@ pub(crate) fn hand_out<C: NodeCalculator>(window: &mut VecDeque<Entry<C>>, place
     window[place].hand_out()
 }
 
-/// Whether all that was claimed is laid.
+/// Returns whether all that was claimed is laid.
 pub(crate) fn is_empty<C: NodeCalculator>(window: &VecDeque<Entry<C>>) -> bool
     ensures none { result ≡ true → window.now.items ≡ [] }
     ensures some { result ≡ false → 0 < length window.now.items }
@@ -90,7 +90,7 @@ pub(crate) fn take_back<C: NodeCalculator>(
     entry.into_outcome()
 }
 
-/// Whether the first entry of a window is ready to be laid.
+/// Returns whether the first entry of a window is ready to be laid.
 #[tactic(auto, using(crate::proofs::FrontSteps::ready_first, crate::proofs::FrontSteps::ready_none))]
 pub(crate) fn is_ready<C: NodeCalculator>(window: &VecDeque<Entry<C>>) -> bool
     ensures { result ≡ starts_ready window.now.items }
@@ -121,7 +121,7 @@ pub(crate) fn take_shelf<C: NodeCalculator>(
     Some(window[place].take_shelf())
 }
 
-/// The place of the first entry with a performed work that isn't committed, if there is one.
+/// Returns the place of the first entry with a performed work that isn't committed, if there is one.
 pub(crate) fn first_shelf<C: NodeCalculator>(window: &VecDeque<Entry<C>>) -> Option<usize>
     ensures within { IfSome result (λ place. place < length window.now.items) }
     ensures some { IfSome result (λ place. IsSome (option_and_then shelf_of (slice_get window.now.items place))) }
@@ -135,7 +135,7 @@ pub(crate) fn first_shelf<C: NodeCalculator>(window: &VecDeque<Entry<C>>) -> Opt
     None
 }
 
-/// Closes the calculator of the first entry's work, if that came back and wasn't a performed Close. Want of memory changes nothing.
+/// Closes the calculator of the first entry's work, if the work came back and wasn't a performed Close. Out of memory: nothing has changed.
 pub(crate) fn finish_first<C: NodeCalculator>(
     window: &mut VecDeque<Entry<C>>,
     alloc: Global,

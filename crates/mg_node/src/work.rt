@@ -30,7 +30,7 @@ impl<C: NodeCalculator> Model for Work<C> {
 }
 
 impl<C: NodeCalculator> Work<C> {
-    /// The work of a node with this number, to be done in a phase by a context.
+    /// Makes the work of a node with this number, to be done in a phase by a context.
     pub(crate) fn new(node: u32, number: u64, phase: Phase, context: Context<C>) -> Work<C>
         ensures { result ≡ record { node = node; number = number; phase = phase; context = context } }
     {
@@ -42,28 +42,28 @@ impl<C: NodeCalculator> Work<C> {
         }
     }
 
-    /// The number of the node whose work it is.
+    /// Returns the number of the node whose work it is.
     pub fn node(&self) -> u32
         ensures { result ≡ self.now.node }
     {
         self.node
     }
 
-    /// The work's number, counted from 0: that of its set or call. Close has the number behind the last one.
+    /// Returns the work's number, counted from 0: that of its set or call. Close has the number after the last one.
     pub fn number(&self) -> u64
         ensures { result ≡ self.now.number }
     {
         self.number
     }
 
-    /// What is to be done: Process, Call or Close.
+    /// Returns what is to be done: Process, Call or Close.
     pub fn phase(&self) -> Phase
         ensures { result ≡ self.now.phase }
     {
         self.phase
     }
 
-    /// The context of the work.
+    /// Returns the context of the work.
     pub(crate) fn into_context(self) -> Context<C>
         ensures { result ≡ self.context }
     {
@@ -71,7 +71,7 @@ impl<C: NodeCalculator> Work<C> {
         context
     }
 
-    /// Runs the work's calculator in its phase, with the gate round each call but Close. Want of memory changes nothing.
+    /// Runs the work's calculator in its phase, with the gate round each call but Close. Out of memory: nothing has changed.
     pub(crate) fn run<G: Gate>(&mut self, alloc: Global, gate: &G) -> Result<Emission, CalcFault>
         requires { MayRun self.old.phase self.old.context }
         ensures ran { HasRun C.laws result self.old.phase self.old.context self.new.context }
@@ -86,7 +86,7 @@ impl<C: NodeCalculator> Work<C> {
         answer
     }
 
-    /// Closes the work's calculator, and drops its answer. Want of memory changes nothing.
+    /// Closes the work's calculator, and drops its answer. Out of memory: nothing has changed.
     pub(crate) fn finish(&mut self, alloc: Global) -> Result<(), AllocError>
         ensures finished { OnOk result (IsFinished C.laws self.old.context self.new.context) }
         ensures same { self.new ≡ record self.old { context = self.new.context } }
@@ -95,7 +95,7 @@ impl<C: NodeCalculator> Work<C> {
         self.context.finish(alloc)
     }
 
-    /// The work's calculator, if it was handed in. The work itself is dropped undone.
+    /// Returns the work's calculator, if it is user-supplied. The work itself is dropped undone.
     pub fn into_calculator(self) -> Option<C>
         ensures there { is_some result ≡ self.context.told.handed }
         ensures told { IfSome result (λ c. C.told c ≡ told_by self.context.told) }

@@ -26,7 +26,7 @@ abbrev pub counted_in : List EntryView → ℕ
 counted_in [] = 0
 counted_in (entry ∷ entries) = calls_in_phase entry.phase + counted_in entries
 
--- what laying an entry of a phase comes to
+-- the result of laying an entry of a phase: how many sets or calls are laid, whether Close is, and the fault, if any
 abbrev pub front_end_of : ℕ → Phase → Option Cause → FrontEnd
 front_end_of node phase cause = record { laid = calls_in_phase phase; closed = is_close phase; fault = option_map (λ c. record { node = node; phase = phase; cause = c }) cause }
 
@@ -64,7 +64,7 @@ pub record LaysFront (laid : ℕ) (before now : EngineView) : Type 0 where
   pub counted : now.laid ≡ before.laid + laid
   pub front : (whole : List (StreamPrefix Plain)) → StandForAll before.outputs whole → HasFront before now (front_laid before.offset before.window (front_of before before.window whole))
 
--- an engine's outputs stand for some prefixes in whole, and where it has a fault, that is its own node's
+-- an engine's outputs stand for some prefixes in whole, and if it has a fault, that is its own node's
 pub record HasWhole (engine : EngineView) : Type 0 where
   pub whole : List (StreamPrefix Plain)
   pub stand : StandForAll engine.outputs whole

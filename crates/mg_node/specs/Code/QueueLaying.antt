@@ -1,4 +1,4 @@
--- Laying behind the queues of outputs: what the code does to each queue, and what that is in whole.
+-- Laying at the ends of the outputs' queues: what the code does to each queue, and what that is in whole.
 use Rattle.std.specs.Prelude.{◌≡◌, ℕ, ℤ, ◌+◌, ◌-◌, ◌<◌, ◌≤◌, List, [], ◌∷◌, ◌++◌, length, map, Option, Some, None, IfSome, Result, Ok, Err, slice_index_or, ⊤}
 use Rattle.std.specs.List.{AllZip}
 use Rattle.mg_time.specs.Time.{next, done, shift}
@@ -22,16 +22,16 @@ pub record StandForSome (queues : List (Waiting Plain)) : Type 0 where
   pub whole : List (StreamPrefix Plain)
   pub stand : Stand queues whole
 
--- a queue with a packet behind those that wait, which takes a place of its room
+-- a queue with a packet after those that wait; the packet takes a place of its room
 abbrev pub appended : Waiting Plain → Stamped Plain → Waiting Plain
 appended q p = record { gone = q.gone; packets = q.packets ++ p ∷ []; bound = next p.at; spare = q.spare - 1 }
 
--- a queue with packets behind those that wait, one after the other
+-- a queue with packets after those that wait, one after the other
 abbrev pub all_appended : Waiting Plain → List (Stamped Plain) → Waiting Plain
 all_appended q [] = q
 all_appended q (p ∷ ps) = all_appended (appended q p) ps
 
--- packets may come to a queue one after the other, and there is room for them
+-- a queue may take packets one after the other, and has room for them
 abbrev pub MayAllCome : Waiting Plain → List (Stamped Plain) → Type 0
 MayAllCome q [] = ⊤
 MayAllCome q (p ∷ ps) = MayCome q p.at × (0 < q.spare) × MayAllCome (appended q p) ps
@@ -74,12 +74,12 @@ queues_before offset phase queues = queues
 abbrev pub closed_queue : Waiting Plain → Waiting Plain
 closed_queue q = record q { bound = done }
 
--- the queues behind Close
+-- the queues after a phase: after Close they are closed
 abbrev pub queues_after : Phase → List (Waiting Plain) → List (Waiting Plain)
 queues_after Close queues = map closed_queue queues
 queues_after phase queues = queues
 
--- the time of a phase, where it has one
+-- the time of a phase, if it has one
 abbrev pub IsTimed : Phase → Type 0
 IsTimed (Process at) = at ≤ done
 IsTimed phase = ⊤
@@ -101,8 +101,8 @@ room_at output queues = (slice_index_or queues output empty_queue).spare
 abbrev pub HasRoomFor : List (Waiting Plain) → Result (List Laid) Cause → Type 0
 HasRoomFor queues answer = (output : ℕ) → output < length queues → packets_by output answer ≤ room_at output queues
 
--- an answer is laid behind queues, once `first` has changed their prefixes, or `cause` is why it can't be; the same for all whole prefixes
--- that the queues stood for. No packet was given up, and no more room is taken than the answer has packets.
+-- an answer is laid at the ends of queues, once `first` has changed their prefixes, or `cause` is why it can't be laid. This holds for all
+-- whole prefixes that the queues stood for. No packet was given up, and no more room is taken than the answer has packets.
 pub record IsLaid (offset : Option ℤ) (phase : Phase) (first : List (StreamPrefix Plain) → List (StreamPrefix Plain)) (answer : Result (List Laid) Cause) (before now : List (Waiting Plain)) (cause : Option Cause) : Type 0 where
   pub laid : (whole : List (StreamPrefix Plain)) → Stand before whole → (cause ≡ reason_of (laid_by offset phase (first whole) answer)) × Stand now (outputs_by (first whole) (laid_by offset phase (first whole) answer))
   pub gone : map (λ q. q.gone) now ≡ map (λ q. q.gone) before

@@ -34,7 +34,7 @@ pub record TellsNone (output output_now : Waiting Plain) (intake intake_now : In
   pub same : backlog_of output_now ≡ backlog_of output
   pub intake_is : intake_now ≡ intake
 
--- what became of the next answer, and what that leaves; at want of memory nothing has changed
+-- what became of the next answer, and what that leaves; when out of memory, nothing has changed
 abbrev pub Replies : Replied → Waiting Plain → Waiting Plain → IntakeView → IntakeView → Type 0
 Replies Laid output output_now intake intake_now = LaysReply output output_now intake intake_now
 Replies NotYet output output_now intake intake_now = TellsNone output output_now intake intake_now

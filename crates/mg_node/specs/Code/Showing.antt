@@ -16,12 +16,12 @@ use Rattle.mg_node.specs.Running.{IsPerformed}
 abbrev pub work_at : ℕ → ℕ → ℕ → ContextView → WorkView
 work_at node number at context = record { node = node; number = number; phase = Process at; context = context }
 
--- a context's calculator was shown the context's set at a time: a work of that set in the context is thereby performed, whatever its
--- node and number
+-- a context's calculator was shown the context's set at a time. This performs a work of that set in the context, whatever its node and
+-- number.
 abbrev pub HasShown : Laws → ℕ → Result (List Laid) Cause → ContextView → ContextView → Type 0
 HasShown laws at answer before now = (node number : ℕ) → IsPerformed laws (work_at node number at before) (record { work = work_at node number at now; answer = answer })
 
--- the last idle context takes the next set, and its calculator is shown that; where memory is short, only the set has changed there
+-- the last idle context takes the next set, and its calculator is shown that; if memory is short, only the set has changed there
 pub record Shows (laws : Laws) (answer : Option (Result (List Laid) Cause)) (at : ℕ) (engine engine_now : EngineView) (intake intake_now : IntakeView) : Type 0 where
   pub rest : List ContextView
   pub context : ContextView

@@ -13,11 +13,11 @@ use mg_calc::NodeCalculator;
 use mg_time::Timestamp;
 
 impl<C: NodeCalculator> Engine<C> {
-    /// Raises the bounds of the outputs as far as what waits at the node tells, and returns whether that moved one of them. Each is raised
-    /// to the least of these times, moved by the node's offset: how far the node's input sets reach, the time of the first packet that
-    /// waits (under Mux, on SELECT), and the time of the first set that is claimed and not laid. The output of a loopback is raised as far
-    /// as its stream is told. An engine that has failed or closed raises nothing, and neither does one whose node has no offset and isn't a
-    /// loopback. (MediaPipe, Synchronization: timestamp bounds.)
+    /// Raises the bounds of the outputs as far as what waits at the node tells, and returns whether that moved one of them. Each output is
+    /// raised to the least of three times, moved by the node's offset. The first time is how far the node's input sets reach. The second is
+    /// the time of the first packet that waits (under Mux, on SELECT). The third is the time of the first set that is claimed and not laid.
+    /// The output of a loopback is raised as far as its stream is told. An engine that has failed or closed raises nothing. Neither does an
+    /// engine whose node has no offset and isn't a loopback. (MediaPipe, Synchronization: timestamp bounds.)
     pub fn advance(&mut self, intake: &Intake) -> bool
         requires cell { AreCell C.laws self.old intake.now }
         ensures advanced { self.new ≡ advanced self.old intake.now.waits }

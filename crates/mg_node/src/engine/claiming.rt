@@ -19,16 +19,16 @@ use mg_calc::{NodeCalculator, Phase};
 use mg_policy::Readiness;
 
 impl<C: NodeCalculator> Engine<C> {
-    /// Claims the next work. The first of these that holds is returned: `Ended`, where the node has failed or closed; `Work` with the first
-    /// work that came back unrun; `InFlightFull`, where as many works are claimed as may be; `Draining`, where no set comes any more and
-    /// works are still to be laid; `NotReady`, where neither a set nor the end can be told; `Answered`, where the loopback has answered;
-    /// `Work` with the next set, call or Close. Only a loopback's answer takes memory; `OutOfMemory` where there is none.
+    /// Claims the next work. Returns the first of these that holds: `Ended`, if the node has failed or closed; `Work` with the first work
+    /// that came back unrun; `InFlightFull`, if as many works are claimed as may be; `Draining`, if no set comes any more and works are
+    /// still to be laid; `NotReady`, if neither a set nor the end can be told; `Answered`, if the loopback has answered; `Work` with the
+    /// next set, call or Close. Only a loopback's answer takes memory. Out of memory: returns `OutOfMemory`.
     pub fn claim(&mut self, intake: &mut Intake) -> Claimed<C>
         requires cell { AreCell C.laws self.old intake.old }
         ensures claims { Claims result self.old self.new intake.old intake.new }
         ensures out { GivesOut result self.new }
 
-        // A work that is handed out is one more that is out, and all others that were out stay so.
+        // A work that is handed out is one more work that is out, and all others that were out stay so.
         ensures puts_out { PutsOut result self.old self.new }
 
         // The engine stays as it was set up, and at each port as many packets are counted as before.

@@ -1,4 +1,4 @@
-//! Committing works: what was performed is laid in the order of the sets, whatever the order in which it comes back.
+//! Committing works: performed works are laid in the order of the sets, in whatever order they come back.
 ghost use Rattle.std.specs.Prelude.{◌≡◌, ℕ, ◌<◌, ◌≤◌, ◌+◌, ◌-◌, ◌^◌, IfOk, IfErr, OnOk, OnErr, IsSomeAnd, is_some, true, false, None, Some, option_and_then, slice_get, slice_set};
 ghost use Rattle.mg_node.specs.Job.{LoggedJob};
 ghost use Rattle.mg_node.specs.Lawful.{of_node, LawfulEngine, LawfulOutcome};
@@ -16,10 +16,10 @@ use mg_calc::{NodeCalculator, Phase};
 use std::alloc::AllocError;
 
 impl<C: NodeCalculator> Engine<C> {
-    /// Takes back a work that is out. If it was performed it is committed, and what is committed at the front of the window is laid at the
-    /// outputs: entry by entry, up to the first that isn't committed or at which the node fails or closes. Returns how many sets or calls
-    /// were laid; Close isn't counted. A work that wasn't run stands in its window and is claimed again. Want of memory hands the work
-    /// back, and nothing has changed.
+    /// Takes back a work that is out. If the work was performed, commits it, and lays what is committed at the front of the window at the
+    /// outputs, entry by entry. Laying stops before the first entry that isn't committed, or after the first at which the node fails or
+    /// closes. Returns how many sets or calls were laid; Close isn't counted. A work that wasn't run stands in its window and is claimed
+    /// again. Out of memory: hands the work back, and nothing has changed.
     pub fn commit(&mut self, outcome: Outcome<C>) -> Result<u32, Outcome<C>>
         requires out { IsOut self.old outcome.work }
         requires lawful { SomeJobHasEngine C.laws self.old }
@@ -81,7 +81,7 @@ impl<C: NodeCalculator> Engine<C> {
         take_back(&mut self.window, place, phase)
     }
 
-    // Lays what is ready at the front of the window. Want of memory changes nothing.
+    // Lays what is ready at the front of the window. Out of memory: nothing has changed.
     pub(super) fn lay_front(&mut self) -> Result<u32, AllocError>
         requires whole { HasWhole self.old }
         requires few { self.old.laid + counted_in self.old.window < 2 ^ 64 }

@@ -24,7 +24,7 @@ impl<C: NodeCalculator> Engine<C> {
         ensures moved { Delivers result (output_at self.now edge) edge.port most intake.old.waits intake.new.waits }
         ensures claimed { intake.new.claimed ≡ intake.old.claimed }
 
-        // Where no packet came and the bound didn't rise, nothing has changed, nor has the room.
+        // If no packet came and the bound didn't rise, nothing has changed, nor has the room.
         ensures still { result ≡ Delivered.Moved 0 false → intake.new ≡ intake.old }
 
         // The intake's standing only grows.

@@ -15,15 +15,15 @@ use mg_time::Timestamp;
 use std::alloc::AllocError;
 
 impl<C: NodeCalculator> Engine<C> {
-    /// Goes on with more of the graph input's stream: the further packets stand behind those that its output keeps. Payloads are shared.
-    /// Want of memory changes nothing.
+    /// Goes on with more of the graph input's stream: the further packets stand after those that its output keeps. Payloads are shared. Out
+    /// of memory: nothing has changed.
     pub fn extend(&mut self, more: &Prefix) -> Result<(), AllocError>
         requires { MayExtend C.laws self.old more.now }
         ensures engine { OnOk result (self.new ≡ extended self.old more.now) }
         ensures unchanged { OnErr result (self.new ≡ self.old) }
 
-        // The engine is then lawful for every job whose stream of this input is that of a job for which it was lawful, with the further
-        // packets behind.
+        // If the engine was lawful for a job, it is then lawful for every job with the longer stream of this input. The longer stream is
+        // the first job's stream of this input with the further packets after it.
         ensures lawful { (job later : LoggedJob C.laws) (input : ℕ) (streams longer : List (StreamPrefix Plain)) → LawfulEngine job (of_input input) self.old → Solves job streams
             → Solves later longer → input < length later.job.plan.inputs
             → slice_index_or longer input empty_prefix ≡ joined (slice_index_or streams input empty_prefix) more.now

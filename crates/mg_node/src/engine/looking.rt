@@ -27,7 +27,8 @@ fn packet_at(queue: &Queue, number: u64) -> Option<&Packet>
 }
 
 impl<C: NodeCalculator> Engine<C> {
-    /// The packet of this number that was laid at an output, counted from 0. `None` where it is given up, or wasn't laid yet.
+    /// Returns the packet of this number that was laid at an output, counted from 0. Returns `None` if the packet is given up, or wasn't
+    /// laid yet.
     pub fn packet(&self, output: u32, number: u64) -> Option<&Packet>
         requires { output < length self.now.outputs }
         ensures { option_copied result ≡ kept_packet (slice_index_or self.now.outputs output empty_backlog) number }

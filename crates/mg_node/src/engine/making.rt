@@ -23,8 +23,8 @@ use std::alloc::{AllocError, Global};
 use std::collections::VecDeque;
 
 impl<C: NodeCalculator> Engine<C> {
-    /// The engine of a node of a plan, with the calculator in `holder`, not begun. Where several sets may be worked on at once, it makes
-    /// the further calculators itself. Want of memory hands the calculator back.
+    /// Makes the engine of a node of a plan, with the calculator in `holder`, not begun. If several sets may be worked on at once, makes
+    /// the further calculators itself. Out of memory: hands the calculator back.
     pub fn new(
         alloc: Global,
         plan: &Plan,
@@ -36,7 +36,7 @@ impl<C: NodeCalculator> Engine<C> {
         ensures engine { (planned : PlanNode) → slice_get plan.now.nodes node ≡ Some planned → IfOk result (λ e. e ≡ fresh_engine planned node holder) }
         ensures returned { IfErr result (λ h. h ≡ holder) }
 
-        // The engine is lawful, as one that isn't begun, for every job that has such a calculator for this node.
+        // The engine isn't begun, and as such it is lawful for every job that has such a calculator for this node.
         ensures lawful { (job : LoggedJob C.laws) (planned : PlanNode) → job.job.plan ≡ plan.now → IsHanded job node planned holder
             → IfOk result (λ e. LawfulUnbegun job node e) }
     {
@@ -74,7 +74,7 @@ impl<C: NodeCalculator> Engine<C> {
         })
     }
 
-    /// Puts a calculator that is handed in into an engine that was made with another one and isn't begun. It takes no memory.
+    /// Puts a user-supplied calculator into an engine that was made with another calculator and isn't begun. Takes no memory.
     pub fn hand_in(&mut self, calculator: C)
         ensures { (planned : PlanNode) (number : ℕ) (told : HolderView) → self.old ≡ fresh_engine planned number told
             → self.new ≡ fresh_engine planned number (holder_view true (C.told calculator)) }
@@ -85,7 +85,7 @@ impl<C: NodeCalculator> Engine<C> {
         self.idle.push_reserved(context.with(calculator));
     }
 
-    /// The engine of a graph input: its one output has what is known of the input's stream, whose payloads are shared.
+    /// Makes the engine of a graph input: its one output has what is known of the input's stream, whose payloads are shared.
     pub fn of_input(
         alloc: Global,
         plan: &Plan,

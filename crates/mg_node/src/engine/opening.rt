@@ -1,4 +1,4 @@
-//! Beginning an engine: its calculator is opened once, and what it emits is laid.
+//! Beginning an engine: its calculator is opened once, and the emission is laid.
 ghost use Rattle.std.specs.Prelude.{◌≡◌, ◌<◌, ℕ, List, length, slice_get, Some, OnOk, OnErr, []};
 ghost use Rattle.mg_value.specs.Payload.{Plain};
 ghost use Rattle.mg_settled.specs.Prefix.{StreamPrefix};
@@ -18,8 +18,8 @@ use mg_calc::{GivenList, NodeCalculator};
 use std::alloc::AllocError;
 
 impl<C: NodeCalculator> Engine<C> {
-    /// Begins the engine of a node: its calculator is opened with the node's side packets, and what it emits is laid. Where there is no
-    /// memory the engine isn't begun, and this may be called again; a calculator that was opened isn't opened again then.
+    /// Begins the engine of a node: opens its calculator with the node's side packets, and lays the emission. Out of memory: the engine
+    /// isn't begun, and this may be called again. A calculator that was opened isn't opened again then.
     pub fn begin(&mut self, sides: &GivenList) -> Result<(), AllocError>
         requires { SomeUnbegun C.laws sides.now self.old }
         ensures begun { (node : PlanNode) (number : ℕ) (told : HolderView) → IsNew node told → IsUnbegun C.laws node number told sides.now self.old
@@ -30,7 +30,8 @@ impl<C: NodeCalculator> Engine<C> {
         // The engine's standing only grows.
         ensures grows { EngineGrows self.old self.new }
 
-        // The engine is then lawful for every job that has its calculator and these side packets, or still lawful as one that isn't begun.
+        // The engine is then lawful for every job that has its calculator and these side packets. Out of memory: it is still lawful as an
+        // engine that isn't begun.
         ensures lawful { (job : LoggedJob C.laws) (number : ℕ) (node : PlanNode) (streams : List (StreamPrefix Plain)) → Solves job streams → slice_get job.job.plan.nodes number ≡ Some node
             → sides.now ≡ sides_of job.job node → LawfulUnbegun job number self.old → OnOk result (LawfulEngine job (of_node number) self.new) }
         ensures lawful_unbegun { (job : LoggedJob C.laws) (number : ℕ) (node : PlanNode) → slice_get job.job.plan.nodes number ≡ Some node

@@ -40,7 +40,7 @@ impl<C: NodeCalculator> Engine<C> {
         ensures found { result ≡ shelf_at self.old number }
         ensures taken { Unshelves result self.old self.new number }
 
-        // Of a lawful engine, what is found is the work of that number, and it is out.
+        // In a lawful engine, the work that is found is the work of that number, and it is out.
         ensures numbered { (job : LoggedJob C.laws) (owner : ℕ) → LawfulEngine job (of_node owner) self.old → IfSome result (λ p. p.work.number ≡ number) }
         ensures out { (job : LoggedJob C.laws) (owner : ℕ) → LawfulEngine job (of_node owner) self.old → IfSome result (λ p. IsOut self.new p.work) }
 
@@ -60,7 +60,7 @@ impl<C: NodeCalculator> Engine<C> {
         self.take_shelf(number)
     }
 
-    /// The number of the first performed work in the window that isn't committed, if there is one.
+    /// Returns the number of the first performed work in the window that isn't committed, if there is one.
     pub fn shelved(&self) -> Option<u64>
         requires { SomeJobHasEngine C.laws self.now }
         ensures some { IfSome result (λ number. IsSome (shelf_at self.now number)) }

@@ -19,9 +19,9 @@ use mg_policy::Readiness;
 use mg_time::Timestamp;
 
 impl<C: NodeCalculator> Engine<C> {
-    /// Claims the next set, shows it to the node's calculator and lays the answer, where no work is under way. The calculator stays in its
-    /// context, and the gate is round its call. Where a claim may answer with something else than a set nothing changes. At want of memory
-    /// the work is handed out as it is claimed, or stands in its window as performed.
+    /// If no work is under way, claims the next set, shows it to the node's calculator and lays the answer. The calculator stays in its
+    /// context, and the gate is round its call. If a claim may answer with something else than a set, nothing changes. Out of memory:
+    /// returns the claimed work, or leaves the performed work in its window.
     pub fn work_at_once<G: Gate>(&mut self, intake: &mut Intake, gate: &G) -> AtOnce<C>
         requires cell { AreCell C.laws self.old intake.old }
         ensures does { DoesAtOnce C.laws result self.old self.new intake.old intake.new }
@@ -86,7 +86,7 @@ impl<C: NodeCalculator> Engine<C> {
         }
     }
 
-    // Shows the next set to the calculator of the last idle context, and returns its answer, or `None` where there is no memory.
+    // Shows the next set to the calculator of the last idle context, and returns its answer. Out of memory: returns `None`.
     fn show<G: Gate>(
         &mut self,
         at: Timestamp,
@@ -107,7 +107,7 @@ impl<C: NodeCalculator> Engine<C> {
         answer
     }
 
-    // Lays the answer to a set, and counts the set as claimed and laid. Want of memory changes nothing, and hands the answer back.
+    // Lays the answer to a set, and counts the set as claimed and laid. Out of memory: hands the answer back, and nothing has changed.
     fn lay_answer(
         &mut self,
         at: Timestamp,

@@ -29,11 +29,11 @@ fn closes_despite(fault: Option<NodeFault>) -> bool
 }
 
 impl<C: NodeCalculator> Engine<C> {
-    /// Closes the calculator of a node that was opened and had no Close, once a run has ended, also where the node has failed at a set or
-    /// in a call. It is the calculator in the last idle context, or where no context is idle, that of the first work in the window, if that
-    /// came back and wasn't a performed Close. What it emits or answers is dropped, and nothing else changes; the engine isn't used any
-    /// more. A node that isn't begun, was closed, or failed in Open or in Close stays as it is. Want of memory changes nothing, and this
-    /// may be called again.
+    /// Closes the calculator of a node that was opened and had no Close, once a run has ended. Closes it also if the node has failed at a
+    /// set or in a call. It is the calculator in the last idle context. If no context is idle, it is that of the first work in the window,
+    /// if that work came back and wasn't a performed Close. Drops what the calculator emits or answers, and changes nothing else; the
+    /// engine isn't used any more. A node that isn't begun, was closed, or failed in Open or in Close stays as it is. Out of memory:
+    /// nothing has changed, and this may be called again.
     pub fn wind_up(&mut self) -> Result<(), AllocError>
         ensures wound_up { OnOk result (WindsUp C.laws self.old self.new) }
         ensures unchanged { OnErr result (self.new ≡ self.old) }

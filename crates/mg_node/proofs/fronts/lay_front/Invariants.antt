@@ -1,4 +1,4 @@
--- With what is left of the window it comes to the same.
+-- Laying what is left of the window gives the same front.
 use Rattle.std.proofs.Common.{◌≡◌, ◌+◌, ◌≤◌, vec_len, vec_capacity}
 use Rattle.std.specs.VecDeque.{deque_len, deque_capacity}
 use Rattle.mg_node.specs.Code.QueueLaying.{StandForSome}

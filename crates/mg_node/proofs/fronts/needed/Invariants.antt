@@ -1,4 +1,4 @@
--- With what is left it comes to the same.
+-- The sum so far, together with what the remaining entries need, is what all entries need.
 use Rattle.std.proofs.Common.{◌≡◌, ◌+◌, drop}
 use Rattle.mg_node.specs.Code.FrontLaying.{needed}
 use Rattle.mg_node.proofs.fronts.needed.Given as goal

@@ -1,4 +1,4 @@
--- With what is left it comes to the same.
+-- Appending the packets that are left gives the same queue.
 use Rattle.std.proofs.Common.{◌≡◌}
 use Rattle.std.specs.Vec.Iter.{into_iter_items}
 use Rattle.mg_node.specs.Code.QueueLaying.{all_appended, MayAllCome}

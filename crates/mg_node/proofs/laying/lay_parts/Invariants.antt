@@ -1,4 +1,4 @@
--- With the parts that are left it comes to the same.
+-- Laying the parts that are left gives the same queues.
 use Rattle.std.proofs.Common.{◌≡◌, List, vec_len}
 use Rattle.mg_value.specs.Payload.{Plain}
 use Rattle.mg_settled.specs.Prefix.{StreamPrefix}
