@@ -1,5 +1,5 @@
 //! A source sends packets through a chain of nodes. Workers run the net, and each Process call is held up for a number of turns of a loop.
-//! Or a node reads the last stream of a chain at many ports, and the turns of workers that were in vain are counted.
+//! Or a node reads the last stream of a chain at many ports, and the program counts the turns of workers that were in vain.
 
 ghost use Rattle.mg_route.specs.TableLaws.{table_laws};
 ghost use Rattle.mg_nets.specs.Driven.{IsDriven};
@@ -56,8 +56,8 @@ pub fn run_by_workers<R: Threads + Wait + Sync>(
     swept(rt.alloc(), driver, &gate)
 }
 
-/// Lets workers run the net of a chain whose last stream one node reads at many ports, before it is swept. The words give how many ports,
-/// packets and workers there are. Returns how many turns of the workers were in vain.
+/// Lets workers run the net of a chain before it is swept. One node reads the last stream of the chain at many ports. The words give how
+/// many ports, packets and workers there are. Returns how many turns of the workers were in vain.
 pub fn run_wide<R: Threads + Wait + Sync>(threads: &R, rt: &HostRuntime) -> Result<u64, Fail> {
     let ports = number(rt, 2)?;
     let packets = number(rt, 3)?;

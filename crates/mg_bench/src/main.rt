@@ -1,8 +1,9 @@
-//! Four loops for the scripts of bench/, of what the program itself can't show. With the word `workers` and four numbers workers run a chain
-//! of nodes whose calls are held up (`bench/workers`); with the word `wide` and three numbers they run a net in which a node reads a stream
-//! at many ports, and turns in vain are counted (`bench/workers`); with the word `turns`, two numbers and two words the calls of a shared
-//! net are made on one seat, or the events of a net (`bench/turns`); with three numbers input sets go through an inbox (`bench/inbox`).
-//! A call of `drop` drops what holds a net, a plan or a feed: that costs less proof than to let it go where its name ends.
+//! Four loops for the scripts of bench/, of what the program itself can't show. With the word `workers` and four numbers, workers run a
+//! chain of nodes whose calls are held up (`bench/workers`). With the word `wide` and three numbers, workers run a net in which a node
+//! reads a stream at many ports. Turns in vain are counted (`bench/workers`). With the word `turns`, two numbers and two words, one seat
+//! makes the calls of a shared net, or a net makes its events (`bench/turns`). With three numbers, input sets go through an inbox
+//! (`bench/inbox`). A value that holds a net, a plan or a feed is dropped by a call of `drop`. That costs less proof than to drop it where
+//! its name ends.
 #![tactic(auto)]
 
 mod chain;

@@ -1,4 +1,4 @@
-//! A node behind a source is served round by round: by the calls of one seat on a shared net, or by the events of the net alone. A word
+//! A node after a source is served round by round. The calls of one seat on a shared net serve it, or the events of the net alone. A word
 //! says what a round is made of, with a letter for each call: `s`, a number of sets of the source; `d`, a delivery to the node; `c`, a
 //! claim of the node that finds nothing; `w`, a set of the node, claimed, performed and committed by itself; `h`, a set that is claimed and
 //! put back; `r`, a number of sets of the node under one pair of turns; and `u`, the node's outputs are raised.
@@ -42,7 +42,7 @@ pub fn run(rt: &HostRuntime) -> Result<u64, Fail> {
     served(rt, &load)
 }
 
-// Reads the words behind the word `turns`: rounds, sets, `seat` or `net`, and the calls of a round.
+// Reads the words after the word `turns`: rounds, sets, `seat` or `net`, and the calls of a round.
 fn load_of(rt: &HostRuntime) -> Result<Load, Fail> {
     let rounds = number(rt, 2)?;
     let sets = number(rt, 3)?;
@@ -292,7 +292,7 @@ fn work_by_net(driver: &mut Driver, node: u32, number: u64) -> Result<u64, Fail>
     make(driver, Event::Commit { node, number })
 }
 
-// Makes an event, and returns 1 where it did anything, or else 0.
+// Makes an event, and returns 1 if it did anything, or else 0.
 fn make(driver: &mut Driver, event: Event) -> Result<u64, Fail>
     requires { IsDriven table_laws driver.old.plan driver.old.inputs driver.old.net }
     ensures { IsDriven table_laws driver.new.plan driver.new.inputs driver.new.net }

@@ -3,12 +3,12 @@
 use std::env;
 use std::test::Fail;
 
-/// Returns the word at a place behind the program's name, which stands at place 0.
+/// Returns the word at a place of the command line. The program's name stands at place 0.
 pub fn word(rt: &HostRuntime, place: usize) -> Option<String> {
     env::args(rt).ok()?.nth(place)
 }
 
-/// Whether the word at a place is the wanted one.
+/// Returns whether the word at a place is the wanted one.
 pub fn is(rt: &HostRuntime, place: usize, wanted: &str) -> bool {
     match word(rt, place) {
         Some(word) => word.as_str() == wanted,

@@ -1,4 +1,4 @@
--- What the adapters tell. What a file or a terminal has is trusted to the system: over those, `reader_left` and
+-- What the adapters tell. The system is trusted for what a file or a terminal has: over those, `reader_left` and
 -- `writer_taken` are none.
 use Rattle.std.specs.Prelude.{ℕ, List, Option, None}
 use Rattle.std.specs.Option.{option_map}

@@ -12,7 +12,7 @@ LooksUp fails content (Bytes bytes) =
 LooksUp fails content Failed = (fails ≡ true) ⊎ (content ≡ None)
 LooksUp fails content OutOfMemory = ⊤
 
--- The first bytes of a content, as many as a load gives, or want of memory.
+-- The answer is out of memory, or the first bytes of a content, as many as a load gives.
 abbrev pub IsFrontOf : List ℕ → Loaded → Type 0
 IsFrontOf content (Bytes bytes) = bytes.items ≡ take most_loaded content
 IsFrontOf content Failed = ⊥

@@ -1,7 +1,7 @@
 -- What a call of a source, a sink or a store does to the bytes that it tells of and to its counts.
 --
--- What an object tells is optional: `None` claims nothing. A count rises by one at the calls that it counts, and is
--- left as it was by every other. It stands still at 2 ^ 64 - 1, the end of its type.
+-- What an object tells is optional: `None` claims nothing. A count rises by one at the calls that it counts, and every
+-- other call leaves it as it was. It stands still at 2 ^ 64 - 1, the end of its type.
 use Rattle.std.specs.Prelude.{◌≡◌, ℕ, ◌+◌, ◌-◌, ◌^◌, ◌≤◌, min, List, [], ◌++◌, length, take, drop, Option, None, Some, option_map, ⊤}
 use Rattle.mg_edge.specs.declared.source.Got.{Got}
 use Rattle.mg_edge.specs.declared.source.Got.TheVariants.{Bytes, End, Failed}
@@ -26,9 +26,10 @@ CountsOne (Some count) now = now ≡ Some (one_more count)
 
 -- A source --
 
--- What a source tells of itself at a moment: the bytes that are left, and how many reads there were, where it tells
--- them; how many reads answered `End`, and how many failed; and what was left at the read that failed last, `Some None`
--- before the first, where it tells that.
+-- What a source tells of itself at a moment. `left` is the bytes that are left, and `reads` is how many reads there
+-- were: each is `None` if the source doesn't tell it. `ends` is how many reads answered `End`, and `faults` is how many
+-- failed. `left_at_fault` is what was left at the read that failed last, and `Some None` before the first such read. It
+-- is `None` if the source doesn't tell that.
 pub record SourceTold : Type 0 where
   pub left : Option (List ℕ)
   pub reads : Option ℕ
@@ -42,8 +43,8 @@ GivesWithin (Bytes n) room = (1 ≤ n) × (n ≤ room)
 GivesWithin End room = ⊤
 GivesWithin Failed room = ⊤
 
--- What a read does to the bytes that are left, `buf` being what the buffer has after it: it gives the first of
--- them, or finds that none is left, or fails and takes nothing.
+-- What a read does to the bytes that are left: it gives the first of them, or finds none left, or fails and takes
+-- nothing. `buf` is what the buffer has after the read.
 abbrev pub ReadTakes : Option (List ℕ) → Option (List ℕ) → Got → List ℕ → Type 0
 ReadTakes None now got buf = ⊤
 ReadTakes (Some left) now (Bytes n) buf =
@@ -63,8 +64,8 @@ ReadFaultCounts before now (Bytes n) = now ≡ before
 ReadFaultCounts before now End = now ≡ before
 ReadFaultCounts before now Failed = now ≡ one_more before
 
--- What was left at the read that failed last, where the source tells that: a read that fails leaves its own, and any
--- other keeps the one before. `left` is what the source tells to be left before the read.
+-- What was left at the read that failed last, if the source tells that. A read that fails sets it to the bytes left
+-- before that read, and any other read keeps it. `left` is what the source tells to be left before the read.
 abbrev pub KeepsLeftAtFault : Option (Option (List ℕ)) → Option (Option (List ℕ)) → Got → Option (List ℕ) → Type 0
 KeepsLeftAtFault before now (Bytes n) left = now ≡ before
 KeepsLeftAtFault before now End left = now ≡ before
@@ -72,7 +73,7 @@ KeepsLeftAtFault before now Failed left = now ≡ option_map (λ last. left) bef
 
 -- A sink --
 
--- What a sink tells of itself at a moment: the bytes taken so far, where it tells them, and how many writes failed.
+-- What a sink tells of itself at a moment: the bytes taken so far, if it tells them, and how many writes failed.
 pub record SinkTold : Type 0 where
   pub taken : Option (List ℕ)
   pub faults : ℕ
@@ -82,8 +83,8 @@ abbrev pub TakesWithin : Put → ℕ → Type 0
 TakesWithin (Took n) len = (1 ≤ n) × (n ≤ len)
 TakesWithin PutFailed len = ⊤
 
--- What a write does to the bytes that were taken: the first bytes of the piece come after them, and a write that
--- fails takes nothing.
+-- What a write does to the bytes that were taken: it appends the first bytes of the piece to them. A write that fails
+-- takes nothing.
 abbrev pub WriteAppends : Option (List ℕ) → Option (List ℕ) → Put → List ℕ → Type 0
 WriteAppends None now put piece = ⊤
 WriteAppends (Some taken) now (Took n) piece = now ≡ Some (taken ++ take n piece)
@@ -96,16 +97,16 @@ WriteFaultCounts before now PutFailed = now ≡ one_more before
 
 -- A store --
 
--- What a store tells of itself at a moment: what a name has, which is `None` where it doesn't tell it, `Some None` where
--- it tells that the name isn't there, and else the bytes; the name of the load that failed last, and none before the
--- first; and how many loads failed.
+-- What a store tells of itself at a moment. `content` is what a name has: the bytes, or `Some None` if the name isn't
+-- there, or `None` if the store doesn't tell it. `failed_name` is the name of the load that failed last, and none
+-- before the first. `faults` is how many loads failed.
 pub record StoreTold : Type 0 where
   pub content : List ℕ → Option (Option (List ℕ))
   pub failed_name : Option (List ℕ)
   pub faults : ℕ
 
--- The most bytes of a content that a load gives: one more than 4 MiB, so that the caller sees that a content is
--- longer than that.
+-- The most bytes of a content that a load gives: one more than 4 MiB. So the caller sees that a content is longer than
+-- 4 MiB.
 abbrev pub most_loaded : ℕ
 most_loaded = MOST_LOADED
 
@@ -115,8 +116,8 @@ LoadsWithin (LoadedBytes bytes) = length bytes.items ≤ most_loaded
 LoadsWithin LoadFailed = ⊤
 LoadsWithin OutOfMemory = ⊤
 
--- What a load gives of a content, where the store tells it: its first bytes. Nothing is given of a name that isn't
--- there.
+-- What a load gives of a content, if the store tells it: its first bytes. A load of a name that isn't there gives no
+-- bytes.
 abbrev pub LoadGives : Option (Option (List ℕ)) → Loaded → Type 0
 LoadGives None loaded = ⊤
 LoadGives (Some None) (LoadedBytes bytes) = ⊥
@@ -132,7 +133,7 @@ LoadFaultCounts before now (LoadedBytes bytes) = now ≡ before
 LoadFaultCounts before now LoadFailed = now ≡ one_more before
 LoadFaultCounts before now OutOfMemory = now ≡ before
 
--- The name of the load that failed last: a load that fails leaves its own, and any other keeps the one before.
+-- The name of the load that failed last: a load that fails sets it to its own name, and any other load keeps it.
 abbrev pub KeepsFailedName : Option (List ℕ) → Option (List ℕ) → Loaded → List ℕ → Type 0
 KeepsFailedName before now (LoadedBytes bytes) name = now ≡ before
 KeepsFailedName before now LoadFailed name = now ≡ Some name

@@ -9,8 +9,9 @@ use Rattle.mg_edge.specs.Edge.{SourceTold, SinkTold, one_more}
 
 -- A source in memory --
 
--- The bytes that are left, the most that one read gives, the numbers of the reads that fail, how many reads, ends and
--- faults there were, and what was left at the read that failed last.
+-- A source in memory, as contracts see it. It has the bytes that are left, the most that one read gives, and the
+-- numbers of the reads that fail. It also has how many reads, ends and faults there were, and what was left at the read
+-- that failed last.
 pub record SourceState : Type 0 where
   pub left : List ℕ
   pub piece : ℕ
@@ -20,7 +21,7 @@ pub record SourceState : Type 0 where
   pub faults : ℕ
   pub left_at_fault : Option (List ℕ)
 
--- A source of which nothing was read yet.
+-- A source that nothing was read from yet.
 abbrev pub whole_source : List ℕ → ℕ → List ℕ → SourceState
 whole_source bytes piece failing =
     record { left = bytes; piece = piece; failing = failing; reads = 0; ends = 0; faults = 0; left_at_fault = None }
@@ -35,11 +36,11 @@ source_told source = record {
   left_at_fault = Some source.left_at_fault;
 }
 
--- Whether the next read is one that fails.
+-- Whether the next read fails.
 abbrev pub read_fails : SourceState → Bool
 read_fails source = list_any (λ number. nat_eq number source.reads) source.failing
 
--- What the next read answers where there is room for so many bytes.
+-- What the next read answers if there is room for so many bytes.
 abbrev pub next_got : SourceState → ℕ → Got
 next_got source room =
     if read_fails source then Failed
@@ -55,8 +56,8 @@ after_got source Failed =
 
 -- A sink in memory --
 
--- The bytes taken, how many it has room for in all, the most that one write takes, the numbers of the writes that
--- fail, and how many writes and faults there were.
+-- A sink in memory, as contracts see it. It has the bytes taken, how many it has room for in all, and the most that one
+-- write takes. It also has the numbers of the writes that fail, and how many writes and faults there were.
 pub record SinkState : Type 0 where
   pub taken : List ℕ
   pub room : ℕ
@@ -78,7 +79,7 @@ empty_sink room failing = slow_sink room (2 ^ 64 - 1) failing
 abbrev pub sink_told : SinkState → SinkTold
 sink_told sink = record { taken = Some sink.taken; faults = sink.faults }
 
--- Whether the next write fails: it is one that is to, or no room is left.
+-- Whether the next write fails: it is a write that is to fail, or no room is left.
 abbrev pub write_fails : SinkState → Bool
 write_fails sink = list_any (λ number. nat_eq number sink.writes) sink.failing || (length sink.taken == sink.room)
 

@@ -44,11 +44,11 @@ pub record KeepsCalls (old new : MemoryStore) : Type 0 where
   pub failed_name : last_failed new ≡ last_failed old
   pub faults : store_faults new ≡ store_faults old
 
--- The next load of a name fails: its number is the one that is to fail, or the name isn't there.
+-- The next load of a name fails: it has the number of the load that is to fail, or the name isn't there.
 abbrev pub NextFails : MemoryStore → List ℕ → Type 0
 NextFails store name = (failing_load store ≡ Some (loads_made store)) ⊎ (stored store name ≡ None)
 
--- What a load answers beside want of memory: it fails where it is to, and else gives the content's first bytes.
+-- What a load answers, unless it is out of memory: it fails if it is to fail, and else gives the content's first bytes.
 abbrev pub AnswersLoad : MemoryStore → List ℕ → Loaded → Type 0
 AnswersLoad store name (Bytes bytes) =
     (failing_load store ≢ Some (loads_made store))

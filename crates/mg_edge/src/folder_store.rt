@@ -9,8 +9,8 @@ use std::fs;
 use std::io::{ErrorKind, Read};
 use std::rt::Files;
 
-/// Files by their names, read through a runtime that opens them. What is in a file is trusted to the system: the
-/// store tells no content.
+/// Files by their names, read through a runtime that opens them. The system is trusted for what is in a file: the store
+/// tells no content.
 #[derive(Drop)]
 pub struct FolderStore<R> {
     rt: R,
@@ -19,7 +19,7 @@ pub struct FolderStore<R> {
 }
 
 impl<R: Files + Drop> FolderStore<R> {
-    /// Makes a store over the files of a runtime, by the names that `std::fs` takes.
+    /// Makes a store over the files of a runtime. It takes the names that `std::fs` takes.
     pub fn new(rt: R) -> FolderStore<R>
         ensures failed_name { (⟦<FolderStore<R> as Store>⟧.told result).failed_name ≡ None }
         ensures faults { (⟦<FolderStore<R> as Store>⟧.told result).faults ≡ 0 }
@@ -58,7 +58,7 @@ fn read_file<R: Files>(rt: &R, alloc: Global, name: &str) -> Loaded
     }
 }
 
-// Reads the first bytes of what a reader has left, `MOST_LOADED` at most.
+// Reads the first bytes that a reader has left, `MOST_LOADED` at most.
 fn read_front<F: Read + Drop>(alloc: Global, file: F) -> Loaded
     ensures bound { LoadsWithin result }
     ensures bytes { LoadGives (option_map Some (F.remaining file)) result }

@@ -4,8 +4,9 @@ use std::sync::atomic::AtomicBool;
 use std::sync::atomic::Ordering::SeqCst;
 use std::thread;
 
-/// What is called round each Process call of a calculator, with the node's number and the number of the set, counted
-/// from 0. It tells nothing and changes no answer: a test may watch by it when calls are made, or hold one up.
+/// What is called before and after each Process call of a calculator. It is given the node's number and the number of
+/// the set, counted from 0. It tells nothing and changes no answer: a test may use it to watch when calls are made, or
+/// to hold up a call.
 pub trait Gate {
     /// Is called before the Process call.
     fn enter(&self, node: u32, number: u64);
@@ -24,8 +25,8 @@ impl Gate for StillGate {
     fn leave(&self, _node: u32, _number: u64) {}
 }
 
-/// A gate at which two Process calls meet, each told by its node and the number of its set: the one that comes first is held until the
-/// other has entered, or for `turns` turns.
+/// A gate at which two Process calls meet. Each call is named by its node and the number of its set. The call that comes first is held
+/// until the other has entered, or for `turns` turns.
 #[derive(Drop)]
 pub struct MeetGate {
     /// The one call: its node and the number of its set.
@@ -57,12 +58,13 @@ impl MeetGate {
         }
     }
 
-    /// Whether the two calls have met.
+    /// Returns whether the two calls have met.
     pub fn met(&self) -> bool {
         self.met.load(SeqCst)
     }
 
-    // Holds a call until the other one has entered, or for `turns` turns; after these it counts as a call that hasn't come.
+    // Holds a call until the other one has entered, or for `turns` turns. After these turns it counts as a call that hasn't
+    // come.
     fn meet(&self, mine: &AtomicBool, theirs: &AtomicBool) {
         mine.store(true, SeqCst);
         for _ in 0..self.turns {

@@ -5,7 +5,7 @@ ghost use Rattle.mg_edge.specs.declared.sink.Put.TheVariants.{Took};
 ghost use Rattle.mg_edge.specs.Edge.{ReadTakes, WriteAppends};
 ghost use Rattle.mg_edge.specs.Runs.{Gave, TookAll};
 
-/// A read after others gives the bytes behind theirs.
+/// A read after others gives the bytes that follow theirs.
 pub fn reads_give_in_order()
     ensures { (first before now : Option (List ℕ)) (bytes buf : List ℕ) (n : ℕ)
         → Gave first before bytes → ReadTakes before now (Bytes n) buf → Gave first now (bytes ++ take n buf) }
@@ -17,7 +17,7 @@ pub fn a_failed_read_loses_nothing()
         → Gave first before bytes → ReadTakes before now Failed buf → Gave first now bytes }
 {}
 
-/// Where the end is reached, the reads gave all the bytes.
+/// If the end is reached, the reads gave all the bytes.
 pub fn reads_to_the_end_give_all()
     ensures { (first before now : Option (List ℕ)) (bytes buf : List ℕ)
         → Gave first before bytes → ReadTakes before now End buf → IfSome first (λ all. bytes ≡ all) }

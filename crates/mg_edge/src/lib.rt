@@ -1,6 +1,6 @@
-//! The edge to the outside: where bytes come from, where they go, and where files are read by name. Each object
-//! counts its faults, so that a caller's contract can say that it answers a fault only where one happened. What a
-//! call does is defined in `specs/Edge.antt`.
+//! The edge to the outside: sources of bytes, sinks for bytes, and stores that read files by name. Each object counts
+//! its faults, so that a caller's contract can say that it answers a fault only if one happened. What a call does is
+//! defined in `specs/Edge.antt`.
 #![tactic(auto)]
 
 mod folder_store;

@@ -6,9 +6,9 @@ use crate::{Put, Sink};
 use std::alloc::{AllocError, Global};
 use std::marker::Model;
 
-/// A sink in memory with a fixed room, which fails at the writes that it is told to. Contracts see it as the bytes
-/// taken, the room, the most that one write takes, the numbers of the writes that fail, and how many writes and faults
-/// there were.
+/// A sink in memory with a fixed room, which fails at the writes that it is told to. Contracts see the bytes taken, the
+/// room, and the most that one write takes. They also see the numbers of the writes that fail, and how many writes and
+/// faults there were.
 #[derive(Drop)]
 pub struct MemorySink {
     taken: Vec<u8>,
@@ -46,8 +46,8 @@ impl MemorySink {
         MemorySink::slow(alloc, room, usize::MAX, failing)
     }
 
-    /// Makes a sink as [`new`](MemorySink::new) does, of which one write takes at most `most` bytes, which has to be at least 1:
-    /// as a pipe or a socket takes what there is room for, and leaves the rest to the next write.
+    /// Makes a sink as [`new`](MemorySink::new) does, but one write takes at most `most` bytes. `most` has to be at least 1.
+    /// Such a sink behaves like a pipe or a socket: it takes what there is room for, and leaves the rest to the next write.
     pub fn slow(
         alloc: Global,
         room: usize,
@@ -67,21 +67,21 @@ impl MemorySink {
         })
     }
 
-    /// The bytes taken so far.
+    /// Returns the bytes taken so far.
     pub fn taken(&self) -> &[u8]
         ensures { result.now ≡ self.now.taken }
     {
         &self.taken
     }
 
-    /// How many writes there were. It stays at 2^64 - 1 once it is there.
+    /// Returns how many writes there were. It stays at 2^64 - 1 once it is there.
     pub fn writes(&self) -> u64
         ensures { result ≡ self.now.writes }
     {
         self.writes
     }
 
-    /// How many writes failed. It stays at 2^64 - 1 once it is there.
+    /// Returns how many writes failed. It stays at 2^64 - 1 once it is there.
     pub fn faults(&self) -> u64
         ensures { result ≡ self.now.faults }
     {

@@ -6,9 +6,9 @@ use crate::{Got, Source};
 use std::alloc::{AllocError, Global};
 use std::marker::Model;
 
-/// A source over bytes in memory, which fails at the reads that it is told to. Contracts see it as the bytes that are
-/// left, the most that one read gives, the numbers of the reads that fail, how many reads, ends and faults there were,
-/// and what was left at the read that failed last.
+/// A source over bytes in memory, which fails at the reads that it is told to. Contracts see the bytes that are left,
+/// the most that one read gives, and the numbers of the reads that fail. They also see how many reads, ends and faults
+/// there were, and what was left at the read that failed last.
 #[derive(Drop)]
 pub struct MemorySource {
     bytes: Vec<u8>,
@@ -43,7 +43,7 @@ impl Model for MemorySource {
 }
 
 impl MemorySource {
-    /// Makes a source of a copy of `bytes`. A read gives at most `piece` of them, which has to be at least 1, and the reads whose
+    /// Makes a source of a copy of `bytes`. A read gives at most `piece` bytes, and `piece` has to be at least 1. The reads whose
     /// numbers are in `failing` fail, counted from 0.
     pub fn new(
         alloc: Global,
@@ -66,21 +66,21 @@ impl MemorySource {
         })
     }
 
-    /// How many reads there were. It stays at 2^64 - 1 once it is there.
+    /// Returns how many reads there were. It stays at 2^64 - 1 once it is there.
     pub fn reads(&self) -> u64
         ensures { result ≡ self.now.reads }
     {
         self.reads
     }
 
-    /// How many reads answered `End`. It stays at 2^64 - 1 once it is there.
+    /// Returns how many reads answered `End`. It stays at 2^64 - 1 once it is there.
     pub fn ends(&self) -> u64
         ensures { result ≡ self.now.ends }
     {
         self.ends
     }
 
-    /// How many reads failed. It stays at 2^64 - 1 once it is there.
+    /// Returns how many reads failed. It stays at 2^64 - 1 once it is there.
     pub fn faults(&self) -> u64
         ensures { result ≡ self.now.faults }
     {

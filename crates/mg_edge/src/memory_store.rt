@@ -39,8 +39,8 @@ impl MemoryStore {
         }
     }
 
-    /// Keeps a copy of `bytes` as the content of a name, in place of an earlier one. Where there is no memory for it,
-    /// every content stays.
+    /// Keeps a copy of `bytes` as the content of a name, in place of an earlier one. Out of memory: every content
+    /// stays.
     pub fn put(&mut self, name: &str, bytes: &[u8]) -> Result<(), AllocError>
         ensures ok { OnOk result (stored self.new name.now ≡ Some bytes.now) }
         ensures others { OnOk result ((other : List ℕ) → other ≢ name.now → stored self.new other ≡ stored self.old other) }
@@ -54,7 +54,7 @@ impl MemoryStore {
         Ok(())
     }
 
-    /// Makes the load with this number fail, counted from 0, in place of one that was to fail by an earlier call.
+    /// Makes the load with this number fail, counted from 0. It takes the place of the load that an earlier call named.
     pub fn fail_at(&mut self, call: u64)
         ensures failing { failing_load self.new ≡ Some call }
         ensures contents { (name : List ℕ) → stored self.new name ≡ stored self.old name }
@@ -63,21 +63,21 @@ impl MemoryStore {
         self.failing = Some(call);
     }
 
-    /// How many loads there were. It stays at 2^64 - 1 once it is there.
+    /// Returns how many loads there were. It stays at 2^64 - 1 once it is there.
     pub fn loads(&self) -> u64
         ensures { result ≡ loads_made self.now }
     {
         self.loads
     }
 
-    /// How many loads failed. It stays at 2^64 - 1 once it is there.
+    /// Returns how many loads failed. It stays at 2^64 - 1 once it is there.
     pub fn faults(&self) -> u64
         ensures { result ≡ store_faults self.now }
     {
         self.faults
     }
 
-    /// Returns the name of the load that failed last, or None where none failed.
+    /// Returns the name of the load that failed last, or None if none failed.
     pub fn failed_name(&self) -> Option<&str>
         ensures { option_map (λ name. name.now) result ≡ last_failed self.now }
     {
@@ -119,7 +119,8 @@ impl Store for MemoryStore {
     }
 }
 
-// Returns what a load of a name answers: the first bytes of its content, or `Failed` where it has none or the load is to fail.
+// Returns what a load of a name answers: the first bytes of its content. Returns `Failed` if the name has no content or the
+// load is to fail.
 fn look_up(alloc: Global, contents: &BTreeMap<String, Vec<u8>>, name: &str, fails: bool) -> Loaded
     ensures bound { LoadsWithin result }
     ensures answer { LooksUp fails (content_at contents.now name.now) result }

@@ -7,8 +7,8 @@ use crate::{Got, MOST_INTERRUPTIONS, Source};
 use std::io;
 use std::io::{ErrorKind, Read};
 
-/// A reader of the standard library as a source. Whether a file or a terminal gives what is in it is trusted: the
-/// source tells what the reader tells, and over those that is nothing.
+/// A reader of the standard library as a source. It is trusted that a file or a terminal gives what is in it. The
+/// source tells what the reader tells: over a file or a terminal that is nothing.
 #[derive(Drop)]
 pub struct ReaderSource<R> {
     reader: R,
@@ -47,7 +47,7 @@ impl<R: Read + Drop> Source for ReaderSource<R> {
     }
 }
 
-// Reads once, and again where a signal interrupted the read, up to `MOST_INTERRUPTIONS` times.
+// Reads once, and again if a signal interrupted the read, up to `MOST_INTERRUPTIONS` times.
 fn read_uninterrupted<R: Read>(reader: &mut R, buf: &mut [u8]) -> io::Result<usize>
     ensures bound { ReadsAtMost result buf.new }
     ensures bytes { ReadConsumes (R.remaining reader.old) (R.remaining reader.new) result buf.new }

@@ -4,7 +4,7 @@ ghost use Rattle.mg_edge.specs.Edge.{SinkTold, TakesWithin, WriteAppends, WriteF
 /// What a write answers.
 #[derive(Clone, Copy, Debug, PartialEq, Eq)]
 pub enum Put {
-    /// So many bytes of the piece were taken from its front, at least one.
+    /// So many bytes were taken from the start of the piece, at least one.
     Took(usize),
     /// The write failed, and took nothing.
     Failed,
@@ -15,7 +15,7 @@ pub trait Sink {
     /// What the sink tells of itself.
     ghost told: { Self → SinkTold };
 
-    /// Writes bytes from the front of `piece`, which has at least one. It may take fewer than there are.
+    /// Writes bytes from the start of `piece`, which has at least one. It may take fewer than there are.
     ///
     /// A write that takes nothing is `Failed`.
     fn write(&mut self, piece: &[u8]) -> Put

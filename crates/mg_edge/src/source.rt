@@ -4,7 +4,7 @@ ghost use Rattle.mg_edge.specs.Edge.{SourceTold, GivesWithin, ReadTakes, CountsO
 /// What a read answers.
 #[derive(Clone, Copy, Debug, PartialEq, Eq)]
 pub enum Got {
-    /// So many bytes are at the front of the buffer, at least one.
+    /// So many bytes are at the start of the buffer, at least one.
     Bytes(usize),
     /// No byte is left.
     End,
@@ -17,9 +17,9 @@ pub trait Source {
     /// What the source tells of itself.
     ghost told: { Self → SourceTold };
 
-    /// Reads the next bytes into the front of `buf`, which has room for at least one.
+    /// Reads the next bytes into the start of `buf`, which has room for at least one.
     ///
-    /// Where the bytes that are left are told, the answer is `End` or `Failed`, or the first of them. A read that
+    /// If the source tells the bytes that are left, the answer is `End` or `Failed`, or the first of them. A read that
     /// fails takes nothing, and the next one goes on from there.
     fn read(&mut self, buf: &mut [u8]) -> Got
         requires { 0 < length buf.old }

@@ -13,7 +13,7 @@ pub enum Loaded {
     Bytes(Vec<u8>),
     /// There is no such name, or it can't be read.
     Failed,
-    /// There was no memory for the bytes, or for the copy of the name.
+    /// Out of memory for the bytes, or for the copy of the name.
     OutOfMemory,
 }
 
@@ -24,7 +24,7 @@ pub trait Store {
 
     /// Loads the content of a name.
     ///
-    /// It changes no content. A load that fails leaves its name as the one that failed last.
+    /// It changes no content. A load that fails leaves its name as the name of the load that failed last.
     fn load(&mut self, alloc: Global, name: &str) -> Loaded
         ensures kept { (other : List ℕ) → (told self.new).content other ≡ (told self.old).content other }
         ensures bound { LoadsWithin result }

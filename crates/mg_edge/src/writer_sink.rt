@@ -7,10 +7,10 @@ use crate::{MOST_INTERRUPTIONS, Put, Sink};
 use std::io;
 use std::io::{ErrorKind, Write};
 
-/// A writer of the standard library as a sink. It keeps nothing back: each piece is handed to the writer in the call
-/// that it came with, so hand in large pieces, and a writer that has no buffer of its own, as files and standard
-/// streams have none. Whether a file or a terminal keeps what it took is trusted: the sink tells what the writer
-/// tells, and over those that is nothing.
+/// A writer of the standard library as a sink. It keeps nothing back: each call gives its piece to the writer. So give
+/// it large pieces, and a writer without a buffer of its own: files and standard streams have none. It is trusted that
+/// a file or a terminal keeps the bytes that it took. The sink tells what the writer tells: over a file or a terminal
+/// that is nothing.
 #[derive(Drop)]
 pub struct WriterSink<W> {
     writer: W,
@@ -40,7 +40,7 @@ impl<W: Write + Drop> Sink for WriterSink<W> {
     }
 }
 
-// Writes once, and again where a signal interrupted the write, up to `MOST_INTERRUPTIONS` times.
+// Writes once, and again if a signal interrupted the write, up to `MOST_INTERRUPTIONS` times.
 fn write_uninterrupted<W: Write>(writer: &mut W, piece: &[u8]) -> io::Result<usize>
     ensures bound { WritesAtMost result piece.now }
     ensures bytes { WriteAppends (W.contents writer.old) (W.contents writer.new) result piece.now }

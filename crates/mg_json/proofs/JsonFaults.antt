@@ -1,4 +1,4 @@
--- The first fault of a list or an object, by what of it isn't read yet.
+-- The first fault of a list or an object, by the part of it that isn't read yet.
 use Rattle.std.proofs.Common.{◌≡◌, ℕ, suc, ◌+◌, ◌<◌, ◌≤◌, length, drop, get_or, List, [], ◌∷◌, ◌++◌, Bool, false, Some, nat_lt, if◌then◌else◌, refl, sym, ap, ◌∙◌, arith}
 use Rattle.std.proofs.Math.Seq.{drop-cons}
 use Rattle.serde_json.specs.View.{view, items_view, members_view}
@@ -32,7 +32,7 @@ member_fault depth ms left rest m fault h same is e =
     ap first (not_too_deep depth _ h ∙ same ∙ ap (λ ws. members_faults (depth + 1) (members_view ws)) is)
     ∙ first-append (faults_at (depth + 1) (view m.1)) (members_faults (depth + 1) (members_view rest)) fault e
 
--- where a member has none, the faults are those of the members after it
+-- if a member has no fault, the faults are those of the members after it
 pub member_passed : (depth : ℕ) (ms left rest : List Member) (m : Member)
     → members_faults depth (members_view ms) ≡ members_faults depth (members_view left) → left ≡ m ∷ rest
     → faults_at depth (view m.1) ≡ [] → members_faults depth (members_view ms) ≡ members_faults depth (members_view rest)

@@ -1,4 +1,4 @@
--- What of a list or a record is written next: it nests less deep, and goes behind what is written.
+-- The part of a list or a record that is written next: it nests less deep, and goes after the part that is written.
 use Rattle.std.proofs.Common.{◌≡◌, ℕ, zero, suc, ◌+◌, ◌<◌, ◌≤◌, List, [], ◌∷◌, map, take, length, get_or, add-one, Less, Greater, refl, ap, subst, ◌∙◌, arith}
 use Rattle.std.proofs.lemmas.Cmp.{nat_list_cmp_total}
 use Rattle.std.specs.Cmp.Lexicographic.{slice_cmp}

@@ -1,4 +1,4 @@
--- A JSON value says one payload at most, and what says a payload has no float and no fault but for its depth.
+-- A JSON value says one payload at most. A value that says a payload has no float, and no fault but for its depth.
 use Rattle.std.proofs.Common.{◌≡◌, ℕ, suc, ◌+◌, ◌<◌, ◌≤◌, ◌^◌, ℤ, pos, negsuc, max, List, [], ◌∷◌, ◌++◌, true, false, if◌then◌else◌, Some, nat_lt, FitsSigned, inl, inr, refl, sym, ap, ap₂, ◌∙◌, arith}
 use Rattle.std.proofs.lemmas.Bool.{cases_lt}
 use Rattle.std.specs.Int.{w64}
@@ -49,7 +49,8 @@ mutual
 
 -- ---- no fault but for its depth
 
--- faults of what nests so deep at a depth: none down to depth 17, and otherwise the first is that it nests too deep
+-- The faults of a value that nests `nest` deep at depth `depth`. If their sum is at most 17, there is none. Otherwise
+-- the first is that the value nests too deep.
 pub record At (depth nest : ℕ) (faults : List ValueFault) : Type 0 where
   pub none : depth + nest ≤ 17 → faults ≡ []
   pub deeper : 17 < depth + nest → first faults ≡ Some TooDeep

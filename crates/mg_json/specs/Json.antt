@@ -1,4 +1,5 @@
--- JSON values (RFC 8259) as payloads. A payload has one JSON value that says it; a value that says none has faults.
+-- JSON values (RFC 8259) as payloads. A payload has one JSON value that says it. A value that says no payload has
+-- faults.
 use Rattle.std.specs.Prelude.{ℕ, ◌+◌, ◌^◌, List, [], ◌∷◌, ◌++◌, Option, slice_get, nat_lt, if◌then◌else◌}
 use Rattle.serde_json.specs.Data as json
 use Rattle.serde_json.specs.Find.{of_integer}
@@ -23,18 +24,18 @@ abbrev mutual
   json_members no_entries = json.no_members
   json_members (entry k p es) = json.member k (json_of p) (json_members es)
 
--- the fault of a number: a whole number from 2^63 to 2^64 - 1 is too wide, and a number that is held as a float is a
--- fraction, so also a whole number beyond these
+-- The fault of a number. A whole number from 2^63 to 2^64 - 1 is too wide. A number that is held as a float is a
+-- fraction. A whole number beyond these is held as a float, so it is a fraction too.
 abbrev pub number_faults : json.Num → List ValueFault
 number_faults (json.unsigned n) = if nat_lt n (2 ^ 63) then [] else TooWide ∷ []
 number_faults (json.negative z) = []
 number_faults (json.float x) = Fraction ∷ []
 
--- a list or a record that is the 17th of those inside one another is too deep, and any deeper one
+-- a list or a record is too deep if it is the 17th of those inside one another, or lies deeper
 abbrev pub depth_faults : ℕ → List ValueFault
 depth_faults depth = if nat_lt 16 depth then TooDeep ∷ [] else []
 
--- the faults of a value, in its order; a list or a record here is the one of number `depth` of those inside one another
+-- the faults of a value, in its order; a list or a record here has the number `depth` among those inside one another
 abbrev mutual
   pub faults_at : ℕ → json.Data → List ValueFault
   faults_at depth json.null = Null ∷ []

@@ -16,8 +16,8 @@ use std::sync::Arc;
 /// How many lists and records may lie inside one another, the outermost one counted.
 const MAX_DEPTH: u32 = 16;
 
-/// Returns the payload that a JSON value says (RFC 8259); an object is a record. The fault that it returns otherwise is the first in
-/// the order of the value, an object's in the byte order of its keys.
+/// Returns the payload that a JSON value says (RFC 8259). An object is a record. An error is out of memory, or the first fault
+/// in the order of the value. The members of an object are in the byte order of their keys.
 pub fn from_json(alloc: Global, value: &Value) -> Result<Arc<Payload>, ValueFault>
     ensures says { IfOk result (λ p. json_of (plain (arc_value p)) ≡ view value.now) }
     ensures only { IfOk result (λ p. (q : Plain) → json_of q ≡ view value.now → q ≡ plain (arc_value p)) }
@@ -39,7 +39,7 @@ pub fn to_json(alloc: Global, payload: &Payload) -> Result<Value, AllocError>
     Ok(write(alloc, payload)?)
 }
 
-// Reads a value. A list or a record here is the one of number `depth` of those inside one another, the outermost being the first.
+// Reads a value. A list or a record here has the number `depth` among those inside one another, and the outermost is the first.
 #[cycle(reading)]
 fn read(alloc: Global, value: &Value, depth: u32) -> Result<Payload, ValueFault>
     requires { depth ≤ 17 }

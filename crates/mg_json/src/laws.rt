@@ -3,8 +3,8 @@ ghost use Rattle.std.specs.Prelude.{◌≡◌, ◌≤◌, None};
 ghost use Rattle.mg_value.specs.Plain.{Plain, depth, NumbersFit};
 ghost use Rattle.mg_json.specs.Json.{json_of, first_fault};
 
-/// What is written of a payload is read back as that payload, if no list or record lies inside 16 others: its JSON value has
-/// no fault, and says no other payload.
+/// The JSON value of a payload is read back as that payload, if no list or record lies inside 16 others. Such a value has no
+/// fault, and says no other payload.
 pub fn payloads_are_read_back()
     ensures faultless { (p : Plain) → NumbersFit p → depth p ≤ 16 → first_fault (json_of p) ≡ None }
     ensures one { (p q : Plain) → json_of q ≡ json_of p → q ≡ p }

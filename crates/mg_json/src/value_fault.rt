@@ -7,8 +7,8 @@ use thiserror::Error;
 /// Why a JSON value is no payload.
 #[derive(Clone, Copy, Debug, PartialEq, Eq, Error)]
 pub enum ValueFault {
-    /// A number that `serde_json` holds as a float: one with a fraction or an exponent, `-0`, and a whole number of 2^64
-    /// or more, or below -2^63.
+    /// A number that `serde_json` holds as a float. It has a fraction or an exponent, or it is `-0`, or a whole number
+    /// of 2^64 or more, or below -2^63.
     #[error("a number isn't a whole number of 64 signed bits")]
     Fraction = 1,
     /// A `null`.
@@ -20,7 +20,7 @@ pub enum ValueFault {
     /// A whole number from 2^63 to 2^64 - 1.
     #[error("a whole number is more than 9223372036854775807")]
     TooWide = 5,
-    /// Want of memory.
+    /// Out of memory.
     #[error("out of memory")]
     OutOfMemory = 6,
 }

@@ -1,4 +1,4 @@
--- Each call on a net that is at work leaves it so.
+-- Each call on a net that is at work leaves the net at work.
 use Rattle.std.proofs.Common.{◌≡◌, Bool, true, false, List, Option, refl, sym, subst, ◌∙◌, arith}
 use Rattle.mg_value.specs.Payload.{Plain}
 use Rattle.mg_value.specs.Packet.{Stamped}
@@ -33,7 +33,7 @@ now_driven {laws} plan inputs before now of over running keeps =
     let after = keeps s.job s.stands in
     record { of_plan = of_one_plan s.job before now s.stands after ∙ of; running = running; stands = record { job = s.job; stands = after }; of_job = over.of_job }
 
--- a set that is taken ends no node
+-- taking a set ends no node
 takes_run : (took : Bool) (set set_now : List (Option (Stamped Plain))) (before now : NetView) → IsRunning before → TakesOut took set set_now before now → IsRunning now
 takes_run true set set_now before now running t = subst IsRunning (sym t.now_is) running
 takes_run false set set_now before now running t = subst IsRunning (sym t.same) running
@@ -42,7 +42,7 @@ pub taken_driven : {laws : Laws} (plan : Plan) (inputs : Inputs) (took : Bool) (
     → ((job : LoggedJob laws) → StandsFor job before → StandsFor job now) → IsDriven laws plan inputs now
 taken_driven {laws} plan inputs took set set_now before now d t keeps = still_driven plan inputs before now d (takes_run took set set_now before now d.running t) keeps
 
--- to give up packets ends no node
+-- giving up packets ends no node
 pub trimmed_driven : {laws : Laws} (plan : Plan) (inputs : Inputs) (before now : NetView) → IsDriven laws plan inputs before → Trims before now → ((job : LoggedJob laws) → StandsFor job before → StandsFor job now) → IsDriven laws plan inputs now
 trimmed_driven {laws} plan inputs before now d t keeps = still_driven plan inputs before now d (subst IsRunning (sym t.parts) d.running) keeps
 

@@ -1,4 +1,4 @@
--- The calculators that are handed in fit what is known of them, and each plan that was made for them.
+-- The user-supplied calculators fit what is known of them, and each plan that was made for them.
 use Rattle.std.proofs.Common.{◌≡◌, ℕ, zero, suc, List, Option, Some, None, IfSome, IsSomeAnd, map, get_or, slice_get, sym, subst, ap, ◌∙◌}
 use Rattle.mg_calc.specs.declared.plan.Plan.{Plan}
 use Rattle.mg_calc.specs.declared.plan_node.PlanNode.{PlanNode}
@@ -7,7 +7,7 @@ use Rattle.mg_calc.specs.Told.{BoxTold}
 use Rattle.mg_sched.specs.Made.{FitsNew, BoxesFit}
 use Rattle.mg_nets.specs.Handed.{two_outers, two_tallies}
 
--- those that a plan asks for are there
+-- the calculators that a plan asks for are there
 box_fits : (node : PlanNode) (number : Option ℕ) → IfSome number (λ n. IsSomeAnd (slice_get two_outers n) (λ outer. FitsNode node outer.law outer.shape))
     → IfSome number (λ n. IsSomeAnd (slice_get two_tallies n) (FitsNew node))
 box_fits node None h = tt

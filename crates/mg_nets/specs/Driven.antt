@@ -1,5 +1,5 @@
--- A net as the tests drive it: it is of the plan, its nodes are begun, and it stands for the job that the plan and its inputs make,
--- whatever logs the calculators that are handed in had at its start.
+-- A net as the tests drive it: it is of the plan, and its nodes are begun. It stands for the job that the plan and its inputs make,
+-- whatever logs the user-supplied calculators had at its start.
 use Rattle.std.specs.Prelude.{◌≡◌}
 use Rattle.mg_calc.specs.Rules.{Laws}
 use Rattle.mg_calc.specs.declared.inputs.Inputs.{Inputs}

@@ -1,5 +1,5 @@
--- The calculators that the tests hand in: two of one kind, each with one input of any kind and one output, on which it counts the
--- sets that it is shown. Each tells its calls.
+-- The user-supplied calculators of the tests: two of one kind, each with one input of any kind and one output. Each counts on its
+-- output the sets that it is shown. Each tells its calls.
 use Rattle.std.specs.Prelude.{List, [], ◌∷◌, Some, codes, pos, false}
 use Rattle.mg_value.specs.declared.kind.Kind.TheVariants.{Any, Int}
 use Rattle.mg_calc.specs.declared.law.Law.TheVariants.{Tally}

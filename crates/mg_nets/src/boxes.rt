@@ -1,4 +1,4 @@
-//! The calculators that are handed in.
+//! The user-supplied calculators of the tests.
 ghost use Rattle.std.specs.Prelude.{◌≡◌, IfOk};
 ghost use Rattle.mg_nets.specs.Handed.{tally_shape, tally_outer, new_tally, two_outers, two_tallies};
 
@@ -41,7 +41,7 @@ pub(crate) fn outers(alloc: Global) -> Result<Vec<OuterShape>, Fail>
     Ok(vec![in alloc; first, second]?)
 }
 
-/// Returns two calculators that count the sets which they are shown, and keep a log of their calls.
+/// Returns two calculators that count the sets that they are shown, and keep a log of their calls.
 pub(crate) fn tallies(alloc: Global) -> Result<Vec<LawBox>, Fail>
     ensures { IfOk result (λ tallies. tallies.items ≡ two_tallies) }
 {

@@ -49,7 +49,7 @@ pub fn under(case: Case<'_>, limit: i32) -> Case<'_> {
     }
 }
 
-// Returns what a line has behind its sets.
+// Returns the part of a line after its sets.
 fn behind_sets(line: &str) -> &str {
     match line.split_once('|') {
         Some((_, behind)) => behind,
@@ -57,7 +57,7 @@ fn behind_sets(line: &str) -> &str {
     }
 }
 
-// Whether a line is the wanted one, which may have `..` in place of its sets.
+// Returns whether a line is the wanted one, which may have `..` in place of its sets.
 fn is_line(wanted: &str, shown: &str) -> bool {
     if wanted == shown {
         return true;
@@ -68,7 +68,7 @@ fn is_line(wanted: &str, shown: &str) -> bool {
     }
 }
 
-/// Whether what comes out of a case is one of its wanted lines.
+/// Returns whether what comes out of a case is one of its wanted lines.
 pub(crate) fn is_wanted(case: &Case, shown: &str) -> bool {
     case.wanted.split('\n').any(|line| is_line(line, shown))
 }
@@ -84,7 +84,8 @@ fn passed() -> Case<'static> {
     }
 }
 
-// The packets at 10 are one set, of which the first one goes on. All that is laid is claimed or taken, so nothing is left.
+// The packets at 10 are one set, and the merge passes on only the first of them. All that is laid is claimed or taken, so
+// nothing is left.
 fn merged() -> Case<'static> {
     Case {
         graph: merging(),
@@ -98,7 +99,7 @@ fn merged() -> Case<'static> {
 }
 
 // The second packet of sel chooses a stream that isn't there: the node fails, with its output raised to that time. The first choice waits
-// for the packets of b, and at the second one all packets go that have come. If those of a come only after that, both wait in vain.
+// for the packets of b. At the second choice all packets go that have come. If the packets of a come only after that, both wait in vain.
 fn chosen() -> Case<'static> {
     Case {
         graph: choosing(),
@@ -111,7 +112,8 @@ fn chosen() -> Case<'static> {
     }
 }
 
-/// The first of the loopback's three answers is empty. The last sum waits at LOOP: it would be the answer to a packet behind 30.
+/// Returns the case of a loop of sums. The first of the loopback's three answers is empty. The last sum waits at LOOP: it would
+/// be the answer to a packet after 30.
 pub fn summed() -> Case<'static> {
     Case {
         graph: summing(),
@@ -122,7 +124,8 @@ pub fn summed() -> Case<'static> {
     }
 }
 
-// The first sum is odd and doesn't come back, so the packets at 20 and 30 wait at MAIN and at the sum, which has come to 20.
+// The first sum is odd and doesn't come back. So the packets at 20 and 30 wait at MAIN and at the sum, and the bound of the
+// sum is 20.
 fn stalled() -> Case<'static> {
     Case {
         graph: stalling(),
@@ -133,7 +136,7 @@ fn stalled() -> Case<'static> {
     }
 }
 
-/// None of three packets passes the filter.
+/// Returns a case in which none of three packets passes the filter.
 pub fn throttled() -> Case<'static> {
     Case {
         graph: throttling(),
@@ -144,7 +147,7 @@ pub fn throttled() -> Case<'static> {
     }
 }
 
-/// Each packet comes out greater by ten.
+/// Returns a case in which each packet comes out greater by ten.
 pub fn added() -> Case<'static> {
     Case {
         graph: adding(),
@@ -156,7 +159,7 @@ pub fn added() -> Case<'static> {
     }
 }
 
-// The first calculator is shown all three packets, the other the even one.
+// The first calculator is shown all three packets, and the other calculator the even one.
 fn counted() -> Case<'static> {
     Case {
         graph: counting(),
@@ -167,7 +170,7 @@ fn counted() -> Case<'static> {
     }
 }
 
-// A calculator that is handed in is shown both packets.
+// A user-supplied calculator is shown both packets.
 fn tallied() -> Case<'static> {
     Case {
         graph: tallying(),

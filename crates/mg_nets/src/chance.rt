@@ -1,7 +1,7 @@
 //! Numbers at random.
 
-/// Numbers of a linear congruence, each of which follows from the one before. The first follows from the seed, and isn't drawn: seeds
-/// beside each other have first numbers that differ too little.
+/// Numbers of a linear congruence: each number follows from the number before. The first follows from the seed, and isn't drawn,
+/// because the first numbers of neighbouring seeds differ too little.
 #[derive(Drop)]
 pub struct Chance {
     number: u64,
@@ -14,7 +14,7 @@ fn next(number: u64) -> u64 {
         .wrapping_add(1442695040888963407)
 }
 
-// Returns a place below `places`, picked by the higher half of a drawn number, or 0 where there are no places.
+// Returns a place below `places`, picked by the higher half of a drawn number, or 0 if there are no places.
 fn place_of(number: u64, places: u32) -> u32 {
     if places == 0 {
         return 0;
@@ -28,7 +28,7 @@ impl Chance {
         Chance { number: next(seed) }
     }
 
-    /// Draws a place below `places`, or 0 where there are no places.
+    /// Draws a place below `places`, or 0 if there are no places.
     pub fn below(&mut self, places: u32) -> u32 {
         self.number = next(self.number);
         place_of(self.number, places)

@@ -19,7 +19,7 @@ use mg_settled::InputSet;
 use std::alloc::Global;
 use std::test::Fail;
 
-/// A net whose nodes are begun, the plan that it is of, and the inputs that it was given.
+/// A net whose nodes are begun, its plan, and the inputs that it was given.
 #[derive(Drop)]
 pub struct Driver {
     pub plan: Plan,
@@ -27,7 +27,7 @@ pub struct Driver {
     pub net: Net<LawBox>,
 }
 
-// Makes the net of a plan over inputs, with two calculators that are handed in. No node is begun.
+// Makes the net of a plan over inputs, with two user-supplied calculators. No node is begun.
 fn net_of(alloc: Global, plan: &Plan, inputs: &Inputs) -> Result<Net<LawBox>, Fail>
     requires job { IsJob (record { plan = plan.now; inputs = inputs.now; laws = table_laws }) }
     requires fit { OutersFit plan.now two_outers }
@@ -104,7 +104,7 @@ pub(crate) fn let_go(driver: Driver) {
     drop(driver);
 }
 
-// Whether an event's node or edge is of a plan.
+// Returns whether an event's node or edge is of a plan.
 fn is_event_of(plan: &Plan, event: Event) -> bool
     ensures { (net : NetView) → net.plan ≡ plan.now → result ≡ true → IsEventOf net event }
 {
@@ -129,7 +129,7 @@ pub fn act(driver: &mut Driver, event: Event) -> Result<Effect, Fail>
     Ok(driver.net.act(event, &StillGate))
 }
 
-/// Makes steps until none would do anything, each Process call through a gate. Each step that does something is told to the hearer.
+/// Makes steps until none would do anything, each Process call through a gate. The hearer hears of each step that does something.
 pub fn sweep<G: Gate, H: Hears>(driver: &mut Driver, gate: &G, hearer: &mut H) -> Result<(), Fail>
     requires { IsDriven table_laws driver.old.plan driver.old.inputs driver.old.net }
     ensures { IsDriven table_laws driver.new.plan driver.new.inputs driver.new.net }

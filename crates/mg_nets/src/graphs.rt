@@ -19,7 +19,7 @@ pub fn merging() -> &'static str {
 node { calculator: "MergeCalculator" input_stream: "a" input_stream: "b" output_stream: "out" }"#
 }
 
-/// Returns a graph in which a stream tells from which of two others a packet is taken.
+/// Returns a graph in which a stream selects between two other streams, packet by packet.
 pub(crate) fn choosing() -> &'static str {
     r#"input_stream: "a" input_stream: "b" input_stream: "sel" output_stream: "out"
 node { calculator: "MuxCalculator" input_stream: "INPUT:0:a" input_stream: "INPUT:1:b"
@@ -34,7 +34,7 @@ node { calculator: "PreviousLoopbackCalculator" input_stream: "MAIN:in" input_st
 node { calculator: "IntSumCalculator" input_stream: "in" input_stream: "prev" output_stream: "sum" }"#
 }
 
-/// Returns a graph of sums of which only the even ones come back, so that the loop waits behind an odd one.
+/// Returns a graph of sums. Only the even sums come back, so that the loop waits after an odd sum.
 pub fn stalling() -> &'static str {
     r#"input_stream: "in" output_stream: "sum"
 node { calculator: "PreviousLoopbackCalculator" input_stream: "MAIN:in" input_stream: "LOOP:kept"
@@ -61,7 +61,7 @@ node { calculator: "IntMapCalculator" input_stream: "in" output_stream: "out" ma
   options { [mediapipe.IntMapCalculatorOptions.ext] { op: ADD operand: 10 } } }"#
 }
 
-/// Returns a graph with two calculators of one kind that are handed in: they count all packets, and the even ones.
+/// Returns a graph with two user-supplied calculators of one kind: they count all packets, and the even ones.
 pub fn counting() -> &'static str {
     r#"input_stream: "in" output_stream: "all" output_stream: "some"
 node { calculator: "TallyCalculator" input_stream: "in" output_stream: "all" }
@@ -70,7 +70,7 @@ node { calculator: "IntFilterCalculator" input_stream: "in" output_stream: "even
 node { calculator: "TallyCalculator" input_stream: "even" output_stream: "some" }"#
 }
 
-/// Returns a graph of one node whose calculator is handed in and counts all packets.
+/// Returns a graph of one node. Its calculator is user-supplied, and counts all packets.
 pub(crate) fn tallying() -> &'static str {
     r#"input_stream: "in" output_stream: "out"
 node { calculator: "TallyCalculator" input_stream: "in" output_stream: "out" }"#

@@ -1,6 +1,6 @@
-//! What the crates of tests that drive whole nets share: a net with its plan and its inputs, two calculators that are handed in, what comes
-//! out of a net, graphs with what they come to, graphs at random, and what owns a net while a way of the tests drives it. Answers to
-//! `specs/Driven.antt`.
+//! Helpers that the crates of tests that drive whole nets share. There is a net with its plan and its inputs, two user-supplied
+//! calculators, and what comes out of a net. There are graphs with their outcomes, and graphs at random. A function owns a net while a way
+//! of the tests drives it. Answers to `specs/Driven.antt`.
 #![tactic(auto)]
 
 mod boxes;

@@ -8,7 +8,8 @@ use mg_tables::show_set_at;
 use std::alloc::Global;
 use std::test::Fail;
 
-/// Takes all sets of the graph's outputs that are there, and shows them, a blank behind each. 2,000 sets or more are an error.
+/// Takes all sets of the graph's outputs that are there, and shows them, each followed by a blank. 2,000 sets or more are an
+/// error.
 pub fn all_taken(alloc: Global, driver: &mut Driver) -> Result<String, Fail>
     requires { IsDriven table_laws driver.old.plan driver.old.inputs driver.old.net }
     ensures { IsDriven table_laws driver.new.plan driver.new.inputs driver.new.net }
@@ -29,7 +30,8 @@ pub fn told(alloc: Global, driver: &Driver) -> Result<String, Fail> {
     show_report(alloc, &report)
 }
 
-/// Shows what comes out of a net at rest; and then, once all packets are given up that can be, how many are in it, and how far it has come.
+/// Shows what comes out of a net at rest. Then gives up all packets that can be given up. Shows how many packets are left in the net, and
+/// how far it has come.
 pub(crate) fn come_out(alloc: Global, driver: &mut Driver) -> Result<String, Fail>
     requires { IsDriven table_laws driver.old.plan driver.old.inputs driver.old.net }
     ensures { IsDriven table_laws driver.new.plan driver.new.inputs driver.new.net }

@@ -8,7 +8,7 @@ use mg_calc::Plan;
 use std::alloc::Global;
 use std::test::Fail;
 
-/// The plan of a graph, for which two calculators are handed in.
+/// Returns the plan of a graph with two user-supplied calculators.
 pub fn plan_of(alloc: Global, text: &str) -> Result<Plan, Fail>
     ensures valid { IfOk result IsValid }
     ensures fit { IfOk result (λ plan. OutersFit plan two_outers) }

@@ -1,5 +1,5 @@
-//! Graphs at random: a stream that is handed in, or a source, or both, and behind them nodes, each of which reads streams that stand before
-//! it. The last stream is the graph's output. No graph has a loop, and no node fails.
+//! Graphs at random. Each begins with a graph input, or a source, or both. Nodes follow: each node reads streams that stand before it. The
+//! last stream is the graph's output. No graph has a loop, and no node fails.
 use crate::cases::Case;
 use crate::chance::Chance;
 use std::alloc::Global;
@@ -98,7 +98,7 @@ fn put_nodes(graph: &mut String, chance: &mut Chance, first: u32, end: u32) -> R
     Ok(())
 }
 
-/// Returns the graph of a seed, with 3 to 8 nodes behind its source and its input.
+/// Returns the graph of a seed, with 3 to 8 nodes after its source and its input.
 pub fn draw_graph(alloc: Global, seed: u64) -> Result<Drawn, Fail> {
     let mut chance = Chance::new(seed);
     let mut drawn = Drawn {

@@ -8,7 +8,7 @@ use mg_value::Packet;
 use std::alloc::Global;
 use std::test::Fail;
 
-/// Shows packets, a blank behind each.
+/// Shows packets, each followed by a blank.
 pub fn show_packets(alloc: Global, packets: &[Packet]) -> Result<String, Fail> {
     let mut shown = String::new(alloc);
     for packet in packets {
@@ -17,7 +17,7 @@ pub fn show_packets(alloc: Global, packets: &[Packet]) -> Result<String, Fail> {
     Ok(shown)
 }
 
-// Shows numbers, a blank behind each.
+// Shows numbers, each followed by a blank.
 fn show_numbers(alloc: Global, numbers: &[u64]) -> Result<String, Fail> {
     let mut shown = String::new(alloc);
     for number in numbers {
@@ -26,7 +26,7 @@ fn show_numbers(alloc: Global, numbers: &[u64]) -> Result<String, Fail> {
     Ok(shown)
 }
 
-// Shows how many packets each stream has, `@` and its bound, a blank behind each stream.
+// Shows how many packets each stream has, `@` and its bound, each stream followed by a blank.
 fn show_ends(alloc: Global, ends: &[StreamEnd]) -> Result<String, Fail> {
     let mut shown = String::new(alloc);
     for end in ends {
@@ -49,7 +49,7 @@ fn show_phase(alloc: Global, phase: Phase) -> Result<String, Fail> {
     }
 }
 
-// Shows faults, each behind a blank: the node, when it failed, and why.
+// Shows faults, each preceded by a blank: the node, when it failed, and why.
 fn show_faults(alloc: Global, faults: &[NodeFault]) -> Result<String, Fail> {
     let mut shown = String::new(alloc);
     for fault in faults {
@@ -65,7 +65,8 @@ fn show_faults(alloc: Global, faults: &[NodeFault]) -> Result<String, Fail> {
     Ok(shown)
 }
 
-/// Shows a report: of each node how many sets were laid; of each stream how many packets it has, `@` and its bound; and the faults.
+/// Shows a report. For each node it has how many sets were laid. For each stream it has how many packets the stream has, `@` and
+/// its bound. The faults follow.
 pub fn show_report(alloc: Global, report: &Report) -> Result<String, Fail> {
     let sets = show_numbers(alloc, report.sets.as_slice())?;
     let streams = show_ends(alloc, report.streams.as_slice())?;
@@ -78,7 +79,7 @@ pub fn show_report(alloc: Global, report: &Report) -> Result<String, Fail> {
     )?)
 }
 
-// Shows the calls that a calculator had, each behind a blank: a set by its time.
+// Shows the calls that a calculator had, each preceded by a blank: a set by its time.
 fn show_calls(alloc: Global, calls: &CallList) -> Result<String, Fail> {
     let mut shown = String::new(alloc);
     for call in calls.as_slice() {
@@ -94,7 +95,7 @@ fn show_calls(alloc: Global, calls: &CallList) -> Result<String, Fail> {
     Ok(shown)
 }
 
-/// Shows the calls of calculators, `;` behind those of each calculator.
+/// Shows the calls of calculators, with `;` after the calls of each calculator.
 pub(crate) fn show_boxes(alloc: Global, boxes: &[LawBox]) -> Result<String, Fail> {
     let mut shown = String::new(alloc);
     for calculator in boxes {

@@ -1,5 +1,5 @@
-//! Nets that are driven in some way, and what they have to come to. What drives a net has it by `&mut`, and what owns it here drops it, so
-//! that no crate of tests proves how it is dropped.
+//! Nets that are driven in some way, and what has to come out of them. A way has the net by `&mut`, and a function here owns the net and
+//! drops it. So no crate of tests proves how a net is dropped.
 ghost use Rattle.mg_route.specs.TableLaws.{table_laws};
 ghost use Rattle.std.specs.Prelude.{IfOk};
 ghost use Rattle.mg_nets.specs.Driven.{IsDriven};
@@ -29,7 +29,7 @@ pub fn driver_under(alloc: Global, case: &Case, limit: i32) -> Result<Driver, Fa
     driver_of(alloc, graph.as_str(), case.lines)
 }
 
-/// Drives a net in a way, and returns it. Where the way fails, the net is dropped.
+/// Drives a net in a way, and returns it. If the way fails, the net is dropped.
 pub fn driven<W: Way>(alloc: Global, driver: Driver, way: &mut W) -> Result<Driver, Fail>
     requires { IsDriven table_laws driver.plan driver.inputs driver.net }
     ensures { IfOk result (λ d. IsDriven table_laws d.plan d.inputs d.net) }
@@ -60,8 +60,8 @@ pub fn swept(alloc: Global, case: &Case) -> Result<String, Fail> {
     shown
 }
 
-/// Drives a net to rest in a way, and expects what is wanted to come out of it. Then winds it up, and expects it to tell the same as
-/// before, and to give its calculators back in their order, with the calls that are wanted.
+/// Drives a net to rest in a way, and expects what is wanted to come out of it. Then winds the net up, and expects it to tell the
+/// same as before. Expects it to give its calculators back in their order, with the calls that are wanted.
 pub fn expect<W: Way>(alloc: Global, driver: Driver, way: &mut W, case: &Case) -> Result<(), Fail>
     requires { IsDriven table_laws driver.plan driver.inputs driver.net }
 {

@@ -1,5 +1,5 @@
-//! Helpers of the test crates that drive cells and nets: the plans and inputs of graphs that are written as texts, and shapes of
-//! calculators that are handed in. The crate has no definitions of its own: its contracts give what the calls of the tests require.
+//! Helpers of the test crates that drive cells and nets: plans and inputs of graphs that are written as texts, and shapes of
+//! user-supplied calculators. The crate has no definitions of its own: its contracts give what the calls of the tests require.
 #![tactic(auto)]
 
 mod plans;

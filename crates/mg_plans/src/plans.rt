@@ -20,8 +20,8 @@ fn graph_of(alloc: Global, text: &str) -> Result<GraphConfig, Fail> {
     Ok(read(alloc, &tree)?)
 }
 
-/// Returns the plan of a graph, by its text, with the calculators that are handed in. It fails where the text isn't a graph, the graph
-/// has too many nodes or is refused by the check, or a node is free.
+/// Returns the plan of a graph, by its text, with the user-supplied calculators. It fails if the text isn't a graph, the graph has too
+/// many nodes, the check refuses the graph, or a node is free.
 pub fn plan_of(alloc: Global, text: &str, outers: &[OuterShape]) -> Result<Plan, Fail>
     requires { All IsOuterShape outers.now }
     ensures valid { IfOk result IsValid }
@@ -38,8 +38,8 @@ pub fn plan_of(alloc: Global, text: &str, outers: &[OuterShape]) -> Result<Plan,
     }
 }
 
-/// Returns what packet lines hand to the graph of a plan. If `ended` is set, no further packet comes. It fails at the first line that
-/// isn't good.
+/// Returns the inputs that packet lines give to the graph of a plan. If `ended` is set, no further packet comes. It fails at the
+/// first line that isn't good.
 pub fn inputs_of(alloc: Global, plan: &Plan, lines: &str, ended: bool) -> Result<Inputs, Fail> {
     let mut feed = Feed::new(alloc, plan)?;
     for line in lines.split('\n') {
@@ -50,7 +50,7 @@ pub fn inputs_of(alloc: Global, plan: &Plan, lines: &str, ended: bool) -> Result
     Ok(feed.into_inputs(ended))
 }
 
-/// Whether inputs fit a plan that has no side packets. For a plan that has some it is false.
+/// Returns whether inputs fit a plan that has no side packets. For a plan that has side packets it is false.
 pub fn do_fit(plan: &Plan, inputs: &Inputs) -> bool
     ensures { result ≡ true → InputsFit plan.now inputs.now }
 {

@@ -19,10 +19,10 @@ use std::sync::Wait;
 use std::sync::atomic::AtomicBool;
 use std::thread::Threads;
 
-// How many TallyCalculator boxes a call is handed.
+// How many TallyCalculator boxes a call is given.
 const TALLIES: usize = 4;
 
-// How many boxes for loops over lists a call is handed: one for the begin of a loop, and the others for its end.
+// How many boxes for loops over lists a call is given: one for the begin of a loop, and the rest for its end.
 const LOOP_ENDS: usize = 2;
 
 /// The names of what is counted, by the devices, by the boxes, and by the gate.
@@ -44,7 +44,8 @@ pub const COUNTS: [&str; 15] = [
     "met",
 ];
 
-/// What is asked for: a call of a case that takes a choice, and in which a turn fails. The texts are those that the lines above have named.
+/// What is asked for: a call of a case that takes a choice, and in which a turn fails. The texts are the texts that the lines above have
+/// named.
 #[derive(Clone, Copy)]
 pub struct Asked<'a> {
     pub texts: &'a Texts,
@@ -53,7 +54,7 @@ pub struct Asked<'a> {
     pub turn: Turn,
 }
 
-/// What came of a call.
+/// The outcome of a call.
 #[derive(Drop)]
 pub struct Outcome<'a> {
     pub output: &'a [u8],
@@ -64,7 +65,7 @@ pub struct Outcome<'a> {
     pub counts: [u64; 15],
     /// The name of the file whose load failed last.
     pub failed_name: Option<&'a str>,
-    /// What the boxes tell of their calls, where the case asks for it.
+    /// What the boxes tell of their calls, if the case asks for it.
     pub logs: &'a str,
 }
 
@@ -99,8 +100,8 @@ fn make_by<R: Threads + Wait + Sync>(
     Ok(())
 }
 
-// Makes the top call over each of some devices, with the same boxes of its own, which keep logs. The devices' types are parameters for the
-// time of the proof: where they are known, each clause of the top call is written out over them.
+// Makes the top call over each of some devices, with the same boxes of its own, which keep logs. The devices' types are parameters to save
+// proof time: with known types, each clause of the top call is written out over them.
 fn call<R: Threads + Wait + Sync, T: Store, S: Source, K: Sink, E: Sink, G: Gate + Sync>(
     rt: &R,
     alloc: Global,
@@ -139,7 +140,7 @@ fn call<R: Threads + Wait + Sync, T: Store, S: Source, K: Sink, E: Sink, G: Gate
     Ok(())
 }
 
-/// Returns what came of the call over these devices and through this gate.
+/// Returns the outcome of the call over these devices and through this gate.
 pub fn outcome_of<'a>(outside: &'a InMemory<'_>, watch: &Watch) -> Outcome<'a> {
     let Outside {
         store,
@@ -187,7 +188,7 @@ fn calls_of(boxes: &[LawBox]) -> u64 {
     calls
 }
 
-// Appends the words of a choice, or `run` and `g.pbtxt` where the case has none.
+// Appends the words of a choice, or `run` and `g.pbtxt` if the case has none.
 fn put_words(alloc: Global, case: &Value, choice: Choice, words: &mut Vec<MgText>) -> Result<()> {
     match list(case, "words")?.get(choice.words) {
         None => {

@@ -1,4 +1,4 @@
-//! The lines of a table, and what comes of each.
+//! The lines of a table, and the verdict on each.
 
 use crate::call::{Asked, make_calls, outcome_of};
 use crate::choice::{Choice, choice_of};
@@ -45,7 +45,7 @@ const KEYS: [&str; 26] = [
     "differs",
 ];
 
-/// What comes of a line.
+/// The verdict on a line.
 #[derive(Drop)]
 pub enum Verdict {
     /// The line names a text, or the section of the lines that follow.
@@ -56,8 +56,8 @@ pub enum Verdict {
     Failed(String),
 }
 
-/// Reads a line, keeps the text that it names, or makes the calls of its case. An error says why it is no line of a table. A line with the
-/// key `refused` passes where the text at that key is no line of a table.
+/// Reads a line, and keeps the text that it names, or makes the calls of its case. An error says why it is no line of a table. A line with
+/// the key `refused` passes if the text at that key is no line of a table.
 pub fn judge<R: Threads + Wait + Sync>(
     rt: &R,
     alloc: Global,
@@ -87,7 +87,7 @@ fn judge_said<R: Threads + Wait + Sync>(
     Ok(Verdict::Passed)
 }
 
-// Whether a text is a line of a table. What such a line says is done.
+// Returns whether a text is a line of a table, and does what such a line says.
 fn is_line<R: Threads + Wait + Sync>(rt: &R, alloc: Global, texts: &mut Texts, line: &str) -> bool {
     let Ok(said) = read(alloc, line) else {
         return false;
@@ -121,7 +121,8 @@ fn act<R: Threads + Wait + Sync>(
     Ok(Verdict::Said)
 }
 
-// Reads the JSON value of a line, which is in compact form and has no key twice: only then the value is written as long as the line.
+// Reads the JSON value of a line. A line that isn't in compact form, or has a key twice, is an error. Such a line differs
+// in length from its value in compact form.
 fn read(alloc: Global, line: &str) -> Result<Value> {
     let said = Value::from_str(alloc, line)?;
     match expect_compact(alloc, &said, line) {
@@ -170,7 +171,7 @@ fn judge_case<R: Threads + Wait + Sync>(
     Ok(Verdict::Passed)
 }
 
-// Makes the calls of a choice, one for each turn. Returns how the first call differs that isn't as wanted.
+// Makes the calls of a choice, one for each turn. Returns how the first call that isn't as wanted differs.
 fn judge_choice<R: Threads + Wait + Sync>(
     rt: &R,
     alloc: Global,
@@ -195,7 +196,7 @@ fn judge_choice<R: Threads + Wait + Sync>(
     Ok(None)
 }
 
-// Makes the calls of a turn. Returns how the first one differs that isn't as wanted.
+// Makes the calls of a turn. Returns how the first call that isn't as wanted differs.
 fn judge_turn<R: Threads + Wait + Sync>(
     rt: &R,
     alloc: Global,
@@ -207,7 +208,7 @@ fn judge_turn<R: Threads + Wait + Sync>(
     how
 }
 
-// Makes the calls of a turn. Returns how the first one differs from what is wanted.
+// Makes the calls of a turn. Returns how the first call that isn't as wanted differs.
 fn judge_by<R: Threads + Wait + Sync>(
     rt: &R,
     alloc: Global,
@@ -225,7 +226,7 @@ fn judge_by<R: Threads + Wait + Sync>(
     how
 }
 
-// Returns how the first of some calls with the same boxes differs that isn't as wanted.
+// Returns how the first call that isn't as wanted differs, among some calls with the same boxes.
 fn first_difference(
     alloc: Global,
     case: &Value,

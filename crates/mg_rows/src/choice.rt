@@ -10,7 +10,7 @@ use std::alloc::Global;
 use std::fmt;
 use std::fmt::{Display, Formatter, Write};
 
-// The most bytes of a read that are tried where a case says none.
+// The most bytes of a read that are tried if a case says none.
 const PIECES: [u64; 4] = [1, 7, 64, 4096];
 
 /// What a call takes of each list of alternatives of its case: a place in the list, or the alternative itself.
@@ -42,8 +42,8 @@ pub fn choice_of(alloc: Global, case: &Value, number: usize) -> Result<Option<Ch
     Ok((left == 0).then_some(choice))
 }
 
-// Returns the place in a list that a number stands for, as the last digit of a numeral whose base is the list's length, and leaves the
-// number that the other digits make. An empty list counts as one alternative.
+// Returns the place in a list that a number stands for, and leaves a number for the further lists. The place is the number's last
+// digit in the base of the list's length, and the other digits make the number that is left. An empty list counts as one alternative.
 fn place(left: &mut usize, len: usize) -> usize
     ensures below { result < max len 1 }
     ensures digit { left.new * max len 1 + result ≡ left.old }
@@ -54,7 +54,8 @@ fn place(left: &mut usize, len: usize) -> usize
     place
 }
 
-// Returns whether a line feed at the input's end stays: as the case says, and where it doesn't, two calls are made, with it and without.
+// Returns whether a line feed at the input's end stays, as the case says. If the case doesn't say it, two calls are made, with the line
+// feed and without.
 fn last_line_feed(case: &Value, left: &mut usize) -> Result<bool> {
     Ok(match truth(case, "last_line_feed")? {
         Some(said) => said,

@@ -13,11 +13,11 @@ use serde_json::Value;
 use std::alloc::Global;
 use std::sync::atomic::{AtomicBool, Ordering};
 
-// How many bytes a sink takes where a case doesn't say: more than most texts have.
+// How many bytes a sink takes if a case doesn't say it: more than most texts have.
 const ROOM: u64 = 1 << 20;
 
-/// The devices of a call, and what it came to. The devices' types are parameters for the time of the proof. Where they are known, each
-/// clause of the top call is written out over them.
+/// The devices of a call, and its outcome. The devices' types are parameters to save proof time: with known types, each clause of
+/// the top call is written out over them.
 #[derive(Drop)]
 pub struct Outside<T, S, K, E> {
     pub store: T,
@@ -29,7 +29,7 @@ pub struct Outside<T, S, K, E> {
     pub boxes: u64,
     /// How many calls the boxes have had.
     pub box_calls: u64,
-    /// What the boxes tell of their calls, where the case asks for it.
+    /// What the boxes tell of their calls, if the case asks for it.
     pub logs: String,
 }
 
@@ -49,7 +49,7 @@ pub struct Input<'a> {
 }
 
 impl<'a> Input<'a> {
-    // Whether the next read fails because the output has taken nothing.
+    // Returns whether the next read fails because the output has taken nothing.
     fn is_early(&self) -> bool {
         match self.waits_at {
             Some(read) => self.bytes.reads() == read && !self.has_taken.load(Ordering::SeqCst),
@@ -106,8 +106,8 @@ impl<'a> Sink for Output<'a> {
     }
 }
 
-/// Appends the devices of the calls that are asked for: one call for each text in the `logs` of the case, and one where it has none.
-/// `has_taken` says whether an output of them has taken something.
+/// Appends the devices of the calls that are asked for. There is a call for each text in the `logs` of the case, and one call if the
+/// case has no `logs`. `has_taken` says whether one of their outputs has taken something.
 pub fn put_devices<'a>(
     alloc: Global,
     asked: Asked<'_>,
@@ -228,7 +228,8 @@ fn failing_of(alloc: Global, case: &Value, name: &str, one_more: Option<u64>) ->
     Ok(failing)
 }
 
-// Returns a sink. The case says at the key `room` how much it takes, and at the key `fails` which of its writes fail; one more may fail.
+// Returns a sink. The case says at the key `room` how much the sink takes, and at the key `fails` which of its writes fail. One more
+// write may fail.
 fn sink_of(
     alloc: Global,
     case: &Value,

@@ -7,7 +7,7 @@ use mg_value::{Packet, Payload};
 use std::alloc::{AllocError, Global};
 use std::sync::Arc;
 
-/// Appends the calls of calculators to a text: ` begun`, a blank and the time of a set, or ` finished`; the calls of each calculator end in
+/// Appends the calls of calculators to a text: ` begun`, a blank and the time of a set, or ` finished`. The calls of each calculator end in
 /// `;`. Then shows the first calculator one more set, of a packet at 9, and appends what it emits.
 pub fn put_logs<C: NodeCalculator>(
     alloc: Global,
@@ -82,7 +82,7 @@ fn put_laid(told: &mut String, laid: &Laid) -> Result<(), AllocError> {
     Ok(())
 }
 
-// Returns the number of a packet, or -2^63 where its payload is none.
+// Returns the number of a packet, or -2^63 if its payload is no number.
 fn number_of(packet: &Packet) -> i64 {
     match &*packet.payload {
         Payload::Int(number) => *number,

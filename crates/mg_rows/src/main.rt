@@ -1,6 +1,6 @@
-//! The worked rows of the program: reads a table from standard input, a JSON line each, makes the calls of its cases
-//! over devices in memory, and compares what came with what each case wants. Writes a line for each case that differs,
-//! and last how many passed and failed. `docs/ROWS.md` says what the lines of a table are.
+//! Runs the worked rows of the program. Reads a table of JSON lines from standard input. Makes the calls of the table's
+//! cases over devices in memory, and compares each outcome with what the case wants. Writes a line for each case that
+//! differs, and last how many passed and failed. `docs/ROWS.md` says what the lines of a table are.
 #![tactic(auto)]
 
 mod call;

@@ -4,7 +4,7 @@ use anyhow::{Result, bail, ensure};
 use serde_json::Value;
 use std::alloc::Global;
 
-/// Refuses a value that is no object, or that has a key which isn't among the names.
+/// Refuses a value that is no object, or has a key that isn't among the names.
 pub fn knows(object: &Value, names: &[&str]) -> Result<()> {
     let Value::Object(members) = object else {
         bail!("no object: {object}");
@@ -16,7 +16,7 @@ pub fn knows(object: &Value, names: &[&str]) -> Result<()> {
     Ok(())
 }
 
-/// Returns the number at a key, where the object has the key.
+/// Returns the number at a key, if the object has the key.
 pub fn number(object: &Value, name: &str) -> Result<Option<u64>> {
     let Some(value) = object.get(name) else {
         return Ok(None);
@@ -27,7 +27,7 @@ pub fn number(object: &Value, name: &str) -> Result<Option<u64>> {
     }
 }
 
-/// Returns the text at a key, where the object has the key.
+/// Returns the text at a key, if the object has the key.
 pub fn text<'a>(object: &'a Value, name: &str) -> Result<Option<&'a str>> {
     let Some(value) = object.get(name) else {
         return Ok(None);
@@ -38,7 +38,7 @@ pub fn text<'a>(object: &'a Value, name: &str) -> Result<Option<&'a str>> {
     }
 }
 
-/// Returns the list at a key, or an empty one where the object doesn't have the key.
+/// Returns the list at a key, or an empty list if the object doesn't have the key.
 pub fn list<'a>(object: &'a Value, name: &str) -> Result<&'a [Value]> {
     match object.get(name) {
         None => Ok(&[]),
@@ -47,7 +47,7 @@ pub fn list<'a>(object: &'a Value, name: &str) -> Result<&'a [Value]> {
     }
 }
 
-/// Returns the list of numbers at a key, or an empty one where the object doesn't have the key.
+/// Returns the list of numbers at a key, or an empty list if the object doesn't have the key.
 pub fn numbers(alloc: Global, object: &Value, name: &str) -> Result<Vec<u64>> {
     let mut all = Vec::new(alloc);
     for item in list(object, name)? {
@@ -59,7 +59,7 @@ pub fn numbers(alloc: Global, object: &Value, name: &str) -> Result<Vec<u64>> {
     Ok(all)
 }
 
-/// Returns the truth value at a key, where the object has the key.
+/// Returns the truth value at a key, if the object has the key.
 pub fn truth(object: &Value, name: &str) -> Result<Option<bool>> {
     let Some(value) = object.get(name) else {
         return Ok(None);

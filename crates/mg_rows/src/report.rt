@@ -1,4 +1,4 @@
-//! What is wanted of a call, and how what came of it differs.
+//! What is wanted of a call, and how its outcome differs from that.
 
 ghost use Rattle.std.specs.Prelude.{◌≢◌, ◌↔◌, IsTrue, IfOk};
 ghost use Rattle.mg_rows.specs.Wanted.{IsEnough};
@@ -16,13 +16,13 @@ use std::fmt::Write;
 #[derive(Drop)]
 pub struct Wanted {
     output: Vec<u8>,
-    // Where there is a number, a front of the output with at least so many bytes is enough.
+    // If there is a number, a prefix of the output with at least so many bytes is enough.
     output_at_least: Option<u64>,
     notes: Vec<u8>,
     status: u64,
 }
 
-// The names of the parts in which what came of a call may differ.
+// The names of the parts in which the outcome of a call may differ.
 const PARTS: [&str; 6] = ["output", "notes", "status", "counts", "failed_name", "logs"];
 
 /// Reads what the case wants of a call that is asked for, but for the counts and the logs.
@@ -41,8 +41,8 @@ pub fn wanted_of(alloc: Global, asked: Asked<'_>) -> Result<Wanted> {
     })
 }
 
-// Returns the output that is wanted: where a read fails, what the case says of the whole lines before it; where a write fails, the bytes
-// before it.
+// Returns the output that is wanted. If a read fails, it is what the case says of the whole lines before that read. If a write fails, it
+// is the bytes before that write.
 fn wanted_output(alloc: Global, asked: Asked<'_>) -> Result<Vec<u8>> {
     let Asked {
         texts,
@@ -85,8 +85,8 @@ fn put_notes(alloc: Global, asked: Asked<'_>, notes: &mut Vec<u8>) -> Result<()>
     Ok(())
 }
 
-/// Returns how what came of a call differs from what is wanted, or `None` where it doesn't. `place` is the call's place among those with the
-/// same boxes. Where a case says that some parts differ, exactly these have to.
+/// Returns how the outcome of a call differs from what is wanted, or `None` if it doesn't. `place` is the call's place among the calls with
+/// the same boxes. If a case says that some parts differ, exactly these parts have to differ.
 pub fn difference(
     alloc: Global,
     case: &Value,
@@ -108,7 +108,7 @@ pub fn difference(
     }
 }
 
-// Compares each part, tells those that differ, and returns whether they are those that a case says.
+// Compares each part, tells the parts that differ, and returns whether they are the parts that a case says.
 fn compare(
     told: &mut String,
     case: &Value,
@@ -133,7 +133,7 @@ fn compare(
     Ok(false)
 }
 
-// Whether the parts that differ are those that a case says.
+// Returns whether the parts that differ are the parts that a case says.
 fn are_as_said(case: &Value, found: [bool; 6]) -> Result<bool> {
     let Some(said) = case.get("differs") else {
         return Ok(found == [false; 6]);
@@ -186,7 +186,7 @@ fn status_differs(
     Ok(wanted != came)
 }
 
-// Whether counts differ from those that a case names. What it doesn't name isn't compared.
+// Returns whether counts differ from the counts that a case names. A count that the case doesn't name isn't compared.
 fn counts_differ(told: &mut String, case: &Value, came: &Outcome<'_>) -> Result<bool> {
     let Some(said) = case.get("counts") else {
         return Ok(false);
@@ -215,7 +215,7 @@ fn failed_name_differs(told: &mut String, case: &Value, came: &Outcome<'_>) -> R
     Ok(came != Some(wanted))
 }
 
-// Whether what the boxes tell of their calls differs from what a case says at the call's place.
+// Returns whether what the boxes tell of their calls differs from what a case says at the call's place.
 fn logs_differ(told: &mut String, case: &Value, place: usize, came: &Outcome<'_>) -> Result<bool> {
     let Some(said) = list(case, "logs")?.get(place) else {
         return Ok(false);
@@ -230,7 +230,8 @@ fn logs_differ(told: &mut String, case: &Value, place: usize, came: &Outcome<'_>
     Ok(came != wanted)
 }
 
-// Whether what came is the text, or, where a least number of bytes is said, a front of the text with at least so many.
+// Returns whether `came` is the text. If a least number of bytes is said, a prefix of the text with at least so many
+// bytes is enough.
 fn is_enough(text: &[u8], at_least: Option<u64>, came: &[u8]) -> bool
     ensures { IsTrue result ↔ IsEnough text.now at_least came.now }
 {
@@ -243,7 +244,7 @@ fn is_enough(text: &[u8], at_least: Option<u64>, came: &[u8]) -> bool
     }
 }
 
-// Writes what was wanted and what came of a part, from some bytes before the first that differs.
+// Writes the wanted text of a part and the text that came, from some bytes before the first byte that differs.
 fn tell(told: &mut String, part: &str, wanted: &[u8], came: &[u8]) -> Result<(), AllocError> {
     let from = common_len(wanted, came).saturating_sub(40);
     let (wanted_len, came_len) = (wanted.len(), came.len());

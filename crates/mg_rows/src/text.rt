@@ -9,7 +9,7 @@ use std::collections::BTreeMap;
 /// The texts that the lines of a table have named so far, by their names.
 pub type Texts = BTreeMap<String, Vec<u8>>;
 
-/// Returns the bytes of a text, none where no text is said.
+/// Returns the bytes of a text, and no bytes if no text is said.
 pub fn bytes_of(alloc: Global, texts: &Texts, said: Option<&Value>) -> Result<Vec<u8>> {
     let mut bytes = Vec::new(alloc);
     match put_bytes(alloc, texts, said, &mut bytes) {
@@ -107,7 +107,7 @@ fn append_bytes(numbers: &[u64], bytes: &mut Vec<u8>) -> Result<()> {
     Ok(())
 }
 
-// Appends a text that the table has named, or its first bytes where a number of them is said.
+// Appends a text that the table has named, or its first bytes if their number is said.
 fn append_named(texts: &Texts, part: &Value, bytes: &mut Vec<u8>) -> Result<()> {
     knows(part, &["named", "front"])?;
     let Some(name) = text(part, "named")? else {

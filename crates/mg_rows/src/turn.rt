@@ -1,4 +1,4 @@
-//! The turns of a case: reads or writes of which each fails in a call of its own.
+//! The turns of a case: reads or writes that each fail in a call of their own.
 
 use crate::choice::{Choice, input_of};
 use crate::member::{number, truth};
@@ -9,13 +9,13 @@ use std::alloc::Global;
 use std::fmt;
 use std::fmt::{Display, Formatter, Write};
 
-/// What fails in one call of a case, beside what fails in each of them.
+/// What fails in one call of a case, beside what fails in each of its calls.
 #[derive(Clone, Copy)]
 pub enum Turn {
     Nothing,
-    /// The read of this number fails, counted from 0, behind so many whole lines.
+    /// The read of this number fails, counted from 0, after so many whole lines.
     Read(u64, usize),
-    /// The write of this number to the output fails, counted from 0, behind so many bytes.
+    /// The write of this number to the output fails, counted from 0, after so many bytes.
     Write(u64, usize),
 }
 

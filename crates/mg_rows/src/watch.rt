@@ -1,4 +1,4 @@
-//! What watches the Process calls of a call of the program.
+//! The gate that watches the Process calls of a call of the program.
 
 use crate::member::numbers;
 use anyhow::{Result, bail};
@@ -7,7 +7,7 @@ use serde_json::Value;
 use std::alloc::Global;
 use std::sync::atomic::{AtomicU64, Ordering};
 
-/// A gate that counts the Process calls of node 0, and those of them that don't come in turn. Calls have the numbers from 0 on, and each
+/// A gate that counts the Process calls of node 0, and how many of them don't come in turn. Calls have the numbers from 0 on, and each
 /// enters and leaves before the next one. At the gate two calls may also have to meet.
 #[derive(Drop)]
 pub struct Watch {
@@ -17,8 +17,8 @@ pub struct Watch {
     meeting: MeetGate,
 }
 
-/// Returns the gate of a case. The case may say that two calls meet at it: the node and the number of each, and for how many turns the first
-/// one waits.
+/// Returns the gate of a case. The case may say that two calls meet at the gate. It says the node and the number of each, and for how many
+/// turns the first call waits.
 pub fn watch_of(alloc: Global, case: &Value) -> Result<Watch> {
     match numbers(alloc, case, "meet")?.as_slice() {
         [] => Ok(Watch::new(MeetGate::new((u32::MAX, 0), (u32::MAX, 0), 0))),
@@ -48,7 +48,7 @@ impl Watch {
         }
     }
 
-    // Counts a call as out of turn where the two numbers aren't the same.
+    // Counts a call as out of turn if the two numbers aren't the same.
     fn note(&self, number: u64, others: u64) {
         if number != others {
             self.out_of_turn.fetch_add(1, Ordering::SeqCst);
@@ -64,7 +64,7 @@ impl Watch {
         )
     }
 
-    /// Whether the two calls have met.
+    /// Returns whether the two calls have met.
     pub fn met(&self) -> bool {
         self.meeting.met()
     }

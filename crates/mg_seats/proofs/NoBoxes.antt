@@ -1,4 +1,4 @@
--- Where no calculator is handed in, no node wants one.
+-- If there is no user-supplied calculator, no node wants one.
 use Rattle.std.proofs.Common.{◌≡◌, ℕ, zero, suc, List, [], Option, Some, None, IfSome, IsSomeAnd, map, get_or, slice_get, sym, subst}
 use Rattle.mg_calc.specs.declared.plan.Plan.{Plan}
 use Rattle.mg_calc.specs.declared.shape.OuterShape.{OuterShape}

@@ -1,4 +1,4 @@
--- What the calls on a shared net leave of a seat: it is still one of the net, and has a work or none.
+-- What the calls on a shared net leave of a seat: it is still a seat of the net, and has a work or none.
 use Rattle.std.proofs.Common.{◌≡◌, ℕ, ◌<◌, ◌∙◌, length, ap, refl, subst}
 use Rattle.std.proofs.lemmas.Option.{slice_get_within}
 use Rattle.mg_calc.specs.Rules.{Laws}
@@ -43,7 +43,7 @@ pub is_lawful : {laws : Laws} {X : Type 0} (key : LayoutView) (answer : Claimed 
     → (job : LoggedJob laws) → Fits job key → LawfulWork job work
 is_lawful {laws} {X} key result work is lawful job fits = subst (λ (a : Claimed X). IsLawfulWork job a) is (lawful job fits)
 
--- a seat that claimed it has it
+-- a seat that claimed a work has the work
 pub has_claimed : {laws : Laws} {X : Type 0} {g : Ghosts X} (net : SharedNet X) (before now : NetSeat X g) (answer : Claimed X) (work : WorkView) (node : ℕ) → IsShared laws net before → IsSeatOf net now
     → answer ≡ Work work → HasClaimed laws answer node (view_of before) (view_of now) → ((job : LoggedJob laws) → Fits job (key_of net) → IsLawfulWork job answer) → IsSharedWith laws net now work
 has_claimed {laws} {X} net before now result work node h of is tried lawful = record {
@@ -60,7 +60,7 @@ has_claimed {laws} {X} net before now result work node h of is tried lawful = re
   node = node_within (key_of net) work h.some (is_lawful (key_of net) result work is lawful);
 }
 
--- a seat whose claim gave no work has none
+-- a seat whose claim gave no work has no work
 pub has_none : {laws : Laws} {X : Type 0} {g : Ghosts X} (net : SharedNet X) (before now : NetSeat X g) (answer : Claimed X) (node : ℕ) → IsShared laws net before → IsSeatOf net now
     → has_after answer (view_of before).work ≡ (view_of before).work → HasClaimed laws answer node (view_of before) (view_of now) → IsShared laws net now
 has_none {laws} net before now result node h of same tried = stays_free net before now h of (ap (λ (v : View). v.work) tried.left ∙ same)

@@ -1,4 +1,4 @@
--- What is kept of a net that is shared, and of a work.
+-- What stays of a net that is shared, and of a work.
 use Rattle.mg_calc.specs.Rules.{Laws}
 use Rattle.std.specs.Prelude.{◌≡◌, ℕ, length}
 use Rattle.mg_node.specs.Views.{WorkView}
@@ -18,7 +18,7 @@ pub record CameOf (laws : Laws) (count : ℕ) (key : LayoutView) (kept : KeptVie
   pub has : HasOutputs laws count before
   pub of : IsSharedOf laws before key kept
 
--- two works are the same one, whatever its calculator has done in between
+-- two views are of the same work, whatever its calculator has done in between
 pub record IsSameWork (work now : WorkView) : Type 0 where
   pub node : now.node ≡ work.node
   pub number : now.number ≡ work.number

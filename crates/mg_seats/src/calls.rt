@@ -1,4 +1,5 @@
-//! The calls on a shared net, each by one seat. A seat has a work only from a claim to the commit or the shelving of what the claim gave.
+//! The calls on a shared net, each by one seat. A seat has a work only from a claim to the commit or the shelving of the work that the
+//! claim gave.
 ghost use Rattle.std.specs.Prelude.{◌≡◌, ◌<◌, true, Option, IfOk, OnErr, IfSome, OnSome};
 ghost use Rattle.mg_route.specs.TableLaws.{table_laws};
 ghost use Rattle.mg_node.specs.declared.claimed.Claimed.TheVariants as Claimed;
@@ -18,8 +19,8 @@ use mg_route::LawBox;
 use mg_turns::{NetSeat, SharedNet, Tried, TriedCommit, TriedShelf};
 use std::alloc::Global;
 
-/// Brings packets along an edge, and returns how many, and whether the bound rose. Returns `None` where there is no such edge, where
-/// another seat has a turn, or where there is no memory.
+/// Brings packets along an edge, and returns how many, and whether the bound rose. Returns `None` if there is no such edge, if
+/// another seat has a turn, or if memory doesn't suffice.
 #[tactic(auto, using(crate::proofs::Sharing::stays_shared, crate::proofs::Sharing::stays_itself))]
 pub fn append(net: &SharedNet<LawBox>, seat: &mut NetSeat<LawBox>, edge: u32) -> Option<(u32, bool)>
     requires shared { IsShared table_laws net.now seat.old }
@@ -36,7 +37,7 @@ pub fn append(net: &SharedNet<LawBox>, seat: &mut NetSeat<LawBox>, edge: u32) ->
     }
 }
 
-/// Raises the bounds of a node's outputs, and returns whether one moved, or `None` where another seat has a turn.
+/// Raises the bounds of a node's outputs, and returns whether one moved, or `None` if another seat has a turn.
 #[tactic(auto, using(crate::proofs::Sharing::stays_shared))]
 pub fn raise(net: &SharedNet<LawBox>, seat: &mut NetSeat<LawBox>, node: u32) -> Option<bool>
     requires shared { IsShared table_laws net.now seat.old }
@@ -50,7 +51,7 @@ pub fn raise(net: &SharedNet<LawBox>, seat: &mut NetSeat<LawBox>, node: u32) -> 
     }
 }
 
-/// Does at most `most` works of a node under one pair of turns, and returns how many. Returns 0 where another seat has a turn.
+/// Does at most `most` works of a node under one pair of turns, and returns how many. Returns 0 if another seat has a turn.
 #[tactic(auto, using(crate::proofs::Sharing::stays_shared))]
 pub fn run(
     alloc: Global,
@@ -79,7 +80,7 @@ pub enum Idle {
     Other,
 }
 
-// The work that a claim gave, or why it gave none.
+// Returns the work that a claim gave, or why it gave none.
 fn work_of(claimed: Claimed<LawBox>) -> Result<Work<LawBox>, Idle>
     ensures work { IfOk result (λ w. claimed ≡ Claimed.Work w) }
     ensures none { OnErr result ((had : Option WorkView) → has_after claimed had ≡ had) }
@@ -114,7 +115,7 @@ pub fn claim(
     }
 }
 
-/// Performs a work, and returns its outcome, or `None` where there is no memory.
+/// Performs a work, and returns its outcome, or `None` when out of memory.
 pub fn performed(alloc: Global, work: Work<LawBox>) -> Option<Outcome<LawBox>>
     requires { SomeJobHas table_laws work }
     ensures lawful { IfSome result (λ o. (job : LoggedJob table_laws) → LawfulWork job work → LawfulOutcome job o) }
@@ -126,8 +127,8 @@ pub fn performed(alloc: Global, work: Work<LawBox>) -> Option<Outcome<LawBox>>
     }
 }
 
-/// Commits the work that a seat has, and returns how many sets or calls were laid. Returns `None` where another seat has the turn, or where
-/// there is no memory: the work is lost then, and the seat still counts as having it.
+/// Commits the work that a seat has, and returns how many sets or calls were laid. Returns `None` if another seat has the turn, or if
+/// memory doesn't suffice. The work is lost then, and the seat still counts as having it.
 pub fn commit(
     net: &SharedNet<LawBox>,
     seat: &mut NetSeat<LawBox>,
@@ -145,7 +146,7 @@ pub fn commit(
     }
 }
 
-/// Puts the work that a seat has back into its window, and returns whether it did. Where another seat has the turn, the work is lost, and
+/// Puts the work that a seat has back into its window, and returns whether it did. If another seat has the turn, the work is lost, and
 /// the seat still counts as having it.
 pub fn shelve(net: &SharedNet<LawBox>, seat: &mut NetSeat<LawBox>, outcome: Outcome<LawBox>) -> bool
     requires has { IsSharedWith table_laws net.now seat.old outcome.work }

@@ -1,4 +1,4 @@
-//! A shared net as tests and measurements drive it: it is made without calculators that are handed in, shared, called by its seats, and put
+//! A shared net as tests and measurements drive it. It is made without user-supplied calculators, shared, called by its seats, and put
 //! together again. Answers to `specs/Held.antt`.
 #![tactic(auto)]
 

@@ -31,7 +31,7 @@ fn no_boxes(alloc: Global) -> Vec<LawBox>
     Vec::new(alloc)
 }
 
-// The net of a plan for which no calculators are handed in.
+// Makes the net of a plan without user-supplied calculators.
 fn net_of(alloc: Global, plan: &Plan, inputs: &Inputs) -> Result<Net<LawBox>, AllocError>
     requires job { IsJob (record { plan = plan.now; inputs = inputs.now; laws = table_laws }) }
     requires none { OutersFit plan.now [] }
@@ -44,7 +44,7 @@ fn net_of(alloc: Global, plan: &Plan, inputs: &Inputs) -> Result<Net<LawBox>, Al
     }
 }
 
-/// Makes the net of a plan for which no calculators are handed in, and begins its nodes.
+/// Makes the net of a plan without user-supplied calculators, and begins its nodes.
 pub fn begun(alloc: Global, plan: &Plan, inputs: &Inputs) -> Result<Net<LawBox>, AllocError>
     requires job { IsJob (record { plan = plan.now; inputs = inputs.now; laws = table_laws }) }
     requires none { OutersFit plan.now [] }
@@ -58,7 +58,7 @@ pub fn begun(alloc: Global, plan: &Plan, inputs: &Inputs) -> Result<Net<LawBox>,
     Ok(net)
 }
 
-/// Shares a net. Its first seat has the whole portion, 2^32. At want of memory the net is dropped.
+/// Shares a net. Its first seat has the whole portion, 2^32. Out of memory: the net is dropped.
 pub fn shared_net(alloc: Global, net: Net<LawBox>) -> Result<Shared, AllocError>
     requires running { IsRunning net }
     requires stands { StandsForSome table_laws net }
@@ -84,7 +84,8 @@ pub fn together(net: SharedNet<LawBox>, seat: NetSeat<LawBox>, kept: Kept<LawBox
     net
 }
 
-/// Takes the next set of a net with one output, and returns whether there was one. Where `set` hasn't one place, none is taken.
+/// Takes the next set of a net with one output, and returns whether there was one. If `set` hasn't exactly one place, no set is
+/// taken.
 pub fn take_next(net: &mut Net<LawBox>, set: &mut InputSet) -> bool
     requires outputs { HasOutputs table_laws 1 net.old }
     ensures outputs { HasOutputs table_laws 1 net.new }

@@ -1,4 +1,4 @@
-//! Tests of the gate at which two calls meet: beside each other they do, and one after the other they don't.
+//! Tests of the gate at which two calls meet: calls at the same time do, and calls one after the other don't.
 use mg_edge::{Gate, MeetGate};
 use std::test::*;
 use std::thread::join;

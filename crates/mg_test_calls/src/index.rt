@@ -1,4 +1,5 @@
-//! Tests of tables of names: the names by number with the place at which each stands first, and the first that stands again.
+//! Tests of tables of names: the names by number with the place at which each stands first, and the first name that stands
+//! again.
 
 use mg_index::NameTable;
 use mg_tables::{Calls, assert_rows};
@@ -6,8 +7,8 @@ use std::alloc::{AllocError, Global};
 use std::borrow::CowStr;
 use std::test::Fail;
 
-// The texts of a row have blanks between them. After `=` stand the names in the order of their numbers, each with its place,
-// and behind a bar the place of the first name that stands again, or `-`.
+// The texts of a row have blanks between them. After `=` stand the names in the order of their numbers, each with its place.
+// After a bar stands the place of the first name that stands again, or `-`.
 fn tables() -> &'static str {
     "c a b=c 0 a 1 b 2 |-
 a b a c b=a 0 b 1 c 3 |0
@@ -24,7 +25,8 @@ fn kept<'a>(alloc: Global, name: &'a str, lent: bool) -> Result<CowStr<'a>, Allo
     Ok(CowStr::Owned(String::from_str(alloc, name)?))
 }
 
-// Makes the table of the texts of a row. Each name at an even place is lent to it, and the others are its own.
+// Makes the table of the texts of a row. Each name at an even place is lent to the table, and the table owns the other
+// names.
 fn table_of<'a>(alloc: Global, texts: &'a str) -> Result<NameTable<'a>, AllocError> {
     let mut table = NameTable::new(alloc);
     for (place, text) in texts.split(' ').enumerate() {

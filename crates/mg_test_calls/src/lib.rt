@@ -1,6 +1,6 @@
-//! The tests of single calls of what a graph is read and written with, a module for each crate that is tried: vectors from outside,
-//! texts that are printed, and real files. What a row of mg_rows runs has no test here. There is nothing else here, so that no other
-//! crate is proved a second time with its tests.
+//! The tests of single calls that read and write a graph, a module for each crate under test. They use vectors from outside, texts
+//! that are printed, and real files. What a row of mg_rows runs has no test here. There is nothing else here, so that no other crate
+//! is proved a second time with its tests.
 #![tactic(auto)]
 
 #[cfg(test)]

@@ -1,4 +1,4 @@
-//! Tests of the text form: where a text stops being one, and what is written of it.
+//! Tests of the text form: where a text stops being in the text form, and the text that is written of it.
 
 use mg_tables::{Calls, assert_rows};
 use mg_text::{TextFault, parse, print};
@@ -152,8 +152,8 @@ a:1 -=4
 a-1=1"#
 }
 
-// Rows of two pieces and a number: the text is so many copies of the first, or none of `-`, and then of the second. After `=`
-// stands what it is read as.
+// Rows of two pieces and a number: the text is so many copies of the first piece, and then of the second. A piece `-` is left
+// out. After `=` stands what the text is read as.
 fn depths() -> &'static str {
     "a{ - 65=TooDeep@129
 a{ } 64=ok
@@ -177,7 +177,7 @@ a:'é€🙂'=a: "é€🙂"%0a
 [a.b/c.d]{[e.f]:0X1F}=[a.b/c.d] {%0a  [e.f]: 0X1F%0a}%0a"#
 }
 
-// A text that has each kind of value, in a message too.
+// Returns a text that has each kind of value, in a message too.
 fn every_kind() -> &'static str {
     "w:inf n:-0X1f q:'a\"b' 'c\\n' m{w:[x,y] m<n:.5e1 m{}>} [e.f]{q:\"\"} q:'\\177'"
 }
@@ -286,7 +286,7 @@ fn in_one_line(alloc: Global, text: &str) -> Result<String, AllocError> {
 struct Writing;
 
 impl Calls for Writing {
-    // Writes a text, and fails where that isn't written the same again once it is read.
+    // Writes a text, and fails if the written text isn't written the same again once it is read.
     fn answer(&mut self, alloc: Global, call: &str) -> Result<String, Fail> {
         let once = written(alloc, bytes_of(alloc, call)?.as_slice())?;
         if written(alloc, once.as_slice())?.as_slice() != once.as_slice() {

@@ -5,8 +5,8 @@ use mg_time::Timestamp;
 use std::alloc::Global;
 use std::test::Fail;
 
-// Rows of the special values, as the framework's page on timestamps has them: the number, the number of what may follow a packet
-// there, whether it is in the range, and whether a packet may stand there.
+// Rows of the special values, as the framework's page on timestamps has them. Each row has the value's number, and the number of
+// the time that may follow a packet there. Then it has whether the value is in the range, and whether a packet may stand there.
 fn special_values() -> &'static str {
     "Unset=-9223372036854775808 -9223372036854775807 false false
 Unstarted=-9223372036854775807 -9223372036854775806 false false
@@ -32,7 +32,7 @@ PostStream -7=PostStream
 Done -7=Done"
 }
 
-// Rows of a text, and after `=` the number of the timestamp that it is read as, if there is one.
+// Rows of a text, and after `=` the number of the timestamp that it is read as, if it is read as a timestamp.
 fn texts() -> &'static str {
     "PreStream=-9223372036854775806
 PostStream=9223372036854775805

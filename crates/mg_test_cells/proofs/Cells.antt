@@ -1,4 +1,4 @@
--- Each call on a cell leaves it one.
+-- Each call on a cell leaves it a cell.
 use Rattle.std.proofs.Common.{◌≡◌, ℕ, sym, refl, subst, ap}
 use Rattle.mg_calc.specs.Rules.{Laws}
 use Rattle.mg_calc.specs.declared.plan.Plan.{Plan}

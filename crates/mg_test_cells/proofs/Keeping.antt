@@ -1,4 +1,4 @@
--- An engine gives up packets only where it is told to.
+-- An engine gives up packets only if it is told to.
 use Rattle.std.proofs.Common.{◌≡◌, ℕ, zero, suc, ◌∷◌, List, [], map, All, Option, Some, None, get_or, ap, sym, refl, subst, ◌∙◌}
 use Rattle.std.specs.List.{AllByRecursion}
 use Rattle.std.proofs.lemmas.List.Elements.{All-from_recursion, recursion_from_All}

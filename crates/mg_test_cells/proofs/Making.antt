@@ -23,7 +23,7 @@ use Rattle.mg_node.proofs.Making.{fresh_unbegun}
 use Rattle.mg_test_cells.specs.Cell.{job_of, held_of, KeepsAll}
 use Rattle.mg_test_cells.proofs.Keeping.{whole_keeps}
 
--- the solution of its job
+-- the solution of the cell's job
 pub solved : {laws : Laws} (plan : Plan) (inputs : Inputs) → IsJob (record { plan = plan; inputs = inputs; laws = laws }) → (streams : List (StreamPrefix Plain)) × Solves (job_of laws plan inputs) streams
 solved {laws} plan inputs is =
     let job : Job = record { plan = plan; inputs = inputs; laws = laws } in
@@ -34,7 +34,7 @@ no_log : (o : Option ℕ) → (let r : Option (List Call) = None in r) ≡ optio
 no_log None = refl
 no_log (Some n) = refl
 
--- its first node's calculator
+-- the calculator of the plan's first node
 pub handed : {laws : Laws} (plan : Plan) (inputs : Inputs) (node : PlanNode) (told : HolderView) → slice_get plan.nodes 0 ≡ Some node → told ≡ held_of node → IsHanded (job_of laws plan inputs) 0 node told
 handed {laws} plan inputs node told there is = subst (IsHanded (job_of laws plan inputs) 0 node) (sym is) (record {
   there = there;
@@ -46,11 +46,11 @@ handed {laws} plan inputs node told there is = subst (IsHanded (job_of laws plan
 pub is_new : (node : PlanNode) (told : HolderView) → told ≡ held_of node → IsNew node told
 is_new node told is = subst (IsNew node) (sym is) (record { fits = record { same_law = refl; same_shape = refl } })
 
--- it is unbegun, as it is made
+-- the engine is unbegun, as it is made
 pub unbegun : {laws : Laws} (plan : Plan) (inputs : Inputs) (node : PlanNode) (told : HolderView) (engine : EngineView) → engine ≡ fresh_engine node 0 told → IsUnbegun laws node 0 told (sides_of (job_of laws plan inputs).job node) engine
 unbegun {laws} plan inputs node told engine is = inl is
 
--- it is begun: nothing is claimed, and nothing was given up
+-- the engine is begun: nothing is claimed, and nothing was given up
 pub begun_none : {laws : Laws} (node : PlanNode) (told : HolderView) (sides : List (Option Plain)) (engine : EngineView) → HasBegun laws node 0 told sides engine → engine.claimed ≡ 0
 begun_none {laws} node told sides engine b = ap (λ (v : EngineView). v.claimed) b.is
 
@@ -64,7 +64,7 @@ append_get [] ys i x h = absurd cc
 append_get (z ∷ xs) ys zero x h = h
 append_get (z ∷ xs) ys (suc i) x h = append_get xs ys i x h
 
--- the solution has what was handed in
+-- the solution has the streams that the inputs give
 pub input_stream : {laws : Laws} (plan : Plan) (inputs : Inputs) (streams : List (StreamPrefix Plain)) (input : ℕ) (s : StreamPrefix Plain) → Solves (job_of laws plan inputs) streams → slice_get inputs.streams input ≡ Some s → get_or streams input empty_prefix ≡ s
 input_stream {laws} plan inputs streams input s solves at =
     get_or_from_slice_get streams input s empty_prefix (ap (λ (ss : List (StreamPrefix Plain)). slice_get ss input) (sym solves.solution.meets) ∙ append_get inputs.streams _ input s at)

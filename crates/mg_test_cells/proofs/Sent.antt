@@ -1,5 +1,5 @@
--- What a cell holds may go to another thread: its plan, its inputs and its engine. The cell itself is a type that only the tests have, and a
--- lemma on it would be read without the tests too; so that it may go stands where it is needed.
+-- What a cell holds may go to another thread: its plan, its inputs and its engine. The cell itself is a type that only the tests have, and
+-- a lemma on it would be read without the tests too. So the proof that a cell may go stands where it is needed.
 use denote.Struct.Declared.{shape}
 use denote.Param.Send.{IsSend, struct_send, sendable}
 use Rattle.std.proofs.Crossing.{crosses}

@@ -1,5 +1,5 @@
--- The cell of a plan's first node, with the collector behind it, as the tests drive it: each of its parts is lawful for the job that
--- the plan and its inputs make, and between two calls no work is out.
+-- The cell of a plan's first node, with the collector after it, as the tests drive it. Each of its parts is lawful for the job that
+-- the plan and its inputs make. Between two calls no work is out.
 use Rattle.std.specs.Prelude.{◌≡◌, [], map, All, length, is_some, refl}
 use Rattle.mg_calc.specs.Rules.{Laws}
 use Rattle.mg_calc.specs.declared.plan.Plan.{Plan}
@@ -16,7 +16,7 @@ use Rattle.mg_node.specs.Fresh.{own_told}
 abbrev pub job_of : (laws : Laws) → Plan → Inputs → LoggedJob laws
 job_of laws plan inputs = record { job = record { plan = plan; inputs = inputs; laws = laws }; boxes = []; same = refl }
 
--- the calculator of a node, which is handed in where the node is given one
+-- the calculator of a node: it is user-supplied if the node has the number of a box
 abbrev pub held_of : PlanNode → HolderView
 held_of node = record (own_told node) { handed = is_some node.box_number }
 

@@ -17,7 +17,8 @@ use mg_route::{Builtin, Holder, LawBox};
 use std::alloc::Global;
 use std::test::Fail;
 
-/// The first node of a plan: what waits there, and what works there; and the intake of the collector, which reads its outputs.
+/// The first node of a plan, with what waits there and what works there. It has the intake of the collector too, which reads
+/// the node's outputs.
 #[derive(Drop)]
 pub(crate) struct Cell {
     pub(crate) plan: Plan,
@@ -27,7 +28,7 @@ pub(crate) struct Cell {
     pub(crate) sink: Intake,
 }
 
-// Whether a calculator of a law may be handed in.
+// Returns whether a calculator of a law may be user-supplied.
 fn is_outer(law: &Law) -> bool
     ensures { result ≡ true → IsOuter law.now }
 {
@@ -57,7 +58,8 @@ fn box_of(alloc: Global, node: &PlanNode) -> Result<LawBox, Fail>
     Ok(LawBox::new(alloc, outer, false)?)
 }
 
-// Returns a calculator for a node: a box where one is handed in, which keeps no log, and else one by the node's law.
+// Returns a calculator for a node. If the node's calculator is user-supplied, it is a box that keeps no log. Else it is
+// a calculator by the node's law.
 fn calculator_of(alloc: Global, node: &PlanNode) -> Result<Holder<LawBox>, Fail>
     requires ranges { ParametersFit node.now.law }
     requires of_law { IsShapeOf node.now.law node.now.shape }
@@ -80,7 +82,7 @@ fn holder_of(alloc: Global, plan: &Plan) -> Result<Holder<LawBox>, Fail>
     calculator_of(alloc, node)
 }
 
-// Returns the engine of a plan's first node, not begun, or an error where the node has side packets.
+// Returns the engine of a plan's first node, not begun, or an error if the node has side packets.
 fn unbegun(alloc: Global, plan: &Plan) -> Result<Engine<LawBox>, Fail>
     requires { IsValid plan.now }
     ensures fresh { IfOk result (λ e. (node : PlanNode) → slice_get plan.now.nodes 0 ≡ Some node → (node.sides ≡ []) × (e ≡ fresh_engine node 0 (held_of node))) }
@@ -171,7 +173,7 @@ fn parts_of(
     }
 }
 
-// Returns the cell of a plan's first node, which is begun, and to which nothing came.
+// Returns the cell of a plan's first node. The node is begun, and no packet was delivered to it.
 fn cell_over(alloc: Global, plan: Plan, inputs: Inputs) -> Result<Cell, Fail>
     requires { IsValid plan }
     ensures { IfOk result (λ c. IsCell table_laws c.plan c.inputs c.engine c.intake c.sink) }
@@ -192,7 +194,7 @@ fn cell_over(alloc: Global, plan: Plan, inputs: Inputs) -> Result<Cell, Fail>
     }
 }
 
-/// A graph over packet lines, which are the whole input or the first ones of it.
+/// A graph over packet lines, which are the whole input or its first lines.
 #[derive(Clone, Copy)]
 pub(crate) struct Given {
     pub(crate) graph: &'static str,
@@ -200,7 +202,7 @@ pub(crate) struct Given {
     pub(crate) ended: bool,
 }
 
-/// Returns the cell of a graph's first node, with the calculators that are handed in.
+/// Returns the cell of a graph's first node, with the user-supplied calculators.
 pub(crate) fn cell_of(alloc: Global, given: Given, outers: &[OuterShape]) -> Result<Cell, Fail>
     requires { All IsOuterShape outers.now }
     ensures { IfOk result (λ c. IsCell table_laws c.plan c.inputs c.engine c.intake c.sink) }
@@ -215,7 +217,7 @@ pub(crate) fn cell_of(alloc: Global, given: Given, outers: &[OuterShape]) -> Res
     }
 }
 
-/// Returns the cell of a graph's first node, for which no calculator is handed in.
+/// Returns the cell of a graph's first node, which has no user-supplied calculator.
 pub(crate) fn own_cell(alloc: Global, given: Given) -> Result<Cell, Fail>
     ensures { IfOk result (λ c. IsCell table_laws c.plan c.inputs c.engine c.intake c.sink) }
 {
@@ -224,7 +226,7 @@ pub(crate) fn own_cell(alloc: Global, given: Given) -> Result<Cell, Fail>
     Ok(cell)
 }
 
-/// Drops a cell, and returns whether a calculator that was handed in came back.
+/// Drops a cell, and returns whether a user-supplied calculator came back.
 pub(crate) fn gives_back(cell: Cell) -> bool {
     let Cell {
         plan,

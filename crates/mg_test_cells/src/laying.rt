@@ -1,11 +1,11 @@
-//! What a calculator emits is laid as a whole, or not at all where one packet of it can't be.
+//! What a calculator emits is laid as a whole, or not at all if one of its packets can't be laid.
 use crate::cell::{Given, cell_of};
 use crate::rows::expect_rows;
 use crate::scripted::one_scripted;
 use std::alloc::Global;
 use std::test::Fail;
 
-// A graph of one node that emits what a scripted calculator says, over one packet at 5.
+// Returns a graph of one node that emits what a scripted calculator says, over one packet at 5.
 fn scripted_graph() -> Given {
     Given {
         graph: r#"input_stream: "in" output_stream: "out"

@@ -1,14 +1,14 @@
-//! Tables of cells: a row is a call, and after `=` what it has to answer.
+//! Tables of cells: a row is a call, and after `=` the answer that it has to give.
 //!
-//! - `deliver PORT MOST` brings packets of a graph input to a port, and `out PORT MOST` packets of the outputs to a port of the
-//!   collector: how many came, and whether the bound behind them rose.
-//! - `work` claims a work and performs it; `leave` claims one and commits it as unrun; `shelve` claims one and puts it back as it is:
-//!   its number and its phase, or why there is none.
-//! - `commit NUMBER` commits what was performed: how many sets or calls were laid.
-//! - `advance` raises the outputs: whether one moved.
-//! - `take` takes a set of the collector: each packet as its number, `@` and its timestamp.
-//! - `laid` tells how many sets or calls were laid; `output NUMBER` how many packets an output has, and its bound; `held` how many wait at
-//!   all ports and all outputs; `fault` the node's fault.
+//! - `deliver PORT MOST` brings packets of a graph input to a port. `out PORT MOST` brings packets of the outputs to a port of
+//!   the collector. Both answer how many packets came, and whether the bound after them rose.
+//! - `work` claims a work and performs it. `leave` claims a work and commits it as unrun. `shelve` claims a work and puts it back as
+//!   it is. Each answers the work's number and its phase, or why there is none.
+//! - `commit NUMBER` commits the performed work of this number. It answers how many sets or calls were laid.
+//! - `advance` raises the outputs. It answers whether one moved.
+//! - `take` takes a set of the collector. It answers each packet as its number, `@` and its timestamp.
+//! - `laid` answers how many sets or calls were laid. `output NUMBER` answers how many packets an output has, and its bound. `held`
+//!   answers how many wait at all ports and all outputs. `fault` answers the node's fault.
 ghost use Rattle.mg_route.specs.TableLaws.{table_laws};
 ghost use Rattle.std.specs.Prelude.{IfOk, OnOk};
 ghost use Rattle.mg_test_cells.specs.Cell.{IsCell};
@@ -22,7 +22,7 @@ use mg_tables::{show_set_at, text_of};
 use std::alloc::Global;
 use std::test::Fail;
 
-// How many packets an output has, and its bound.
+// Shows how many packets an output has, and its bound.
 fn show_output(alloc: Global, cell: &Cell, output: u32) -> Result<String, Fail> {
     if output >= cell.engine.outputs() {
         return Err(Fail::from("no such output"));
@@ -100,7 +100,7 @@ fn answer(alloc: Global, cell: &mut Cell, call: &str) -> Result<String, Fail>
     }
 }
 
-// Makes the call of each row, and compares what it answers with what the row wants.
+// Makes the call of each row, and compares its answer with the answer that the row wants.
 fn answered(alloc: Global, cell: &mut Cell, rows: &str) -> Result<(), Fail>
     requires { IsCell table_laws cell.old.plan cell.old.inputs cell.old.engine cell.old.intake cell.old.sink }
     ensures { OnOk result (IsCell table_laws cell.new.plan cell.new.inputs cell.new.engine cell.new.intake cell.new.sink) }
@@ -130,7 +130,7 @@ pub(crate) fn called(alloc: Global, cell: Cell, rows: &str) -> Result<Cell, Fail
     }
 }
 
-/// Makes the call of each row, and checks the answers. At last a calculator that was handed in has to come back, or none, by `gives_one`.
+/// Makes the call of each row, and checks the answers. At last a user-supplied calculator has to come back, or none, as `gives_one` says.
 pub(crate) fn expect_rows(
     alloc: Global,
     cell: Cell,

@@ -9,7 +9,7 @@ use mg_value::{BlockList, Kind};
 use std::alloc::Global;
 use std::test::Fail;
 
-// Reads packets, which are written as numbers, `@` and timestamps with blanks between them, or as `-` where there are none.
+// Reads packets, which are written as numbers, `@` and timestamps with blanks between them. `-` stands for no packets.
 fn packets_of(alloc: Global, text: &str) -> Result<LaidPackets, Fail> {
     let mut packets = Vec::new(alloc);
     if text != "-" {
@@ -31,7 +31,7 @@ fn emission_of(alloc: Global, text: &str) -> Result<Emission, Fail>
     }))
 }
 
-// Returns a calculator that emits at its one output what is written down: in Open, at its first set, and in Close.
+// Returns a calculator with one output, whose emissions are written down: in Open, at its first set, and in Close.
 fn scripted(
     alloc: Global,
     offset: Option<i64>,
@@ -56,7 +56,7 @@ fn scripted(
     Ok(OuterShape { shape, law })
 }
 
-/// Returns the calculators that are handed in: one with offset 0 that emits this at its first set, and else nothing.
+/// Returns the user-supplied calculators: one with offset 0 that emits this at its first set, and else nothing.
 pub(crate) fn one_scripted(alloc: Global, step: &str) -> Result<Vec<OuterShape>, Fail>
     ensures { IfOk result (λ outers. All IsOuterShape outers.items) }
 {

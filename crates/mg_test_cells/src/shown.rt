@@ -5,7 +5,7 @@ use mg_tables::text_of;
 use std::alloc::Global;
 use std::test::Fail;
 
-/// Writes what a delivery moved: how many packets, and whether the bound rose behind them.
+/// Writes what a delivery moved: how many packets, and whether the bound after them rose.
 pub(crate) fn show_delivered(alloc: Global, delivered: Delivered) -> Result<String, Fail> {
     match delivered {
         Delivered::Moved { packets, raised } => Ok(format!(in alloc; "{packets} {raised}")?),
@@ -32,7 +32,7 @@ fn show_phase(alloc: Global, phase: Phase) -> Result<String, Fail> {
     }
 }
 
-/// Writes a fault, or `-` where there is none.
+/// Writes a fault, or `-` if there is none.
 pub(crate) fn show_fault(alloc: Global, fault: Option<NodeFault>) -> Result<String, Fail> {
     let Some(fault) = fault else {
         return Ok(String::from_str(alloc, "-")?);

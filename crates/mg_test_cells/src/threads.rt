@@ -1,4 +1,4 @@
-//! Cells that go to other threads and come back: what was begun here goes on there, and what was begun there goes on here.
+//! Cells that go to other threads and come back. Works that were begun here go on there, and the other way round.
 ghost use Rattle.mg_route.specs.TableLaws.{table_laws};
 ghost use Rattle.std.specs.Prelude.{IfOk};
 ghost use Rattle.mg_test_cells.specs.Cell.{IsCell};
@@ -10,7 +10,7 @@ use std::alloc::Global;
 use std::test::Fail;
 use std::thread::{Threads, join};
 
-// A graph that adds ten to each number, with up to four works at a time, over three packets.
+// Returns a graph that adds ten to each number, with up to four works at a time, over three packets.
 fn adding() -> Given {
     Given {
         graph: map(),
@@ -21,7 +21,7 @@ fn adding() -> Given {
     }
 }
 
-// Makes the calls of some rows in another thread, to which the cell goes, and from which it comes back.
+// Makes the calls of some rows in another thread. The cell goes to that thread, and comes back from it.
 fn called_there<R: Threads>(
     rt: &R,
     alloc: Global,

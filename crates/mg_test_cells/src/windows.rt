@@ -1,11 +1,11 @@
-//! Windows of several works: they are committed in any order, and laid in that of their sets.
+//! Windows of several works: the works are committed in any order, and laid in the order of their sets.
 use crate::cell::{Given, own_cell};
 use crate::rows::expect_rows;
 use std::alloc::Global;
 use std::fmt::Write;
 use std::test::Fail;
 
-// Checks a table of calls over the first node of a graph. No calculator is handed in, and none comes back.
+// Checks a table of calls over the first node of a graph. There is no user-supplied calculator, and none comes back.
 fn expect_cell(
     alloc: Global,
     graph: &'static str,
@@ -22,14 +22,14 @@ fn expect_cell(
     expect_rows(alloc, cell, rows, false)
 }
 
-/// A graph that adds ten to each number, with up to four works at a time.
+/// Returns a graph that adds ten to each number, with up to four works at a time.
 pub(crate) fn map() -> &'static str {
     r#"input_stream: "in" output_stream: "out"
 node { calculator: "IntMapCalculator" input_stream: "in" output_stream: "out" max_in_flight: 4
   options { [mediapipe.IntMapCalculatorOptions.ext] { op: ADD operand: 10 } } }"#
 }
 
-// The lines of two sets of one packet each.
+// Returns the lines of two sets of one packet each.
 fn five_and_six() -> &'static str {
     r#"{"stream":"in","ts":1,"value":5}
 {"stream":"in","ts":2,"value":6}"#
@@ -117,7 +117,8 @@ fn running() -> &'static str {
 node { calculator: "RunningSumCalculator" input_stream: "in" output_stream: "out" max_in_flight: 4 }"#
 }
 
-// Rows over a calculator with a state: it has one work at a time, which is also handed out again where the window is full.
+// Rows over a calculator with a state. It has one work at a time. A work that came back unrun is handed out again, even
+// though the window is full.
 fn one_by_one() -> &'static str {
     "deliver 0 10=2 false
 leave=0 at 1
@@ -136,7 +137,7 @@ fn a_state_goes_from_set_to_set(rt: HostRuntime) -> Result<(), Fail> {
     expect_cell(rt.alloc(), running(), five_and_six(), false, one_by_one())
 }
 
-// The orders in which four works are committed, and after `=` how many sets each commit lays.
+// Returns the orders in which four works are committed, and after `=` how many sets each commit lays.
 fn orders() -> &'static str {
     "0123=1111
 0132=1102
@@ -204,7 +205,7 @@ node { calculator: "IntMapCalculator" input_stream: "in" output_stream: "out" ma
   options { [mediapipe.IntMapCalculatorOptions.ext] { op: ADD operand: 9223372036854775807 } } }"#
 }
 
-// Rows in which what was performed behind a set that fails isn't laid any more.
+// Rows in which a set fails: later sets that were performed aren't laid any more.
 fn mapped() -> &'static str {
     "deliver 0 10=3 true
 work=0 at 1

@@ -1,4 +1,5 @@
-//! Works of a cell. What is claimed is performed and stands in the window until it is committed, or goes back unrun.
+//! Works of a cell. A work that is claimed is performed and stands in the window until it is committed, or goes back
+//! unrun.
 ghost use Rattle.std.specs.Prelude.{IfOk, IfSome, OnOk};
 ghost use Rattle.mg_route.specs.TableLaws.{table_laws};
 ghost use Rattle.mg_node.specs.Views.{EngineView};
@@ -34,7 +35,7 @@ fn claim_work(cell: &mut Cell) -> Result<Work<LawBox>, &'static str>
     }
 }
 
-// Performs a work, or returns `None` where there is no memory.
+// Performs a work, or returns `None` when out of memory.
 fn performed(alloc: Global, work: Work<LawBox>) -> Option<Outcome<LawBox>>
     requires { SomeJobHas table_laws work }
     ensures lawful { IfSome result (λ o. (job : LoggedJob table_laws) → LawfulWork job work → LawfulOutcome job o) }
@@ -125,7 +126,7 @@ pub(crate) fn shelve_unrun(alloc: Global, cell: &mut Cell) -> Result<String, Fai
     Ok(shown)
 }
 
-/// Claims the next work, and commits it as unrun, by which nothing is laid. Returns its number and its phase, or why there is none.
+/// Claims the next work, and commits it as unrun, so that nothing is laid. Returns its number and its phase, or why there is none.
 pub(crate) fn commit_unrun(alloc: Global, cell: &mut Cell) -> Result<String, Fail>
     requires { IsCell table_laws cell.old.plan cell.old.inputs cell.old.engine cell.old.intake cell.old.sink }
     ensures { OnOk result (IsCell table_laws cell.new.plan cell.new.inputs cell.new.engine cell.new.intake cell.new.sink) }
@@ -154,7 +155,7 @@ fn taken(cell: &mut Cell, number: u64) -> Option<Outcome<LawBox>>
     }
 }
 
-/// Commits the work of a number, which was performed, and returns how many sets or calls were laid, or `None` where there is no such work.
+/// Commits the performed work of a number, and returns how many sets or calls were laid, or `None` if there is no such work.
 pub(crate) fn commit(cell: &mut Cell, number: u64) -> Result<Option<u32>, Fail>
     requires { IsCell table_laws cell.old.plan cell.old.inputs cell.old.engine cell.old.intake cell.old.sink }
     ensures { OnOk result (IsCell table_laws cell.new.plan cell.new.inputs cell.new.engine cell.new.intake cell.new.sink) }

@@ -38,7 +38,7 @@ fn put<R: Wait>(
     }
 }
 
-// Returns the number of a node that was taken out, or `-` where none was.
+// Returns the number of a node that was taken out, or `-` if none was.
 fn shown(alloc: Global, node: Option<u32>) -> Result<String, Fail> {
     match node {
         None => Ok(String::from_str(alloc, "-")?),
@@ -78,7 +78,7 @@ fn in_and_out<R: Wait>(
     Ok(format!(in alloc; "{first} {second} {}", taken.as_str())?)
 }
 
-// Closes the levels, and returns `came` with the nodes that were left behind it.
+// Closes the levels, and returns `came` followed by the nodes that were left.
 fn closed<R: Wait>(
     rt: &R,
     alloc: Global,

@@ -1,5 +1,5 @@
-//! Tests of single calls that no row of mg_rows makes: those of whole prefixes, and of the nodes that may run, on one thread and
-//! shared by several. They have a crate of their own, so that no other crate is proved a second time with its tests.
+//! Tests of single calls that no row of mg_rows makes. They try whole prefixes, and the nodes that may run, on one thread and
+//! shared by several threads. They have a crate of their own, so that no other crate is proved a second time with its tests.
 #![tactic(auto)]
 
 #[cfg(test)]

@@ -8,8 +8,8 @@ use mg_value::BlockList;
 use std::alloc::Global;
 use std::test::Fail;
 
-// Rows of a call each, all of one set of nodes, and after `=` the answer: for `take` the node, or `-` where there is none. `all`
-// puts in each node, those at every fifth place first, and `rest` takes until there is none.
+// Rows of a call each, all of one set of nodes. After `=` stands the answer: for `take` the node, or `-` if there is none. `all`
+// puts in each node, first the nodes at every fifth place. `rest` takes nodes until there is none.
 fn three() -> &'static str {
     "put 1=ok
 put 2=ok
@@ -44,7 +44,7 @@ drop 5=ok
 rest=2 0 9"
 }
 
-// One bucket, of which the last place, the first and one between are dropped.
+// One bucket. Its last place, its first place and a place between them are dropped.
 fn one_bucket() -> &'static str {
     "all=ok
 drop 31=ok
@@ -96,7 +96,7 @@ struct Nodes {
     ghost same: { ready.order ≡ order.items },
 }
 
-// Whether the number at a place stands at an earlier place too.
+// Returns whether the number at a place stands at an earlier place too.
 fn stands_before(order: &[u32], place: usize) -> bool
     requires { place < length order.now }
     ensures { result ≡ false → (i : ℕ) → i < place → slice_index order.now i ≢ slice_index order.now place }
@@ -109,7 +109,7 @@ fn stands_before(order: &[u32], place: usize) -> bool
     false
 }
 
-/// Whether no number stands twice.
+/// Returns whether no number stands twice.
 pub(crate) fn is_distinct(order: &[u32]) -> bool
     ensures { result ≡ true → AllPairs (λ a b. a ≢ b) order.now }
 {

@@ -67,8 +67,8 @@ fn streams_keep_the_rule(rt: HostRuntime) -> Result<(), Fail> {
     assert_rows(rt.alloc(), &mut RuleCalls, rule())
 }
 
-// Checks how many share the payload of a packet once it is in a stream, once the stream is copied, and once a node that reads the
-// stream and its copy has its settled sets.
+// Checks how many share the payload of a packet once it is in a stream, and once the stream is copied. Checks it again once a
+// node that reads the stream and its copy has its settled sets.
 fn assert_shared(rt: &impl Abort, alloc: Global, packet: Packet) -> Result<(), Fail> {
     let payload = Arc::try_clone(&packet.payload)?;
     let bound = packet.at.next_allowed();

@@ -16,7 +16,7 @@ pub record IsReady (frees : List FreeNode) (takers : List Taker) (streams : List
   pub have_taken : HaveTaken frees takens takers
   pub may : MayAllTurn streams frees takens
 
--- free nodes are one node of a law, which reads the first streams
+-- the free nodes are one node of a law, which reads the first streams
 pub record IsOneNode (law : FreeLaw) (frees : List FreeNode) : Type 0 where
   pub free : FreeNode
   pub alone : frees ≡ free ∷ []

@@ -9,8 +9,9 @@ use std::alloc::{AllocError, Global};
 use std::fmt::Write;
 use std::test::Fail;
 
-// Rows of a graph each, and after `=` the law, the limit of sets in flight and the policy of node 0, the order, and the edges, each
-// as its stream, `>`, its node, `.` and its port, and `b` for a back edge; or why the graph is refused.
+// Rows of a graph each. After `=` stand the law, the limit of sets in flight and the policy of node 0, and then the order and the
+// edges. An edge is written as its stream, `>`, its node, `.` and its port, and `b` for a back edge. If the graph is refused, the
+// reason stands there instead.
 fn graphs() -> &'static str {
     r#"input_stream: "in" output_stream: "out" node { calculator: "FlowLimiterCalculator" input_stream: "in" input_stream: "FINISHED:done" output_stream: "out" input_stream_info { tag_index: "FINISHED" back_edge: true } } node { calculator: "IntFilterCalculator" input_stream: "out" output_stream: "done" options { [mediapipe.IntFilterCalculatorOptions.ext] { keep: EVEN } } }=Limiter { most: 1 } 1 Default; order 0 1; edges 0>0.0 2>0.1b 1>1.0 1>2.0
 input_stream: "in" output_stream: "out" node { calculator: "FlowLimiterCalculator" input_stream: "in" input_stream: "FINISHED:done" output_stream: "out" input_stream_info { tag_index: "FINISHED" back_edge: true } } node { calculator: "PassThroughCalculator" input_stream: "out" output_stream: "done" }=Limiter { most: 1 } 1 Default; order 0 1; edges 0>0.0 2>0.1b 1>1.0 1>2.0

@@ -44,8 +44,8 @@ impl Streams for Given {
     }
 }
 
-// Rows of a law with its number, and its streams, each after a bar as its packets' times and its bound; after `=` the arrivals, each
-// as its port, `@` and its time, and after a bar what the node hands on.
+// Rows of a law with its number, and its streams. Each stream stands after a bar, as its packets' times and its bound. After `=`
+// stand the arrivals, each as its port, `@` and its time. After a bar stands what the node hands on.
 fn rows() -> &'static str {
     r#"limiter 1|10 20 Done|10 Done=1@10 0@10 0@20 | 10 bound Done
 limiter 1|10 20 30 31|PreStream=0@10 0@20 0@30 | 10 bound 31

@@ -12,9 +12,9 @@ use std::fmt::Write;
 use std::sync::Arc;
 use std::test::Fail;
 
-// Rows of a graph each, and after `=` its core: the plan's numbers of the nodes, with each its inputs, `>` and its outputs; the
-// streams with their producers; the edges, the order, the graph inputs and the graph outputs; and then each free node with its
-// number in the plan, its law, its inputs, `>` and its output.
+// Rows of a graph each, and after `=` its core. First stand the plan's numbers of the nodes, each with its inputs, `>` and its
+// outputs. Then stand the streams with their producers, the edges, the order, the graph inputs and the graph outputs. Each free
+// node follows with its number in the plan, its law, its inputs, `>` and its output.
 fn graphs() -> &'static str {
     r#"input_stream: "in" output_stream: "out" node { calculator: "FlowLimiterCalculator" input_stream: "in" input_stream: "FINISHED:done" output_stream: "out" input_stream_info { tag_index: "FINISHED" back_edge: true } } node { calculator: "IntFilterCalculator" input_stream: "out" output_stream: "done" options { [mediapipe.IntFilterCalculatorOptions.ext] { keep: EVEN } } }=nodes 1( 1> 2); streams in<0 out<1 done<0.0; edges 1>0.0 1>1.0; order 0; inputs 0 1; outputs 1; free 0 Limiter { most: 1 }( 0 2> 1)
 input_stream: "in" output_stream: "out" node { calculator: "PassThroughCalculator" input_stream: "in" output_stream: "kept" } node { calculator: "FlowLimiterCalculator" input_stream: "kept" input_stream: "FINISHED:out" output_stream: "some" input_stream_info { tag_index: "FINISHED" back_edge: true } options { [mediapipe.FlowLimiterCalculatorOptions.ext] { max_in_flight: 2 } } } node { calculator: "PassThroughCalculator" input_stream: "some" output_stream: "out" }=nodes 0( 0> 2) 2( 1> 3); streams in<0 some<1 kept<0.0 out<1.0; edges 0>0.0 1>1.0 3>2.0; order 0 1; inputs 0 1; outputs 3; free 1 Limiter { most: 2 }( 2 3> 1)

@@ -10,8 +10,9 @@ use std::fmt::Write;
 use std::sync::Arc;
 use std::test::Fail;
 
-// Rows of a law with its number, and arrivals, each as its port, `@` and its time; after `=` whether each is laid (`+`) or not (`-`),
-// and then the times of the packets that are handed on, and the output's bound. A bar hands on what was laid before it.
+// Rows of a law with its number, and arrivals, each as its port, `@` and its time. After `=` stands whether each arrival is laid
+// (`+`) or not (`-`). Then stand the times of the packets that are handed on, and the output's bound. A bar hands on what was laid
+// before it.
 fn arrivals() -> &'static str {
     r#"limiter 1 0@10 0@20=+- 10 bound 21
 limiter 1 0@10 0@20 0@30=+-- 10 bound 31

@@ -1,4 +1,4 @@
--- What goes along an edge between parts of one net leaves them so.
+-- A delivery along an edge between parts of one net leaves them parts of one net.
 use Rattle.std.proofs.Common.{◌≡◌, ℕ, ◌+◌, ◌-◌, ◌<◌, List, length, length-set, set, Some, get_or, slice_get, inl, inr, ap, sym, subst, ◌∙◌, arith}
 use Rattle.std.proofs.lemmas.Bool.{cases_eq, cases_lt}
 use Rattle.std.proofs.lemmas.Option.{slice_get_within, slice_get-get_or}
@@ -95,7 +95,7 @@ leads {laws} parts number place e engine intake h at from at_engine to = leads_o
 pub edge_there : (edges shown : List Edge) (number : ℕ) → shown ≡ edges → number < length edges → slice_get edges number ≡ Some (get_or shown number no_edge)
 edge_there edges shown number same less = slice_get-get_or edges number no_edge less ∙ ap (λ (es : List Edge). Some (get_or es number no_edge)) (sym same)
 
--- Edges after it.
+-- The edges after the delivery.
 
 -- another edge to the same consumer stays joined
 like_joined : (g : EngineView) (x : Edge) (intake now : IntakeView) → IsLike (port_queue now.waits x.port) (port_queue intake.waits x.port) → IsJoined g x intake → IsJoined g x now
@@ -107,7 +107,7 @@ like_joined g x intake now like h =
     let kept = h.kept in
     record { came = record { count = omega (arith, count, came); bound = omega (arith, bound, low) }; kept = omega (arith, count, kept) }
 
--- and so does the edge itself
+-- the edge itself stays joined too
 own_joined : {laws : Laws} (engine : EngineView) (e : Edge) (intake now : IntakeView) → Leads laws engine e intake → IsCarried laws engine e intake now → IsJoined engine e intake → IsJoined engine e now
 own_joined {laws} engine e intake now lead c h =
     let kept = h.kept in
@@ -141,7 +141,7 @@ edge_joined {laws} job parts number place e engine intake now h at source at_eng
           before)
     ]
 
--- The parts after it.
+-- The parts after the delivery.
 
 pub carried : {laws : Laws} (job : LoggedJob laws) (plan : Plan) (engines : List EngineView) (intakes : List IntakeView) (rest : RestView) (number place : ℕ) (e : Edge) (engine : EngineView) (intake now : IntakeView)
     → ArePartsOf job (parts_by plan engines intakes rest) → slice_get plan.edges number ≡ Some e → source_of plan e ≡ Some place → slice_get engines place ≡ Some engine → slice_get intakes e.node ≡ Some intake → IsCarried laws engine e intake now
@@ -179,7 +179,7 @@ carried {laws} job plan engines intakes rest number place e engine intake now h 
       rest = h.rest;
     }
 
--- A net that lies apart, whose plan is seen as it is kept.
+-- A net that lies apart: its plan is seen as it is kept.
 
 pub some_parts : {laws : Laws} (job : LoggedJob laws) (plan shown : Plan) (engines : List EngineView) (intakes : List IntakeView) (rest : RestView) → shown ≡ plan → ArePartsOf job (parts_by plan engines intakes rest)
     → (r : RestView) × AreParts laws (parts_by shown engines intakes r)

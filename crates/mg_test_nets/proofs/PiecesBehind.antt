@@ -1,4 +1,4 @@
--- Pieces behind prefixes, by their numbers.
+-- Pieces after prefixes, by their numbers.
 use Rattle.std.proofs.Common.{◌≡◌, ℕ, List, Some, slice_get, sym, subst, ◌∙◌}
 use Rattle.std.proofs.lemmas.Option.{same_Some}
 use Rattle.mg_value.specs.Payload.{Plain}

@@ -1,4 +1,4 @@
--- A plan whose calculators are two tallies, where any are handed in, has no node with a stated law.
+-- A plan whose user-supplied calculators, if any, are the two tallies has no node with a stated law.
 use Rattle.std.proofs.Common.{◌≡◌, ℕ, zero, suc, Option, Some, None, IfSome, IsSome, IsSomeAnd, All, get_or, slice_get, sym, subst}
 use Rattle.std.proofs.lemmas.Bool.{false≢true}
 use Rattle.mg_calc.specs.declared.law.Law.{Law}

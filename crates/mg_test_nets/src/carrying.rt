@@ -1,4 +1,4 @@
-//! What goes along an edge while the parts of a net lie apart.
+//! Deliveries along an edge while the parts of a net lie apart.
 ghost use Rattle.std.specs.Prelude.{◌≡◌, ◌<◌, length, Some, slice_get};
 ghost use Rattle.mg_route.specs.TableLaws.{table_laws};
 ghost use Rattle.mg_node.specs.Job.{LoggedJob};
@@ -9,7 +9,7 @@ use mg_calc::{Edge, Plan, Producer};
 use mg_node::{Engine, Intake};
 use mg_route::LawBox;
 
-// The place of the engine that writes the stream of an edge.
+// Returns the place of the engine that writes the stream of an edge.
 fn source_of(plan: &Plan, edge: Edge) -> usize
     requires { edge.stream < length plan.now.streams }
     ensures { source_of plan.now edge ≡ Some result }
@@ -20,7 +20,7 @@ fn source_of(plan: &Plan, edge: Edge) -> usize
     }
 }
 
-// Brings along an edge what its port hasn't got.
+// Delivers along an edge the packets and the bound that its port hasn't got.
 fn bring(
     plan: &Plan,
     engines: &Vec<Engine<LawBox>>,
@@ -39,7 +39,8 @@ fn bring(
     let _ = engine.deliver(edge, intake, u32::MAX);
 }
 
-/// Brings along the edge of this number what its port hasn't got, if there is such an edge. The parts stay those of one net.
+/// Delivers along the edge of this number, if there is such an edge, what its port hasn't got. The parts stay the parts of
+/// one net.
 pub(crate) fn carry(
     plan: &Plan,
     engines: &Vec<Engine<LawBox>>,

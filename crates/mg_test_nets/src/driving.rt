@@ -1,4 +1,4 @@
-//! Nets that go on with further inputs, or are taken apart and put together again; and what a net has of its streams.
+//! Nets that go on with further inputs, or are taken apart and put together again, and what a net has of its streams.
 ghost use Rattle.mg_route.specs.TableLaws.{table_laws};
 ghost use Rattle.mg_nets.specs.Driven.{IsDriven};
 
@@ -22,8 +22,8 @@ pub(crate) fn extend(alloc: Global, driver: &mut Driver, piece: &Inputs) -> Resu
     Ok(())
 }
 
-/// Takes the net apart, and puts it together again of its parts. Meanwhile the edge of this number brings what its port hasn't got, if
-/// there is such an edge.
+/// Takes the net apart, and puts it together again from its parts. Meanwhile the edge of this number, if there is one, delivers what
+/// its port hasn't got.
 pub(crate) fn part_and_join(driver: Driver, edge: u32) -> Driver
     requires { IsDriven table_laws driver.plan driver.inputs driver.net }
     ensures { IsDriven table_laws result.plan result.inputs result.net }
@@ -35,7 +35,7 @@ pub(crate) fn part_and_join(driver: Driver, edge: u32) -> Driver
     Driver { plan, inputs, net }
 }
 
-/// Shows a stream's packet of this number, or `-` where none is there.
+/// Shows a stream's packet of this number, or `-` if none is there.
 pub(crate) fn show_packet(
     alloc: Global,
     driver: &Driver,
@@ -50,7 +50,7 @@ pub(crate) fn show_packet(
     }
 }
 
-/// Shows the bound of a stream, or `-` where there is no such stream.
+/// Shows the bound of a stream, or `-` if there is no such stream.
 pub(crate) fn show_bound(alloc: Global, driver: &Driver, stream: u32) -> Result<String, Fail>
     requires { IsDriven table_laws driver.now.plan driver.now.inputs driver.now.net }
 {

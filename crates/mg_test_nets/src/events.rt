@@ -2,10 +2,10 @@
 use mg_calc::{Event, Plan};
 use std::test::Fail;
 
-// How many works of a node are numbered: no graph here comes to more.
+// How many works of a node are numbered: no graph here has more.
 const WORKS: u32 = 5;
 
-/// Returns how many events of a plan are numbered: the deliveries, the events of nodes, and the one that relaxes.
+/// Returns how many events of a plan are numbered: the deliveries, the events of nodes, and the event that relaxes.
 pub(crate) fn event_count(plan: &Plan) -> u32 {
     plan.nodes
         .len()
@@ -28,7 +28,7 @@ pub(crate) fn event_at(plan: &Plan, number: u32) -> Event {
     event_of_node(behind % nodes, behind / nodes)
 }
 
-// Returns the event of a node by its number among the node's events; a greater number gives the event that relaxes.
+// Returns the event of a node by its number among the node's events. A greater number gives the event that relaxes.
 fn event_of_node(node: u32, kind: u32) -> Event {
     if kind < 2 * WORKS {
         return event_of_work(node, u64::from(kind / 2), kind % 2 == 0);

@@ -1,6 +1,6 @@
-//! The tests of nets: the cells of a whole graph, joined by its edges, driven at random to rest, by sweeps, line by line as its input
-//! comes, and taken apart on the way.
-//! There is nothing else here, so that no other crate is proved a second time with its tests.
+//! The tests of nets: the cells of a whole graph, joined by its edges. They are driven at random to rest, by sweeps, and line by line
+//! as the input comes. Some are taken apart on the way. There is nothing else here, so that no other crate is proved a second time
+//! with its tests.
 #![tactic(auto)]
 
 #[cfg(test)]

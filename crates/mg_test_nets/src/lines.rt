@@ -27,7 +27,8 @@ fn piece_of(feed: &mut Feed, line: &str) -> Result<Inputs, Fail> {
     Ok(feed.take_inputs(false)?)
 }
 
-// Shows the sets that a net gives at rest; and then, once all packets are given up that can be, how many are in it.
+// Shows the sets that a net gives at rest. Then gives up all packets that can be given up, and shows how many packets
+// are left in the net.
 fn given(alloc: Global, driver: &mut Driver) -> Result<String, Fail>
     requires { IsDriven table_laws driver.old.plan driver.old.inputs driver.old.net }
     ensures { IsDriven table_laws driver.new.plan driver.new.inputs driver.new.net }
@@ -38,7 +39,7 @@ fn given(alloc: Global, driver: &mut Driver) -> Result<String, Fail>
     Ok(format!(in alloc; "{}| {}", sets.as_str(), held(driver))?)
 }
 
-// Shows what comes of a line, or of the end of the input.
+// Extends a net by a line, or by the end of the input, and shows what it gives then.
 fn answer(alloc: Global, feed: &mut Feed, driver: &mut Driver, line: &str) -> Result<String, Fail>
     requires { IsDriven table_laws driver.old.plan driver.old.inputs driver.old.net }
     ensures { IsDriven table_laws driver.new.plan driver.new.inputs driver.new.net }
@@ -48,7 +49,8 @@ fn answer(alloc: Global, feed: &mut Feed, driver: &mut Driver, line: &str) -> Re
     given(alloc, driver)
 }
 
-// A way that begins with a net to which nothing has come, goes on with each row's line, rests behind each, and expects what the row wants.
+// A way that begins with a net to which nothing has come. It goes on with each row's line, brings the net to rest after it, and expects
+// what the row wants.
 #[derive(Drop)]
 struct Lines<'a> {
     feed: Feed,
@@ -92,7 +94,7 @@ fn whole_of(alloc: Global, rows: &str) -> Result<(String, String), Fail> {
     Ok((lines, sets))
 }
 
-// Expects a net that has all lines of the rows from the start to give the same sets, and to come to the same.
+// Expects a net that has all lines of the rows from the start to give the same sets, and to have the same outcome.
 fn expect_whole(alloc: Global, case: &Case) -> Result<(), Fail> {
     let (lines, sets) = whole_of(alloc, case.lines)?;
     let wanted = format!(in alloc; "{}{}", sets.as_str(), case.wanted)?;
@@ -142,10 +144,10 @@ fn expect_each(alloc: Global, case: &Case) -> Result<(), Fail> {
     }
 }
 
-// Expects this of the rows of a graph. A row is a line, or `end`, and after `=` the sets that the graph's outputs have then, and how many
-// packets are left. At the end nothing more comes out of the net, the same is left in it, it has come as far as is wanted, and the
-// calculators that were handed in have had these calls. The sets in all are those of a net that had all lines from the start, which comes
-// to the same.
+// Expects this of the rows of a graph. A row is a line, or `end`. After `=` stand the sets that the graph's outputs have then, and how
+// many packets are left. At the end nothing more comes out of the net, and the same is left in it. It has come as far as is wanted, and
+// the user-supplied calculators have had these calls. The sets in all are those of a net that had all lines from the start, and that net
+// has the same outcome.
 fn expect_rows(
     alloc: Global,
     graph: &str,
@@ -195,7 +197,7 @@ fn added() -> &'static str {
 end=| 0"#
 }
 
-// What is counted waits for the filter, whose bound moves with the even packet alone.
+// The counts wait for the filter, whose bound moves with the even packet alone.
 fn counted() -> &'static str {
     r#"{"stream":"in","ts":10,"value":1}=| 1
 {"stream":"in","ts":20,"value":2}=1@10 - 2@20 1@20 | 0

@@ -57,8 +57,8 @@ fn goes_through() -> &'static [Event] {
     ]
 }
 
-// A way that expects what was laid to be there; and then what came along all edges to be given up, while the other packets keep their
-// numbers.
+// A way that expects the packets that were laid to be there. Then it trims the net, and expects the packets that came along all edges
+// to be given up. The other packets keep their numbers.
 #[derive(Drop)]
 struct Looks;
 

@@ -1,5 +1,5 @@
-//! Nets at random: whatever the order of the steps is, the graph's outputs are the same once nothing is left to do, and so is all that
-//! the net tells.
+//! Nets at random. Whatever the order of the steps is, the graph's outputs are the same once nothing is left to do. All that the net
+//! tells is the same too.
 use crate::ways::{Settle, Wander};
 use mg_nets::{CASES, Case, Chance, case_of, driven, driver_under, expect};
 use std::alloc::Global;

@@ -1,5 +1,5 @@
-//! Nets that come apart on their way and are put together again, with works in their work queues and in their windows: they come to the
-//! same as if they hadn't, also where something went along an edge meanwhile.
+//! Nets that come apart on their way and are put together again, with works in their work queues and in their windows. Their outcome is
+//! the same as if they hadn't come apart, also if something went along an edge meanwhile.
 ghost use Rattle.mg_route.specs.TableLaws.{table_laws};
 ghost use Rattle.std.specs.Prelude.{IfOk};
 ghost use Rattle.mg_nets.specs.Driven.{IsDriven};
@@ -23,7 +23,7 @@ const PARTINGS: u32 = 3;
 // A number that no edge has.
 const NO_EDGE: u32 = u32::MAX;
 
-// Makes steps, each of which does something. Then the net comes apart, an edge brings what its port hasn't got, and the net is put together
+// Makes steps that each do something. Then the net comes apart, an edge delivers what its port hasn't got, and the net is put together
 // again.
 fn parted_behind(
     alloc: Global,
@@ -39,7 +39,7 @@ fn parted_behind(
     Ok(part_and_join(driver, edge))
 }
 
-// Makes steps, each of which does nothing.
+// Makes steps that each do nothing.
 fn idle_at(alloc: Global, driver: Driver, events: &'static [Event]) -> Result<Driver, Fail>
     requires { IsDriven table_laws driver.plan driver.inputs driver.net }
     ensures { IfOk result (λ d. IsDriven table_laws d.plan d.inputs d.net) }
@@ -48,8 +48,8 @@ fn idle_at(alloc: Global, driver: Driver, events: &'static [Event]) -> Result<Dr
     driven(alloc, driver, &mut Steps { events, effect })
 }
 
-// Returns the steps until the first set of the sum lies in its work queue: the packets come to the loopback and to the sum, the loopback
-// answers the first one with nothing, and its bound rises behind that and goes on to the sum.
+// Returns the steps until the first set of the sum lies in its work queue. The packets are delivered to the loopback and to the sum. The
+// loopback answers the first packet with nothing. Its bound rises after that answer, and goes on to the sum.
 fn claims_first() -> &'static [Event] {
     &[
         Event::Deliver { edge: 1 },
@@ -61,7 +61,7 @@ fn claims_first() -> &'static [Event] {
     ]
 }
 
-// Returns steps that do nothing, since the work that was in a work queue is there no more, and isn't performed.
+// Returns steps that do nothing: the work that was in a work queue is there no more, and isn't performed.
 fn lost_steps() -> &'static [Event] {
     &[
         Event::Perform { node: 1, number: 0 },
@@ -77,13 +77,13 @@ fn performs_first() -> &'static [Event] {
     ]
 }
 
-// Returns the step by which what was performed is committed.
+// Returns the step that commits the performed work.
 fn commits_first() -> &'static [Event] {
     &[Event::Commit { node: 1, number: 0 }]
 }
 
-// Takes the net apart with the first set of the sum in its work queue, then with what was performed in its window, and once more behind the
-// commit.
+// Takes the net apart three times. The first time the first set of the sum is in its work queue. The second time the performed work is in
+// its window. The third time is after the commit.
 fn parted_thrice(alloc: Global, case: &Case) -> Result<Driver, Fail>
     ensures { IfOk result (λ d. IsDriven table_laws d.plan d.inputs d.net) }
 {
@@ -115,7 +115,8 @@ fn waits() -> &'static [Event] {
     &[Event::Deliver { edge: 2 }, Event::Claim { node: 0 }]
 }
 
-// Brings the packet to the merge while the net is apart, where it fills a queue. So it doesn't go there again, and the source is throttled.
+// Brings the packet to the merge while the net is apart. There the packet fills a queue. So it doesn't go there again, and the source is
+// throttled.
 fn throttled_apart(alloc: Global, case: &Case) -> Result<Driver, Fail>
     ensures { IfOk result (λ d. IsDriven table_laws d.plan d.inputs d.net) }
 {
@@ -131,7 +132,7 @@ fn limits_know_what_came_while_a_net_was_apart(rt: HostRuntime) -> Result<(), Fa
     expect(rt.alloc(), driver, &mut Settle, &case)
 }
 
-// Takes a net apart and puts it together, `PARTINGS` times, each time behind `place` further steps.
+// Takes a net apart and puts it together, `PARTINGS` times, each time after `place` further steps.
 fn parted_at(alloc: Global, driver: Driver, place: u32) -> Result<Driver, Fail>
     requires { IsDriven table_laws driver.plan driver.inputs driver.net }
     ensures { IfOk result (λ d. IsDriven table_laws d.plan d.inputs d.net) }
@@ -149,7 +150,7 @@ fn parted_at(alloc: Global, driver: Driver, place: u32) -> Result<Driver, Fail>
     Ok(driver)
 }
 
-// Expects a wanted outcome of a graph under its limit where its net comes apart at each of many places of its run.
+// Expects a wanted outcome of a graph under its limit if its net comes apart at each of many places of its run.
 fn expect_places(alloc: Global, case: &Case) -> Result<(), Fail> {
     for place in 0..PLACES {
         let driver = driver_under(alloc, case, case.limit)?;

@@ -17,14 +17,14 @@ fn greater(a: Timestamp, b: Timestamp) -> Timestamp
     if a < b { b } else { a }
 }
 
-// Whether no packet stands below a bound.
+// Returns whether no packet stands below a bound.
 fn are_above(packets: &[Packet], bound: Timestamp) -> bool
     ensures { result ≡ true → All (λ p. bound ≤ p.at) packets.now }
 {
     packets.iter().all(|packet| bound <= packet.at)
 }
 
-// Puts packets behind others. Payloads are shared.
+// Puts packets after others. Payloads are shared.
 fn put_behind(packets: &mut Vec<Packet>, more: &[Packet]) -> Result<(), AllocError>
     ensures { OnOk result (packets.new.items ≡ packets.old.items ++ more.now) }
 {
@@ -34,7 +34,7 @@ fn put_behind(packets: &mut Vec<Packet>, more: &[Packet]) -> Result<(), AllocErr
     Ok(())
 }
 
-// Returns a prefix with a piece behind it. A packet of the piece below the prefix's bound is an error.
+// Returns a prefix followed by a piece. A packet of the piece below the prefix's bound is an error.
 fn with_piece(alloc: Global, before: &Prefix, piece: &Prefix) -> Result<Prefix, Fail>
     ensures { IfOk result (λ now. IsBehind before.now piece.now now) }
 {
@@ -50,7 +50,7 @@ fn with_piece(alloc: Global, before: &Prefix, piece: &Prefix) -> Result<Prefix, 
     })
 }
 
-// Returns the prefix of each stream with its piece behind it.
+// Returns the prefix of each stream, followed by its piece.
 fn with_pieces(alloc: Global, before: &PrefixList, pieces: &PrefixList) -> Result<PrefixList, Fail>
     requires { length pieces.now ≡ length before.now }
     ensures count { IfOk result (λ now. length now ≡ length before.now) }
@@ -65,7 +65,7 @@ fn with_pieces(alloc: Global, before: &PrefixList, pieces: &PrefixList) -> Resul
     Ok(BlockList::from_vec(longer)?)
 }
 
-/// Returns inputs with a further piece behind them. A piece that can't stand there is an error.
+/// Returns inputs followed by a further piece. A piece that can't stand there is an error.
 pub(crate) fn longer(alloc: Global, before: &Inputs, piece: &Inputs) -> Result<Inputs, Fail>
     ensures { IfOk result (λ now. HasBehind before.now piece.now now) }
 {

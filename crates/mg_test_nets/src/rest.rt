@@ -21,7 +21,7 @@ pub(crate) fn make_each(driver: &mut Driver, events: &[Event], wanted: Effect) -
     Ok(())
 }
 
-/// Makes the step of this number, and tells whether it did something.
+/// Makes the step of this number, and returns whether it did something.
 pub(crate) fn step(driver: &mut Driver, number: u32) -> Result<bool, Fail>
     requires { IsDriven table_laws driver.old.plan driver.old.inputs driver.old.net }
     ensures { IsDriven table_laws driver.new.plan driver.new.inputs driver.new.net }
@@ -46,7 +46,7 @@ pub(crate) fn wander(driver: &mut Driver, chance: &mut Chance, steps: u32) -> Re
     Ok(())
 }
 
-// Makes each step once, and tells whether one did something.
+// Makes each step once, and returns whether one did something.
 fn pass(driver: &mut Driver, count: u32) -> Result<bool, Fail>
     requires { IsDriven table_laws driver.old.plan driver.old.inputs driver.old.net }
     ensures { IsDriven table_laws driver.new.plan driver.new.inputs driver.new.net }
@@ -72,7 +72,7 @@ pub(crate) fn settle(driver: &mut Driver) -> Result<(), Fail>
     Err(Fail::from("there is always something to do"))
 }
 
-/// Makes each step once, and tells whether none did anything.
+/// Makes each step once, and returns whether none did anything.
 pub(crate) fn is_at_rest(driver: &mut Driver) -> Result<bool, Fail>
     requires { IsDriven table_laws driver.old.plan driver.old.inputs driver.old.net }
     ensures { IsDriven table_laws driver.new.plan driver.new.inputs driver.new.net }

@@ -46,7 +46,7 @@ fn ends_of(alloc: Global, prefixes: &PrefixList) -> Result<StreamEndList, Fail> 
     Ok(BlockList::from_vec(ends)?)
 }
 
-// Shows the packets of the graph's first output, a blank behind each.
+// Shows the packets of the graph's first output, each followed by a blank.
 fn show_output(alloc: Global, plan: &Plan, prefixes: &PrefixList) -> Result<String, Fail> {
     let stream = plan.outputs.as_slice().first().ok_or("no output")?;
     let prefix = prefixes
@@ -56,7 +56,7 @@ fn show_output(alloc: Global, plan: &Plan, prefixes: &PrefixList) -> Result<Stri
     show_packets(alloc, prefix.packets.as_slice())
 }
 
-// Shows what a net tells that has come to the solution, with how far its streams have come.
+// Shows what a net tells once it has reached the solution, with how far its streams have come.
 fn show_told(alloc: Global, solution: Streams, streams: StreamEndList) -> Result<String, Fail> {
     let Streams {
         prefixes,
@@ -74,7 +74,7 @@ fn show_told(alloc: Global, solution: Streams, streams: StreamEndList) -> Result
     told
 }
 
-// Shows what a net tells that has come to the solution.
+// Shows what a net tells once it has reached the solution.
 fn show_solution(alloc: Global, solution: Streams) -> Result<String, Fail> {
     match ends_of(alloc, &solution.prefixes) {
         Ok(ends) => show_told(alloc, solution, ends),
@@ -85,7 +85,7 @@ fn show_solution(alloc: Global, solution: Streams) -> Result<String, Fail> {
     }
 }
 
-// Shows what comes out of a net that has come to the solution.
+// Shows what comes out of a net once it has reached the solution.
 fn show_outcome(alloc: Global, plan: &Plan, solution: Streams) -> Result<String, Fail> {
     match show_output(alloc, plan, &solution.prefixes) {
         Ok(sets) => {
@@ -108,7 +108,7 @@ fn solved_over(alloc: Global, plan: &Plan, lines: &str) -> Result<String, Fail>
     show_outcome(alloc, plan, solution)
 }
 
-/// Shows what comes out of the net of a graph with one output, where no packet waits in vain.
+/// Shows what comes out of the net of a graph with one output, if no packet waits in vain.
 pub(crate) fn solved(alloc: Global, graph: &str, lines: &str) -> Result<String, Fail> {
     let plan = plan_of(alloc, graph)?;
     let shown = solved_over(alloc, &plan, lines);

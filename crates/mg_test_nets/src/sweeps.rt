@@ -5,7 +5,7 @@ use mg_nets::{CASES, Case, Drawn, case_of, draw_graph, drawn_case, driver_under,
 use std::alloc::Global;
 use std::test::Fail;
 
-// The limits of queues that are tried. Below 0 there is none.
+// The limits of queues that are tried. A limit below 0 is none.
 const LIMITS: [i32; 4] = [1, 2, 100, -1];
 
 // How many graphs at random are tried.
@@ -28,7 +28,7 @@ fn nets_come_to_the_same_under_any_limit(rt: HostRuntime) -> Result<(), Fail> {
     Ok(())
 }
 
-// Expects of a graph at random what the plain program computes.
+// Sweeps a graph at random under each limit, and expects the outcome that the plain program computes.
 fn expect_drawn(alloc: Global, drawn: &Drawn) -> Result<(), Fail> {
     let wanted = solved(alloc, drawn.graph.as_str(), drawn.lines.as_str())?;
     expect_limits(alloc, &drawn_case(drawn, wanted.as_str()))

@@ -8,7 +8,7 @@ use mg_sched::Deaf;
 use std::alloc::Global;
 use std::test::Fail;
 
-/// Steps, each of which has to have the same effect.
+/// Steps that all have to have the same effect.
 #[derive(Drop)]
 pub(crate) struct Steps {
     pub(crate) events: &'static [Event],
@@ -44,7 +44,7 @@ impl Way for Settle {
     }
 }
 
-/// A sweep, behind which no step does anything.
+/// A sweep. After it no step does anything.
 #[derive(Drop)]
 pub(crate) struct Sweep;
 

@@ -7,7 +7,7 @@ use mg_trace::{read_event, write_event};
 use std::alloc::Global;
 use std::test::Fail;
 
-// A graph of one node, which has two edges: one into the node, and one into the graph's output.
+// Returns a graph of one node, which has two edges: one into the node, and one into the graph's output.
 fn passing() -> &'static str {
     r#"input_stream: "in" output_stream: "out"
 node { calculator: "PassThroughCalculator" input_stream: "in" output_stream: "out" }"#

@@ -1,4 +1,4 @@
-//! Tests of jobs: which canonical lines are written of what packet lines gave.
+//! Tests of jobs: which canonical lines are written of the inputs that packet lines gave.
 
 use mg_calc::Plan;
 use mg_plans::{inputs_of, plan_of};
@@ -12,7 +12,7 @@ fn passing() -> &'static str {
 node { calculator: "PassThroughCalculator" input_stream: "in" output_stream: "out" }"#
 }
 
-/// A graph of two input streams and two side packets, each pair in the reverse order of their names.
+/// Returns a graph of two input streams and two side packets, each pair in the reverse order of their names.
 pub fn two_of_each() -> &'static str {
     r#"input_stream: "b" input_stream: "a" output_stream: "b" output_stream: "a"
 input_side_packet: "z" input_side_packet: "y""#
@@ -43,7 +43,7 @@ frozen {"side":"y","value":1}={"side":"y","value":1};frozen;
 frozen {"stream":"a","close":true};{"stream":"b","bound":9}={"bound":9,"stream":"b"};{"close":true,"stream":"a"};frozen;"#
 }
 
-/// Returns the parts of a text that aren't empty, each with `end` behind it.
+/// Returns the parts of a text that aren't empty, each followed by `end`.
 pub fn rejoined(alloc: Global, text: &str, between: char, end: &str) -> Result<String, Fail> {
     let mut joined = String::new(alloc);
     for part in text.split(between) {
@@ -62,7 +62,7 @@ struct Writing {
 }
 
 impl Calls for Writing {
-    // Writes the job of some lines. Semicolons stand between the lines of the call, and behind each line of the answer.
+    // Writes the job of some lines. Semicolons stand between the lines of the call, and after each line of the answer.
     fn answer(&mut self, alloc: Global, call: &str) -> Result<String, Fail> {
         let (end, lines) = call.split_once(' ').ok_or("no space")?;
         let came = rejoined(alloc, lines, ';', "\n")?;

@@ -9,7 +9,7 @@ use mg_trace::write_job;
 use std::alloc::Global;
 use std::test::Fail;
 
-// A graph of two inputs, of which the first takes anything and the second truth values.
+// Returns a graph of two inputs. The first takes anything, and the second takes truth values.
 fn gate() -> &'static str {
     r#"input_stream: "n" input_stream: "allow" output_stream: "kept"
 node { calculator: "GateCalculator" input_stream: "n" input_stream: "ALLOW:allow" output_stream: "kept" }"#
@@ -27,7 +27,7 @@ fn two_kinds() -> &'static str {
 0 3=ended;"#
 }
 
-// Rows of the same form for a graph with side packets, all of which each piece has.
+// Rows of the same form for a graph with side packets. Each piece has all side packets.
 fn with_sides() -> &'static str {
     r#"3 2={"side":"z","value":1};{"side":"y","value":1};{"stream":"b","ts":0,"value":0};{"stream":"a","ts":0,"value":1};frozen;{"side":"z","value":1};{"side":"y","value":1};{"stream":"b","ts":10,"value":2};ended;
 0 1={"side":"z","value":1};{"side":"y","value":1};ended;"#

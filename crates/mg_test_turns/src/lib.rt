@@ -1,5 +1,6 @@
-//! The tests of nets that threads share: calls one after the other on two seats of one net, and two and four threads on one net,
-//! whose answers add up. There is nothing else here, so that no other crate is proved a second time with its tests.
+//! The tests of nets that threads share. Some make calls one after the other on two seats of one net. Others let two and four
+//! threads work on one net, and their answers add up. There is nothing else here, so that no other crate is proved a second time
+//! with its tests.
 #![tactic(auto)]
 
 #[cfg(test)]

@@ -66,7 +66,7 @@ pub(crate) fn shared_of(alloc: Global, graph: &str, lines: &str) -> Result<Share
     shared
 }
 
-// Takes all sets that come out of a net, of which there have to be `count`, and returns the last one as a text.
+// Takes all sets that come out of a net, and returns the last one as a text. There have to be `count` sets.
 fn last_taken(alloc: Global, net: &mut Net<LawBox>, count: u32) -> Result<String, Fail>
     requires { HasOutputs table_laws 1 net.old }
 {
@@ -82,7 +82,7 @@ fn last_taken(alloc: Global, net: &mut Net<LawBox>, count: u32) -> Result<String
     show_set_at(alloc, &set)
 }
 
-// Sweeps a net, takes all sets that come out, of which there have to be `count`, and returns the last one as a text.
+// Sweeps a net, takes all sets that come out, and returns the last one as a text. There have to be `count` sets.
 fn last_swept(alloc: Global, net: &mut Net<LawBox>, count: u32) -> Result<String, Fail>
     requires running { IsRunning net.old }
     requires outputs { HasOutputs table_laws 1 net.old }

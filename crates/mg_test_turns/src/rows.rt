@@ -18,7 +18,7 @@ use mg_workers::Kept;
 use std::alloc::Global;
 use std::test::Fail;
 
-// A graph of one node that passes packets through.
+// Returns a graph of one node that passes packets through.
 fn passing() -> &'static str {
     r#"input_stream: "in" output_stream: "out"
 node { calculator: "PassThroughCalculator" input_stream: "in" output_stream: "out" }"#
@@ -101,7 +101,8 @@ fn comes_back(
     }
 }
 
-// Checks that a second seat gets no work while the first seat has one, and then performs that and brings it back.
+// Checks that a second seat gets no work while the first seat has one. Then performs the first seat's work and brings
+// it back.
 fn comes_round(
     alloc: Global,
     net: &SharedNet<LawBox>,

@@ -67,7 +67,7 @@ fn work(alloc: Global, net: &SharedNet<LawBox>, seat: NetSeat<LawBox>, rounds: u
     }
 }
 
-// Joins what two threads give back.
+// Joins the seats and the counts that two threads give back.
 fn both(net: &SharedNet<LawBox>, one: Worked, other: Worked) -> Worked
     requires shared { IsShared table_laws net.now one.seat × IsShared table_laws net.now other.seat }
     requires portions { (view_of one.seat).portion + (view_of other.seat).portion ≤ 2 ^ 32 }
@@ -83,7 +83,7 @@ fn both(net: &SharedNet<LawBox>, one: Worked, other: Worked) -> Worked
     }
 }
 
-// Lets `threads` threads work side by side, and at least one. The seat that comes back has what all had.
+// Lets `threads` threads work side by side, at least one. The seats of all are joined to the seat that comes back.
 #[cycle(many)]
 fn many<R: Threads + Sync>(
     rt: &R,
@@ -116,7 +116,8 @@ fn many<R: Threads + Sync>(
     both(net, all, other)
 }
 
-// A source of 1,000 packets, and a node through which they go. Each has as many calls or sets, and Close.
+// Returns the graph of a source of 1,000 packets, and a node through which they go. The source has 1,000 calls, the
+// node has 1,000 sets, and each has Close.
 fn counting() -> &'static str {
     r#"output_stream: "out"
 node { calculator: "CountingSourceCalculator" output_stream: "in"
@@ -124,7 +125,7 @@ node { calculator: "CountingSourceCalculator" output_stream: "in"
 node { calculator: "PassThroughCalculator" input_stream: "in" output_stream: "out" }"#
 }
 
-// Lets some threads work, and then one thread work off what they left.
+// Lets some threads work, and then lets one thread do the works that they left.
 fn all_work<R: Threads + Sync>(
     rt: &R,
     alloc: Global,

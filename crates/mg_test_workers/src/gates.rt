@@ -5,7 +5,7 @@ use mg_nets::Case;
 use std::sync::atomic::{AtomicU64, Ordering};
 use std::test::*;
 
-// A gate that counts the calls that enter it, and those that leave it.
+// A gate that counts the calls that enter it, and the calls that leave it.
 #[derive(Drop)]
 struct Counts {
     entered: AtomicU64,
@@ -38,7 +38,7 @@ node { calculator: "PacketThinnerCalculator" input_stream: "in" output_stream: "
   node_options: { [type.googleapis.com/mediapipe.PacketThinnerCalculatorOptions] { period: 10 } } }"#
 }
 
-// Returns the lines of five packets, of which two come too early.
+// Returns the lines of five packets. Two of them come too early.
 fn five_packets() -> &'static str {
     r#"{"stream":"in","ts":0,"value":1}
 {"stream":"in","ts":4,"value":2}
@@ -47,7 +47,7 @@ fn five_packets() -> &'static str {
 {"stream":"in","ts":20,"value":5}"#
 }
 
-// Returns the case of these packets, of which two don't come out.
+// Returns the case of these packets. Two of them don't come out.
 fn thinned() -> Case<'static> {
     Case {
         graph: thinning(),

@@ -1,6 +1,6 @@
-//! The tests of nets that workers run: that all is done before any sweep, that two Process calls meet, that they share calls that
-//! sleep, that each call goes through the gate once, that full queues hold sources back, that few of their turns are in vain, and that what
-//! comes out is the same for each number of workers. There is nothing else here, so that no other crate is proved a second time with its tests.
+//! The tests of nets that workers run. All is done before any sweep. Two Process calls meet, workers share calls that sleep, and each call
+//! goes through the gate once. Full queues hold sources back, and few turns of workers are in vain. The outcome is the same for each number
+//! of workers. There is nothing else here, so that no other crate is proved a second time with its tests.
 #![tactic(auto)]
 
 #[cfg(test)]

@@ -1,4 +1,4 @@
-//! What limits of queues do where workers run a net: they hold sources back, and nothing stands still for them.
+//! What limits of queues do if workers run a net: they hold sources back, and nothing stands still because of them.
 use crate::meeting::expect_met;
 use crate::running::expect_each;
 use mg_nets::{Case, under};
@@ -28,7 +28,7 @@ fn case_of(graph: &'static str, limit: i32, wanted: &'static str) -> Case<'stati
     }
 }
 
-// Workers come to the end by themselves where full queues have to be relaxed.
+// Workers reach the end by themselves if full queues have to be relaxed.
 #[test]
 fn full_queues_are_relaxed(rt: HostRuntime) -> Result<(), Fail> {
     let wanted = "..| 0 | 1000 1000 1000 ; 1000@Done 0@Done 1000@Done ;";
@@ -55,7 +55,7 @@ node { calculator: "RunningSumCalculator" input_stream: "n" output_stream: "out"
 // What comes out of either graph: all packets of the source go through.
 const GONE_THROUGH: &str = "..| 0 | 300 300 ; 300@Done 300@Done ;";
 
-// Expects another worker to make the source's call of this number while the first work of the node behind the source goes on, or not to.
+// Expects another worker to make the source's call of this number during the first work of the node after the source, or not to.
 fn expect_called<R: Threads + Wait + Sync>(
     rt: &R,
     alloc: Global,
@@ -66,7 +66,7 @@ fn expect_called<R: Threads + Wait + Sync>(
     expect_met(rt, alloc, case, (1, 0), (0, call), wanted)
 }
 
-// A source is called 64 times before a worker looks at the queue behind it.
+// A source is called 64 times before a worker looks at the queue after it.
 #[test]
 fn full_queues_hold_sources_back(rt: HostRuntime) -> Result<(), Fail> {
     let case = case_of(flying(), 100, GONE_THROUGH);
@@ -76,7 +76,7 @@ fn full_queues_hold_sources_back(rt: HostRuntime) -> Result<(), Fail> {
     expect_called(&rt, rt.alloc(), &under(case, -1), 256, true)
 }
 
-// A source isn't called for long where its packets can't be brought.
+// A source isn't called for long if its packets can't be brought.
 #[test]
 fn packets_that_cannot_be_brought_hold_sources_back(rt: HostRuntime) -> Result<(), Fail> {
     let case = case_of(working(), 100, GONE_THROUGH);

@@ -1,4 +1,4 @@
-//! Two Process calls that meet, since two workers make them. Workers that make one after the other don't get them to meet.
+//! Two Process calls that meet, since two workers make them. Calls that workers make one after the other don't meet.
 use crate::running::expect_run;
 use mg_edge::MeetGate;
 use mg_nets::{Case, added};
@@ -10,7 +10,8 @@ use std::thread::Threads;
 /// A Process call: its node, and the number of its set.
 pub(crate) type Call = (u32, u64);
 
-// How often a call that waits at a gate looks for the other one, where that is to come and where it isn't.
+// How often a call that waits at a gate looks for the other call: `LONG` if the other is to come, and `SHORT` if it
+// isn't.
 const LONG: u64 = 200_000_000;
 
 const SHORT: u64 = 20_000;

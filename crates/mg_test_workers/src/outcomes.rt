@@ -6,13 +6,13 @@ use std::sync::Wait;
 use std::test::Fail;
 use std::thread::Threads;
 
-// The limits of queues that are tried. Below 0 there is none.
+// The limits of queues that are tried. A limit below 0 is none.
 const LIMITS: [i32; 4] = [1, 2, 100, -1];
 
 // How many graphs at random are tried.
 const SEEDS: u64 = 40;
 
-// One of the cases is a node that adds, whose works are done at the same time.
+// In one of the cases a node adds, and its works are done at the same time.
 #[test]
 fn workers_come_to_what_is_wanted(rt: HostRuntime) -> Result<(), Fail> {
     for number in 0..CASES {
@@ -21,7 +21,7 @@ fn workers_come_to_what_is_wanted(rt: HostRuntime) -> Result<(), Fail> {
     Ok(())
 }
 
-// Expects of a graph at random under each limit what comes out of it on one thread.
+// Runs a graph at random by workers under each limit, and expects the outcome that it has on one thread.
 fn expect_drawn<R: Threads + Wait + Sync>(
     rt: &R,
     alloc: Global,

@@ -1,4 +1,4 @@
-//! Nets that workers run: they leave nothing to do, and what comes out is wanted.
+//! Nets that workers run: the workers leave nothing to do, and what comes out is wanted.
 ghost use Rattle.mg_route.specs.TableLaws.{table_laws};
 ghost use Rattle.std.specs.Prelude.{⊤};
 ghost use Rattle.mg_nets.specs.Driven.{IsDriven};
@@ -29,7 +29,7 @@ impl Hears for First {
     }
 }
 
-// A sweep that has to find nothing to do, and behind which the net tells the same as before.
+// A sweep that has to find nothing to do. After it the net tells the same as before.
 #[derive(Drop)]
 struct Rest;
 

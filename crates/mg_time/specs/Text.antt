@@ -3,9 +3,9 @@ use Rattle.std.specs.Prelude.{◌≡◌, ◌⊎◌, ℕ, List, codes, ◌==◌, 
 use Rattle.std.specs.Fmt.{signed_decimal}
 use Rattle.mg_time.specs.Time.{raw_of, IsRange, unset, unstarted, pre_stream, post_stream, one_over_post_stream, done}
 
--- A text spells a time that a packet may carry: it is one of two names, or the number of a time of the range. A number
--- is written in decimal as std's `signed_decimal` has it, so it has one spelling: no zero before its digits, a minus sign where
--- it is negative, and else no sign.
+-- A text spells a time that a packet may carry: it is one of two names, or the number of a time of the range. A number is
+-- written in decimal as std's `signed_decimal` has it, so it has one spelling. It has no zero before its digits. It has a minus
+-- sign if it is negative, and else no sign.
 abbrev pub Spells : List ℕ → ℕ → Type 0
 Spells text t =
     ((text ≡ codes "PreStream") × (t ≡ pre_stream))

@@ -54,8 +54,8 @@ IsRange t = (least ≤ t) × (t ≤ greatest)
 abbrev pub IsAllowed : ℕ → Type 0
 IsAllowed t = (pre_stream ≤ t) × (t ≤ post_stream)
 
--- the lowest time that may follow a packet at t: t + 1, but OneOverPostStream, which no packet may carry, after PreStream
--- and from Max on
+-- the lowest time that may follow a packet at t: OneOverPostStream if t is PreStream, Max or above, and else t + 1. No
+-- packet may carry OneOverPostStream.
 abbrev pub next : ℕ → ℕ
 next t = if nat_le greatest t || (t == pre_stream) then one_over_post_stream else t + 1
 

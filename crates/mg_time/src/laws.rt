@@ -41,7 +41,7 @@ pub fn shift_keeps_order()
     ensures { (t u : ℕ) (offset : ℤ) → t ≤ u → shift t offset ≤ shift u offset }
 {}
 
-/// A time that a packet may carry is read back from its text, and a text that is read is the text of the time that it was read as.
+/// A time that a packet may carry is read back from its text. A text that is read as a time is the text of that time.
 pub fn texts_are_read_back()
     ensures printed { (t : ℕ) → IsAllowed t → Spells (time_text t) t }
     ensures read { (text : List ℕ) (t : ℕ) → Spells text t → IsAllowed t × (text ≡ time_text t) }

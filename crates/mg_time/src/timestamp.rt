@@ -9,9 +9,9 @@ use std::alloc::{AllocError, Global};
 use std::fmt;
 use std::marker::Model;
 
-/// A point on the one clock that orders all packets of a graph: a signed 64-bit number in a unit that the
-/// graph's author picks (microseconds by custom). Eight values are set apart (MediaPipe, Packets); `MIN` to
-/// `MAX` are the range, in which ordinary packets stand.
+/// A point on the one clock that orders all packets of a graph. It is a signed 64-bit number in a unit that the graph's
+/// author picks (microseconds by custom). Eight values are set apart (MediaPipe, Packets). `MIN` to `MAX` are the
+/// range, in which ordinary packets stand.
 #[derive(Clone, Copy, PartialEq, Eq, PartialOrd, Ord, Hash)]
 pub struct Timestamp {
     place: u64,
@@ -75,7 +75,7 @@ impl Timestamp {
         ]
     }
 
-    /// Returns the timestamp of the range with this number, or `None` where the number isn't in the range.
+    /// Returns the timestamp of the range with this number, or `None` if the number isn't in the range.
     pub fn of_range(value: i64) -> Option<Timestamp>
         ensures some { IsSome result ↔ ((raw_of least ≤ℤ value) × (value ≤ℤ raw_of greatest)) }
         ensures place { IfSome result (λ t. t ≡ place_of value) }
@@ -101,22 +101,23 @@ impl Timestamp {
         }
     }
 
-    /// Whether the timestamp is in the range, `MIN` to `MAX`.
+    /// Returns whether the timestamp is in the range, `MIN` to `MAX`.
     pub fn is_range(self) -> bool
         ensures { IsTrue result ↔ IsRange self }
     {
         Timestamp::MIN <= self && self <= Timestamp::MAX
     }
 
-    /// Whether a packet may stand at the timestamp (MediaPipe, Packets): `PRE_STREAM`, the range, or `POST_STREAM`.
+    /// Returns whether a packet may stand at the timestamp (MediaPipe, Packets): `PRE_STREAM`, the range, or
+    /// `POST_STREAM`.
     pub fn is_allowed(self) -> bool
         ensures { IsTrue result ↔ IsAllowed self }
     {
         Timestamp::PRE_STREAM <= self && self <= Timestamp::POST_STREAM
     }
 
-    /// Returns the lowest timestamp that may follow a packet at this one (MediaPipe, Synchronization): one more in the
-    /// range, and `ONE_OVER_POST_STREAM` after `PRE_STREAM`, `MAX` and all above.
+    /// Returns the lowest timestamp that may follow a packet at this one (MediaPipe, Synchronization). After
+    /// `PRE_STREAM`, `MAX` and all above it is `ONE_OVER_POST_STREAM`, and else one more.
     pub fn next_allowed(self) -> Timestamp
         ensures { result ≡ next self }
     {
@@ -129,8 +130,8 @@ impl Timestamp {
         }
     }
 
-    /// Returns a bound moved by a node's offset: a timestamp of the range moves and stays in the range, and every
-    /// other stays as it is.
+    /// Returns a bound moved by a node's offset. A timestamp of the range moves and stays in the range. Every other
+    /// timestamp stays as it is.
     pub fn shift(self, offset: i64) -> Timestamp
         ensures { result ≡ shift self offset }
     {
@@ -149,8 +150,8 @@ impl Timestamp {
         }
     }
 
-    /// Returns the timestamp that a text spells, where a packet may carry it: its number in the range, `PreStream` or
-    /// `PostStream`. A number has no zero before its digits, and a sign only where it is negative.
+    /// Returns the timestamp that a text spells, if a packet may carry it. The text is a number in the range,
+    /// `PreStream` or `PostStream`. A number has no zero before its digits, and a sign only if it is negative.
     pub fn read_text(text: &[u8]) -> Option<Timestamp>
         ensures read { (t : ℕ) → (result ≡ Some t) ↔ Spells text.now t }
         ensures none { IsNone result ↔ ((t : ℕ) → ¬ (Spells text.now t)) }
@@ -164,7 +165,7 @@ impl Timestamp {
         }
     }
 
-    /// Returns the text of the timestamp: the number of one in the range, and the name of every other.
+    /// Returns the text of the timestamp: the number of a timestamp in the range, and the name of every other.
     pub fn print_text(self, alloc: Global) -> Result<Vec<u8>, AllocError>
         ensures { IfOk result (λ text. text.items ≡ time_text self) }
     {

@@ -3,7 +3,7 @@ ghost use Rattle.std.specs.Prelude.{◌≡◌, ◌<◌, ◌^◌, ◌==◌, ◌�
 use std::alloc::AllocFailed;
 use std::marker::Model;
 
-/// A list that is made once and then read: its entries lie in one block. It is made from a `Vec` and gives it
+/// A list that is made once and then read: its entries lie in one block. It is made from a `Vec`, and gives the `Vec`
 /// back without taking memory.
 #[derive(Debug, Drop)]
 pub struct BlockList<T> {
@@ -27,7 +27,7 @@ impl<T> Model for BlockList<T> {
 }
 
 impl<T> BlockList<T> {
-    /// Makes a list of a vector's entries. 2^32 entries or more are refused as want of memory, and the vector comes back.
+    /// Makes a list of a vector's entries. 2^32 entries or more are refused as out of memory, and the vector comes back.
     pub fn from_vec(entries: Vec<T>) -> Result<BlockList<T>, AllocFailed<Vec<T>>>
         ensures ok { IsOk result ↔ (length entries.items < 2 ^ 32) }
         ensures entries { IfOk result (λ l. l ≡ entries.items) }
@@ -48,21 +48,21 @@ impl<T> BlockList<T> {
         entries
     }
 
-    /// How many entries there are.
+    /// Returns how many entries there are.
     pub fn len(&self) -> u32
         ensures { result ≡ length self.now }
     {
         self.entries.len() as u32
     }
 
-    /// Whether there is no entry.
+    /// Returns whether there is no entry.
     pub fn is_empty(&self) -> bool
         ensures { result ≡ (length self.now == 0) }
     {
         self.entries.is_empty()
     }
 
-    /// Returns the entry at a place, from 0 on, or None behind the last.
+    /// Returns the entry at a place, from 0 on, or None after the last.
     pub fn get(&self, i: u32) -> Option<&T>
         ensures { option_copied result ≡ slice_get self.now i }
     {
@@ -78,7 +78,7 @@ impl<T> BlockList<T> {
 }
 
 impl BlockList<u32> {
-    /// Whether each number is below `count`, as the numbers of so many streams are.
+    /// Returns whether each number is below `count`, as the numbers of so many streams are.
     pub fn all_below(&self, count: u32) -> bool
         ensures { IsTrue result ↔ All (λ i. i < count) self.now }
     {

@@ -4,7 +4,7 @@ ghost use Rattle.mg_value.specs.Kind.{kind_of as its_kind, HasKind};
 
 use crate::Payload;
 
-/// What a port takes: any payload, or those of one kind (MediaPipe, packet types).
+/// What a port takes: any payload, or the payloads of one kind (MediaPipe, packet types).
 #[derive(Clone, Copy, Debug, PartialEq, Eq)]
 pub enum Kind {
     Any,
@@ -15,7 +15,7 @@ pub enum Kind {
     Record,
 }
 
-/// Whether a payload is of a kind: each is of the kind Any.
+/// Returns whether a payload is of a kind: each payload is of the kind Any.
 pub fn has_kind(payload: &Payload, kind: Kind) -> bool
     ensures { IsTrue result ↔ HasKind (plain payload.now) kind }
 {

@@ -30,7 +30,7 @@ impl Model for Packet {
 pub type PacketList = BlockList<Packet>;
 
 impl Packet {
-    /// Makes a second packet that shares the payload. Where the payload can't be shared, that counts as want of memory.
+    /// Makes a second packet that shares the payload. A payload that can't be shared counts as out of memory.
     pub fn try_clone(&self) -> Result<Packet, AllocError>
         ensures { IfOk result (λ p. p ≡ self.now) }
     {

@@ -37,7 +37,7 @@ impl Model for PayloadList {
 impl PayloadList {
     ghost use Rattle.mg_value.specs.Payload.{plain};
 
-    /// Makes a list of a vector's payloads. 2^32 payloads or more are refused as want of memory, and the vector comes back.
+    /// Makes a list of a vector's payloads. 2^32 payloads or more are refused as out of memory, and the vector comes back.
     pub fn from_vec(payloads: Vec<Payload>) -> Result<PayloadList, AllocFailed<Vec<Payload>>>
         ensures ok { IsOk result ↔ (length payloads.items < 2 ^ 32) }
         ensures payloads { IfOk result (λ l. l ≡ map plain payloads.items) }
@@ -50,21 +50,21 @@ impl PayloadList {
         }
     }
 
-    /// How many payloads there are.
+    /// Returns how many payloads there are.
     pub fn len(&self) -> u32
         ensures { result ≡ length self.now }
     {
         self.payloads.len() as u32
     }
 
-    /// Whether there is no payload.
+    /// Returns whether there is no payload.
     pub fn is_empty(&self) -> bool
         ensures { result ≡ (length self.now == 0) }
     {
         self.payloads.is_empty()
     }
 
-    /// Returns the payload at a place, from 0 on, or None behind the last.
+    /// Returns the payload at a place, from 0 on, or None after the last.
     pub fn get(&self, i: u32) -> Option<&Payload>
         ensures { option_map (λ p. plain p.now) result ≡ slice_get self.now i }
     {

@@ -44,8 +44,8 @@ impl Model for RecordList {
 impl RecordList {
     ghost use Rattle.mg_value.specs.Payload.{plain_entry, KeysAscend};
 
-    /// Makes a record of a vector's entries, whose keys have to ascend strictly in byte order. 2^32 entries or more are refused as
-    /// want of memory, and the vector comes back.
+    /// Makes a record of a vector's entries. Their keys have to ascend strictly in byte order. 2^32 entries or more are refused as
+    /// out of memory, and the vector comes back.
     pub fn from_vec(entries: Vec<Entry>) -> Result<RecordList, AllocFailed<Vec<Entry>>>
         requires { KeysAscend (map plain_entry entries.items) }
         ensures ok { IsOk result ↔ (length entries.items < 2 ^ 32) }
@@ -59,21 +59,21 @@ impl RecordList {
         }
     }
 
-    /// How many entries there are.
+    /// Returns how many entries there are.
     pub fn len(&self) -> u32
         ensures { result ≡ length self.now }
     {
         self.entries.len() as u32
     }
 
-    /// Whether there is no entry.
+    /// Returns whether there is no entry.
     pub fn is_empty(&self) -> bool
         ensures { result ≡ (length self.now == 0) }
     {
         self.entries.is_empty()
     }
 
-    /// Returns the entry at a place, from 0 on, in the order of the keys, or None behind the last.
+    /// Returns the entry at a place, from 0 on, in the order of the keys, or None after the last.
     pub fn get(&self, i: u32) -> Option<&Entry>
         ensures { option_map (λ e. plain_entry e.now) result ≡ slice_get self.now i }
     {

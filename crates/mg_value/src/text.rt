@@ -4,14 +4,14 @@ use arrayvec::ArrayString;
 use std::alloc::{AllocError, Global};
 use std::marker::Model;
 
-/// A name or another text, UTF-8. Contracts see it as the list of its bytes. One of at most 16 bytes takes no memory
+/// A name or another text, UTF-8. Contracts see it as the list of its bytes. A text of at most 16 bytes takes no memory
 /// beside itself.
 #[derive(Debug)]
 pub struct MgText {
     kept: Kept,
 }
 
-/// Where the bytes of a text are: in it, or in a block of their own.
+/// Where the bytes of a text are: in the text itself, or in a block of their own.
 #[derive(Debug, Drop)]
 enum Kept {
     Short(ArrayString<16>),
@@ -77,7 +77,7 @@ impl MgText {
         self.as_str().as_bytes()
     }
 
-    /// Whether the text has just these bytes.
+    /// Returns whether the text has just these bytes.
     pub fn is(&self, bytes: &[u8]) -> bool
         ensures { IsTrue result ↔ (self.now ≡ bytes.now) }
     {

@@ -1,6 +1,6 @@
-//! A program with calculators of its own that take long, with which `bench/workers` measures workers. It is `mg`, but that mills are handed
-//! in. Two numbers stand before its words: how many turns a mill makes at each number, and how many microseconds each call sleeps. What it
-//! does is what the contract of `mg_run::run_words` says, with the rules of the mills for the nodes that have one.
+//! A program with calculators of its own that take long. With it `bench/workers` measures workers. It is `mg` with user-supplied mills. Two
+//! numbers stand before its words: how many turns a mill makes at each number, and how many microseconds each call sleeps. It does what the
+//! contract of `mg_run::run_words` says, with the rules of the mills for the nodes that have a mill.
 #![tactic(auto)]
 
 mod nap;
@@ -21,7 +21,7 @@ use std::sync::Wait;
 use std::thread::Threads;
 use std::time::Duration;
 
-/// How many mills are handed in.
+/// How many user-supplied mills there are.
 const MILLS: usize = 16;
 
 fn main(rt: HostRuntime) -> ExitCode {
@@ -59,7 +59,8 @@ fn status_of<R: Threads + Wait + Sync>(
     )
 }
 
-// Returns the number at a place behind the program's name, or 0 where none stands there.
+// Returns the number at a place of the command line, or 0 if no number stands there. The program's name stands at place
+// 0.
 fn number(rt: &HostRuntime, place: usize) -> u32 {
     match word(rt, place) {
         Some(word) => number_of(&word),
@@ -78,7 +79,8 @@ fn number_of(word: &str) -> u32 {
     }
 }
 
-// Returns the words behind the two numbers: none where one of them isn't UTF-8, so that they are no command.
+// Returns the words after the two numbers. If one of the words isn't UTF-8, it returns no words, so that they are no
+// command.
 fn words(rt: &HostRuntime) -> Result<Vec<MgText>, AllocError> {
     let alloc = rt.alloc();
     let mut words = Vec::new(alloc);
@@ -94,8 +96,8 @@ fn words(rt: &HostRuntime) -> Result<Vec<MgText>, AllocError> {
     }
 }
 
-// Makes the top call over any devices and boxes of its own. The devices' types are parameters for the time of the proof: where they are
-// known, each clause of the top call is written out over them.
+// Makes the top call over any devices and boxes of its own. The devices' types are parameters to save proof time: with known types,
+// each clause of the top call is written out over them.
 fn call<R: Threads + Wait + Sync, G: Gate + Sync, T: Store, S: Source, K: Sink, E: Sink>(
     threads: &R,
     alloc: Global,

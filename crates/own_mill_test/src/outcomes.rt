@@ -28,7 +28,8 @@ fn lines(alloc: Global, count: u32) -> Result<String, AllocError> {
     Ok(text)
 }
 
-// Expects what comes out of mills of so many turns over so many lines to be the same with workers as on one thread, and four lines for each.
+// Runs mills of so many turns over so many lines. Expects the output with workers to be the same as on one thread, and to have four lines
+// for each line.
 fn expect_same<R: Threads + Wait + Sync>(
     rt: &R,
     alloc: Global,

@@ -10,7 +10,7 @@ use std::sync::Wait;
 use std::test::Fail;
 use std::thread::Threads;
 
-// How many mills are handed in.
+// How many user-supplied mills there are.
 const MILLS: usize = 6;
 
 // How many bytes a sink takes, more than each text here has.
@@ -24,8 +24,8 @@ pub(crate) struct Job<'a> {
     pub turns: u32,
 }
 
-// Makes the top call over devices, with mills. The devices' types are parameters for the time of the proof: where they are known, each clause
-// of the top call is written out over them.
+// Makes the top call over devices, with mills. The devices' types are parameters to save proof time: with known types, each clause of the
+// top call is written out over them.
 fn call<R: Threads + Wait + Sync, T: Store, S: Source, K: Sink, E: Sink>(
     rt: &R,
     alloc: Global,

@@ -1,5 +1,5 @@
-//! A program with calculators of its own, which `own` names: `mg`, but that these are handed in. What it does is what the contract of
-//! `mg_run::run_words` says, with their rules for the nodes that have one.
+//! A program with calculators of its own, which `own` names. It is `mg` with these user-supplied calculators. It does what the
+//! contract of `mg_run::run_words` says, with the rules of these calculators for the nodes that have one.
 #![tactic(auto)]
 
 mod own;
@@ -44,7 +44,8 @@ fn status_of<R: Threads + Wait + Sync>(
     )
 }
 
-// Returns the words after the program's name: none where one of them isn't UTF-8, so that they are no command.
+// Returns the words after the program's name. If one of the words isn't UTF-8, it returns no words, so that they are no
+// command.
 fn words(rt: &HostRuntime) -> Result<Vec<MgText>, AllocError> {
     let alloc = rt.alloc();
     let mut words = Vec::new(alloc);
@@ -60,8 +61,8 @@ fn words(rt: &HostRuntime) -> Result<Vec<MgText>, AllocError> {
     }
 }
 
-// Makes the top call over any devices and boxes of its own. The devices' types are parameters for the time of the proof: where they are
-// known, each clause of the top call is written out over them.
+// Makes the top call over any devices and boxes of its own. The devices' types are parameters to save proof time: with known types,
+// each clause of the top call is written out over them.
 fn call<R: Threads + Wait + Sync, T: Store, S: Source, K: Sink, E: Sink>(
     threads: &R,
     alloc: Global,

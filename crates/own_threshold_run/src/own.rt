@@ -13,10 +13,10 @@ impl OwnLaws for Own {
     ghost laws = { λ number parameters. if number == 0 then threshold_of parameters else no_rules };
 }
 
-/// The thresholds that are handed in: of each how many numbers it looks at, and the limit. Nodes take them in this order.
+/// The user-supplied thresholds: for each, how many numbers it looks at, and the limit. Nodes take them in this order.
 const THRESHOLDS: [(u32, i64); 3] = [(3, 20), (2, 30), (1, 0)];
 
-/// Returns the boxes that are handed in.
+/// Returns the boxes of the user-supplied calculators.
 pub fn own_boxes(alloc: Global) -> Result<Vec<Handed<Own, Threshold>>, AllocError> {
     let mut boxes = Vec::new(alloc);
     for (n, limit) in THRESHOLDS {

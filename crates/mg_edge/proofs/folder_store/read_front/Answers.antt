@@ -5,11 +5,11 @@ use Rattle.mg_edge.specs.declared.store.Loaded.TheVariants.{Bytes}
 use Rattle.mg_edge.specs.Edge.{LoadGives, most_loaded}
 use Rattle.mg_edge.proofs.folder_store.read_front.Goals as goal
 
--- the front of a front
+-- the prefix of a prefix
 take_twice : (n : ℕ) (xs : List ℕ) → take n (take n xs) ≡ take n xs
 take_twice n xs = take_all n (take n xs) (omega (arith, length-take n xs))
 
--- what was read to the limit, and cut there, is the front of what is told
+-- the bytes that were read to the limit, and cut there, are a prefix of the bytes that are told
 given : (n : ℕ) (xs got cut : List ℕ) → got ≡ [] ++ take n xs → cut ≡ take n got → cut ≡ take n xs
 given n xs got cut read cuts = cuts ∙ rw read (take_twice n xs)
 

@@ -3,7 +3,7 @@ use Rattle.std.proofs.lemmas.List.{take_min}
 use Rattle.mg_edge.specs.Edge.{most_loaded}
 use Rattle.mg_edge.proofs.memory_store.first_bytes.Goals as goal
 
--- the first n bytes, where their count is the lesser of n and the length
+-- the first n bytes, if their count is the lesser of n and the length
 take_lesser : (n m : ℕ) (xs : List ℕ) → m ≡ min n (length xs) → take m xs ≡ take n xs
 take_lesser n m xs same = rw same (take_min n xs)
 

@@ -1,4 +1,4 @@
--- With those that are left it comes to the same.
+-- The numbers so far and the numbers that are left make the whole range.
 use Rattle.std.proofs.Common.{◌≡◌, ◌++◌, ◌-◌}
 use Rattle.std.specs.List.{range_with_len}
 use Rattle.mg_test_free.proofs.rounds.numbers_of.Given as goal

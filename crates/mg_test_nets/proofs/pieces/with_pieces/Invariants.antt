@@ -1,4 +1,4 @@
--- The streams so far are the first ones, each with its piece behind it.
+-- The streams so far are the first ones, each followed by its piece.
 use Rattle.std.proofs.Common.{◌≡◌, length}
 use Rattle.mg_sched.specs.Code.Made.{AtPlaces}
 use Rattle.mg_test_nets.specs.Behind.{IsBehindAt}
