@@ -2,7 +2,7 @@
 use Rattle.std.proofs.Common.{◌≡◌, ◌≢◌, ℕ, zero, suc, ◌+◌, ◌∙◌, List, [], ◌∷◌, ◌++◌, length, set, length-append, subst, ap, sym, arith}
 use Rattle.mg_sched.specs.Code.Made.{AtPlaces}
 
--- one more behind the others
+-- one more at the end
 pub one_behind : {X : Type 0} (P : ℕ → X → Type 0) (xs : List X) (x : X) → AtPlaces P xs → P (length xs) x → AtPlaces P (xs ++ x ∷ [])
 one_behind {X} P [] x all is zero y there = (let same : x ≡ y = cc in subst (P 0) same is)
 one_behind {X} P [] x all is (suc i) y there = absurd cc

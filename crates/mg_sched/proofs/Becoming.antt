@@ -1,5 +1,5 @@
--- What becomes of a net by steps: it is of the same plan, it still runs, it still stands for its job, the calculators that no node uses
--- lie as they lay, and as many sets of its outputs were taken from the collector.
+-- What becomes of a net by steps. It is of the same plan, it still runs, and it still stands for its job. The calculators that no node uses
+-- lie as they lay. As many sets of its outputs were taken from the collector as before.
 use Rattle.std.proofs.Common.{◌≡◌, ℕ, zero, suc, ◌<◌, List, [], ◌∷◌, length, set, Option, Some, None, option_map, unwrap_or, slice_get, inl, inr, ap, sym, refl, subst, ◌∙◌, arith}
 use Rattle.mg_calc.specs.Rules.{Laws}
 use Rattle.mg_calc.specs.declared.event.Event.{Event}

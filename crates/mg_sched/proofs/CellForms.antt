@@ -1,4 +1,4 @@
--- A net with another cell at a node, of which some parts are what they were.
+-- A net with another cell at a node. Some parts of this cell are what they were.
 use Rattle.std.proofs.Common.{◌≡◌, ℕ, ◌≤◌, zero, suc, List, [], ◌∷◌, map, set, get_or, Some, slice_get, ap, ap₂, sym, refl, ◌∙◌, arith}
 use Rattle.mg_value.specs.Payload.{Plain}
 use Rattle.mg_stream.specs.Queue.{Waiting}

@@ -1,4 +1,4 @@
--- A net with other parts at a place: it stands for the job where these are lawful, and the others stay as they are.
+-- A net with other parts at a place. It stands for the job if these are lawful, and all other parts stay as they are.
 use Rattle.std.proofs.Common.{◌≡◌, ℕ, ◌+◌, ◌-◌, ◌<◌, ◌≤◌, Bool, true, List, length, set, length-set, Some, slice_get, nat_lt, inl, inr, ap, sym, refl, subst, ◌∙◌, arith}
 use Rattle.std.proofs.lemmas.Bool.{cases_eq, lt-ltb}
 use Rattle.mg_stream.specs.Queue.{count_of}
@@ -24,7 +24,7 @@ with_cell net node engine intake work_queue limits = record net { engines = set 
 abbrev pub with_arrived : NetView → ℕ → IntakeView → QueueLimits → NetView
 with_arrived net place intake limits = record net { intakes = set net.intakes place intake; limits = limits }
 
--- what a cell has come to: its outputs only grow, and give up no packet; at each port as many came as before
+-- what has become of a cell. Its outputs only grow, and give up no packet. At each port as many packets came as before
 pub record CellStep {laws : Laws} (job : LoggedJob laws) (node : ℕ) (engine engine_now : EngineView) (intake intake_now : IntakeView) (work_queue_now : WorkQueueView) : Type 0 where
   pub cell : IsCell job true node engine_now intake_now work_queue_now
   pub first : engine_now.first ≡ engine.first

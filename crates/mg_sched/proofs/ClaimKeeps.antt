@@ -70,7 +70,7 @@ claim_step {laws} job node result engine engine_now intake intake_now work_queue
       ended = claim_ended result engine engine_now intake intake_now claims;
     }
 
--- where no work is handed out
+-- if no work is handed out
 kept_step : {laws : Laws} (job : LoggedJob laws) (node : ℕ) (result : Claimed ℕ) (engine engine_now : EngineView) (intake intake_now : IntakeView) (work_queue work_queue_now : WorkQueueView) → IsCell job true node engine intake work_queue
     → Claims {C = ℕ} result engine engine_now intake intake_now → KeepsOut engine engine_now → work_queue_now ≡ work_queue → ClaimStep job node engine engine_now intake intake_now work_queue_now
 kept_step {laws} job node result engine engine_now intake intake_now work_queue work_queue_now cell claims kept work_queue_is =
@@ -78,7 +78,7 @@ kept_step {laws} job node result engine engine_now intake intake_now work_queue 
     subst (λ (d : WorkQueueView). ClaimStep job node engine engine_now intake intake_now d) (sym work_queue_is)
     (claim_step job node result engine engine_now intake intake_now work_queue work_queue cell claims (works_kept job engine engine_now work_queue s.in_flight kept cell.works))
 
--- where one is
+-- if a work is handed out
 work_step : {laws : Laws} (job : LoggedJob laws) (node : ℕ) (engine engine_now : EngineView) (intake intake_now : IntakeView) (work_queue work_queue_now : WorkQueueView) → IsCell job true node engine intake work_queue → TakesWork engine engine_now intake intake_now work_queue work_queue_now
     → ClaimStep job node engine engine_now intake intake_now work_queue_now
 work_step {laws} job node engine engine_now intake intake_now work_queue work_queue_now cell t =

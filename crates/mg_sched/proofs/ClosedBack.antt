@@ -25,7 +25,7 @@ use Rattle.mg_sched.proofs.Finding.{cell_at, found}
 use Rattle.mg_sched.proofs.FrontsBack.{given_at}
 use Rattle.mg_sched.proofs.CountedBack.{knows_standing, knows_wound, own_back}
 
--- the calculator of a cell in whose work queue nothing lies stands in its engine
+-- the calculator of a cell stands in the cell's engine, if nothing lies in the cell's work queue
 in_engine : (engine : EngineView) (work_queue : WorkQueueView) (told : BoxTold) (o : Option BoxTold) → work_queue.works ≡ [] → first_handed engine ≡ o → or_else o (on_work_queue work_queue) ≡ Some told → first_handed engine ≡ Some told
 in_engine engine work_queue told None none is has =
     absurd (let clash : None ≡ Some told = sym (ap (λ (ws : List WorkView). slice_get (filter_map handed_told (map (λ (w : WorkView). w.context.told) ws)) 0) none) ∙ has in cc)

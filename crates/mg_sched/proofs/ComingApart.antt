@@ -58,7 +58,7 @@ one_more_back start engine engine_now on work_queue work_queue_now work h works 
       apart = subst (AllPairs (λ (a b : WorkView). a.number ≢ b.number)) (append-nil front) (pairs_middle (λ (a b : WorkView). a.number ≢ b.number) not_turned front [] work pairs).0;
     }
 
--- A cell whose works come back stays one.
+-- A cell whose works come back stays a cell.
 
 one_back : {laws : Laws} (job : LoggedJob laws) (node : ℕ) (engine mid : EngineView) (intake : IntakeView) (work_queue : WorkQueueView) (front : List WorkView) (work : WorkView) → CellStep job node engine mid intake intake (record work_queue { works = front ++ work ∷ [] })
     → CellStep job node engine (shelved mid (unrun_of work)) intake intake (record work_queue { works = front })
@@ -112,7 +112,7 @@ back_stands {laws} job node before now within running h p =
     (cell_stands job before node p.engine engine_now intake.0 intake.0 work_queue_now before.limits h running within p.at intake.1 step
     (cell_knows before node p.engine engine_now intake.0 work_queue_now within h.limits p.at intake.1 (back_ended p.engine p.work_queue.works)))
 
--- what a node comes to, read of a net as it is kept
+-- what becomes of a node, read of a net as it is kept
 pub puts_back_at : {laws : Laws} (shown net : NetView) (node : ℕ) (engine engine_now : EngineView) (work_queue work_queue_now : WorkQueueView) → shown ≡ net → StandsForSome laws net → node < length net.plan.nodes → engine ≡ get_or shown.engines node engine → work_queue ≡ get_or shown.work_queues node work_queue
     → engine_now ≡ all_shelved engine work_queue.works → work_queue_now ≡ record work_queue { works = [] } → PutsBackAt node net (with_work_queue (with_engine shown node engine_now) node work_queue_now)
 puts_back_at {laws} shown net node engine engine_now work_queue work_queue_now is h less value lies now empty = record {
@@ -203,7 +203,7 @@ back_more {laws} before now next node b less running p =
 pub back_end : {laws : Laws} (before now : NetView) (count last : ℕ) → BackTo laws before now count → count ≡ last → BackTo laws before now last
 back_end {laws} before now count last b is = subst (λ (n : ℕ). BackTo laws before now n) is b
 
--- The parts of a net in whose work queues nothing lies are those of one net.
+-- The parts of a net are those of one net, if nothing lies in its work queues.
 
 is_there : (o : Option OutcomeView) → (o ≡ None → ⊥) → is_some o ≡ true
 is_there None not_none = absurd (not_none refl)

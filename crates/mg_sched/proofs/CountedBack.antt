@@ -1,4 +1,4 @@
--- A net that stands for a job gives back all that was handed in.
+-- A net that stands for a job gives back all user-supplied calculators.
 use Rattle.std.proofs.Common.{◌≡◌, ◌⊎◌, inl, inr, ℕ, zero, suc, ◌<◌, ◌≤◌, Bool, true, false, nat_lt, is_some, if◌then◌else◌, List, [], ◌∷◌, ◌++◌, length, map, set, get_or, All, Option, Some, None, IfSome, slice_get, ap, sym, refl, subst, ◌∙◌, arith}
 use Rattle.std.specs.List.{filter_map, cons_option}
 use Rattle.std.proofs.lemmas.Option.{same_Some, slice_get_within}
@@ -102,7 +102,7 @@ has_told places None told p h = h
 has_told places (Some n) None p h = h
 has_told places (Some n) (Some t) p h = has_set places n p t h
 
--- what lies in a place stays there, or another one lies there
+-- a calculator that lies in a place stays there, or another calculator lies there
 has_cells : (places : List (Option BoxTold)) (nodes : List PlanNode) (engines : List EngineView) (work_queues : List WorkQueueView) (p : ℕ) → Has places p → Has (with_cells places nodes engines work_queues) p
 has_cells places [] engines work_queues p h = h
 has_cells places (node ∷ nodes) [] work_queues p h = h
@@ -110,7 +110,7 @@ has_cells places (node ∷ nodes) (engine ∷ engines) [] p h = h
 has_cells places (node ∷ nodes) (engine ∷ engines) (work_queue ∷ work_queues) p h =
     has_cells (with_told places node.box_number (cell_told engine work_queue)) nodes engines work_queues p (has_told places node.box_number (cell_told engine work_queue) p h)
 
--- and it is the same where no node has the place's number
+-- and it is the same calculator if no node has the place's number
 kept_told : (places : List (Option BoxTold)) (number : Option ℕ) (told : Option BoxTold) (p : ℕ) → ¬ (number ≡ Some p) → slice_get (with_told places number told) p ≡ slice_get places p
 kept_told places None told p other = refl
 kept_told places (Some n) None p other = refl
@@ -151,7 +151,7 @@ own_cells places (n ∷ nodes) (e ∷ engines) (d ∷ work_queues) (suc k) p nod
     own_cells (with_told places n.box_number (cell_told e d)) nodes engines work_queues k p node engine work_queue there at on boxed gives
     (let same = told_long places n.box_number (cell_told e d) in omega (arith, less, same)) (λ j m after m_at. others (suc j) m (omega (arith, after)) m_at)
 
--- where each place has one, as many come back, each at its place
+-- if each place has a calculator, as many come back, each at its place
 all_count : (places : List (Option BoxTold)) → ((p : ℕ) → p < length places → Has places p) → length (filter_map (λ (o : Option BoxTold). o) places) ≡ length places
 all_count [] all = refl
 all_count (None ∷ places) all = absurd (let none = (all 0 (omega arith)).1 in cc)
@@ -196,7 +196,7 @@ pub knows_standing : {laws : Laws} (job : LoggedJob laws) (net : NetView) → St
 unfolding StandsFor
 knows_standing {laws} job net h = record { is_job = h.is_job; plan = h.plan; spare = h.spare; gives = (λ number node there boxed. node_gives job net number node h there boxed) }
 
--- Nets that were wound up: whether a calculator was handed in stays the same.
+-- Nets that were wound up: whether a calculator is user-supplied stays the same.
 
 first_same : (a b : Bool) (t u : BoxTold) (ts : List BoxTold) (o : Option BoxTold) → b ≡ a → is_some (or_else (slice_get (cons_option (if a then Some t else None) ts) 0) o) ≡ true
     → is_some (or_else (slice_get (cons_option (if b then Some u else None) ts) 0) o) ≡ true
@@ -227,7 +227,7 @@ finished_gives {laws} engine now work_queue f h =
     (last_finished f.others f.context f.finished (filter_map calculator_in engine.window) (on_work_queue work_queue) f.is_finished.same_handed
     (subst (λ (bs : List ContextView). some_in engine bs work_queue) f.idle h))
 
--- where the first work in a window was closed, its calculator stays there
+-- if the first work in a window was closed, its calculator stays there
 
 back_finished : (laws : Laws) (before now : Option OutcomeView) (phase : Phase) (a b : Bool) (es : List EntryView) (o : Option BoxTold) → FinishesBack laws before now
     → is_some (or_else (slice_get (filter_map handed_told (filter_map calculator_in (record { phase = phase; outcome = before; committed = a } ∷ es))) 0) o) ≡ true
@@ -301,7 +301,7 @@ own_place {laws} job net number place node engine work_queue h there boxed less 
     own_cells net.spare net.plan.nodes net.engines net.work_queues number place node engine work_queue there g.at g.on boxed g.gives less
     (λ j m after m_at boxed_too. none_twice net.plan.nodes number j place node m (subst IsValid (sym h.plan) h.is_job.plan).boxes after there m_at boxed boxed_too)
 
--- each place has one
+-- each place has a calculator
 place_full : {laws : Laws} (job : LoggedJob laws) (net : NetView) (p : ℕ) (o : Option BoxTold) → KnowsBack job net → p < length net.spare → slice_get net.spare p ≡ Some o → Has (cells_of net) p
 place_full {laws} job net p (Some t) h less at = has_cells net.spare net.plan.nodes net.engines net.work_queues p (t, at)
 place_full {laws} job net p None h less at =
@@ -326,7 +326,7 @@ pub counted : {laws : Laws} {X : Type 0} (told : X → BoxTold) (result : List X
 counted {laws} {X} told result job net is h =
     sym (length-map result told) ∙ ap length is ∙ all_count (cells_of net) (full job net h) ∙ cells_long net.spare net.plan.nodes net.engines net.work_queues ∙ h.spare.count
 
--- that of a node is the one in its place
+-- a node's calculator is the one in its place
 told_at : (places : List (Option BoxTold)) (p : ℕ) (o : Option BoxTold) → ((q : ℕ) → q < length places → Has places q) → slice_get places p ≡ Some o → is_some o ≡ true → slice_get (filter_map (λ (o : Option BoxTold). o) places) p ≡ o
 told_at places p None all at some = absurd cc
 told_at places p (Some t) all at some = all_at places p t all at
@@ -343,7 +343,7 @@ own_back {laws} told job net number place node engine work_queue is h there boxe
     let less : place < length net.spare = subst (λ (o : Option ℕ). IfSome o (λ q. q < length net.spare)) boxed (at_node (λ (n : PlanNode). IfSome n.box_number (λ q. q < length net.spare)) job.job.plan.nodes number node h.spare.numbers theirs) in
     (ap (λ (ts : List BoxTold). slice_get ts place) is ∙ told_at (cells_of net) place (cell_told engine work_queue) (full job net h) (own_place job net number place node engine work_queue h there boxed less mine) mine.gives, mine.gives)
 
--- one that no node uses is as it lay
+-- a calculator that no node uses is as it lay
 pub unused_back : {laws : Laws} (told : List BoxTold) (job : LoggedJob laws) (net : NetView) (place : ℕ) (t : BoxTold) → told ≡ given_back net → KnowsBack job net → slice_get net.spare place ≡ Some (Some t) → slice_get told place ≡ Some t
 unused_back {laws} told job net place t is h lies =
     let none = (h.spare.unused place t lies).0 in

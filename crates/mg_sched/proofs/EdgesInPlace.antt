@@ -1,4 +1,5 @@
--- Each edge of the parts of one net leads from an engine that has its stream to the port of that stream, and no two lead to one port.
+-- Each edge of the parts of one net leads from an engine that has the edge's stream. It leads to the port of that stream, and no two edges
+-- lead to one port.
 use Rattle.std.proofs.Common.{◌≡◌, ℕ, ◌+◌, ◌<◌, List, length, Option, Some, slice_get, option_map, ap, sym, subst, ◌∙◌, arith}
 use Rattle.std.proofs.lemmas.Option.{slice_get_within}
 use Rattle.mg_calc.specs.Rules.{Laws}

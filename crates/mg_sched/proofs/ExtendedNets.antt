@@ -42,14 +42,14 @@ solved {laws} job is =
     let it = a_solution job.job (job_known job.job is) is.plan is.inputs.streams in
     (it.0, record { is_job = is; solution = it.1 })
 
--- the solution's stream of a graph input is what was handed in
+-- the solution's stream of a graph input is the stream that the job has for it
 pub handed_in : {laws : Laws} (job : LoggedJob laws) (streams : List (StreamPrefix Plain)) (input : ℕ) → Solves job streams → input < length job.job.inputs.streams → get_or streams input empty_prefix ≡ get_or job.job.inputs.streams input empty_prefix
 handed_in {laws} job streams input solves less =
     let s = found job.job.inputs.streams input less in
     get_or_from_slice_get streams input s.0 empty_prefix (ap (λ (ss : List (StreamPrefix Plain)). slice_get ss input) (sym solves.solution.meets) ∙ get_first job.job.inputs.streams _ input s.0 s.1)
     ∙ sym (get_or_from_slice_get job.job.inputs.streams input s.0 empty_prefix s.1)
 
--- so that of the later job is that of the first one with its piece behind
+-- so the stream of the later job is that of the first job with its piece after it
 piece_behind : {laws : Laws} (more : Inputs) (first later : LoggedJob laws) (streams longer : List (StreamPrefix Plain)) (input : ℕ) (piece : StreamPrefix Plain) → GoesOnWith more first later → Solves first streams → Solves later longer → slice_get more.streams input ≡ Some piece
     → get_or longer input empty_prefix ≡ joined (get_or streams input empty_prefix) piece
 piece_behind {laws} more first later streams longer input piece g solves further at =
@@ -112,7 +112,7 @@ joined_extended engine piece e intake h =
       kept = (let kept = h.kept in let gone = more.gone in omega (arith, kept, gone));
     }
 
--- Cells, and what was handed in.
+-- Cells, and user-supplied calculators.
 
 engine_later : {laws : Laws} (first later : LoggedJob laws) (begun : Bool) (node : ℕ) (engine : EngineView) → Grows first later → IsEngine first begun node engine → IsEngine later begun node engine
 engine_later {laws} first later true node engine g h = engine_stays first later node engine g h
@@ -142,7 +142,7 @@ spare_later {laws} first later spare g h =
 
 -- Nets.
 
--- what stands at the place of a graph input, behind the nodes
+-- what stands at the place of a graph input, after the nodes
 pub record IsExtendedAt (more : Inputs) (before : NetView) (input : ℕ) (engine : EngineView) : Type 0 where
   pub old : EngineView
   pub old_at : slice_get before.engines (length before.plan.nodes + input) ≡ Some old
@@ -212,7 +212,7 @@ extended_stands {laws} more first later before now g x h = subst (λ (v : NetVie
 
 -- Nets.
 
--- the pieces of the last graph inputs, where nothing came of those before
+-- the pieces of the last graph inputs, if the graph inputs before them got nothing
 record AreLast (more : Inputs) (pieces : List (StreamPrefix Plain)) (net : NetView) : Type 0 where
   n : ℕ
   streams : more.streams ≡ replicate n empty_prefix ++ pieces
@@ -307,12 +307,12 @@ extends_shown {laws} pieces shown net engines longer now is may engines_are are 
     (subst (λ (es : List EngineView). Extends more shown (record shown { engines = es })) (sym now_is)
     (extends_so more pieces shown longer (subst (MayGoOnWith laws more) (sym is) may) (last_of pieces shown net is may) all))
 
--- where nothing was laid, it is as it was
+-- if nothing was laid, the net is as it was
 pub same_shown : {A E : Type 0} (r : Result A E) (shown net : NetView) (engines left now : List EngineView) → shown ≡ net → engines ≡ shown.engines → left ≡ engines → now ≡ left → OnErr r (record shown { engines = now } ≡ net)
 same_shown (Ok a) shown net engines left now is engines_are unchanged now_is = tt
 same_shown (Err e) shown net engines left now is engines_are unchanged now_is = ap (λ (es : List EngineView). record shown { engines = es }) (now_is ∙ unchanged ∙ engines_are) ∙ is
 
--- Further input of all graph inputs is that of the last ones, as many as there are.
+-- Further input of all graph inputs is that of the last graph inputs, as many as there are.
 
 all_streams : {laws : Laws} (more : Inputs) (net : NetView) → MayGoOnWith laws more net → (for_last (length net.plan.inputs) more.streams).streams ≡ more.streams
 unfolding StandsFor

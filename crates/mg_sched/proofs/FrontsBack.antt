@@ -1,4 +1,4 @@
--- What a net gives back whenever its run ends: the calculator of a node with a front of its calls.
+-- What a net gives back whenever its run ends: the calculator of a node with a prefix of its calls.
 use Rattle.std.proofs.Common.{◌≡◌, ◌⊎◌, inl, inr, ℕ, zero, suc, ◌<◌, ◌≤◌, Bool, true, false, nat_lt, is_some, List, [], ◌∷◌, length, map, Option, Some, None, slice_get, ap, sym, refl, subst, ◌∙◌, arith}
 use Rattle.std.specs.List.{filter_map, cons_option}
 use Rattle.std.proofs.lemmas.Option.{same_Some, slice_get_within}

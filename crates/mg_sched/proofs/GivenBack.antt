@@ -22,7 +22,7 @@ drop_here [] i x at = absurd cc
 drop_here {X} (y ∷ xs) zero x at = (let same : y ≡ x = cc in ap (λ (z : X). z ∷ xs) same)
 drop_here {X} (y ∷ xs) (suc i) x at = drop_here xs i x at ∙ ap (λ (k : ℕ). x ∷ drop k (y ∷ xs)) (let e : suc (i + 1) ≡ suc i + 1 = omega arith in e)
 
--- with the nodes that are left it comes to the same
+-- with the nodes that are left the result is the same
 pub cells_next : (places now : List (Option BoxTold)) (nodes : List PlanNode) (i : ℕ) (node read : PlanNode) (o : Option BoxTold) (engines_left engines : List EngineView) (work_queues_left work_queues : List WorkQueueView) (engine : EngineView) (work_queue : WorkQueueView)
     (total : List (Option BoxTold)) → slice_get nodes i ≡ Some node → engines_left ≡ engine ∷ engines → work_queues_left ≡ work_queue ∷ work_queues → now ≡ with_told places read.box_number o → node ≡ read → o ≡ cell_told engine work_queue
     → with_cells places (drop i nodes) engines_left work_queues_left ≡ total → with_cells now (drop (i + 1) nodes) engines work_queues ≡ total

@@ -1,5 +1,5 @@
--- What a net that came to rest and was wound up gives back: the calculator of a node with all its calls, and one that no node uses as
--- it lay.
+-- What a net that came to rest and was wound up gives back. The calculator of a node has had all its calls. A calculator that no node uses
+-- is as it lay.
 use Rattle.std.proofs.Common.{◌≡◌, ℕ, ◌<◌, is_some, List, length, All, Option, Some, None, slice_get, ap, sym, refl, subst, ◌∙◌, arith}
 use Rattle.std.proofs.lemmas.List.{map-id}
 use Rattle.std.proofs.lemmas.Option.{slice_get_within}
@@ -81,11 +81,11 @@ used_back {laws} job rested net wound solution number place node h running rest 
     let on : slice_get wound.work_queues number ≡ Some d.0 = subst (λ (ds : List WorkQueueView). slice_get ds number ≡ Some d.0) (sym same_work_queues) d.1 in
     in_place job solution node e.0 d.0 (slice_get (given_back wound) place) had (own_back (given_back wound) job wound number place node e.0 d.0 refl knows there_wound boxed e.1 on).0
 
--- All that were handed in come back.
+-- All user-supplied calculators come back.
 pub count_back : {laws : Laws} (job : LoggedJob laws) (net : NetView) → StoodFor job net → length (given_back net) ≡ length job.boxes
 count_back {laws} job net stood = counted (λ (t : BoxTold). t) (given_back net) job net (map-id (given_back net)) (knows_back job net stood)
 
--- One that no node uses is as it lay, and it lies there.
+-- A calculator that no node uses is as it lay, and it lies there.
 pub unused_is_back : {laws : Laws} (job : LoggedJob laws) (net : NetView) (place : ℕ) (told : BoxTold) → StoodFor job net → slice_get net.spare place ≡ Some (Some told) → slice_get (given_back net) place ≡ Some told
 unused_is_back {laws} job net place told stood lies = unused_back (given_back net) job net place told refl (knows_back job net stood) lies
 

@@ -17,7 +17,7 @@ use Rattle.mg_sched.specs.Code.Made.{AtPlaces, IsEngineAt, IsLeftOver, HasTaken,
 use Rattle.mg_sched.proofs.AtEach.{one_changed}
 use Rattle.std.proofs.lemmas.Option.{slice_get_within}
 
--- No two nodes take one.
+-- No two nodes take the same calculator.
 
 get_or_at : {X : Type 0} (xs : List X) (k : ℕ) (x d : X) → slice_get xs k ≡ Some x → get_or xs k d ≡ x
 get_or_at {X} [] k x d there = absurd cc
@@ -62,7 +62,7 @@ below a b = elim (cases_Bool (nat_lt a b)) [ inl is ↦ inl (is, ltb-true a b is
 
 -- What is left.
 
--- one that has taken among the first nodes, one more, is one of those before, or the last of them
+-- if one of the first nodes has taken a number, it is a node before the last of them, or the last
 earlier_or_last : (nodes : List PlanNode) (count number : ℕ) → HasTaken nodes (count + 1) number → HasTaken nodes count number ⊎ (node : PlanNode) × (slice_get nodes count ≡ Some node) × (node.box_number ≡ Some number)
 earlier_or_last nodes count number t = elim (below t.place count) [
   | inl is ↦ inl (record { place = t.place; node = t.node; before = is.1; there = t.there; takes = t.takes })
@@ -96,7 +96,7 @@ left_passed nodes given now count node l there none = record {
     no_number : (a b : PlanNode) (number : ℕ) → a ≡ b → a.box_number ≡ None → b.box_number ≡ Some number → ⊥
     no_number a b number same none takes = (let not_one : None ≡ Some number = sym none ∙ ap (λ (m : PlanNode). m.box_number) same ∙ takes in absurd cc)
 
--- a node with a number takes the one of its place
+-- a node with a number takes the calculator in the place of that number
 pub left_taken : (nodes : List PlanNode) (given now after : List (Option BoxTold)) (count number : ℕ) (node : PlanNode) (lay : BoxTold) → IsLeftOver nodes given count now → slice_get nodes count ≡ Some node → node.box_number ≡ Some number
     → slice_get now number ≡ Some (Some lay) → after ≡ set now number None → IsLeftOver nodes given (count + 1) after
 left_taken nodes given now after count number node lay l there takes lies is = subst (IsLeftOver nodes given (count + 1)) (sym is) (record {
@@ -130,7 +130,7 @@ some_below {X} [] n is = absurd is
 some_below {X} (o ∷ os) zero is = omega arith
 some_below {X} (o ∷ os) (suc n) is = (let less = some_below os n is in omega (arith, less))
 
--- it finds one there
+-- it finds a calculator there
 pub record Finds (given now : List (Option BoxTold)) (number : ℕ) : Type 0 where
   pub told : BoxTold
   pub at_first : slice_get given number ≡ Some (Some told)
@@ -247,7 +247,7 @@ map_set {X} {Y} f [] k x = refl
 map_set {X} {Y} f (y ∷ xs) zero x = refl
 map_set {X} {Y} f (y ∷ xs) (suc k) x = ap (λ (ys : List Y). f y ∷ ys) (map_set f xs k x)
 
--- where each place has something, no place that is seen is empty
+-- if each place has something, no place that is seen is empty
 pub all_full : {X Y : Type 0} (f : X → Y) (xs : List (Option X)) → All (λ p. IsSome p) xs → (number : ℕ) → ¬ (slice_get (map (option_map f) xs) number ≡ Some None)
 all_full {X} {Y} f xs full number = go xs (recursion_from_All (λ (p : Option X). IsSome p) xs full) number
   where

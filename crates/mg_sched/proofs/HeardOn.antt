@@ -24,7 +24,7 @@ pub heard_one : (laws : Laws) {H : Type 0} (has_heard : H → H → List Event �
     → ((began : H) (events : List Event) → has_heard began a events → has_heard began b (events ++ event ∷ [])) → Heard laws has_heard a b net now
 heard_one laws {H} has_heard a b event net now of acts hears = λ began events heard. (event ∷ [], run_one laws event net now of acts, hears began events heard)
 
--- where memory runs out
+-- if memory runs out
 
 pub on_err : {T E P : Type 0} (r : Result T E) → P → OnErr r P
 on_err (Ok v) p = tt

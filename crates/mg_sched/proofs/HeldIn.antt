@@ -1,4 +1,4 @@
--- How many packets parts hold, where each part tells no more than the greatest number.
+-- How many packets parts hold, if each part tells at most the greatest number.
 use Rattle.std.proofs.Common.{◌≡◌, ℕ, ◌+◌, ◌<◌, List, length, min, take, get_or, sum_by, arith}
 use Rattle.std.proofs.lemmas.List.Sums.{sum_by_more}
 

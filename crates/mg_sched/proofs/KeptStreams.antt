@@ -1,4 +1,4 @@
--- A net of which a stream is kept stands for what it stood for.
+-- A net that keeps a stream stands for what it stood for.
 use Rattle.mg_calc.specs.Rules.{Laws}
 use Rattle.std.proofs.Common.{◌≡◌, ℕ, zero, suc, ◌+◌, ◌<◌, ◌≤◌, Bool, true, false, if◌then◌else◌, List, [], ◌∷◌, length, length-set, get_or, set, get_or-set_same, get_or-set_other, inl, inr, ap, sym, refl, subst, ◌∙◌, arith}
 use Rattle.std.proofs.lemmas.Bool.{cases_eq, cases_lt}

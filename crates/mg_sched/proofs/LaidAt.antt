@@ -146,7 +146,7 @@ pub shortened_all : {laws : Laws} (from : ℕ) (inputs : List ℕ) (pieces : Lis
 shortened_all {laws} from inputs pieces bounds count before now none h =
     all_shorter from inputs pieces before now (subst (λ (n : ℕ). AreLongerAt from inputs pieces n before now) (omega (arith, none)) h.are)
 
--- what the whole call leaves where not all could be extended
+-- what the whole call leaves if not all engines could be extended
 pub shorter_again : {laws : Laws} (from : ℕ) (inputs : List ℕ) (pieces : List (StreamPrefix Plain)) (bounds : List ℕ) (count : ℕ) (before now new : List EngineView) → AreLongerAt from inputs pieces count before now → MayEachAt laws from inputs pieces before
     → AtPlaces (IsBoundAt from inputs before) bounds → HaveEngines from inputs before → AreRising inputs → ((old : List EngineView) → WereLongerAt laws from inputs pieces bounds count old now → new ≡ old) → new ≡ before
 shorter_again {laws} from inputs pieces bounds count before now new are may bounds_were there rising step = step before (record { are = are; may = may; bounds_were = bounds_were; there = there; rising = rising })

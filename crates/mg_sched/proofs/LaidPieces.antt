@@ -140,7 +140,7 @@ pub shortened_all : {laws : Laws} (from : ℕ) (pieces : List (StreamPrefix Plai
 shortened_all {laws} from pieces bounds count before now none h =
     all_shorter from pieces before now (subst (λ (n : ℕ). AreLonger from pieces n before now) (omega (arith, none)) h.are)
 
--- what the whole call leaves: all are extended, or none
+-- what the whole call leaves: all engines are extended, or none
 pub longer_all : (from n : ℕ) (pieces : List (StreamPrefix Plain)) (count : ℕ) (before now : List EngineView) → n ≡ from → count ≡ length pieces → AreLonger n pieces count before now → AreLonger from pieces (length pieces) before now
 longer_all from n pieces count before now from_is all h = subst₂ (λ (m k : ℕ). AreLonger m pieces k before now) from_is all h
 

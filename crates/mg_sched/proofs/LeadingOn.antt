@@ -14,7 +14,7 @@ one_place plan p q edge one two =
     let e = same_Some one.0 two.0 (sym one.1 ∙ two.1) in
     same_Some p q (sym one.2 ∙ (ap (source_of plan) e ∙ two.2))
 
--- the first of a number on is the first of the number before, where that one leads from elsewhere
+-- the first edge from a number on is also the first from the number before it, if the edge of that number leads from elsewhere
 first_before : (plan : Plan) (low place : ℕ) (o : Option ℕ) → ¬ LeadsFrom plan place low → IsFirstFrom plan (low + 1) place o → IsFirstFrom plan low place o
 first_before plan low place None elsewhere h = λ edge from leads. elim (cases_eq edge low) [
   | inl same ↦ elsewhere (subst (LeadsFrom plan place) same leads)

@@ -29,7 +29,7 @@ use Rattle.mg_sched.proofs.LeftParts.{queue_left, engine_put, put_less, not_idle
 use Rattle.mg_sched.proofs.LeftEngines.{any_put, close_by, closes, window_left, window_less, outputs_less, out_left}
 use Rattle.mg_sched.proofs.LeftPerform.{same_left, less_left}
 
--- What is ready at the front of a window is laid: less is left of the window, and Close leaves it only where the node has stopped.
+-- What is ready at the front of a window is laid. Then less is left of the window, and Close leaves it only if the node has stopped.
 
 abbrev front_left : Front → ℕ
 front_left front = window_left (has_stopped front) front.window
@@ -99,7 +99,7 @@ commit_engine {laws} job node number laid engine taken now p h is takes commits 
     ∙ ap (λ (v : EngineView). list_any closes v.window) takes
     ∙ any_put closes engine.window (number - engine.laid) it.1 entry it.2 (ap is_close (found_phase job node engine number it.1 p h it.2 it.3)) in
     let same_close : close_by (has_ended engine || list_any closes window) ≡ close_by (has_ended engine || list_any closes engine.window) = ap (λ (b : Bool). close_by (has_ended engine || b)) close in
-    -- what is ready is laid
+    -- the works that are ready are laid
     let w = committed_whole taken (record taken { window = window }) outcome refl some in
     let front = front_of taken window w.whole in
     let last = front_laid taken.offset window front in

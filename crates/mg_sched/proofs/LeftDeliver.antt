@@ -1,4 +1,4 @@
--- A delivery leaves less to come to a port, or less to raise there.
+-- A delivery lessens what a port may still get, or how far it may still be raised.
 use Rattle.std.proofs.Common.{◌≡◌, ℕ, zero, suc, ◌+◌, ◌-◌, ◌<◌, ◌≤◌, ◌^◌, Bool, true, false, [], ◌∷◌, length, take, sum_by, Some, slice_get, nat_lt, ◌⊎◌, inl, inr, ap, sym, refl, subst, ◌∙◌, arith}
 use Rattle.std.proofs.lemmas.Bool.Decides.{nat_tests, eqb_tells}
 use Rattle.std.proofs.lemmas.List.{length-take}

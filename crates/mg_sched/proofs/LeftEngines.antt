@@ -32,13 +32,13 @@ bounds_left bs = sum_by (λ b. done - b.bound) bs
 engine_numbers : (c c_now w w_now k k_now o o_now : ℕ) → c_now ≡ c → w_now + k_now < w + k → o_now ≤ o → 4 * (2 ^ 65 - c_now) + w_now + k_now + o_now < 4 * (2 ^ 65 - c) + w + k + o
 engine_numbers c c_now w w_now k k_now o o_now same less fewer = omega arith
 
--- where its window has less to do, and its outputs no more
+-- if its window has less to do, and its outputs have no more
 pub window_less : (engine now : EngineView) → now.claimed ≡ engine.claimed → window_left (has_ended now) now.window < window_left (has_ended engine) engine.window → bounds_left now.outputs ≤ bounds_left engine.outputs → engine_left now < engine_left engine
 window_less engine now claimed window outputs =
     engine_numbers engine.claimed now.claimed (sum_by entry_left engine.window) (sum_by entry_left now.window) (close_by (has_ended engine || list_any closes engine.window)) (close_by (has_ended now || list_any closes now.window)) (bounds_left engine.outputs)
     (bounds_left now.outputs) claimed window outputs
 
--- some element passes where one did, as long as the one at the place passes as before
+-- some element passes if one did before, as long as the element at the place passes as before
 pub any_put : {X : Type 0} (p : X → Bool) (xs : List X) (i : ℕ) (x y : X) → slice_get xs i ≡ Some x → p y ≡ p x → list_any p (set xs i y) ≡ list_any p xs
 any_put p [] i x y at same = refl
 any_put {X} p (z ∷ xs) zero x y at same = (let one : Some z ≡ Some x = at in let is : z ≡ x = cc in ap (λ (b : Bool). b || list_any p xs) (same ∙ ap p (sym is)))

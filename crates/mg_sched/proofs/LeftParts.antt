@@ -34,7 +34,7 @@ all_noted_left (n ∷ ns) qs k = all_noted_left ns (noted qs k n) (k + 1) ∙ no
 pub noted_same : (net : NetView) (k : ℕ) (ns : List ℕ) → left_in (with_noted net k ns) ≡ left_in net
 noted_same net k ns = ap (λ (n : ℕ). sum_by engine_left net.engines + sum_by intake_left net.intakes + n) (all_noted_left ns net.limits.queues k)
 
--- a part in whose place less is left
+-- less is left in all if less is left in the place of a part
 pub put_less : (now before new old : ℕ) → now + old ≡ before + new → new < old → now < before
 put_less now before new old is less = omega (arith, is, less)
 

@@ -1,4 +1,4 @@
--- What the collector of a net has still to give, where all has come to it, as in a net at rest.
+-- What the collector of a net has still to give once it has got everything, as in a net at rest.
 use Rattle.std.proofs.Common.{◌≡◌, ℕ, zero, suc, ◌+◌, ◌≤◌, List, [], ◌∷◌, length, Option, Some, None, option_map, slice_get, sym, ap, subst, ◌∙◌, arith}
 use Rattle.std.specs.List.{AllZip}
 use Rattle.std.proofs.lemmas.Option.{none-some, slice_get_past}
@@ -40,7 +40,7 @@ next_after policy k qs ss h =
     let none : k + 0 ≡ k = omega arith in
     ap (λ (es : List (TimedSet Plain)). slice_get es 0) (what_is_next policy k qs ss h) ∙ get_drop k (settled_sets policy ss) 0 ∙ ap (slice_get (settled_sets policy ss)) none
 
--- so it is where the streams came in whole
+-- so it is if the streams came in whole
 sets_left : {laws : Laws} (job : LoggedJob laws) (streams : List (StreamPrefix Plain)) (consumer claimed : ℕ) (waits : Pending) → HoldsWaits job streams consumer claimed waits → ¬ (law_of job.job.plan consumer ≡ Some Loopback)
     → HasCome (record { claimed = claimed; waits = waits }) (streams_at streams (ports_of job.job.plan consumer)) → HasLeft claimed waits (settled_sets (policy_of job.job.plan consumer) (streams_at streams (ports_of job.job.plan consumer)))
 sets_left {laws} job streams consumer claimed (Sets inbox) holds other came =
@@ -57,7 +57,7 @@ sets_left {laws} job streams consumer claimed (Loop held) holds other came = abs
 no_loop : (plan : Plan) → law_of plan (length plan.nodes) ≡ Some Loopback → ⊥
 no_loop plan is = none-some Loopback (sym (ap (λ (o : Option PlanNode). option_map (λ n. n.law) o) (slice_get_past plan.nodes (length plan.nodes) (omega arith))) ∙ is)
 
--- where a list has nothing more, the number is no less than its length
+-- if a list has nothing at a number, the number is no less than its length
 none_past : {X : Type 0} (xs : List X) (k : ℕ) → slice_get xs k ≡ None → length xs ≤ k
 none_past [] k none = omega arith
 none_past (x ∷ xs) zero none = absurd (none-some x (sym none))
@@ -85,7 +85,7 @@ collector_left {laws} job net solution intake h solves there came =
     (sets_left job solution last intake.claimed intake.waits holds.0 holds.1
     (subst (λ (p : Plan). HasCome intake (streams_at solution (ports_of p last))) h.plan came))
 
--- where all has come and there is no next one, all are claimed
+-- if all has come and there is no next set, all sets are claimed
 pub all_claimed : {laws : Laws} (job : LoggedJob laws) (net : NetView) (solution : List (StreamPrefix Plain)) (intake : IntakeView) → StandsFor job net → Solves job solution → collector_of net ≡ Some intake
     → HasCome intake (streams_at solution (ports_of net.plan (length net.plan.nodes))) → next_set_of intake.waits ≡ None → intake.claimed ≡ length (settled_outputs net.plan solution)
 all_claimed {laws} job net solution intake h solves there came none =

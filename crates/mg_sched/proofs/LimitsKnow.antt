@@ -145,7 +145,7 @@ claim_knows net node n engine engine_now intake_now work_queue_now valid h at_n 
       };
 }
 
--- Another cell at a node, with the same intake: what waits is the same. Where the node has ended its queues no longer count.
+-- Another cell at a node, with the same intake: what waits is the same. If the node has ended its queues no longer count.
 cell_queue : (net : NetView) (node : ℕ) (engine_now : EngineView) (intake : IntakeView) (work_queue_now : WorkQueueView) (limits : QueueLimits) (e : Edge) (old q : Queue) → KnowsQueue net e old → slice_get net.intakes node ≡ Some intake
     → q.waiting ≡ old.waiting → (e.node ≢ node → q.counts ≡ old.counts) → (e.node ≡ node → q.counts ≡ not (has_ended engine_now)) → KnowsQueue (with_cell net node engine_now intake work_queue_now limits) e q
 cell_queue net node engine_now intake work_queue_now limits e old q k at_intake waiting others own = record {

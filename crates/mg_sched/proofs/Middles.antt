@@ -1,4 +1,4 @@
--- Lists of which an element is taken out of the middle.
+-- Lists that lose an element from their middle.
 use Rattle.std.proofs.Common.{◌≡◌, ℕ, zero, suc, ◌<◌, List, [], ◌∷◌, ◌++◌, length, get_or, All, ◌⊎◌, inl, inr, sym, refl, subst, arith}
 use Rattle.std.specs.Prelude.{AllPairs, Any}
 use Rattle.std.specs.List.{AllByRecursion}
@@ -10,7 +10,7 @@ module _ {X : Type 0} (P : X → Type 0) where
   middle_by [] back x all = (all.1, all.0)
   middle_by (y ∷ front) back x all = (let rest = middle_by front back x all.1 in ((all.0, rest.0), rest.1))
 
-  -- all of the others, and it
+  -- all of the other elements, and this one
   pub all_middle : (front back : List X) (x : X) → All P (front ++ x ∷ back) → All P (front ++ back) × P x
   all_middle front back x all =
       (let both = middle_by front back x (recursion_from_All P (front ++ x ∷ back) all) in
@@ -42,7 +42,7 @@ module _ {X : Type 0} (P : X → Type 0) where
   any_longer (x ∷ xs) ys (inl here) = inl here
   any_longer (x ∷ xs) ys (inr later) = inr (any_longer xs ys later)
 
-  -- one of the others, where it isn't it
+  -- one of the other elements, if it isn't this one
   pub any_middle : (front back : List X) (x : X) → (P x → ⊥) → Any P (front ++ x ∷ back) → Any P (front ++ back)
   any_middle front back x not any = any_from (front ++ back) (any_others front back x not (any_of (front ++ x ∷ back) any.0 any.1 any.2 any.3 any.4))
 
@@ -50,7 +50,7 @@ module _ {X : Type 0} (P : X → Type 0) where
   pub any_first : (xs ys : List X) → Any P xs → Any P (xs ++ ys)
   any_first xs ys any = any_from (xs ++ ys) (any_longer xs ys (any_of xs any.0 any.1 any.2 any.3 any.4))
 
--- pairs: those of the others, and each other one with it
+-- pairs: those of the other elements, and each other element with this one
 module _ {X : Type 0} (R : X → X → Type 0) (turned : (x y : X) → R x y → R y x) where
   pairs_head : (x : X) (xs : List X) → AllPairs R (x ∷ xs) → All (R x) xs
   pairs_head x xs pairs = λ k d less. pairs 0 (suc k) d (omega arith) (omega (arith, less))
@@ -68,7 +68,7 @@ module _ {X : Type 0} (R : X → X → Type 0) (turned : (x y : X) → R x y →
       let own = all_middle (R y) front back x (pairs_head y (front ++ x ∷ back) pairs) in
       (AllPairs-cons R y (front ++ back) own.0 rest.0, (own.1, rest.1)))
 
-  -- and that, of all the others
+  -- and each of all the other elements with this one
   pub pairs_with : (front back : List X) (x : X) → AllPairs R (front ++ x ∷ back) → All (λ y. R y x) (front ++ back)
   pairs_with front back x pairs = All-from_recursion (λ y. R y x) (front ++ back) (pairs_middle front back x pairs).1
 

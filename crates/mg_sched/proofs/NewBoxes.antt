@@ -1,4 +1,4 @@
--- The calculators that were handed in: each node begins with the one that its job has for it.
+-- User-supplied calculators: each node begins with the calculator that its job has for it.
 use Rattle.std.proofs.Common.{◌≡◌, ℕ, zero, suc, ◌<◌, List, [], ◌∷◌, ◌++◌, length, map, All, Any, true, Option, Some, None, IfSome, IsSomeAnd, is_some, option_map, unwrap_or, slice_get, subst, ap, sym, refl, ◌∙◌, arith}
 use Rattle.std.specs.Option.{option_and_then}
 use Rattle.std.proofs.lemmas.List.{length-map}
@@ -35,7 +35,7 @@ every {X} P xs each i d less = (let there = there_at xs i less in subst P (sym (
 
 -- Calculators.
 
--- the calculators that were handed in, each in its place
+-- the user-supplied calculators, each in its place
 abbrev pub given_of : List BoxTold → List (Option BoxTold)
 given_of boxes = map (λ b. Some b) boxes
 

@@ -54,7 +54,7 @@ front {X} [] ys i x there = absurd cc
 front {X} (z ∷ xs) ys zero x there = there
 front {X} (z ∷ xs) ys (suc i) x there = front xs ys i x there
 
--- the engine of a graph input has what was handed in, which is in the solution
+-- the engine of a graph input has the stream that the job has for it, and this stream is in the solution
 input_engine_lawful : {laws : Laws} (plan : Plan) (inputs : Inputs) (boxes : List BoxTold) (input : ℕ) (s : StreamPrefix Plain) → IsJob (record { plan = plan; inputs = inputs; laws = laws }) → slice_get inputs.streams input ≡ Some s
     → LawfulEngine (job_of laws plan inputs boxes) (of_input input) (input_engine input (get_or plan.inputs input 0) s)
 input_engine_lawful {laws} plan inputs boxes input s is there =
@@ -243,7 +243,7 @@ net_made {laws} plan inputs boxes net is fit parts left begun wound = record {
   unused = λ place told lies. placed boxes place told (left.others place told lies).0;
 }
 
--- a net of parts, once its engines have the calculators that were handed in
+-- a net of parts, once its engines have the user-supplied calculators
 pub joined_made : {laws : Laws} (plan : Plan) (inputs : Inputs) (boxes : List BoxTold) (before net : NetView) → IsJob (record { plan = plan; inputs = inputs; laws = laws }) → BoxesFit plan boxes → HasParts plan inputs (λ _ node. own_told node) before
     → net ≡ record before { engines = net.engines; spare = net.spare } → length net.engines ≡ length before.engines
     → (AtPlaces (IsEngineAt plan inputs.streams (λ _ node. own_told node)) before.engines → AtPlaces (IsEngineAt plan inputs.streams (λ _ node. first_holder (given_of boxes) node)) net.engines)

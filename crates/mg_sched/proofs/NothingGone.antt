@@ -1,4 +1,4 @@
--- Steps give up nothing of what is laid, nor does further input; and a trim gives up nothing of what is kept.
+-- Steps give up nothing of what is laid, nor does further input. A trim gives up nothing of what is kept.
 use Rattle.std.proofs.Common.{◌≡◌, ℕ, zero, suc, ◌+◌, ◌-◌, ◌≤◌, Bool, true, false, if◌then◌else◌, List, [], ◌∷◌, map, length, get_or, set, Option, Some, None, slice_get, inl, inr, ap, sym, refl, ◌∙◌, arith}
 use Rattle.std.proofs.lemmas.Bool.{cases_eq}
 use Rattle.std.proofs.lemmas.Option.{same_Some, none-some, slice_get_within, get_or_from_slice_get}
@@ -225,7 +225,7 @@ trims_keep {laws} before now stream number h t kept has output is =
     let same = ap (λ (b : Backlog Plain). b.gone) goes in
     omega (arith, low, few, same)
 
--- Where the nodes are left as they were.
+-- If the nodes are left as they were.
 pub leaves_keep : (before now : NetView) (stream number : ℕ) → now.plan ≡ before.plan → now.engines ≡ before.engines → HasFrom before stream number → HasFrom now stream number
 leaves_keep before now stream number plan engines = has_from before now stream number (same_gone before now plan engines)
 

@@ -48,7 +48,7 @@ use Rattle.mg_sched.proofs.LimitsKnow.{cell_knows, stopped_knows}
 abbrev NoneOut : EngineView → Type 0
 NoneOut engine = (place : ℕ) (entry : EntryView) → slice_get engine.window place ≡ Some entry → entry.outcome ≡ None → ⊥
 
--- what is known of the engine of a node of which nothing is claimed
+-- what is known of the engine of a node, if nothing of the node is claimed
 record HasNone (node : PlanNode) (engine : EngineView) : Type 0 where
   pub role : engine.role ≡ role_of node.law
   pub first : engine.first ≡ slice_index_or node.outputs 0 0
@@ -112,7 +112,7 @@ begun_none {laws} node number told sides engine b = record {
 abbrev pub with_opened : NetView → ℕ → EngineView → QueueLimits → ℕ → NetView
 with_opened net node engine limits begun = record net { engines = set net.engines node engine; limits = limits; begun = begun }
 
--- what the engine has come to
+-- what has become of the engine
 record OpenStep {laws : Laws} (job : LoggedJob laws) (begun : Bool) (number : ℕ) (engine engine_now : EngineView) : Type 0 where
   pub node : PlanNode
   pub lawful : IsEngine job begun number engine_now
@@ -246,7 +246,7 @@ may_begin_next {laws} net sides engine h within at are =
     let n = next_of h.job net sides engine h.stands within at are in
     may_begin h.job net.begun n.node sides engine n.unbegun n.there n.is
 
--- What the engine tells where it is begun, and where it isn't.
+-- What the engine tells if it is begun, and if it isn't.
 
 abbrev pub StaysUnbegun : Laws → List (Option Plain) → EngineView → EngineView → Type 0
 StaysUnbegun laws sides engine now = (job : LoggedJob laws) (number : ℕ) (node : PlanNode) → slice_get job.job.plan.nodes number ≡ Some node → sides ≡ sides_of job.job node → LawfulUnbegun job number engine → LawfulUnbegun job number now
@@ -328,7 +328,7 @@ set_grows engines node engine now there grows place g g_now at at_now = elim (ca
   | inr other ↦ (let same : g ≡ g_now = same_Some g g_now (sym at ∙ sym (get_other engines node place now other) ∙ at_now) in subst (λ (v : EngineView). EngineGrows g v) same (same_engine g))
 ]
 
--- and nothing of what is laid is given up
+-- and no packet that is laid is given up
 set_gone : (engines : List EngineView) (node : ℕ) (engine now : EngineView) → slice_get engines node ≡ Some engine → ((output : ℕ) → (laid_at now output).gone ≡ 0) → (place : ℕ) (g g_now : EngineView) → slice_get engines place ≡ Some g
     → slice_get (set engines node now) place ≡ Some g_now → (output : ℕ) → (laid_at g_now output).gone ≤ (laid_at g output).gone
 set_gone engines node engine now there none place g g_now at at_now output = elim (cases_eq place node) [

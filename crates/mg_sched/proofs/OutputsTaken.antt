@@ -1,4 +1,4 @@
--- Sets that are taken from the collector: they are counted, all that has come stays counted, and at no time more are taken than the
+-- Sets that are taken from the collector. They are counted, and all that has come stays counted. At no time more sets are taken than the
 -- solution has.
 use Rattle.std.proofs.Common.{◌≡◌, ℕ, ◌+◌, ◌<◌, ◌≤◌, Bool, true, false, List, [], ◌∷◌, length, length-take, All, Option, Some, option_map, unwrap_or, refl, sym, ap, ap₂, subst, ◌∙◌, arith}
 use Rattle.std.specs.List.{AllByRecursion}
@@ -107,7 +107,7 @@ all_come_at_rest {laws} job solution net h running rest solves =
     let it = found net.intakes (length net.plan.nodes) (omega (arith, long)) in
     record { intake = it.0; there = it.1; came = collector_comes job net solution it.0 h running rest solves it.1 }
 
--- And where nothing is taken any more, all of it was.
+-- And if there is no set to take any more, all sets were taken.
 pub all_were_taken : {laws : Laws} (job : LoggedJob laws) (solution : List (StreamPrefix Plain)) (set_old set_now : List (Option (Stamped Plain))) (net now : NetView) → StandsFor job net → Solves job solution → HasAllOutputs solution net
     → TakesOut false set_old set_now net now → taken_out net ≡ length (settled_outputs net.plan solution)
 all_were_taken {laws} job solution set_old set_now net now h solves all t =

@@ -1,4 +1,4 @@
--- Where the edges of a valid plan stand: those into a consumer stand together, one for each of its ports, behind those into the
+-- Where the edges of a valid plan stand. Those into a consumer stand together, one for each of its ports. They stand after those into the
 -- consumers before it.
 use Rattle.std.proofs.Common.{◌≡◌, ℕ, zero, suc, ◌+◌, ◌<◌, ◌≤◌, List, [], ◌∷◌, ◌++◌, All, Some, length, map, take, slice_get, option_map, ◌⊎◌, inl, inr, ⊎_elim, refl, sym, ap, ◌∙◌, subst, arith}
 use Rattle.std.specs.Prelude.{sum_by, unwrap_or}
@@ -16,7 +16,7 @@ use Rattle.mg_sched.specs.Places.{first_edge}
 
 -- ---- lists, place by place
 
--- what stands in two lists, one behind the other
+-- what stands in two lists, one after the other
 pub joined_at : {X : Type 0} (xs ys : List X) (k : ℕ) (x : X) → slice_get (xs ++ ys) k ≡ Some x
     → (slice_get xs k ≡ Some x) ⊎ ((j : ℕ) × (k ≡ length xs + j) × (slice_get ys j ≡ Some x))
 joined_at [] ys k x at = inr (k, omega arith, at)
@@ -41,9 +41,9 @@ mapped_at f (x ∷ xs) (suc k) y at = mapped_at f xs k y at
 pub all_at : {X : Type 0} (P : X → Type 0) (xs : List X) (k : ℕ) (x : X) → slice_get xs k ≡ Some x → All P xs → P x
 all_at P xs k x at all = subst P (get_or_from_slice_get xs k x x at) (all k x (slice_get_within xs k x at))
 
--- ---- the pieces of numbered elements, one behind the other
+-- ---- the pieces of numbered elements, one after the other
 
--- where something stands in them: at a place of one piece, behind the pieces before it
+-- where something stands in them: at a place of one piece, after the pieces before it
 pub record StandsIn {X Y : Type 0} (f : ℕ × X → List Y) (size : X → ℕ) (a : ℕ) (xs : List X) (k : ℕ) (y : Y) : Type 0 where
   pub number : ℕ
   pub element : X
@@ -139,7 +139,7 @@ ports_of_node plan n node at = ap (λ o. unwrap_or (option_map (λ x. x.inputs) 
 pub ports_of_collector : (plan : Plan) → ports_of plan (length plan.nodes) ≡ plan.outputs
 ports_of_collector plan = ap (λ o. unwrap_or (option_map (λ x. x.inputs) o) plan.outputs) (slice_get_past plan.nodes (length plan.nodes) (omega arith))
 
--- the edges into the collector come behind those into all nodes
+-- the edges into the collector stand after those into all nodes
 before_collector : (plan : Plan) → length (flat_map into (enumerate_from 0 plan.nodes)) ≡ first_edge plan (length plan.nodes)
 before_collector plan = pieces_long into inputs_count ends_long 0 plan.nodes ∙ ap (sum_by inputs_count) (sym (take_all (length plan.nodes) plan.nodes (omega arith)))
 
@@ -203,14 +203,14 @@ pub edge_ends : (plan : Plan) → IsValid plan → (k : ℕ) (e : Edge) → slic
     → (e.node ≤ length plan.nodes) × (slice_get (ports_of plan e.node) e.port ≡ Some e.stream)
 edge_ends plan valid k e at = let known = edge_known plan valid k e at in (known.consumer, known.stream)
 
--- it stands behind those into the consumers before, at its port
+-- it stands after those into the consumers before, at its port
 pub edge_place : (plan : Plan) → IsValid plan → (k : ℕ) (e : Edge) → slice_get plan.edges k ≡ Some e
     → (k ≡ first_edge plan e.node + e.port) × (e.port < length (ports_of plan e.node))
 edge_place plan valid k e at =
     let known = edge_known plan valid k e at in
     (known.place, slice_get_within (ports_of plan e.node) e.port e.stream known.stream)
 
--- each port of a consumer has one
+-- each port of a consumer has an edge
 pub edge_number : (plan : Plan) → IsValid plan → (node port : ℕ) → node ≤ length plan.nodes → port < length (ports_of plan node)
     → (e : Edge) × (slice_get plan.edges (first_edge plan node + port) ≡ Some e) × (e.node ≡ node) × (e.port ≡ port)
 edge_number plan valid node port consumer within =
@@ -246,7 +246,7 @@ first_edge_within plan valid node =
     let all : first_edge plan (length plan.nodes) ≡ sum_by inputs_count plan.nodes = ap (sum_by inputs_count) (take_all (length plan.nodes) plan.nodes (omega arith)) in
     omega (arith, sum_by-take-le inputs_count plan.nodes node, all, edges_count plan valid)
 
--- it comes behind the edges of the consumer before
+-- it stands after the edges of the consumer before
 pub first_edge_next : (plan : Plan) (i : ℕ) (node : PlanNode) → slice_get plan.nodes i ≡ Some node → first_edge plan (i + 1) ≡ first_edge plan i + length node.inputs
 first_edge_next plan i node at =
     sum_by_more inputs_count plan.nodes i node (slice_get_within plan.nodes i node at) ∙ ap (λ n. first_edge plan i + length n.inputs) (get_or_from_slice_get plan.nodes i node node at)

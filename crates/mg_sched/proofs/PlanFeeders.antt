@@ -1,4 +1,4 @@
--- Where the feeders of a plan stand: the graph inputs first, by their numbers, and behind them the nodes without inputs, each behind
+-- Where the feeders of a plan stand. The graph inputs stand first, by their numbers. After them stand the nodes without inputs, each after
 -- those before it.
 use Rattle.std.proofs.Common.{◌≡◌, ℕ, zero, suc, ◌+◌, ◌<◌, Bool, true, false, cond, eqb, List, [], ◌∷◌, ◌++◌, Contains, Option, None, Some, length, map, take, filter, count_by, slice_get, option_map, ◌⊎◌, ◌↔◌, inl, inr, ⊎_elim, refl, sym, ap, ◌∙◌, subst, arith}
 use Rattle.std.specs.List.{enumerate_from}
@@ -84,7 +84,7 @@ feeder_of_input plan j within =
     at_first (map graph_input (numbers (length plan.inputs))) (map source_node (sources plan)) j (graph_input j)
     (slice_get-map graph_input (numbers (length plan.inputs)) j ∙ ap (option_map graph_input) (number_there 0 (length plan.inputs) j within ∙ ap Some zero_j))
 
--- behind them stands each node without inputs, behind those before it
+-- after them stands each node without inputs, after those before it
 pub feeder_of_source : (plan : Plan) (n : ℕ) (node : PlanNode) → slice_get plan.nodes n ≡ Some node → node.inputs ≡ []
     → slice_get (feeders plan) (length plan.inputs + sources_before plan n) ≡ Some (source_node n)
 feeder_of_source plan n node there none =
@@ -161,7 +161,7 @@ own_feeder plan count next later own more node old there passes is_later is_more
       known = subst (AreOwnFeeders plan) (sym is_more) (own_next plan count own node (Some next) old.len old.known there (none, at));
     }
 
--- and another one is none
+-- and a node that isn't a source is no feeder
 pub own_none : (plan : Plan) (count next later : ℕ) (own more : List (Option ℕ)) (node : PlanNode) → OwnSoFar plan count next own → slice_get plan.nodes count ≡ Some node
     → is_source node ≡ false → later ≡ next → more ≡ own ++ None ∷ [] → OwnSoFar plan (count + 1) later more
 own_none plan count next later own more node old there fails is_later is_more = record {

@@ -1,4 +1,5 @@
--- Who writes the streams of a valid plan: each stream is the graph input, or stands at the output, that its producer tells.
+-- Who writes the streams of a valid plan. Each stream is the graph input that its producer tells, or stands at the output that its producer
+-- tells.
 use Rattle.std.proofs.Common.{◌≡◌, ℕ, zero, suc, ◌+◌, ◌<◌, List, [], ◌∷◌, ◌++◌, Some, length, map, take, slice_get, option_map, ⊎_elim, refl, sym, ap, ◌∙◌, subst, arith}
 use Rattle.std.specs.Prelude.{sum_by}
 use Rattle.std.specs.List.{range_with_len, enumerate_from, flat_map}
@@ -89,8 +90,8 @@ input_stream plan valid j within =
     listed plan valid j (Input j) (at_first (by_inputs plan) (flat_map by_node (enumerate_from 0 plan.nodes)) j (Input j)
     (slice_get-map Input (numbers (length plan.inputs)) j ∙ ap (option_map Input) (number_there 0 (length plan.inputs) j within ∙ ap Some zero_j)))
 
--- a producer writes a stream: it is the graph input of the stream's number, or a node that is there, at one of whose outputs the
--- stream stands
+-- a producer writes a stream. It is the graph input of the stream's number, or a node that is there and has the stream at one of its
+-- outputs
 abbrev pub WrittenBy : Plan → ℕ → Producer → Type 0
 WrittenBy plan s (Input input) = (input ≡ s) × (input < length plan.inputs)
 WrittenBy plan s (Node n port) = (node : PlanNode) × (slice_get plan.nodes n ≡ Some node) × (slice_get node.outputs port ≡ Some s)

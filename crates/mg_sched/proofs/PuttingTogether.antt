@@ -1,4 +1,4 @@
--- A net is put together: its limits are told anew what waits, and then it stands for each job of which the parts are.
+-- A net is put together. Its limits are told anew what waits. Then it stands for each job whose parts these are.
 use Rattle.std.proofs.Common.{◌≡◌, ℕ, ◌+◌, ◌<◌, ◌≤◌, Bool, true, false, not, List, [], length, map, Option, Some, None, is_some, slice_get, inl, inr, ap, sym, refl, subst, ◌∙◌, arith, if◌then◌else◌}
 use Rattle.std.proofs.lemmas.Bool.{cases_eq, lt-ltb, true≢false}
 use Rattle.std.proofs.lemmas.List.{length-map}

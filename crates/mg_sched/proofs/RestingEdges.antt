@@ -64,7 +64,7 @@ moved_by false raised e = absurd (did_not e)
 none_moved : (packets : ℕ) (raised : Bool) → Idle ≡ effect_of (Moved packets raised) → (packets ≡ 0) × (raised ≡ false)
 none_moved packets raised e = (let by = moved_by (packets == 0) raised e in (eqb-true packets 0 by.0, by.1))
 
--- what is delivered where nothing is missing
+-- what is delivered if nothing is missing
 abbrev delivered_by : Waiting Plain → Waiting Plain → List (Stamped Plain) → ℕ → Waiting Plain
 delivered_by o q ms n = if n == length ms then raised_to (with_packets q ms) o.bound else with_packets q (take n ms)
 

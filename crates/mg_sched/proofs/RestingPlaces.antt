@@ -1,4 +1,4 @@
--- Places at which there is nothing to do: what their parts tell, and a net of which all places rest.
+-- Places with nothing to do: what their parts tell, and a net whose places all rest.
 use Rattle.std.proofs.Common.{◌≡◌, ◌≢◌, ℕ, ◌+◌, ◌<◌, ◌≤◌, ◌⊎◌, ◌||◌, ◌∙◌, Bool, true, false, List, [], ◌∷◌, length, Option, Some, None, slice_get, slice_index_or, option_map, inl, inr, ap, sym, refl, subst, if◌then◌else◌, arith}
 use borrow.Author.Count.{below_more}
 use Rattle.std.proofs.lemmas.Bool.{false≢true, cases_eq}
@@ -48,11 +48,11 @@ use Rattle.mg_sched.proofs.IdleStays.{noted_same, all_noted_same, know_ports, br
 use Rattle.mg_sched.proofs.Sweeping.{rests, goes_false, still_idle, agenda_long}
 use Rattle.mg_sched.proofs.Touching.{stays_in}
 
--- Where no queue is full no feeder is throttled.
+-- If no queue is full no feeder is throttled.
 throttled_full : (net : NetView) (feeder : Feeder) → ¬ IsAnyFull net.limits → IsThrottled net.plan net.limits feeder → ⊥
 throttled_full net feeder free t = free (list_any-from_Any is_full net.limits.queues (t.0, t.1, t.2, t.3, t.4.0))
 
--- What a place tells at which nothing was done.
+-- What a place tells if nothing was done there.
 
 -- a delivery that moves nothing, of these parts
 brought_by : (answer : Delivered) (e : Edge) (engine own : EngineView) (intake came now : IntakeView) → answer ≡ Moved 0 false → own ≡ engine → came ≡ intake → now ≡ came
@@ -193,16 +193,16 @@ rests_at {laws} net node engine intake work_queue some running free there at to 
   };
 }
 
--- Nets of which all places rest but some.
+-- Nets whose places all rest but some.
 
--- all are touched
+-- all places are touched
 pub rests_none : (net : NetView) (agenda : AgendaView) (count : ℕ) → length net.plan.nodes ≤ count → ((n : ℕ) → n ≤ count → IsIn agenda.touched n) → RestsBut net agenda
 rests_none net agenda count few all = record {
   edges = λ number place e engine intake there upto from out_from out_to at to. absurd (out_to (all e.node (omega (arith, upto, few))));
   nodes = λ node engine intake work_queue there out at to on. absurd (out (all node (omega (arith, there, few))));
 }
 
--- what has changed is touched
+-- all that has changed is touched
 pub rests_still : (before : NetView) (agenda : AgendaView) (now : NetView) (agenda_now : AgendaView) → now.plan ≡ before.plan → Notes before agenda now agenda_now → RestsBut before agenda → RestsBut now agenda_now
 rests_still before agenda now agenda_now same notes h =
     subst (λ (p : Plan). RestBut p now.engines now.intakes now.work_queues agenda_now.touched) (sym same)
@@ -242,7 +242,7 @@ edge_source {laws} net number e some there =
     let it = producer_there net.plan ok e.stream (edge_stream net.plan ok number e there) in
     (place_of net.plan it.0.producer, ap (λ (s : Option PlanStream). option_map (place_of net.plan) (option_map (λ x. x.producer) s)) it.1)
 
--- none is touched
+-- no place is touched
 pub all_rest : {laws : Laws} (net : NetView) (agenda : AgendaView) → StandsForSome laws net → IsRunning net → ¬ IsAnyFull net.limits → IsEmpty agenda.touched → RestsBut net agenda → IsAtRest laws net
 all_rest {laws} net agenda some running free none h = rests net some edges nodes (inl (free, record { idle = refl; same = refl }))
   where
@@ -278,7 +278,7 @@ pub relaxed_none : (laws : Laws) (did : Bool) (a b : NetView) → did ≡ false 
 relaxed_none laws true a b isnt s = absurd (false≢true (sym isnt))
 relaxed_none laws false a b isnt s = subst (λ (v : NetView). ¬ IsAnyFull v.limits) (sym s.0) (relax_idle laws a s.1)
 
--- where nothing was done first, what is done then is all
+-- if nothing was done first, what is done then is all
 pub goes_next : (first second : Bool) (a b c : NetView) → first ≡ false → Goes first a b → Goes second b c → Goes second a c
 goes_next first second a b c isnt one two = subst (λ (v : NetView). Goes second v c) (goes_false first a b isnt one) two
 
@@ -301,7 +301,7 @@ settles {laws} net now agenda next agenda_now place same unchanged free only her
     subst (λ (v : NetView). RestsBut v agenda_now) (sym same)
     (subst (λ (a : AgendaView). RestsBut net a) (sym unchanged) (rests_here net agenda next place free only (subst (λ (v : NetView). RestsHere laws v place) same here) h))
 
--- where something was done the place is touched again
+-- if something was done at a place, the place is touched again
 pub notes_again : (a : NetView) (k next : AgendaView) (b : NetView) (m last : AgendaView) (place : ℕ) → ChangesOnly k.touched next.touched place → Notes a next b m → IsIn last.touched place → ChangesOnly m.touched last.touched place
     → Notes a k b last
 notes_again a k next b m last place took notes there put = record {
@@ -319,11 +319,11 @@ notes_again a k next b m last place took notes there put = record {
 
 -- Edges into a consumer, one port after the other.
 
--- no edge leads to a place behind the collector's
+-- no edge leads to a place after the collector's
 pub into_none : {laws : Laws} (net : NetView) (place : ℕ) → StandsForSome laws net → length net.plan.nodes < place → EdgesRestInto laws net place
 into_none {laws} net place some past = λ number e there same. absurd (let upto = (edge_ends net.plan (valid net some) number e there).0 in omega (arith, upto, same, past))
 
--- nor does one lead from behind the places
+-- nor does an edge lead from a place after the last one
 pub behind_none : {laws : Laws} (net : NetView) (place : ℕ) → StandsForSome laws net → length net.plan.nodes + length net.plan.inputs ≤ place → EdgesRestBehind laws net place
 behind_none {laws} net place some past = λ number leads.
     absurd (let within = source_there net number place leads.0 some leads.1 leads.2 in let long = (places net some).0 in omega (arith, within, long, past))
@@ -375,7 +375,7 @@ unfolding StandsFor
 ports_counted {laws} net consumer intake some upto to =
     intake_ports some.job consumer intake (intake_of some.job net consumer intake some.stands upto to) ∙ sym (ap (λ (p : Plan). length (ports_of p consumer)) some.stands.plan)
 
--- An agenda of a net of which nothing is known.
+-- An agenda of a net, if nothing is known of the net.
 
 pub woken : (known : Bool) (net : NetView) (agenda now : AgendaView) → IsAgendaOf net.plan agenda → (known ≡ true → now ≡ agenda) → (known ≡ false → (n : ℕ) → n ≤ length agenda.heads → IsIn now.touched n)
     → (known ≡ true → RestsBut net agenda) → RestsBut net now
@@ -406,7 +406,7 @@ kept_rests known shown net slot agenda now is kept rests there same all =
     woken known net agenda now (subst (λ (v : NetView). IsAgendaOf v.plan agenda) is (subst (λ (o : Option AgendaView). IsKeptBy shown.plan o) there kept)) same all
     (λ is_known. subst (λ (v : NetView). RestsBut v agenda) is (subst (λ (o : Option AgendaView). RestsButKept shown.plan shown.engines shown.intakes shown.work_queues o) there (rests is_known)))
 
--- and a new one
+-- and a new agenda
 
 pub new_agenda : (shown net : NetView) (agenda now : AgendaView) → shown ≡ net → IsAgendaOf shown.plan agenda → length now.heads ≡ length agenda.heads → (now.starts ≡ agenda.starts) × (now.links ≡ agenda.links) → IsAgendaOf net.plan now
 new_agenda shown net agenda now is of heads leads = agenda_long net.plan agenda now (subst (λ (v : NetView). IsAgendaOf v.plan agenda) is of) heads leads.1 leads.0

@@ -1,4 +1,4 @@
--- What a net at rest has laid of each stream, and that it is what came at each port where the stream is read.
+-- What a net at rest has laid of each stream, and that it is what came at each port that reads the stream.
 use Rattle.std.proofs.Common.{◌≡◌, ℕ, zero, suc, ◌+◌, ◌-◌, ◌<◌, ◌≤◌, List, [], ◌∷◌, length, length-drop, take, get_or, Option, Some, option_map, slice_get, refl, sym, ap, subst, ◌∙◌, arith}
 use Rattle.std.proofs.Math.Seq.{take-append_seam}
 use Rattle.std.proofs.lemmas.List.{length-map}
@@ -43,7 +43,7 @@ stream_there xs [] i s at = absurd cc
 stream_there xs (n ∷ numbers) zero s at = ap (stream_of xs) (same_Some n s at)
 stream_there xs (n ∷ numbers) (suc i) s at = stream_there xs numbers i s at
 
--- what is laid of a stream: the output where it is written stands for it, and the solution's stream extends it
+-- what is laid of a stream: the output at which it is written stands for it, and the solution's stream extends it
 pub record IsLaid (net : NetView) (solution : List (StreamPrefix Plain)) (number : ℕ) (s : StreamPrefix Plain) : Type 0 where
   pub prefix : IsPrefix s
   pub stands : (stream : PlanStream) (engine : EngineView) → slice_get net.plan.streams number ≡ Some stream → slice_get net.engines (place_of net.plan stream.producer) ≡ Some engine → IsQueueOf (laid_at engine (number - engine.first)) s

@@ -1,4 +1,4 @@
--- What comes of a node's next set that is shown to its calculator where that lies.
+-- What comes of a node's next set that is shown to the node's calculator in place.
 use Rattle.std.proofs.Common.{◌≡◌, ℕ, ◌<◌, true, false, List, length, set, Some, slice_get, inl, inr, ap, sym, refl, subst, ◌∙◌}
 use Rattle.std.proofs.lemmas.List.{set-set}
 use Rattle.mg_calc.specs.Rules.{Laws}
@@ -23,7 +23,7 @@ use Rattle.mg_sched.specs.Code.AtOnce.{NodeHandsOut, ShowsTo, ShowsAt, did_nothi
 use Rattle.mg_sched.proofs.Finding.{found, work_queue_there, parts_lawful}
 use Rattle.mg_sched.proofs.WorkingAtOnce.{hands_work, hands_none, on_kept, work_queue_room, handed_out, nothing_came, comes, took_nothing, below, marks, performs, finishes}
 
--- Where no set was shown the net is as it was.
+-- If no set was shown the net is as it was.
 pub shows_none : {laws : Laws} {C : Type 0} (done : AtOnce C) (node : ℕ) (net : NetView) (some : StandsForSome laws net) → IsRunning net → node < length net.plan.nodes → (engine engine_now : EngineView) (intake intake_now : IntakeView)
     → slice_get net.engines node ≡ Some engine → slice_get net.intakes node ≡ Some intake → did_nothing done ≡ true → DoesAtOnce laws {C = C} done engine engine_now intake intake_now
     → ShowsAt laws {C = C} node done net (with_intake (with_engine net node engine_now) node intake_now)

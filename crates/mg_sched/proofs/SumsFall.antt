@@ -1,4 +1,4 @@
--- Sums over lists: each term stays or falls, and where one falls the sum does.
+-- Sums over lists: each term stays or falls, and if a term falls the sum falls.
 use Rattle.std.proofs.Common.{◌≡◌, ℕ, zero, suc, ◌+◌, ◌<◌, ◌≤◌, List, [], ◌∷◌, map, set, sum_by, Some, slice_get, ap, refl, subst, sym, ◌∙◌, arith}
 use Rattle.std.proofs.lemmas.List.Sums.{sum_by-cons, sum_by-set}
 use Rattle.std.proofs.lemmas.Option.{none-some, same_Some, slice_get_within, get_or_from_slice_get}

@@ -52,7 +52,7 @@ still_idle laws event a b same acts = subst (λ (v : NetView). Acts laws event I
 pub steps_none : (laws : Laws) (event : Event) (a b : NetView) → b ≡ a → Acts laws event Idle a b → Steps laws false event a b
 steps_none laws event a b same acts = (same, subst (λ (v : NetView). Acts laws event Idle a v) same acts)
 
--- how many edges may still be gone along, where they come in the order of their numbers
+-- how many edges are left at most, if they come in the order of their numbers
 abbrev pub edges_left : ℕ → Option ℕ → ℕ
 edges_left count None = 0
 edges_left count (Some edge) = count - edge
@@ -75,7 +75,7 @@ due_works laws number net node there p = go p.performed
     go (inl none) = other_works number p.work_queue.works (there p.work_queue p.on) none.0
     go (inr performs) = performs.performed
 
--- and one that is performed is committed
+-- and a performed work is committed
 due_shelf : (node number : ℕ) (engine : EngineView) (net : NetView) (shelf : Option PerformedView) → IsSome shelf → CommittedAt node number shelf Idle engine net net → ⊥
 due_shelf node number engine net None some c = false≢true some
 due_shelf node number engine net (Some p) some c = c
@@ -92,7 +92,7 @@ pub works_rest : {laws : Laws} (node : ℕ) (did : Bool) (a b c : NetView) → S
 works_rest {laws} node false a b c claims goes works shelf isnt = record { claims = still_idle laws (Claim node) a c (sym (goes ∙ claims.0)) claims.1; works = works; shelf = shelf }
 works_rest {laws} node true a b c claims goes works shelf isnt = absurd (false≢true (sym isnt))
 
--- and where it has none, its outputs are raised
+-- and if the node has no work, its outputs are raised
 pub raises_go : (laws : Laws) (node : ℕ) (worked raised : Bool) (a b c : NetView) → Goes worked a b → worked ≡ false → Steps laws raised (Advance node) b c → Goes raised a c
 raises_go laws node worked raised a b c works isnt advances = subst (λ (v : NetView). Goes raised v c) (goes_false worked a b isnt works) (steps_go laws raised (Advance node) b c advances)
 
@@ -168,7 +168,7 @@ some_engine {laws} net node engine some running there at =
     let intake = found net.intakes node (intake_there net node some there) in
     record { job = some.job; number = node; lawful = (cell_at some.job net node engine intake.0 work_queue.0 some.stands running there at intake.1 work_queue.1).lawful_engine }
 
--- an agenda stays for the plan, and is as it was where nothing was done
+-- an agenda stays for the plan, and is as it was if nothing was done
 
 pub agenda_on : {laws : Laws} (a b : NetView) (agenda : AgendaView) → Becomes laws a b → IsAgendaOf a.plan agenda → IsAgendaOf b.plan agenda
 agenda_on {laws} a b agenda h of = subst (λ (p : Plan). IsAgendaOf p agenda) (sym (becomes_plan a b h)) of
@@ -204,7 +204,7 @@ agenda_long plan a b of heads links starts = record {
 pub agenda_same : (plan : Plan) (a b : AgendaView) → IsAgendaOf plan a → b.heads ≡ a.heads → b.links ≡ a.links → b.starts ≡ a.starts → IsAgendaOf plan b
 agenda_same plan a b of heads links starts = agenda_long plan a b of (ap (λ (l : List (Option ℕ)). length l) heads) links starts
 
--- where a place goes on elsewhere
+-- if a place goes on from another edge
 pub agenda_set : (plan : Plan) (a b : AgendaView) (place : ℕ) (head : Option ℕ) → IsAgendaOf plan a → b.heads ≡ slice_set a.heads place head → b.links ≡ a.links → b.starts ≡ a.starts → IsAgendaOf plan b
 agenda_set plan a b place head of heads links starts = agenda_long plan a b of (ap (λ (l : List (Option ℕ)). length l) heads ∙ length-set a.heads place head) links starts
 

@@ -98,7 +98,7 @@ touches_rests plan engines intakes work_queues place intake (Some a) (Some b) t 
     rest_moves plan engines engines intakes (slice_set intakes place intake) work_queues a.touched b.touched (λ other is. stays_in a.touched b.touched place other t.touched t.only is) (λ other out. refl)
     (λ other out. get_other intakes place other intake (λ same. out (subst (IsIn b.touched) (sym same) t.touched))) h
 
--- and where there is none
+-- and if there is none
 pub taken_none : (plan : Plan) (engines : List EngineView) (intakes : List IntakeView) (work_queues : List WorkQueueView) (place : ℕ) (old now : IntakeView) (slot : Option AgendaView) → old ≡ get_or intakes place old → now ≡ old → place < length intakes
     → RestsButKept plan engines intakes work_queues slot → RestsButKept plan engines (slice_set intakes place now) work_queues slot
 taken_none plan engines intakes work_queues place old now slot value same within h =

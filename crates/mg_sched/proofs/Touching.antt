@@ -217,9 +217,9 @@ pub idle_rests : (laws : Laws) (did : Bool) (event : Event) (a b : NetView) → 
 idle_rests laws true event a b isnt s = absurd (false≢true (sym isnt))
 idle_rests laws false event a b isnt s = still_idle laws event a b (sym s.0) s.1
 
--- The edges from a place, one behind the other.
+-- The edges from a place, one after the other.
 
--- those before one rest, from a number on
+-- the edges before the next one rest, from a number on
 abbrev pub RestUpto : Laws → Plan → Option ℕ → Option ℕ → NetView → Type 0
 RestUpto laws plan first cursor net = (place low : ℕ) → IsFirstFrom plan low place first
     → (reached : ℕ) × IsFirstFrom plan reached place cursor × ((number : ℕ) → low ≤ number → number < reached → LeadsFrom plan place number → Acts laws (Deliver number) Idle net net)
@@ -250,14 +250,14 @@ upto_next laws plan first next edge net now upto follows same rests = λ place l
       ],
     ))
 
--- one more, along which nothing went
+-- one more edge along which nothing went
 pub upto_more : (laws : Laws) (did moved : Bool) (plan : Plan) (first next : Option ℕ) (edge : ℕ) (net now : NetView) → (did ≡ false → RestUpto laws plan first (Some edge) net) → ((place : ℕ) → LeadsFrom plan place edge → IsFirstFrom plan (edge + 1) place next)
     → Goes moved net now → (moved ≡ false → Acts laws (Deliver edge) Idle now now) → (did || moved) ≡ false → RestUpto laws plan first next now
 upto_more laws true moved plan first next edge net now upto follows goes rests isnt = absurd (false≢true (sym isnt))
 upto_more laws false true plan first next edge net now upto follows goes rests isnt = absurd (false≢true (sym isnt))
 upto_more laws false false plan first next edge net now upto follows goes rests isnt = upto_next laws plan first next edge net now (upto refl) follows goes (rests refl)
 
--- and there is none behind the last one
+-- and there is none after the last one
 pub upto_last : (laws : Laws) (plan : Plan) (first : Option ℕ) (net : NetView) → RestUpto laws plan first None net → EdgesRestFrom laws plan first net
 upto_last laws plan first net upto = λ place low number is from leads.
     (let so_far = upto place low is in

@@ -26,12 +26,12 @@ use Rattle.mg_sched.proofs.Trimming.{came_there, least_low, least_came, given_ye
 use Rattle.mg_node.proofs.Lemmas.{window_out}
 use Rattle.mg_sched.proofs.Works.{works_kept}
 
--- a number of which nothing is left where its stream is kept is no greater
+-- a number that is set to 0 if its stream is kept is no greater
 kept_low : (b : Bool) (n m : ℕ) → n ≤ m → (if b then 0 else n) ≤ m
 kept_low true n m low = omega arith
 kept_low false n m low = low
 
--- the numbers of a net: what is laid, lowered, and none where the stream is kept
+-- the numbers of a net: what is laid, lowered, and 0 if the stream is kept
 abbrev pub AreGot : NetView → List ℕ → List ℕ → Type 0
 AreGot net laid got = (s : ℕ) → get_or got s 0 ≡ (if is_kept net s then 0 else fold min (get_or laid s 0) (came_of net.intakes net.plan.edges s))
 

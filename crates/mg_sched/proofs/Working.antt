@@ -1,4 +1,4 @@
--- How works are performed and committed: what the parts of a net tell of a work, and what the net has come to then.
+-- How works are performed and committed: what the parts of a net tell of a work, and what has become of the net then.
 use Rattle.std.proofs.Common.{◌≡◌, ◌≢◌, ℕ, ◌+◌, ◌<◌, ◌≤◌, Bool, true, false, List, [], ◌∷◌, ◌++◌, length, length-append, map, take, drop, set, get_or, All, Option, Some, None, slice_get, inl, inr, ap, sym, refl, subst, ◌∙◌, arith, if◌then◌else◌}
 use Rattle.std.proofs.lemmas.List.{length-set, set-set}
 use Rattle.mg_calc.specs.Rules.{Laws}

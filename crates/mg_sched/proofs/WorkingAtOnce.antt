@@ -84,7 +84,7 @@ work_queue_room {laws} {C} node work before now work_queue some running there h 
     let was : slice_get before.work_queues node ≡ Some work_queue = ap (λ (ds : List WorkQueueView). slice_get ds node) (sym (work_queues_kept node (let w : Claimed C = Work work in w) before now h)) ∙ on in
     room_left some.job node work h.engine h.engine_now h.intake h.intake_now work_queue (cell_at some.job before node h.engine h.intake work_queue some.stands running there h.at h.to was) h.claims
 
--- and so is one that hands out no work
+-- and so is a claim that hands out no work
 pub hands_none : {C : Type 0} (node : ℕ) (claimed : Claimed C) (effect : Effect) (before now : NetView) (work_queue : WorkQueueView) (h : NodeHandsOut {C = C} node claimed before now) → slice_get before.work_queues node ≡ Some work_queue
     → ClaimsBy effect h.engine h.engine_now h.intake h.intake_now work_queue work_queue → ClaimsNext node effect before now
 hands_none {C} node claimed effect before now work_queue h on claims = record {
@@ -103,7 +103,7 @@ hands_none {C} node claimed effect before now work_queue h on claims = record {
       (sym (same_put before.work_queues node work_queue on));
 }
 
--- Where a claim took nothing, the net is as it was, also once the limits hear what waits.
+-- If a claim took nothing, the net is as it was, also once the limits hear what waits.
 idle_claims : {C : Type 0} (claimed : Claimed C) (engine engine_now : EngineView) (intake intake_now : IntakeView) (work_queue : WorkQueueView) → took_none claimed ≡ true → Claims {C = C} claimed engine engine_now intake intake_now
     → ClaimsBy Idle engine engine_now intake intake_now work_queue work_queue × AreSame engine intake engine_now intake_now
 idle_claims {C} (Work work) engine engine_now intake intake_now work_queue none claims = absurd cc
@@ -158,7 +158,7 @@ comes laws node OnlyClaimed before between now there claims on = (between, there
 comes laws node (Performed number) before between now there claims on = (between, there, claims, on)
 comes laws node (Committed number) before between now there claims on = (between, there, claims, on)
 
--- A commit is the same where the work came back before, and was taken out again.
+-- A commit is the same if the work came back before, and was taken out again.
 commits_again : (engine : EngineView) (outcome : OutcomeView) (number count : ℕ) (now : EngineView) → number ≡ outcome.work.number → Commits outcome count engine now
     → Commits outcome count (record engine { window = set (shelved engine outcome).window (number - engine.laid) (record { phase = outcome.work.phase; outcome = None; committed = false }) }) now
 commits_again engine outcome number count now is c =

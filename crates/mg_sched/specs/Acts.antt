@@ -1,5 +1,5 @@
--- The steps of a net: what each event does to which part, and exactly where it does nothing. A net is changed at the named parts
--- alone.
+-- The steps of a net. These definitions say what each event does to which part, and exactly when it does nothing. A step changes a net at
+-- the named parts alone.
 use Rattle.std.specs.Prelude.{◌≡◌, ◌≢◌, ℕ, ◌+◌, ◌<◌, ◌⊎◌, ◌||◌, ◌==◌, not, true, false, List, [], ◌∷◌, ◌++◌, map, length, All, Contains, Option, Some, None, slice_get, if◌then◌else◌, ⊤}
 use Rattle.std.specs.List.{list_any}
 use Rattle.mg_calc.specs.Rules.{Laws}
@@ -66,8 +66,8 @@ abbrev pub effect_of : Delivered → Effect
 effect_of (Moved packets raised) = if not (packets == 0) || raised then Did else Idle
 effect_of (NoRoom packets) = OutOfMemory
 
--- packets go along an edge, all that the port hasn't got (a step moves at most 2^32 - 1), and then the bound; the limits hear how
--- many wait now
+-- all packets that the port hasn't got go along an edge, and then the bound. A step moves at most 2^32 - 1 packets. The limits hear how
+-- many packets wait now
 pub record Brings (number : ℕ) (e : Edge) (effect : Effect) (before now : NetView) : Type 0 where
   pub place : ℕ
   pub from : source_of before.plan e ≡ Some place
@@ -83,8 +83,8 @@ pub record Brings (number : ℕ) (e : Edge) (effect : Effect) (before now : NetV
   pub effect_is : effect ≡ effect_of answer
   pub now_is : now ≡ with_noted (with_intake before e.node intake_now) number (length (port_queue intake_now.waits e.port).packets ∷ [])
 
--- what a delivery along the edge of this number does: nothing where the edge leads from a graph input that is throttled, and otherwise
--- packets go along it
+-- what a delivery along the edge of this number does. It does nothing if the edge leads from a graph input that is throttled. Otherwise
+-- packets go along the edge
 pub record DeliversAlong (number : ℕ) (effect : Effect) (before now : NetView) : Type 0 where
   pub edge : Edge
   pub there : slice_get before.plan.edges number ≡ Some edge
@@ -141,14 +141,13 @@ pub record ClaimsNext (node : ℕ) (effect : Effect) (before now : NetView) : Ty
   pub now_is : now
       ≡ with_noted (with_work_queue (with_intake (with_engine before node engine_now) node intake_now) node work_queue_now) (first_edge before.plan node) (lengths_of intake_now.waits)
 
--- what the claim of a node does: nothing where it is a source that is throttled, and otherwise the node claims its next work
+-- what the claim of a node does: nothing if it is a source that is throttled, and otherwise the node claims its next work
 abbrev pub NodeClaims : ℕ → Effect → NetView → NetView → Type 0
 NodeClaims node effect before now = (IsHeldSource before node × Rests effect before now) ⊎ (¬ IsHeldSource before node × ClaimsNext node effect before now)
 
 -- Works.
 
--- a work leaves the work queue, is done, and stands in its window as performed and not committed; where there is no memory it lies where it
--- lay
+-- a work leaves the work queue, is performed, and stands in its window as performed and not committed. Out of memory: it lies where it lay
 abbrev pub PerformedBy : Laws → Effect → ℕ → EngineView → WorkQueueView → List WorkView → WorkView → NetView → NetView → Type 0
 PerformedBy laws Did node engine work_queue left work before now =
     (p : PerformedView) × IsPerformed laws work p × (now ≡ with_work_queue (with_engine before node (shelved engine (outcome_of p))) node (record work_queue { works = left }))
@@ -187,13 +186,13 @@ pub record CommitsTo (node number : ℕ) (engine : EngineView) (p : PerformedVie
   pub commits : Commits (outcome_of p) laid taken engine_now
   pub now_is : now ≡ with_limits (with_engine before node engine_now) (stopped_by node engine_now before.limits)
 
--- what is performed and not committed is committed; where there is no memory it stays in the window
+-- what is performed and not committed is committed. Out of memory: it stays in the window
 abbrev pub CommittedBy : Effect → ℕ → ℕ → EngineView → PerformedView → NetView → NetView → Type 0
 CommittedBy Did node number engine p before now = CommitsTo node number engine p before now
 CommittedBy Idle node number engine p before now = ⊥
 CommittedBy OutOfMemory node number engine p before now = now ≡ before
 
--- what a commit does where this is performed and not committed, and nothing where nothing is
+-- what a commit does: it commits what is performed and not committed, and does nothing if there is no such work
 abbrev pub CommittedAt : ℕ → ℕ → Option PerformedView → Effect → EngineView → NetView → NetView → Type 0
 CommittedAt node number None effect engine before now = Rests effect before now
 CommittedAt node number (Some p) effect engine before now = CommittedBy effect node number engine p before now
@@ -204,7 +203,7 @@ pub record NodeCommits (node number : ℕ) (effect : Effect) (before now : NetVi
   pub at : slice_get before.engines node ≡ Some engine
   pub committed : CommittedAt node number (shelf_at engine number) effect engine before now
 
--- Limits are relaxed where a queue is full.
+-- Limits are relaxed if a queue is full.
 
 abbrev pub IsAnyFull : QueueLimits → Type 0
 IsAnyFull limits = list_any is_full limits.queues ≡ true

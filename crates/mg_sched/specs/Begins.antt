@@ -10,5 +10,5 @@ pub record BeginsNet (before now : NetView) : Type 0 where
   pub parts : now ≡ record before { engines = now.engines; limits = now.limits; begun = now.begun }
   pub places : length now.engines ≡ length before.engines
   pub grow : (place : ℕ) (engine engine_now : EngineView) → slice_get before.engines place ≡ Some engine → slice_get now.engines place ≡ Some engine_now → EngineGrows engine engine_now
-  -- nothing of what is laid is given up
+  -- no packet that is laid is given up
   pub gone : (place : ℕ) (engine engine_now : EngineView) → slice_get before.engines place ≡ Some engine → slice_get now.engines place ≡ Some engine_now → (output : ℕ) → (laid_at engine_now output).gone ≤ (laid_at engine output).gone

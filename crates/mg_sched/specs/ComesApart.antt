@@ -1,4 +1,4 @@
--- A net comes apart, into its engines and intakes by their places, its plan, and what stays of it; and it is put together of them again.
+-- A net comes apart, into its engines and intakes by their places, its plan, and what stays of it. It is put together of them again.
 use Rattle.std.specs.Prelude.{◌≡◌, ℕ, ◌+◌, ◌<◌, ◌≤◌, Bool, true, false, List, [], ◌∷◌, length, Option, Some, None, slice_get}
 use Rattle.mg_value.specs.Payload.{Plain}
 use Rattle.mg_calc.specs.Rules.{Laws}
@@ -20,8 +20,8 @@ use Rattle.mg_sched.specs.Views.{WorkQueueView, NetView}
 use Rattle.mg_sched.specs.Places.{source_of, with_limits}
 use Rattle.mg_sched.specs.StandsFor.{IsJoined, KnowsLimits, HasSpare}
 
--- what stays of a net whose plan and parts are away: the side packets that are handed in, its work queues, its limits, the places of the
--- calculators that were handed in, and of which streams all is kept
+-- what stays of a net whose plan and parts are away: its side packets, its work queues, its limits, and the places of user-supplied
+-- calculators. It also has for each stream whether all of it is kept
 pub record RestView : Type 0 where
   pub given : List (Option Plain)
   pub work_queues : List WorkQueueView
@@ -52,12 +52,12 @@ parts_in net = record {
 abbrev pub unrun_of : WorkView → OutcomeView
 unrun_of work = record { work = work; answer = None }
 
--- an engine in whose window works stand again, not performed
+-- an engine whose window has these works again, not performed
 abbrev pub all_shelved : EngineView → List WorkView → EngineView
 all_shelved engine [] = engine
 all_shelved engine (work ∷ works) = shelved (all_shelved engine works) (unrun_of work)
 
--- the works in the work queues of the first `count` nodes stand in their windows again, and these queues are empty; all else is what it was
+-- the works in the work queues of the first `count` nodes stand in their windows again. These queues are empty, and all else is what it was
 pub record PutsBack (count : ℕ) (engines engines_now : List EngineView) (work_queues work_queues_now : List WorkQueueView) : Type 0 where
   pub engine_count : length engines_now ≡ length engines
   pub work_queue_count : length work_queues_now ≡ length work_queues
@@ -78,8 +78,8 @@ pub record HasComeApart (net : NetView) (parts : PartsView) : Type 0 where
 
 -- Parts that are of one net.
 
--- what stays of a net fits a job, its plan and these engines: there is an empty work queue for each node, with room for its works; the
--- limits are those of the plan; and the queues of a node that goes on count
+-- what stays of a net fits a job, its plan and these engines. There is an empty work queue for each node, with room for its works. The
+-- limits are those of the plan. The queues of a node that goes on count
 pub record IsRestOf {laws : Laws} (job : LoggedJob laws) (plan : Plan) (engines : List EngineView) (rest : RestView) : Type 0 where
   pub given : rest.given ≡ job.job.inputs.sides
   pub work_queues : length rest.work_queues ≡ length plan.nodes
@@ -91,8 +91,8 @@ pub record IsRestOf {laws : Laws} (job : LoggedJob laws) (plan : Plan) (engines 
   pub spare : HasSpare job rest.spare
   pub kept : length rest.kept ≡ length plan.streams
 
--- parts are those of one net for a job: there is one at each place, each is lawful, the engine and the intake of a node agree, no work
--- is out, and at each edge no more came to the port than was laid at the output, which keeps what hasn't come
+-- parts are those of one net for a job. There is a part at each place, and each part is lawful. The engine and the intake of a node agree,
+-- and no work is out. At each edge no more came to the port than was laid at the output. The output keeps what hasn't come
 pub record ArePartsOf {laws : Laws} (job : LoggedJob laws) (parts : PartsView) : Type 0 where
   pub is_job : IsJob job.job
   pub plan : parts.plan ≡ job.job.plan
@@ -113,7 +113,7 @@ pub record AreParts (laws : Laws) (parts : PartsView) : Type 0 where
   pub job : LoggedJob laws
   pub parts_of : ArePartsOf job parts
 
--- an edge is in its place: it leads from an engine that has its stream to the port of that stream, and no other edge leads there
+-- an edge is in its place. It leads from an engine that has its stream to the port of that stream, and no other edge leads there
 pub record IsInPlace (parts : PartsView) (number : ℕ) (e : Edge) : Type 0 where
   pub place : ℕ
   pub from : source_of parts.plan e ≡ Some place

@@ -1,4 +1,4 @@
--- How a net goes on with further input: what comes of each graph input stands behind what came before, and nothing else changes.
+-- How a net goes on with further input: what comes of each graph input stands after what came before, and nothing else changes.
 use Rattle.std.specs.Prelude.{◌≡◌, ℕ, ◌+◌, ◌-◌, ◌<◌, ◌≤◌, List, [], ◌++◌, false, length, replicate, Some, slice_get, slice_index_or}
 use Rattle.mg_value.specs.Payload.{Plain}
 use Rattle.mg_settled.specs.Prefix.{StreamPrefix, empty_prefix}
@@ -11,14 +11,14 @@ use Rattle.mg_node.specs.Extending.{joined, extended}
 use Rattle.mg_sched.specs.Views.{NetView}
 use Rattle.mg_sched.specs.StandsFor.{StandsFor}
 
--- a job, and the same to which further input came: each graph input has its piece behind what it had
+-- a job, and the same job with further input: each graph input has its piece after what it had
 pub record GoesOnWith {laws : Laws} (more : Inputs) (first later : LoggedJob laws) : Type 0 where
   pub grows : Grows first later
   pub pieces : length more.streams ≡ length first.job.inputs.streams
   pub streams : (input : ℕ) → input < length more.streams → slice_index_or later.job.inputs.streams input empty_prefix
       ≡ joined (slice_index_or first.job.inputs.streams input empty_prefix) (slice_index_or more.streams input empty_prefix)
 
--- further input of the last graph inputs alone, where the graph has `inputs` inputs in all
+-- further input of the last graph inputs alone, of a graph that has `inputs` inputs in all
 abbrev pub for_last : ℕ → List (StreamPrefix Plain) → Inputs
 for_last inputs pieces = record { streams = replicate (inputs - length pieces) empty_prefix ++ pieces; sides = []; ended = false }
 
@@ -39,17 +39,17 @@ pub record Extends (more : Inputs) (before now : NetView) : Type 0 where
 
 -- Further input of some graph inputs alone.
 
--- numbers each of which is higher than those before it
+-- numbers that rise: each number is higher than those before it
 abbrev pub AreRising : List ℕ → Type 0
 AreRising numbers = (i j number other : ℕ) → i < j → slice_get numbers i ≡ Some number → slice_get numbers j ≡ Some other → number < other
 
--- nothing new stands in a piece that comes behind a prefix: it has no packet, and its bound is no higher
+-- a piece after a prefix brings nothing new: it has no packet, and its bound is no higher
 pub record BringsNothing (s piece : StreamPrefix Plain) : Type 0 where
   pub packets : piece.packets ≡ []
   pub bound : piece.bound ≤ s.bound
 
--- Further input comes to some graph inputs alone, by their numbers, a piece for each. What it has for any other brings nothing new there
--- behind what came so far.
+-- Some graph inputs alone get further input, by their numbers, a piece for each. What further input has for any other graph input brings
+-- nothing new after what came so far.
 pub record ComesAt (inputs : List ℕ) (pieces so_far : List (StreamPrefix Plain)) (more : Inputs) : Type 0 where
   pub rising : AreRising inputs
   pub as_many : length pieces ≡ length inputs

@@ -1,4 +1,4 @@
--- The calculators that were handed in to a net, as they come back: in their places, which are those in which they came.
+-- The user-supplied calculators of a net, as they come back: in the places in which they came.
 use Rattle.std.specs.Prelude.{◌≡◌, ◌⊎◌, ℕ, List, [], ◌∷◌, map, Option, Some, None, slice_get, slice_set}
 use Rattle.std.specs.List.{filter_map}
 use Rattle.mg_calc.specs.Rules.{Laws}
@@ -11,17 +11,17 @@ use Rattle.mg_sched.specs.Views.{WorkQueueView, NetView}
 use Rattle.mg_sched.specs.StandsFor.{StandsFor}
 use Rattle.mg_sched.specs.WindsUp.{WindsUpNet}
 
--- what is told by the first calculator that was handed in, among those of the works in a work queue
+-- what is told by the first user-supplied calculator among those of the works in a work queue
 abbrev pub on_work_queue : WorkQueueView → Option BoxTold
 on_work_queue work_queue = slice_get (filter_map handed_told (map (λ (w : WorkView). w.context.told) work_queue.works)) 0
 
--- the first of two, or the other where there is no first
+-- the first of two, or the other if there is no first
 abbrev pub or_else : Option BoxTold → Option BoxTold → Option BoxTold
 or_else None other = other
 or_else (Some told) other = Some told
 
--- what is told by the calculator of a node, if it was handed in: it stands in the node's engine, or else it is that of a work on the node's
--- work queue
+-- what is told by the calculator of a node, if it is user-supplied. It stands in the node's engine, or else it is that of a work in the
+-- node's work queue
 abbrev pub cell_told : EngineView → WorkQueueView → Option BoxTold
 cell_told engine work_queue = or_else (first_handed engine) (on_work_queue work_queue)
 
@@ -31,8 +31,8 @@ with_told places None told = places
 with_told places (Some number) None = places
 with_told places (Some number) (Some told) = slice_set places number (Some told)
 
--- the places, with the calculators of nodes back in the places of the nodes' box numbers: each is in its node's engine, or with a work on
--- the node's work queue
+-- the places, with the calculators of nodes back in the places of the nodes' box numbers. Each calculator is in its node's engine, or with
+-- a work in the node's work queue
 abbrev pub with_cells : List (Option BoxTold) → List PlanNode → List EngineView → List WorkQueueView → List (Option BoxTold)
 with_cells places [] engines work_queues = places
 with_cells places (node ∷ nodes) [] work_queues = places

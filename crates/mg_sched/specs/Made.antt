@@ -1,5 +1,5 @@
--- How a net is made: no node is begun, nothing is claimed, and each calculator that was handed in is with its node, or lies in its
--- place where no node uses it.
+-- How a net is made: no node is begun, and nothing is claimed. Each user-supplied calculator is with its node, or lies in its place if no
+-- node uses it.
 use Rattle.std.specs.Prelude.{◌≡◌, ℕ, zero, false, List, length, map, replicate, All, Some, IfSome, IsSomeAnd, slice_get, refl}
 use Rattle.mg_calc.specs.Rules.{Laws}
 use Rattle.mg_calc.specs.declared.inputs.Inputs.{Inputs}
@@ -20,18 +20,18 @@ use Rattle.mg_sched.specs.Looks.{HasFrom}
 abbrev pub job_of : (laws : Laws) → Plan → Inputs → List BoxTold → LoggedJob laws
 job_of laws plan inputs boxes = record { job = record { plan = plan; inputs = inputs; laws = laws }; boxes = boxes; same = refl }
 
--- a calculator that is handed in fits a node: it has the node's law and shape, and its law is one that may be handed in. What it keeps from
+-- a user-supplied calculator fits a node: it has the node's law and shape, and its law is one that a user may supply. What it keeps from
 -- before doesn't matter: its Open doesn't fail, and forgets it
 pub record FitsNew (node : PlanNode) (box : BoxTold) : Type 0 where
   pub fits : FitsNode node box.law box.shape
   pub outer : IsOuter box.law
 
--- the calculators that are handed in fit a plan: where a node has a box number, the calculator of that number is there and fits the node
+-- the user-supplied calculators fit a plan: if a node has a box number, the calculator of that number is there and fits the node
 abbrev pub BoxesFit : Plan → List BoxTold → Type 0
 BoxesFit plan boxes = All (λ node. IfSome node.box_number (λ number. IsSomeAnd (slice_get boxes number) (FitsNew node))) plan.nodes
 
--- a net that was made: it stands for the job, no node is begun, nothing came, nothing was given up and no stream is kept, and the limits
--- are the plan's
+-- a net that was made. It stands for the job, no node is begun, nothing came, nothing was given up and no stream is kept. The limits are
+-- the plan's
 pub record IsMade (laws : Laws) (plan : Plan) (inputs : Inputs) (boxes : List BoxTold) (net : NetView) : Type 0 where
   pub stands : StandsFor (job_of laws plan inputs boxes) net
   pub begun : net.begun ≡ zero

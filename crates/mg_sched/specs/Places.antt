@@ -12,7 +12,7 @@ use Rattle.mg_calc.specs.Reaching.{producer_of}
 use Rattle.mg_throttle.specs.Throttle.{QueueLimits}
 use Rattle.mg_sched.specs.Views.{WorkQueueView, NetView}
 
--- the place of the engine that writes a stream: the engines of the graph inputs stand behind those of the nodes
+-- the place of the engine that writes a stream: the engines of the graph inputs stand after those of the nodes
 abbrev pub place_of : Plan → Producer → ℕ
 place_of plan (Input number) = length plan.nodes + number
 place_of plan (Node node port) = node

@@ -29,8 +29,8 @@ backlog_end b = record { packets = b.gone + length b.packets; bound = b.bound }
 abbrev pub stream_ends_of : EngineView → List StreamEnd
 stream_ends_of engine = map backlog_end engine.outputs
 
--- the report: for each node how many sets were laid, calls or answers; how far each stream has come, first those of the graph inputs,
--- and then those at the outputs of each node; and the faults in node order
+-- the report. It has for each node how many sets, calls or answers were laid. It has how far each stream has come: first the streams of the
+-- graph inputs, and then those at the outputs of each node. It has the faults in node order
 abbrev pub report_of : NetView → Report
 report_of net = record {
   sets = map (λ e. e.laid) (node_engines net);

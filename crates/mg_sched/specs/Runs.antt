@@ -1,4 +1,4 @@
--- Runs: lists of events that lead a net from one position to another, and those that lead it for a job from its begin to its rest.
+-- Runs: lists of events that lead a net from one position to another. A run of a job at rest leads a net from its begin to its rest.
 use Rattle.std.specs.Prelude.{◌≡◌, List, [], ◌∷◌}
 use Rattle.mg_calc.specs.Rules.{Laws}
 use Rattle.mg_calc.specs.declared.event.Event.{Event}
@@ -13,8 +13,8 @@ use Rattle.mg_sched.specs.AtRest.{IsAtRest}
 use Rattle.mg_sched.specs.Begins.{BeginsNet}
 use Rattle.mg_sched.specs.Made.{job_of, IsMade}
 
--- A list of events is a run from one net to another: each in turn is an event of the net that the ones before it led to, and as a step
--- of that net it does something.
+-- A list of events is a run from one net to another. Each in turn is an event of the net to which the events before it led. As a step of
+-- that net it does something.
 abbrev pub IsRun : Laws → List Event → NetView → NetView → Type 0
 IsRun laws [] before now = now ≡ before
 IsRun laws (event ∷ events) before now = (next : NetView) × IsEventOf before event × Acts laws event Did before next × IsRun laws events next now
@@ -27,7 +27,7 @@ pub record IsBegun (laws : Laws) (plan : Plan) (inputs : Inputs) (boxes : List B
   pub stands : StandsFor (job_of laws plan inputs boxes) net
   pub running : IsRunning net
 
--- A list of events is a run of a job at rest: it leads from where the job's runs begin to a net that can go no further.
+-- A list of events is a run of a job at rest. It leads from where the job's runs begin to a net that can go no further.
 pub record IsRunAtRest (laws : Laws) (plan : Plan) (inputs : Inputs) (boxes : List BoxTold) (events : List Event) : Type 0 where
   pub begun : NetView
   pub begins : IsBegun laws plan inputs boxes begun

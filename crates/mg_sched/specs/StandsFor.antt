@@ -1,5 +1,5 @@
--- What a net stands for: each of its parts is lawful for the job, what two parts have to agree on holds, and its limits know what
--- waits. A net that stands for a job is somewhere on the way to the job's solution, in whatever order its steps were made.
+-- What a net stands for. Each of its parts is lawful for the job, and what two parts have to agree on holds. Its limits know what waits. A
+-- net that stands for a job is somewhere on the way to the job's solution, in whatever order its steps were made.
 use Rattle.std.specs.Prelude.{◌≡◌, ◌≢◌, ℕ, ◌+◌, ◌<◌, ◌≤◌, not, nat_lt, Bool, true, false, List, length, All, AllPairs, Any, Option, Some, None, IfSome, slice_get}
 use Rattle.mg_calc.specs.Rules.{Laws}
 use Rattle.mg_calc.specs.declared.edge.Edge.{Edge}
@@ -22,7 +22,7 @@ use Rattle.mg_sched.specs.Places.{source_of}
 
 -- Cells.
 
--- the works of a work queue are those of its engine that are out: each is out and lawful, no two have one number, and none is missing
+-- the works of a work queue are those of its engine that are out. Each is out and lawful, no two have one number, and none is missing
 pub record HasWorks {laws : Laws} (job : LoggedJob laws) (engine : EngineView) (work_queue : WorkQueueView) : Type 0 where
   pub room : work_queue.room ≡ engine.in_flight
   pub out : All (IsOut engine) work_queue.works
@@ -45,7 +45,7 @@ pub record IsCell {laws : Laws} (job : LoggedJob laws) (begun : Bool) (node : �
 
 -- Edges.
 
--- an edge joins an engine and an intake: no more came to the port than was laid at the output, and the output keeps what hasn't come
+-- an edge joins an engine and an intake. No more came to the port than was laid at the output, and the output keeps what hasn't come
 pub record IsJoined (engine : EngineView) (e : Edge) (intake : IntakeView) : Type 0 where
   pub came : HasGrown (port_queue intake.waits e.port) (output_at engine e)
   pub kept : (output_at engine e).gone ≤ count_of (port_queue intake.waits e.port)
@@ -63,8 +63,8 @@ pub record KnowsLimits (net : NetView) : Type 0 where
 
 -- Calculators.
 
--- the places of the calculators that were handed in: each that a node uses is gone from its place, and each other one lies there, as it
--- was at the start
+-- the places of the user-supplied calculators. Each calculator that a node uses is gone from its place. Each other calculator lies there,
+-- as it was at the start
 pub record HasSpare {laws : Laws} (job : LoggedJob laws) (spare : List (Option BoxTold)) : Type 0 where
   pub count : length spare ≡ length job.boxes
   pub numbers : All (λ n. IfSome n.box_number (λ place. place < length spare)) job.job.plan.nodes
@@ -74,7 +74,7 @@ pub record HasSpare {laws : Laws} (job : LoggedJob laws) (spare : List (Option B
 
 -- Nets.
 
--- a net is one of a job: it has a part at each place, each part is lawful, and what two parts have to agree on holds
+-- a net is one of a job. It has a part at each place, each part is lawful, and what two parts have to agree on holds
 pub record IsNetOf {laws : Laws} (job : LoggedJob laws) (net : NetView) : Type 0 where
   pub is_job : IsJob job.job
   pub plan : net.plan ≡ job.job.plan

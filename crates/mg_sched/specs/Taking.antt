@@ -46,7 +46,7 @@ TakesOut false set set_now before now = TakesNothing before now set set_now
 abbrev pub settled_outputs : Plan → List (StreamPrefix Plain) → List (TimedSet Plain)
 settled_outputs plan streams = settled_sets (policy_of plan (length plan.nodes)) (streams_at streams (ports_of plan (length plan.nodes)))
 
--- all that some streams have at the graph's outputs has come to the collector, what was taken of it included
+-- the collector has got all that some streams have at the graph's outputs, including what was taken of it
 pub record HasAllOutputs (streams : List (StreamPrefix Plain)) (net : NetView) : Type 0 where
   pub intake : IntakeView
   pub there : collector_of net ≡ Some intake

@@ -1,5 +1,5 @@
--- How a net gives up packets: of each stream the first ones that have come to the ports of all its edges, and all that are laid where it
--- has no edge; but nothing of a stream that is kept. Nothing else changes.
+-- How a net gives up packets. Of each stream it gives up the first packets that the ports of all its edges have got. Of a stream without
+-- edges it gives up all packets that are laid. Of a stream that is kept it gives up nothing. Nothing else changes.
 use Rattle.std.specs.Prelude.{◌≡◌, ◌≢◌, ◌==◌, ℕ, ◌+◌, Bool, true, false, List, length, map, filter, min, Some, slice_get, slice_index_or, option_map, unwrap_or, if◌then◌else◌}
 use Rattle.std.specs.List.{fold}
 use Rattle.mg_value.specs.Payload.{Plain}
@@ -19,7 +19,7 @@ came_along intakes e = unwrap_or (option_map (λ i. count_of (port_queue i.waits
 abbrev pub came_of : List IntakeView → List Edge → ℕ → List ℕ
 came_of intakes edges stream = map (came_along intakes) (filter (λ e. e.stream == stream) edges)
 
--- how many first packets of a stream have come along all its edges: where it has no edge, all that are laid at its output
+-- how many first packets of a stream have come along all its edges: if it has no edge, all that are laid at its output
 abbrev pub got_by_all : NetView → ℕ → Backlog Plain → ℕ
 got_by_all net stream output = fold min (output.gone + length output.packets) (came_of net.intakes net.plan.edges stream)
 
@@ -31,8 +31,8 @@ is_kept net stream = slice_index_or net.kept stream false
 abbrev pub goes_of : NetView → ℕ → Backlog Plain → ℕ
 goes_of net stream output = if is_kept net stream then 0 else got_by_all net stream output
 
--- each output of an engine has given up that many first packets, or as many as it had before if these were more, and nothing else of the
--- engine changes
+-- each output of an engine has given up that many first packets, or as many as it had before if these were more. Nothing else of the engine
+-- changes
 pub record TrimsEngine (net : NetView) (engine engine_now : EngineView) : Type 0 where
   pub rest : engine_now ≡ record engine { outputs = engine_now.outputs }
   pub count : length engine_now.outputs ≡ length engine.outputs

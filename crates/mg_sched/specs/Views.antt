@@ -6,24 +6,25 @@ use Rattle.mg_calc.specs.Told.{BoxTold}
 use Rattle.mg_node.specs.Views.{IntakeView, WorkView, EngineView}
 use Rattle.mg_throttle.specs.Throttle.{QueueLimits}
 
--- a work queue: the works of a node that are claimed and not performed, in the order in which they were claimed, and how many may lie there
+-- a work queue. It has the works of a node that are claimed and not performed, in the order in which they were claimed. Its room is how
+-- many works may lie there
 pub record WorkQueueView : Type 0 where
   pub room : ℕ
   pub works : List WorkView
 
 -- a net
 pub record NetView : Type 0 where
-  -- its plan, and the side packets that are handed in
+  -- its plan, and its side packets
   pub plan : Plan
   pub given : List (Option Plain)
-  -- the engines of the nodes, and after them those of the graph inputs; the intakes of the nodes, and after them the collector's;
-  -- the work queues of the nodes
+  -- the engines of the nodes, and after them those of the graph inputs. The intakes of the nodes, and after them the collector's. The work
+  -- queues of the nodes
   pub engines : List EngineView
   pub intakes : List IntakeView
   pub work_queues : List WorkQueueView
   -- the limits of its queues, and what waits in them as the limits were told
   pub limits : QueueLimits
-  -- the places of the calculators that were handed in: those that no node uses lie here
+  -- the places of the user-supplied calculators: those that no node uses lie here
   pub spare : List (Option BoxTold)
   -- of each stream whether all that is laid of it is kept, also what has come along all its edges
   pub kept : List Bool

@@ -1,4 +1,4 @@
--- How a net is wound up once its run has come to rest: the nodes in order, each by its engine, as far as memory goes.
+-- How a net is wound up once its run has come to rest. The nodes are wound up in order, each by its engine, as far as memory suffices.
 use Rattle.mg_calc.specs.Rules.{Laws}
 use Rattle.std.specs.Prelude.{◌≡◌, ℕ, ◌+◌, ◌<◌, ◌≤◌, length, Some, slice_get, slice_set}
 use Rattle.mg_node.specs.Views.{EngineView}
@@ -11,7 +11,7 @@ pub record MayWindUp (net : NetView) : Type 0 where
   pub engines : length net.plan.nodes ≤ length net.engines
   pub wound : net.wound ≤ length net.plan.nodes
 
--- the first node that wasn't wound up is, and is counted
+-- the first node that wasn't wound up is wound up, and is counted
 pub record WindsNext (laws : Laws) (before now : NetView) : Type 0 where
   pub engine : EngineView
   pub there : slice_get before.engines before.wound ≡ Some engine
@@ -19,8 +19,8 @@ pub record WindsNext (laws : Laws) (before now : NetView) : Type 0 where
   pub winds_up : WindsUp laws engine engine_now
   pub now_is : now ≡ record before { engines = slice_set before.engines before.wound engine_now; wound = before.wound + 1 }
 
--- more nodes are wound up: those from the first that wasn't, up to the new count. The engines before them and behind them are the same, and
--- so is all else
+-- more nodes are wound up: those from the first that wasn't wound up, up to the new count. The engines before and after them are the same,
+-- and so is all else
 pub record WindsUpNet (laws : Laws) (before now : NetView) : Type 0 where
   pub more : before.wound ≤ now.wound
   pub upto : now.wound ≤ length before.plan.nodes

@@ -13,12 +13,13 @@ use mg_value::{BlockList, NumberList};
 use std::alloc::{AllocError, Global};
 use std::marker::Model;
 
-/// What a sweep visits next: the places of a net that may have something to do, by priority, and the edges that lead from each place. A
-/// place is the number of an engine: that of a node, or one behind the nodes for each graph input. Nodes go before graph inputs, and of two
-/// nodes the one that stands later in the plan's order goes first (MediaPipe, Synchronization).
+/// What a sweep visits next: the places of a net that may have something to do, by priority. An agenda also has the edges that lead from
+/// each place. A place is the number of an engine. The nodes' engines have the nodes' numbers, and those of the graph inputs have the
+/// numbers after them. Nodes go before graph inputs. Of two nodes, the node that stands later in the plan's order goes first (MediaPipe,
+/// Synchronization).
 ///
-/// An agenda is kept from sweep to sweep, with the places whose parts may have changed since the net was at rest. Among these a place
-/// stands for an intake too: the number behind those of the nodes is that of the collector and of the first graph input.
+/// A net keeps its agenda from sweep to sweep, with the places whose parts may have changed since the net was at rest. Among these a place
+/// stands for an intake too. The first number after those of the nodes stands for the collector and for the first graph input.
 #[derive(Drop)]
 pub(crate) struct Agenda {
     // The places that are to be visited.
@@ -27,8 +28,8 @@ pub(crate) struct Agenda {
     held: Ready,
     // The places whose parts may have changed since the net was at rest.
     touched: Ready,
-    // For each place the edge from which sending goes on: the first that leads from a node, and the first from a graph input along which
-    // not all has gone, if there is one.
+    // For each place the edge from which sending goes on, if there is one. For a node it is the first edge that leads from it. For a graph
+    // input it is the first edge along which not all has gone.
     first: Vec<Option<u32>>,
     // For each place the first edge that leads from it.
     starts: Vec<Option<u32>>,
@@ -58,15 +59,15 @@ struct Sets {
     touched: Ready,
 }
 
-/// The edges of a plan as a list for each place from which they lead: the first edge of each place, and for each edge the next one from the
-/// same place.
+/// The edges of a plan, as a list for each place from which edges lead. `first` has the first edge of each place. `next` has for each edge
+/// the next edge from the same place.
 #[derive(Drop)]
 struct Leads {
     first: Vec<Option<u32>>,
     next: Vec<Option<u32>>,
 }
 
-// Returns how many nodes and graph inputs a plan has. 2^32 - 1 of them or more count as want of memory.
+// Returns how many nodes and graph inputs a plan has, all together. 2^32 - 1 of them or more count as out of memory.
 fn count_of(plan: &Plan) -> Result<u32, AllocError>
     ensures count { IfOk result (λ n. n ≡ length plan.now.nodes + length plan.now.inputs) }
     ensures few { IfOk result (λ n. n + 1 < 2 ^ 32) }
@@ -303,7 +304,7 @@ impl Agenda {
         }
     }
 
-    /// Wakes all places, where it isn't known which have changed.
+    /// Wakes all places, for when it isn't known which of them have changed.
     pub(crate) fn wake_all(&mut self)
         ensures all { (n : ℕ) → n ≤ length self.old.heads → IsIn self.new.touched n }
         ensures heads { length self.new.heads ≡ length self.old.heads }
@@ -377,7 +378,7 @@ impl Agenda {
         self.first[place as usize]
     }
 
-    /// The first edge that leads from a place.
+    /// Returns the first edge that leads from a place.
     pub(crate) fn start(&self, place: u32) -> Option<u32>
         requires { place < length self.now.heads }
         ensures start { result ≡ slice_index_or self.now.starts place None }

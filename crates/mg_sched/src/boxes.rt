@@ -1,4 +1,4 @@
-//! How the calculators that are handed in come to their nodes. Nothing here takes memory.
+//! How user-supplied calculators get to their nodes. Nothing here takes memory.
 ghost use Rattle.std.specs.Prelude.{◌≡◌, ◌+◌, ◌<◌, ◌≤◌, ◌++◌, ℕ, List, Some, None, true, All, IsSome, IsSomeAnd, length, map, option_map, slice_get, slice_set, vec_len, vec_capacity};
 ghost use Rattle.mg_value.specs.Payload.{Plain};
 ghost use Rattle.mg_settled.specs.Prefix.{StreamPrefix};
@@ -12,7 +12,7 @@ ghost use Rattle.mg_sched.specs.Code.Made.{AtPlaces, IsEngineAt, IsLeftOver, Fin
 use mg_calc::{NodeCalculator, Plan};
 use mg_node::Engine;
 
-/// Moves the calculators that were handed in to places, in their order, behind what lies there.
+/// Moves the user-supplied calculators, in their order, to the end of a list of places.
 pub(crate) fn lay_out<C>(boxes: &mut Vec<C>, places: &mut Vec<Option<C>>)
     requires room { vec_len places.old + vec_len boxes.old ≤ vec_capacity places.old }
     ensures items { places.new.items ≡ places.old.items ++ map Some boxes.old.items }

@@ -3,13 +3,13 @@ ghost use Rattle.mg_calc.specs.declared.event.Event.{Event as AnEvent};
 
 use mg_calc::Event;
 
-/// A hearer of a net's events: each event that does something is told to it, once it has done it.
+/// A hearer of a net's events. The net tells it each event that does something, once the event has done it.
 pub trait Hears {
     /// The hearer has come from the first value to the second by hearing these events.
     ghost has_heard: { Self → Self → List AnEvent → Type 0 };
 
-    /// Hears one more event. No error comes back: a hearer that can't take the event in, as at want of memory, may tell so once all is
-    /// heard.
+    /// Hears one more event. No error comes back. A hearer that can't take the event in, for example because it is out of memory, may say
+    /// so once all is heard.
     fn hear(&mut self, event: Event)
         ensures { (began : Self) (events : List AnEvent) → has_heard began self.old events → has_heard began self.new (events ++ event ∷ []) };
 }

@@ -41,9 +41,9 @@ ghost use Rattle.mg_sched.specs.Reports.{claimed_in, report_of};
 ghost use Rattle.mg_sched.specs.ComesApart.{PartsView, NoneOnWorkQueues, ArePartsOf, IsInPlace};
 ghost use Rattle.mg_calc.specs.declared.edge.Edge.{Edge};
 
-/// A net that can go no further has the solution, in whatever order its steps were made: what is laid at each output is the solution's
-/// stream in whole, and so is what came at each port of a node or of the collector; of each node as many sets, calls or answers are
-/// laid as the solution counts; and its fault is the solution's.
+/// A net that can go no further has the solution, in whatever order its steps were made. What is laid at each output is the solution's
+/// stream in whole. So is what came at each port of a node or of the collector. Each node has laid as many sets, calls or answers as the
+/// solution counts. The fault of each node is the solution's.
 pub fn what_rests_is_the_solution()
     ensures streams { (laws : Laws) (job : LoggedJob laws) (net : NetView) (solution : List (StreamPrefix Plain)) (number : ℕ) (stream : PlanStream) (engine : EngineView)
         → StandsFor job net → IsRunning net → IsAtRest laws net → Solves job solution
@@ -66,8 +66,8 @@ pub fn claims_are_within_the_weight()
         → StandsFor job net → IsRunning net → Solves job solution → claimed_in net ≤ weight job.job solution }
 {}
 
-/// What the collector of a net at rest gives next is the solution's set of its number, and nothing where there is none: so repeated
-/// `take_out` gives the settled sets of the graph's outputs, from the first that wasn't taken.
+/// The next set that the collector of a net at rest gives is the solution's set of the same number. It gives none if the solution has no
+/// set of that number. So repeated `take_out` gives the settled sets of the graph's outputs, from the first set that wasn't taken.
 pub fn what_is_left_to_take()
     ensures next { (laws : Laws) (job : LoggedJob laws) (net : NetView) (solution : List (StreamPrefix Plain)) (intake : IntakeView)
         → StandsFor job net → IsRunning net → IsAtRest laws net → Solves job solution
@@ -87,7 +87,8 @@ pub fn what_rests_reports_the_solution()
         → StandsFor job net → IsRunning net → IsAtRest laws net → Solves job solution → (report_of net).streams ≡ map end_of solution }
 {}
 
-/// Each edge of the parts of one net leads from an engine that has its stream to the port of that stream, and no other leads there.
+/// Each edge of the parts of one net leads from an engine that has the edge's stream. It leads to the port of that stream, and no other
+/// edge leads to this port.
 pub fn edges_of_parts_are_in_place()
     ensures { (laws : Laws) (job : LoggedJob laws) (parts : PartsView) (number : ℕ) (e : Edge) → ArePartsOf job parts → slice_get parts.plan.edges number ≡ Some e
         → IsInPlace parts number e }
@@ -101,8 +102,8 @@ pub fn steps_leave_what_no_node_uses()
     ensures taken { (laws : Laws) (before now : NetView) → Becomes laws before now → taken_out now ≡ taken_out before }
 {}
 
-/// A set that is taken from the collector is counted, and leaves the nodes as they are; where none is taken nothing changes. At no time
-/// more are taken than the solution has, and its sets are those that the default policy settles at the graph's outputs.
+/// A set that is taken from the collector is counted, and leaves the nodes as they are. If no set is taken nothing changes. At no time more
+/// sets are taken than the solution has. The solution's sets are those that the default policy settles at the graph's outputs.
 pub fn takings_are_counted()
     ensures takes { (set set_now : List (Option (Stamped Plain))) (before now : NetView) → TakesOut true set set_now before now → taken_out now ≡ taken_out before + 1 }
     ensures nothing { (set set_now : List (Option (Stamped Plain))) (before now : NetView) → TakesOut false set set_now before now → (now ≡ before) × (set_now ≡ set) }
@@ -113,8 +114,8 @@ pub fn takings_are_counted()
         → settled_outputs job.job.plan solution ≡ settled_sets Default (inputs_of solution job.job.plan.outputs) }
 {}
 
-/// All sets that the solution has at the graph's outputs can be taken from a net at rest: all has come to the collector, that stays so when
-/// a set is taken, and once there is none to take, as many were taken as the solution has.
+/// All sets that the solution has at the graph's outputs can be taken from a net at rest. The collector has got all of these streams, and
+/// that stays so when a set is taken. Once there is no set to take, as many were taken as the solution has.
 pub fn all_outputs_are_taken()
     ensures rest { (laws : Laws) (job : LoggedJob laws) (solution : List (StreamPrefix Plain)) (net : NetView) → StandsFor job net → IsRunning net → IsAtRest laws net → Solves job solution
         → HasAllOutputs solution net }
@@ -124,16 +125,16 @@ pub fn all_outputs_are_taken()
         → StandsFor job net → Solves job solution → HasAllOutputs solution net → TakesOut false set set_now net now → taken_out net ≡ length (settled_outputs net.plan solution) }
 {}
 
-/// What leaves the nodes of a net as they were, as taking a set does, leaves its report as it was; and so do two such changes, one after
-/// the other.
+/// A change that leaves the nodes of a net as they were, such as taking a set, leaves its report as it was. Two such changes, one after the
+/// other, are such a change too.
 pub fn what_leaves_nodes_leaves_the_report()
     ensures itself { (net : NetView) → LeavesNodes net net }
     ensures further { (before between now : NetView) → LeavesNodes before between → LeavesNodes between now → LeavesNodes before now }
     ensures report { (before now : NetView) → LeavesNodes before now → report_of now ≡ report_of before }
 {}
 
-/// A net that came to rest, perhaps had sets taken, and was wound up gives back each calculator in its place: the calculator of a node with
-/// all its calls, and one that no node uses as it lay.
+/// A net that came to rest, perhaps had sets taken, and was wound up gives back each calculator in its place. The calculator of a node has
+/// had all its calls. A calculator that no node uses is as it lay.
 pub fn what_comes_back_had_its_calls()
     ensures used { (laws : Laws) (job : LoggedJob laws) (rested net wound : NetView) (solution : List (StreamPrefix Plain)) (number place : ℕ) (node : PlanNode)
         → StandsFor job rested → IsRunning rested → IsAtRest laws rested → Solves job solution
@@ -147,8 +148,8 @@ pub fn what_comes_back_had_its_calls()
         → All (λ n. ¬ (n.box_number ≡ Some place)) net.plan.nodes → (told : BoxTold) × (slice_get net.spare place ≡ Some (Some told)) }
 {}
 
-/// Whenever a run ends, the calculator of a node comes back with a front of the calls that it has in the solution: that of the net's job,
-/// and that of every job with more lines.
+/// Whenever a run ends, the calculator of a node comes back with a prefix of the calls that it has in the solution. This is true of the
+/// solution of the net's job, and of that of every job with more lines.
 pub fn what_comes_back_had_a_front()
     ensures { (laws : Laws) (job later : LoggedJob laws) (net : NetView) (solution : List (StreamPrefix Plain)) (number place : ℕ) (node : PlanNode)
         → StoodFor job net → (later ≡ job) ⊎ Grows job later → Solves later solution
@@ -156,8 +157,8 @@ pub fn what_comes_back_had_a_front()
         → (told : BoxTold) × (slice_get (given_back net) place ≡ Some told) × HadFront later solution node told }
 {}
 
-/// Wherever a run ends, once no work lies in a work queue and all nodes are wound up, no calculator is left open: the calculator of a node
-/// comes back with Close behind Open and some of its sets, or its Open failed.
+/// Wherever a run ends, no calculator is left open once no work lies in a work queue and all nodes are wound up. The calculator of a node
+/// comes back with Close after Open and some of its sets, or its Open failed.
 pub fn what_comes_back_had_close()
     ensures { (laws : Laws) (job : LoggedJob laws) (net wound : NetView) (solution : List (StreamPrefix Plain)) (number place : ℕ) (node : PlanNode)
         → StandsFor job net → IsRunning net → NoneOnWorkQueues net → WindsUpNet laws net wound → wound.wound ≡ length net.plan.nodes → Solves job solution
@@ -165,8 +166,8 @@ pub fn what_comes_back_had_close()
         → (told : BoxTold) × (slice_get (given_back wound) place ≡ Some told) × HadClose job solution node told }
 {}
 
-/// What is laid of each stream of a net that stands for a job, with the packets that were given up, is a prefix that the solution's stream
-/// extends, wherever the net is on its way.
+/// However far a net that stands for a job has come, the solution's streams extend its streams. What is laid of each stream, with the
+/// packets that were given up, is a prefix that the solution's stream extends.
 pub fn streams_are_extended_by_the_solution()
     ensures { (laws : Laws) (job : LoggedJob laws) (net : NetView) (solution : List (StreamPrefix Plain)) (number : ℕ) (stream : PlanStream) (engine : EngineView)
         → StandsFor job net → IsRunning net → Solves job solution
@@ -174,9 +175,9 @@ pub fn streams_are_extended_by_the_solution()
         → (laid : StreamPrefix Plain) × IsQueueOf (laid_at engine (number - engine.first)) laid × IsExtendedBy laid (stream_of solution number) }
 {}
 
-/// Two nets at rest that stand for one job are alike, in whatever order the steps of each were made: their reports are equal, with their
-/// counts and faults and how far each stream came; what is laid of each stream is one stream; and where as many sets were taken of the
-/// graph's outputs, the next one is the same.
+/// Two nets at rest that stand for one job are alike, in whatever order the steps of each were made. Their reports are equal: the counts,
+/// the faults, and how far each stream came. What they have laid of each stream is one stream. If as many sets of the graph's outputs were
+/// taken from each, the next set is the same.
 pub fn nets_at_rest_for_one_job_are_alike()
     ensures report { (laws : Laws) (job : LoggedJob laws) (net other : NetView) → StandsFor job net → IsRunning net → IsAtRest laws net
         → StandsFor job other → IsRunning other → IsAtRest laws other → report_of net ≡ report_of other }
@@ -191,8 +192,8 @@ pub fn nets_at_rest_for_one_job_are_alike()
         → next_set_of intake.waits ≡ next_set_of twin.waits }
 {}
 
-/// What can be read of a stream stays there: no step gives up anything of it, nor does the begin of nodes, nor further input, nor a trim
-/// where the stream is kept, nor what leaves the nodes as they are.
+/// What can be read of a stream stays there. No step gives up anything of it, and neither does the begin of nodes or further input. A trim
+/// gives up nothing of a stream that is kept. A change that leaves the nodes as they are gives up nothing.
 pub fn what_is_kept_stays()
     ensures begins { (before now : NetView) (stream number : ℕ) → BeginsNet before now → HasFrom before stream number → HasFrom now stream number }
     ensures steps { (laws : Laws) (before now : NetView) (stream number : ℕ) → Becomes laws before now → HasFrom before stream number → HasFrom now stream number }

@@ -30,8 +30,8 @@ use mg_throttle::Limits;
 use std::alloc::Global;
 use std::marker::Model;
 
-/// The cells of a graph, joined by its edges. Each engine and each intake lies at a place of its own: those of the nodes by the nodes'
-/// numbers, and behind them the engines of the graph inputs, and the intake of the collector of the graph's outputs.
+/// The cells of a graph, joined by its edges. Each engine and each intake lies at a place of its own. Those of the nodes lie at the nodes'
+/// numbers. After them lie the engines of the graph inputs, and the intake of the collector of the graph's outputs.
 #[derive(Drop)]
 pub struct Net<C: NodeCalculator> {
     alloc: Global,
@@ -49,16 +49,16 @@ pub struct Net<C: NodeCalculator> {
     got: Vec<u64>,
     // For each stream whether all that is laid of it is kept.
     kept: Vec<bool>,
-    // The places of the calculators that were handed in. Those that no node uses lie here.
+    // The places of the user-supplied calculators. The calculators that no node uses lie here.
     spare: Vec<Option<C>>,
-    // The list in which they came. It is empty, and has room for all of them.
+    // The list in which these calculators came. It is empty, and has room for all of them.
     boxes: Vec<C>,
     // How many nodes are begun, and how many are wound up, from the first on.
     begun: u32,
     wound: u32,
     // What the last sweep left for the next one.
     agenda: Option<Agenda>,
-    // Whether nothing has changed since the net was at rest but at places that the agenda has noted.
+    // Whether the agenda has noted all places at which something has changed since the net was at rest.
     known: bool,
 }
 
@@ -89,7 +89,7 @@ impl Model for IndexedPlan {
 impl IndexedPlan {
     ghost use Rattle.std.specs.Prelude.{◌≡◌};
 
-    /// The plan.
+    /// Returns the plan.
     pub fn plan(&self) -> &Plan
         ensures { result.now ≡ self.now }
     {

@@ -1,4 +1,4 @@
-//! What a net is made of, before the calculators that are handed in are with their nodes.
+//! What a net is made of, before the user-supplied calculators are at their nodes.
 ghost use Rattle.std.specs.Prelude.{◌≡◌, ◌+◌, ◌<◌, ◌≤◌, [], Some, IfOk, All, length, map, replicate, false, slice_get, vec_len, vec_capacity};
 ghost use Rattle.mg_settled.specs.Prefix.{IsPrefix};
 ghost use Rattle.mg_calc.specs.declared.plan_node.PlanNode.{PlanNode};
@@ -17,7 +17,7 @@ use mg_settled::PrefixList;
 use mg_throttle::Limits;
 use std::alloc::{AllocError, Global};
 
-/// The plan and the side packets that a net keeps, and places for the calculators that are handed in.
+/// The plan and the side packets that a net keeps, and places for the user-supplied calculators.
 #[derive(Drop)]
 pub(crate) struct Kept<C: NodeCalculator> {
     pub(crate) plan: Plan,
@@ -43,7 +43,7 @@ pub(crate) struct Rules {
     pub(crate) kept: Vec<bool>,
 }
 
-// The engine of a node, with a calculator of the node's own kind.
+// Returns the engine of a node, with a calculator of the node's own kind.
 fn engine_of<C: NodeCalculator>(
     alloc: Global,
     plan: &Plan,
@@ -61,7 +61,7 @@ fn engine_of<C: NodeCalculator>(
     }
 }
 
-// The engines of the nodes.
+// Returns the engines of the nodes.
 fn node_engines<C: NodeCalculator>(
     alloc: Global,
     plan: &Plan,
@@ -79,7 +79,7 @@ fn node_engines<C: NodeCalculator>(
     Ok(engines)
 }
 
-/// The engines of the nodes, each with a calculator of the node's own kind, and behind them those of the graph inputs.
+/// Returns the engines of the nodes, each with a calculator of the node's own kind, and after them those of the graph inputs.
 pub(crate) fn engines_of<C: NodeCalculator>(
     alloc: Global,
     plan: &Plan,
@@ -99,7 +99,7 @@ pub(crate) fn engines_of<C: NodeCalculator>(
     Ok(engines)
 }
 
-/// The intakes of the nodes, and behind them that of the collector.
+/// Returns the intakes of the nodes, and after them the collector's.
 pub(crate) fn intakes_of(alloc: Global, plan: &Plan) -> Result<Vec<Intake>, AllocError>
     requires valid { IsValid plan.now }
     ensures count { IfOk result (λ v. length v.items ≡ length plan.now.nodes + 1) }
@@ -151,7 +151,7 @@ pub(crate) fn kept_of<C: NodeCalculator>(
     })
 }
 
-/// The cells of the nodes, the engines of the graph inputs, and the collector's intake.
+/// Returns the cells of the nodes, the engines of the graph inputs, and the collector's intake.
 pub(crate) fn cells_of<C: NodeCalculator>(
     alloc: Global,
     plan: &Plan,
@@ -177,7 +177,7 @@ pub(crate) fn cells_of<C: NodeCalculator>(
     })
 }
 
-/// The limits of a plan's queues, and its tables.
+/// Returns the limits of a plan's queues, and its tables.
 pub(crate) fn rules_of(alloc: Global, plan: &Plan) -> Result<Rules, AllocError>
     requires valid { IsValid plan.now }
     ensures of { IfOk result (λ r. AreLimitsOf plan.now r.limits) }

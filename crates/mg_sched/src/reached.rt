@@ -1,4 +1,4 @@
-/// How far a node's next work came, which is claimed, performed and committed at once.
+/// How far a node's next work came. The work is claimed, performed and committed at once.
 #[derive(Clone, Copy, Debug, PartialEq, Eq)]
 pub enum Reached {
     /// There was no work to claim.

@@ -19,8 +19,8 @@ ghost use Rattle.mg_sched.specs.Reports.{report_of};
 ghost use Rattle.mg_sched.specs.Runs.{IsRun, IsRunAtRest};
 ghost use Rattle.mg_sched.specs.Sweeps.{Becomes};
 
-/// The empty list is a run from a net to itself, an event that does something is a run, and two runs of which the second begins where the
-/// first ended are one run.
+/// The empty list is a run from a net to itself. An event that does something is a run. Two runs are one run if the second begins where the
+/// first ended.
 pub fn runs_go_on()
     ensures none { (laws : Laws) (net : NetView) → IsRun laws [] net net }
     ensures one { (laws : Laws) (event : Event) (before now : NetView) → IsEventOf before event → Acts laws event Did before now → IsRun laws (event ∷ []) before now }
@@ -28,7 +28,7 @@ pub fn runs_go_on()
         → IsRun laws (events ++ more) before now }
 {}
 
-/// Whatever the events of a run are, at its end every node is begun and the net stands for its job, as at its begin; and a run that has an
+/// Whatever the events of a run are, at its end every node is begun and the net stands for its job, as at its begin. A run that has an
 /// event leaves no net as it was.
 pub fn runs_stand_for_their_job()
     ensures running { (laws : Laws) (events : List Event) (before now : NetView) → IsRun laws events before now → IsRunning before → IsRunning now }
@@ -38,16 +38,16 @@ pub fn runs_stand_for_their_job()
         → events ≢ [] → now ≢ before }
 {}
 
-/// Whatever steps a net makes, whether they do something or find nothing to do or no memory, every node is begun and the net stands for its
-/// job at the end as at the begin. A run is a way to make steps.
+/// Whatever steps a net makes, at the end every node is begun and the net stands for its job, as at the begin. The steps may do something,
+/// or find nothing to do or no memory. A run is a way to make steps.
 pub fn steps_keep_what_a_net_stands_for()
     ensures running { (laws : Laws) (before now : NetView) → Becomes laws before now → IsRunning before → IsRunning now }
     ensures stands { (laws : Laws) (job : LoggedJob laws) (before now : NetView) → Becomes laws before now → IsRunning before → StandsFor job before → StandsFor job now }
     ensures run { (laws : Laws) (events : List Event) (before now : NetView) → IsRun laws events before now → Becomes laws before now }
 {}
 
-/// Whatever its events are, a run of a job to rest has come to the job's solution: the net reports how many sets each node has there, its
-/// faults, and how far each stream comes.
+/// Whatever its events are, a run of a job to rest reaches the job's solution. The net reports what the solution has: how many sets each
+/// node has, the faults, and how far each stream comes.
 pub fn runs_at_rest_have_the_solution()
     ensures sets { (laws : Laws) (plan : Plan) (inputs : Inputs) (boxes : List BoxTold) (events : List Event) (solution : List (StreamPrefix Plain))
         (run : IsRunAtRest laws plan inputs boxes events) → Solves (job_of laws plan inputs boxes) solution → (report_of run.rested).sets ≡ counts (job_of laws plan inputs boxes).job solution }

@@ -6,7 +6,7 @@ ghost use Rattle.mg_sched.specs.Places.{source_of};
 
 use mg_calc::{Edge, Plan, Producer};
 
-/// Who writes the stream of an edge.
+/// Returns who writes the stream of an edge.
 pub(crate) fn producer_of(plan: &Plan, edge: Edge) -> Producer
     requires { edge.stream < length plan.now.streams }
     ensures { producer_of plan.now edge.stream ≡ Some result }
@@ -14,7 +14,7 @@ pub(crate) fn producer_of(plan: &Plan, edge: Edge) -> Producer
     plan.streams.as_slice()[edge.stream as usize].producer
 }
 
-/// The place of the engine that writes the stream of an edge.
+/// Returns the place of the engine that writes the stream of an edge.
 pub(crate) fn source_of(plan: &Plan, edge: Edge) -> usize
     requires { edge.stream < length plan.now.streams }
     ensures { source_of plan.now edge ≡ Some result }

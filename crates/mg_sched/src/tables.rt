@@ -8,7 +8,7 @@ ghost use Rattle.mg_sched.specs.Code.Tables.{AreOwnFeeders};
 use mg_calc::Plan;
 use std::alloc::{AllocError, Global};
 
-/// The number of the first edge into each node, and behind them that of the first edge into the collector.
+/// Returns the number of the first edge into each node, and after these the number of the first edge into the collector.
 pub(crate) fn first_edges(alloc: Global, plan: &Plan) -> Result<Vec<u32>, AllocError>
     requires { IsValid plan.now }
     ensures { IfOk result (λ v. v.items ≡ map (first_edge plan.now) (numbers (length plan.now.nodes + 1))) }
@@ -23,7 +23,7 @@ pub(crate) fn first_edges(alloc: Global, plan: &Plan) -> Result<Vec<u32>, AllocE
     Ok(firsts)
 }
 
-/// Returns for each node that is a source its number as a feeder. 2^32 nodes and graph inputs or more count as want of memory.
+/// Returns for each node that is a source its number as a feeder. 2^32 nodes and graph inputs or more count as out of memory.
 pub(crate) fn own_feeders(alloc: Global, plan: &Plan) -> Result<Vec<Option<u32>>, AllocError>
     ensures count { IfOk result (λ v. length v.items ≡ length plan.now.nodes) }
     ensures feeders { IfOk result (λ v. AreOwnFeeders plan.now v.items) }

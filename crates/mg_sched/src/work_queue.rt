@@ -10,7 +10,7 @@ use mg_node::Work;
 use std::alloc::{AllocError, Global};
 use std::marker::Model;
 
-/// The works of a node that are claimed and not performed, of which at most `room` may lie here.
+/// The works of a node that are claimed and not performed. At most `room` works may lie here.
 #[derive(Drop)]
 pub struct WorkQueue<C: NodeCalculator> {
     room: u32,
@@ -44,14 +44,14 @@ fn place_of<C: NodeCalculator>(works: &[Work<C>], number: u64) -> Option<usize>
     None
 }
 
-// The calculator of a work, if it was handed in.
+// Returns the calculator of a work, if it is user-supplied.
 fn handed_of<C: NodeCalculator>(work: Work<C>) -> Option<C>
     ensures { option_map C.told result ≡ handed_told work.context.told }
 {
     work.into_calculator()
 }
 
-// Returns the first calculator that was handed in, among those of the works.
+// Returns the first user-supplied calculator among those of the works.
 fn first_of<C: NodeCalculator>(works: Vec<Work<C>>) -> Option<C>
     ensures { option_map C.told result ≡ slice_get (filter_map handed_told (map (λ (w : WorkView). w.context.told) works.items)) 0 }
 {
@@ -72,7 +72,7 @@ impl<C: NodeCalculator> WorkQueue<C> {
         Ok(WorkQueue { room, works })
     }
 
-    /// Lays a work behind the others.
+    /// Lays a work at the end of the queue.
     pub(crate) fn put(&mut self, work: Work<C>)
         requires { length self.old.works < self.old.room }
         ensures { self.new ≡ record self.old { works = self.old.works ++ work ∷ [] } }
@@ -80,7 +80,7 @@ impl<C: NodeCalculator> WorkQueue<C> {
         self.works.push_reserved(work);
     }
 
-    /// The number of the first work, if there is one.
+    /// Returns the number of the first work, if there is one.
     pub(crate) fn first(&self) -> Option<u64>
         ensures some { IfSome result (λ number. IsSomeAnd (slice_get self.now.works 0) (λ w. w.number ≡ number)) }
         ensures none { IfNone result (self.now.works ≡ []) }
@@ -119,7 +119,7 @@ impl<C: NodeCalculator> WorkQueue<C> {
         };
     }
 
-    /// Returns the first calculator that was handed in, among those of the works that lie here. The works are dropped and not performed.
+    /// Returns the first user-supplied calculator among those of the works that lie here. The works are dropped and not performed.
     pub(crate) fn into_calculator(self) -> Option<C>
         ensures { option_map C.told result ≡ on_work_queue self }
     {

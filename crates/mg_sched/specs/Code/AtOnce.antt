@@ -20,7 +20,7 @@ use Rattle.mg_sched.specs.Acts.{Acts, with_noted}
 use Rattle.mg_sched.specs.Runs.{IsRun}
 use Rattle.mg_sched.specs.StandsFor.{StandsForSome, IsRunning}
 
--- a node's engine claims from its intake, and the limits hear how many packets wait now at each of its ports; what is handed out lies on no
+-- a node's engine claims from its intake, and the limits hear how many packets wait now at each of its ports. What is handed out lies in no
 -- work queue
 pub record NodeHandsOut {C : Type 0} (node : ℕ) (claimed : Claimed C) (before now : NetView) : Type 0 where
   pub engine : EngineView
@@ -38,7 +38,7 @@ did_nothing Other = true
 did_nothing NoSet = true
 did_nothing done = false
 
--- a node's next set is shown to its calculator by its engine, and the limits hear how many packets wait now at each of its ports
+-- a node's engine shows the node's next set to its calculator. The limits hear how many packets wait now at each of the node's ports
 pub record ShowsTo (laws : Laws) {C : Type 0} (node : ℕ) (done : AtOnce C) (before now : NetView) : Type 0 where
   pub engine : EngineView
   pub at : slice_get before.engines node ≡ Some engine
@@ -49,7 +49,7 @@ pub record ShowsTo (laws : Laws) {C : Type 0} (node : ℕ) (done : AtOnce C) (be
   pub does : DoesAtOnce laws {C = C} done engine engine_now intake intake_now
   pub now_is : now ≡ with_noted (with_intake (with_engine before node engine_now) node intake_now) (first_edge before.plan node) (lengths_of intake_now.waits)
 
--- an engine tries to show a node's next set: nothing changes, or a claim finds that none is ready, or the set is claimed and shown
+-- an engine tries to show a node's next set. Nothing changes, or a claim finds that no set is ready, or the set is claimed and shown
 abbrev pub ShowsAt : (laws : Laws) {C : Type 0} → ℕ → AtOnce C → NetView → NetView → Type 0
 ShowsAt laws node Other before now = now ≡ before
 ShowsAt laws {C} node NoSet before now = NodeHandsOut {C = C} node NotReady before now
@@ -63,11 +63,11 @@ took_none Draining = true
 took_none Ended = true
 took_none claimed = false
 
--- a net with a work behind those in a work queue
+-- a net with a work after those in a work queue
 abbrev pub with_work : NetView → ℕ → WorkQueueView → WorkView → NetView
 with_work net node work_queue work = with_work_queue net node (record work_queue { works = work_queue.works ++ work ∷ [] })
 
--- a work is handed out: if it lay in the work queue of its node, the net would stand for some job, and all nodes would be begun
+-- a work is handed out. If it lay in the work queue of its node, the net would stand for some job, and all nodes would be begun
 pub record IsHandedOut (laws : Laws) (net : NetView) (node : ℕ) (work : WorkView) : Type 0 where
   pub work_queue : WorkQueueView
   pub on : slice_get net.work_queues node ≡ Some work_queue
@@ -82,7 +82,7 @@ pub record IsPerformedOut (laws : Laws) (net : NetView) (node number : ℕ) (per
   pub done : IsPerformed laws work performed
   pub number_is : number ≡ work.number
 
--- the steps behind the claim of a work, as far as it came
+-- the steps after the claim of a work, as far as the work came
 abbrev pub steps_after : ℕ → Reached → List Event
 steps_after node (Performed number) = Perform node number ∷ []
 steps_after node (Committed number) = Perform node number ∷ Commit node number ∷ []
@@ -94,7 +94,7 @@ steps_of node Nothing = []
 steps_of node NotClaimed = []
 steps_of node reached = Claim node ∷ steps_after node reached
 
--- a net in which a node's next work lies in its work queue becomes another one by the steps behind the claim, as far as the work came
+-- a net has a node's next work in the node's work queue. It becomes another net by the steps after the claim, as far as the work came
 abbrev pub ComesOn : Laws → ℕ → Reached → NetView → NetView → Type 0
 ComesOn laws node Nothing before now = ⊥
 ComesOn laws node NotClaimed before now = ⊥
@@ -106,7 +106,7 @@ Comes laws node Nothing before now = (now ≡ before) × Acts laws (Claim node) 
 Comes laws node NotClaimed before now = Acts laws (Claim node) OutOfMemory before now
 Comes laws node reached before now = IsRun laws (steps_of node reached) before now
 
--- whether something was done; none where there was no memory for the next step
+-- whether something was done, or none if there was no memory for the next step
 abbrev pub did_of : Reached → Option Bool
 did_of Nothing = Some false
 did_of NotClaimed = None
@@ -115,6 +115,6 @@ did_of OnlyClaimed = None
 did_of (Performed number) = None
 did_of (Committed number) = Some true
 
--- a hearer has heard these events behind those that it had heard before
+-- a hearer has heard these events after those that it had heard before
 abbrev pub HearsMore : {H : Type 0} → (H → H → List Event → Type 0) → H → H → List Event → Type 0
 HearsMore {H} has_heard before now more = (began : H) (events : List Event) → has_heard began before events → has_heard began now (events ++ more)

@@ -18,8 +18,8 @@ use Rattle.mg_sched.specs.Views.{WorkQueueView, NetView}
 use Rattle.mg_sched.specs.Acts.{Acts}
 use Rattle.mg_sched.specs.AtRest.{MayGoOn}
 
--- the steps that are left of a work that is back in its window: it has to be claimed again, performed and committed, or, once it is
--- performed, only to be committed
+-- the steps that are left of a work that is back in its window. It has to be claimed again, performed and committed. Once it is performed
+-- it has only to be committed
 abbrev pub outcome_left : OutcomeView → ℕ
 outcome_left o = if is_some o.answer then 1 else 3
 
@@ -40,7 +40,7 @@ close_left e = if has_ended e || list_any (λ entry. is_close entry.phase) e.win
 abbrev pub engine_left : EngineView → ℕ
 engine_left e = 4 * (2 ^ 65 - e.claimed) + sum_by entry_left e.window + close_left e + sum_by (λ b. done - b.bound) e.outputs
 
--- what is left of an intake: the packets that may still come to its ports, and how far these may be raised
+-- what is left of an intake: the packets that its ports may still get, and how far these may be raised
 abbrev pub intake_left : IntakeView → ℕ
 intake_left i = sum_by (λ port. (2 ^ 65 - count_of (port_queue i.waits port)) + (done - (port_queue i.waits port).bound)) (numbers (ports_in i.waits))
 

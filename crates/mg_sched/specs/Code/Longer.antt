@@ -22,14 +22,14 @@ pub record AreLonger (from : ℕ) (pieces : List (StreamPrefix Plain)) (count : 
 abbrev pub IsBound : ℕ → List EngineView → ℕ → ℕ → Type 0
 IsBound from engines input bound = (engine : EngineView) → slice_get engines (from + input) ≡ Some engine → (laid_at engine 0).bound ≡ bound
 
--- the first `count` engines from a place on were extended, each by a piece by which it may be, and their bounds from before are noted
+-- the first `count` engines from a place on were extended, each by a piece by which it may be extended. Their bounds from before are noted
 pub record WereLonger (laws : Laws) (from : ℕ) (pieces : List (StreamPrefix Plain)) (bounds : List ℕ) (count : ℕ) (before now : List EngineView) : Type 0 where
   pub are : AreLonger from pieces count before now
   pub may : MayEach laws from pieces before
   pub bounds_were : (input bound : ℕ) → slice_get bounds input ≡ Some bound → IsBound from before input bound
   pub within : from + count ≤ length before
 
--- these engines came of others, of which the first `count` from a place on were extended
+-- these engines came of others. The first `count` of the others, from a place on, were extended
 pub record SomeLonger (laws : Laws) (from : ℕ) (pieces : List (StreamPrefix Plain)) (bounds : List ℕ) (count : ℕ) (now : List EngineView) : Type 0 where
   pub before : List EngineView
   pub were : WereLonger laws from pieces bounds count before now

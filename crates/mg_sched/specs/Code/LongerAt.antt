@@ -33,7 +33,7 @@ pub record AreLongerAt (from : ℕ) (inputs : List ℕ) (pieces : List (StreamPr
 abbrev pub IsBoundAt : ℕ → List ℕ → List EngineView → ℕ → ℕ → Type 0
 IsBoundAt from inputs engines i bound = (input : ℕ) (engine : EngineView) → slice_get inputs i ≡ Some input → slice_get engines (from + input) ≡ Some engine → (laid_at engine 0).bound ≡ bound
 
--- the engines of the first `count` inputs were extended, each by a piece by which it may be, and their bounds from before are noted
+-- the engines of the first `count` inputs were extended, each by a piece by which it may be extended. Their bounds from before are noted
 pub record WereLongerAt (laws : Laws) (from : ℕ) (inputs : List ℕ) (pieces : List (StreamPrefix Plain)) (bounds : List ℕ) (count : ℕ) (before now : List EngineView) : Type 0 where
   pub are : AreLongerAt from inputs pieces count before now
   pub may : MayEachAt laws from inputs pieces before
@@ -41,7 +41,7 @@ pub record WereLongerAt (laws : Laws) (from : ℕ) (inputs : List ℕ) (pieces :
   pub there : HaveEngines from inputs before
   pub rising : AreRising inputs
 
--- these engines came of others, of which those of the first `count` inputs were extended
+-- these engines came of others. Among the others, the engines of the first `count` inputs were extended
 pub record SomeLongerAt (laws : Laws) (from : ℕ) (inputs : List ℕ) (pieces : List (StreamPrefix Plain)) (bounds : List ℕ) (count : ℕ) (now : List EngineView) : Type 0 where
   pub before : List EngineView
   pub were : WereLongerAt laws from inputs pieces bounds count before now

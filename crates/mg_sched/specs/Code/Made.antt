@@ -1,4 +1,4 @@
--- What a net is made of: its parts before any node is begun, at their places, and what lies where calculators were handed in.
+-- What a net is made of: its parts before any node is begun, at their places, and what lies in the places of user-supplied calculators.
 use Rattle.std.specs.Prelude.{◌≡◌, ℕ, ◌+◌, ◌<◌, nat_lt, List, [], map, length, replicate, false, All, Option, Some, None, IfSome, IsSome, IsSomeAnd, option_map, unwrap_or, slice_get, slice_index_or, true, if◌then◌else◌}
 use Rattle.std.specs.Option.{option_and_then}
 use Rattle.mg_value.specs.Payload.{Plain}
@@ -24,11 +24,11 @@ AtPlaces {X} P xs = (place : ℕ) (x : X) → slice_get xs place ≡ Some x → 
 
 -- Calculators.
 
--- the calculator with which a node begins: the one of its number, of those that were handed in, or one of its own kind
+-- the calculator with which a node begins: the user-supplied calculator of its number, or a calculator of its own kind
 abbrev pub first_holder : List (Option BoxTold) → PlanNode → HolderView
 first_holder given node = unwrap_or (option_map (holder_view true) (option_and_then (λ number. unwrap_or (slice_get given number) None) node.box_number)) (own_told node)
 
--- the calculator of the node at a place, while the first `count` nodes alone have what was handed in
+-- the calculator of the node at a place, while the first `count` nodes alone have their user-supplied calculators
 abbrev pub holder_before : List (Option BoxTold) → ℕ → ℕ → PlanNode → HolderView
 holder_before given count place node = if nat_lt place count then first_holder given node else own_told node
 
@@ -40,8 +40,8 @@ pub record HasTaken (nodes : List PlanNode) (count number : ℕ) : Type 0 where
   pub there : slice_get nodes place ≡ Some node
   pub takes : node.box_number ≡ Some number
 
--- the places of what was handed in, once the first `count` nodes have taken theirs: these places are empty, and all others have what they
--- had
+-- the places of user-supplied calculators, once the first `count` nodes have taken theirs. The places of the taken calculators are empty,
+-- and all other places have what they had
 pub record IsLeftOver (nodes : List PlanNode) (given : List (Option BoxTold)) (count : ℕ) (now : List (Option BoxTold)) : Type 0 where
   pub places : length now ≡ length given
   pub taken : (number : ℕ) → slice_get now number ≡ Some None → HasTaken nodes count number
@@ -53,7 +53,7 @@ FindEach nodes given = All (λ node. IfSome node.box_number (λ number. IsSomeAn
 
 -- Parts.
 
--- the engine at a place: that of a node that isn't begun, or, behind those, that of a graph input
+-- the engine at a place: that of a node that isn't begun, or, after those, that of a graph input
 pub record IsEngineAt (plan : Plan) (streams : List (StreamPrefix Plain)) (told : ℕ → PlanNode → HolderView) (place : ℕ) (engine : EngineView) : Type 0 where
   pub node : (node : PlanNode) → slice_get plan.nodes place ≡ Some node → engine ≡ fresh_engine node place (told place node)
   pub input : (input : ℕ) (s : StreamPrefix Plain) → place ≡ length plan.nodes + input → slice_get streams input ≡ Some s
@@ -64,7 +64,7 @@ pub record IsIntakeAt (plan : Plan) (consumer : ℕ) (intake : IntakeView) : Typ
   pub fresh : IsFresh plan consumer intake
   pub lawful : {laws : Laws} (job : LoggedJob laws) (streams : List (StreamPrefix Plain)) → job.job.plan ≡ plan → Solves job streams → LawfulIntake job consumer intake
 
--- the work queue of a node, where nothing lies
+-- the work queue of a node, in which nothing lies
 abbrev pub IsWorkQueueAt : Plan → ℕ → WorkQueueView → Type 0
 IsWorkQueueAt plan place work_queue = (node : PlanNode) → slice_get plan.nodes place ≡ Some node → work_queue ≡ record { room = node.in_flight; works = [] }
 

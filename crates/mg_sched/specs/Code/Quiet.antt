@@ -1,4 +1,4 @@
--- Parts of a net that have nothing to do, told by these parts alone: that stays so, whatever becomes of the others.
+-- Parts of a net that have nothing to do, told by these parts alone: that stays so, whatever becomes of the other parts.
 use Rattle.std.specs.Prelude.{◌≡◌, ◌≢◌, ℕ, ◌+◌, ◌<◌, ◌≤◌, ◌⊎◌, false, List, [], length, Option, Some, None, slice_get, ⊤}
 use Rattle.mg_calc.specs.Rules.{Laws}
 use Rattle.mg_calc.specs.declared.edge.Edge.{Edge}
@@ -92,7 +92,7 @@ pub record WakesLast (count : ℕ) (before now : AgendaView) : Type 0 where
   pub grows : (place : ℕ) → IsIn before.touched place → IsIn now.touched place
   pub woken : (place : ℕ) → place < length before.heads → length before.heads ≤ place + count → IsIn now.touched place
 
--- the places of some graph inputs are touched, where that of the first one is `from`
+-- the places of some graph inputs are touched. The place of the first graph input is `from`
 pub record WakesAt (from : ℕ) (inputs : List ℕ) (before now : AgendaView) : Type 0 where
   pub heads : length now.heads ≡ length before.heads
   pub starts : now.starts ≡ before.starts
@@ -108,7 +108,7 @@ pub record Touches (place : ℕ) (before now : AgendaView) : Type 0 where
   pub touched : IsIn now.touched place
   pub only : ChangesOnly before.touched now.touched place
 
--- an agenda that is kept changes like this, and where none is kept, none is kept afterwards
+-- an agenda that is kept changes like this, and if none is kept, none is kept afterwards
 abbrev pub OfKept : (AgendaView → AgendaView → Type 0) → Option AgendaView → Option AgendaView → Type 0
 OfKept P None now = now ≡ None
 OfKept P (Some before) None = ⊥

@@ -15,7 +15,7 @@ abbrev pub AreOwnFeeders : Plan → List (Option ℕ) → Type 0
 AreOwnFeeders plan own_feeders = (number : ℕ) (node : PlanNode) (feeder : Option ℕ) → slice_get plan.nodes number ≡ Some node → slice_get own_feeders number ≡ Some feeder
     → IsFeederOf plan number node feeder
 
--- the tables of a plan: for each consumer the number of the first edge into it, and for each node that is a source its number as a feeder
+-- the tables of a plan. They have for each consumer the number of the first edge into it, and for each source its number as a feeder
 pub record AreTables (plan : Plan) (first_edges : List ℕ) (own_feeders : List (Option ℕ)) : Type 0 where
   pub edges : first_edges ≡ map (first_edge plan) (numbers (length plan.nodes + 1))
   pub count : length own_feeders ≡ length plan.nodes

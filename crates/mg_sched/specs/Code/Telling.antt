@@ -18,8 +18,8 @@ pub record PutsBackAt (node : ℕ) (before now : NetView) : Type 0 where
   pub on : slice_get before.work_queues node ≡ Some work_queue
   pub now_is : now ≡ with_work_queue (with_engine before node (all_shelved engine work_queue.works)) node (record work_queue { works = [] })
 
--- the limits of a net know what waits at the first `noted` consumers, and which of the first `stopped` nodes have ended; and no queue of a
--- node that goes on was stopped
+-- the limits of a net know what waits at the first `noted` consumers, and which of the first `stopped` nodes have ended. No queue of a node
+-- that goes on was stopped
 pub record ToldTo (noted stopped : ℕ) (start now : NetView) : Type 0 where
   pub same : now ≡ with_limits start now.limits
   pub of_plan : AreLimitsOf start.plan now.limits

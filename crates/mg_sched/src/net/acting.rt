@@ -10,11 +10,11 @@ use mg_calc::{Effect, Event, NodeCalculator};
 use mg_edge::Gate;
 
 impl<C: NodeCalculator> Net<C> {
-    /// Makes a step. Each event changes the parts that it names, and costs what these cost: a delivery brings along an edge all that
-    /// the port hasn't got, and the bound; an advance raises a node's outputs; a claim hands out the node's next work, which lies in
-    /// the net then; a work is performed, and what is performed is committed; and limits are relaxed where a queue is full. `Idle` is
-    /// answered where there is nothing to do, and for a delivery from a throttled graph input and a claim of a throttled source.
-    /// At want of memory a delivery keeps what it has moved, and nothing else has changed.
+    /// Makes a step. Each event changes the parts that it names, and costs what these cost. A delivery brings along an edge all that the
+    /// port hasn't got, and the bound. An advance raises a node's outputs. A claim hands out the node's next work, which lies in the net
+    /// then. A work is performed, and a performed work is committed. Limits are relaxed if a queue is full. Returns `Idle` if there is
+    /// nothing to do, and for a delivery from a throttled graph input and a claim of a throttled source. Out of memory: a delivery keeps
+    /// what it has moved, and nothing else has changed.
     pub fn act<G: Gate>(&mut self, event: Event, gate: &G) -> Effect
         requires event { IsEventOf self.old event }
         requires running { IsRunning self.old }

@@ -24,8 +24,8 @@ fn sides_at(
 }
 
 impl<C: NodeCalculator> Net<C> {
-    /// Begins each node that isn't begun, in order: its calculator is opened with its side packets, and what it emits is laid. At want
-    /// of memory the nodes begun so far stay begun, and this may be called again.
+    /// Begins each node that isn't begun, in order. It opens the node's calculator with the node's side packets, and lays what the
+    /// calculator emits. Out of memory: the nodes begun so far stay begun, and this may be called again.
     pub fn begin(&mut self) -> Result<(), AllocError>
         requires stands { StandsForSome C.laws self.old }
         ensures running { OnOk result (IsRunning self.new) }

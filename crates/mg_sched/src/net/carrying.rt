@@ -60,7 +60,7 @@ impl<C: NodeCalculator> Net<C> {
         }
     }
 
-    // Who writes the stream of an edge.
+    // Returns who writes the stream of an edge.
     fn producer_of(&self, edge: Edge) -> Producer
         requires { edge.stream < length self.now.plan.streams }
         ensures { producer_of self.now.plan edge.stream ≡ Some result }
@@ -68,7 +68,7 @@ impl<C: NodeCalculator> Net<C> {
         producer_of(&self.plan, edge)
     }
 
-    // The place of the engine that writes the stream of an edge.
+    // Returns the place of the engine that writes the stream of an edge.
     fn source_of(&self, edge: Edge) -> usize
         requires { edge.stream < length self.now.plan.streams }
         ensures { source_of self.now.plan edge ≡ Some result }

@@ -86,7 +86,7 @@ impl<C: NodeCalculator> Net<C> {
         }
     }
 
-    // The number of the feeder that a node is, if it is a source.
+    // Returns the number of the feeder that a node is, if it is a source.
     fn own_feeder(&self, node: u32) -> Option<u32>
         requires { node < length self.now.plan.nodes }
         ensures { (planned : PlanNode) → slice_get self.now.plan.nodes node ≡ Some planned → IsFeederOf self.now.plan node planned result }
@@ -94,7 +94,7 @@ impl<C: NodeCalculator> Net<C> {
         self.own_feeders[node as usize]
     }
 
-    // The number of the first edge into a consumer.
+    // Returns the number of the first edge into a consumer.
     pub(super) fn first_edge(&self, place: u32) -> u32
         requires { place ≤ length self.now.plan.nodes }
         ensures { result ≡ first_edge self.now.plan place }
@@ -140,7 +140,7 @@ impl<C: NodeCalculator> Net<C> {
         claimed
     }
 
-    // Lays a work behind those in a node's work queue.
+    // Lays a work at the end of a node's work queue.
     pub(super) fn put_on_work_queue(&mut self, node: u32, work: Work<C>)
         requires there { node < length self.old.work_queues }
         requires room { (work_queue : WorkQueueView) → slice_get self.old.work_queues node ≡ Some work_queue → length work_queue.works < work_queue.room }

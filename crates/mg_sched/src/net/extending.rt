@@ -105,8 +105,8 @@ fn shorten_each<C: NodeCalculator>(
     }
 }
 
-// Extends the last engines, each by its piece. Where one can't be, the pieces that were laid before are taken back: whether there is memory
-// for all shows only while they are laid.
+// Extends the last engines, each by its piece. If one of them can't be extended, takes back the pieces that were laid before. Whether there
+// is memory for all pieces shows only while they are laid.
 fn extend_last<C: NodeCalculator>(
     alloc: Global,
     engines: &mut [Engine<C>],
@@ -128,8 +128,8 @@ fn extend_last<C: NodeCalculator>(
 }
 
 impl<C: NodeCalculator> Net<C> {
-    /// Goes on with further input: the packets of each piece go behind those of its graph input, and the greater bound stands. Payloads
-    /// are shared. Want of memory changes nothing. It costs a step for each graph input, and one for each packet.
+    /// Goes on with further input. The packets of each piece go after those of its graph input, and the greater bound stands. Payloads are
+    /// shared. Out of memory: nothing changes. It costs a step for each graph input, and one for each packet.
     pub fn extend(&mut self, more: &Inputs) -> Result<(), AllocError>
         requires may { MayGoOnWith C.laws more.now self.old }
         ensures extends { OnOk result (Extends more.now self.old self.new) }
@@ -142,8 +142,8 @@ impl<C: NodeCalculator> Net<C> {
         Ok(())
     }
 
-    // Goes on with further input of the last graph inputs alone, a piece for each of them. Nothing comes to the graph inputs before
-    // them, and they cost nothing.
+    // Goes on with further input of the last graph inputs alone, a piece for each of them. The graph inputs before them get nothing, and
+    // cost nothing.
     fn extend_last(&mut self, pieces: &PrefixList) -> Result<(), AllocError>
         requires may { MayGoOnWith C.laws (for_last (length self.old.plan.inputs) pieces.now) self.old }
         ensures extends { OnOk result (Extends (for_last (length self.old.plan.inputs) pieces.now) self.old self.new) }

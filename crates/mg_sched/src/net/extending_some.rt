@@ -85,8 +85,8 @@ fn shorten_each_at<C: NodeCalculator>(
     }
 }
 
-// Extends the engines of some graph inputs, each by its piece. Where one can't be, the pieces that were laid before are taken back:
-// whether there is memory for all shows only while they are laid.
+// Extends the engines of some graph inputs, each by its piece. If one of them can't be extended, takes back the pieces that were laid
+// before. Whether there is memory for all pieces shows only while they are laid.
 fn extend_some<C: NodeCalculator>(
     alloc: Global,
     engines: &mut [Engine<C>],
@@ -111,8 +111,8 @@ fn extend_some<C: NodeCalculator>(
 }
 
 impl<C: NodeCalculator> Net<C> {
-    /// Goes on with further input of some graph inputs alone, by their numbers, which rise: a piece for each of them. Nothing new comes to
-    /// the other graph inputs, and they cost nothing.
+    /// Goes on with further input of some graph inputs alone, by their numbers, which rise. Each of them has a piece. The other graph
+    /// inputs get nothing new, and cost nothing.
     pub fn extend_some(&mut self, inputs: &[u32], pieces: &PrefixList) -> Result<(), AllocError>
         requires may { MayGoOnAt C.laws inputs.now pieces.now self.old }
         ensures extends { (more : Given) (first later : LoggedJob C.laws) → ComesAt inputs.now pieces.now first.job.inputs.streams more → GoesOnWith more first later → StandsFor first self.old → OnOk result (Extends more self.old self.new) }

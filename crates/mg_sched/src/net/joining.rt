@@ -59,8 +59,8 @@ fn joined<C: NodeCalculator>(parts: NetParts<C>) -> Net<C>
 }
 
 impl<C: NodeCalculator> Net<C> {
-    /// Puts a net together of the parts into which one came apart, whatever became of them since: it stands for each job of which they are
-    /// the parts. Its limits are told anew what waits. Nothing is copied, and no memory is taken.
+    /// Puts a net together of the parts into which a net came apart, whatever became of them since. The new net stands for each job for
+    /// which these are the parts of one net. Its limits are told anew what waits. Nothing is copied, and no memory is taken.
     pub fn put_together(parts: NetParts<C>) -> Net<C>
         requires { AreParts C.laws (record { plan = parts.plan; engines = parts.engines.items; intakes = parts.intakes.items; rest = parts.rest }) }
         ensures together { IsPutTogether (record { plan = parts.plan; engines = parts.engines.items; intakes = parts.intakes.items; rest = parts.rest }) result }

@@ -1,4 +1,4 @@
-//! Streams of which nothing is given up. Nothing here takes memory.
+//! Streams that give up no more packets. Nothing here takes memory.
 ghost use Rattle.std.specs.Prelude.{◌≡◌, ◌<◌, true, length, slice_set};
 ghost use Rattle.mg_node.specs.Job.{LoggedJob};
 ghost use Rattle.mg_sched.specs.StandsFor.{StandsFor, StandsForSome};

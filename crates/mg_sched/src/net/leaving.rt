@@ -1,4 +1,4 @@
-//! How the calculators that were handed in leave a net. Nothing here takes memory.
+//! How user-supplied calculators leave a net. Nothing here takes memory.
 ghost use Rattle.std.specs.Prelude.{◌≡◌, ℕ, ◌+◌, ◌≤◌, ◌++◌, true, is_some, Option, Some, length, map, option_map, slice_get, vec_len, vec_capacity};
 ghost use Rattle.std.specs.List.{filter_map};
 ghost use Rattle.mg_calc.specs.declared.plan_node.PlanNode.{PlanNode};
@@ -13,7 +13,7 @@ use crate::work_queue::WorkQueue;
 use mg_calc::{NodeCalculator, Plan};
 use mg_node::Engine;
 
-// Returns the calculator of a cell, if it was handed in.
+// Returns the calculator of a cell, if it is user-supplied.
 fn calculator_of<C: NodeCalculator>(engine: Engine<C>, work_queue: WorkQueue<C>) -> Option<C>
     ensures { option_map C.told result ≡ cell_told engine work_queue }
 {
@@ -74,12 +74,13 @@ fn all_in<C: NodeCalculator>(places: Vec<Option<C>>, boxes: Vec<C>) -> Vec<C>
 }
 
 impl<C: NodeCalculator> Net<C> {
-    /// Returns all calculators that were handed in, in the order in which they came: those of nodes, and those that no node uses.
+    /// Returns all user-supplied calculators, in the order in which they came. These are the calculators of nodes, and those that no node
+    /// uses.
     pub fn give_back(self) -> Vec<C>
         ensures told { map C.told result.items ≡ given_back self }
 
-        // A net that stands for a job, begun or not, or was wound up since, gives back as many calculators as were handed in. The
-        // calculator of a node stands at the place of its box number, and one that no node uses is as it lay.
+        // A net that stands for a job, begun or not, or was wound up since, gives back as many calculators as the user supplied. The
+        // calculator of a node stands at the place of its box number. A calculator that no node uses is as it lay.
         ensures count { (job : LoggedJob C.laws) → StoodFor job self → length result.items ≡ length job.boxes }
         ensures own { (job : LoggedJob C.laws) (number place : ℕ) (node : PlanNode) (engine : EngineView) (work_queue : WorkQueueView) → StoodFor job self
             → slice_get self.plan.nodes number ≡ Some node → node.box_number ≡ Some place → slice_get self.engines number ≡ Some engine → slice_get self.work_queues number ≡ Some work_queue

@@ -29,7 +29,7 @@ fn packet_of<'a, C: NodeCalculator>(
     engines[place].packet(output, number)
 }
 
-// The bound of a stream.
+// Returns the bound of a stream.
 fn bound_of<C: NodeCalculator>(plan: &Plan, engines: &[Engine<C>], stream: u32) -> Timestamp
     requires stream { stream < length plan.now.streams }
     requires outputs { HaveOutputs plan.now engines.now }

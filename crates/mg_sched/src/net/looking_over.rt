@@ -19,8 +19,8 @@ use mg_edge::Gate;
 use std::alloc::AllocError;
 
 impl<C: NodeCalculator> Net<C> {
-    // Relaxes the limits of full queues, and where none is full looks over the places whose parts may have changed, one after the other,
-    // up to the first at which something is done. Tells whether something was done.
+    // Relaxes the limits of full queues. If no queue is full, looks over the places whose parts may have changed, one after the other.
+    // Stops after the first place at which something is done. Returns whether something was done.
     pub(super) fn look_over<G: Gate, H: Hears>(
         &mut self,
         agenda: &mut Agenda,
@@ -47,8 +47,8 @@ impl<C: NodeCalculator> Net<C> {
         Ok(did)
     }
 
-    // Looks over the places whose parts may have changed, one after the other, up to the first at which something is done. No queue is
-    // full. Tells whether something was done.
+    // Looks over the places whose parts may have changed, one after the other. Stops after the first place at which something is done. No
+    // queue is full. Returns whether something was done.
     fn look_at_touched<G: Gate, H: Hears>(
         &mut self,
         agenda: &mut Agenda,
@@ -77,7 +77,7 @@ impl<C: NodeCalculator> Net<C> {
         Ok(false)
     }
 
-    // Brings what there is to bring to a place and from it, and lets its node work. Tells whether something was done.
+    // Brings what there is to bring to a place and from it, and lets its node work. Returns whether something was done.
     fn look_at<G: Gate, H: Hears>(
         &mut self,
         place: u32,
@@ -104,7 +104,7 @@ impl<C: NodeCalculator> Net<C> {
         Ok(came | sent | worked)
     }
 
-    // Brings along each edge into a place what its port hasn't got. Tells whether something was brought.
+    // Brings along each edge into a place what its port hasn't got. Returns whether something was brought.
     fn look_into<G: Gate, H: Hears>(
         &mut self,
         place: u32,
@@ -132,7 +132,7 @@ impl<C: NodeCalculator> Net<C> {
         Ok(did)
     }
 
-    // Brings along each edge into a consumer what its port hasn't got. Tells whether something was brought.
+    // Brings along each edge into a consumer what its port hasn't got. Returns whether something was brought.
     fn receive<G: Gate, H: Hears>(
         &mut self,
         consumer: u32,
@@ -162,7 +162,7 @@ impl<C: NodeCalculator> Net<C> {
         Ok(did)
     }
 
-    // How many ports a consumer has.
+    // Returns how many ports a consumer has.
     fn port_count(&self, consumer: u32) -> u32
         requires stands { StandsForSome C.laws self.now }
         requires there { consumer ≤ length self.now.plan.nodes }
@@ -171,7 +171,7 @@ impl<C: NodeCalculator> Net<C> {
         self.intakes[consumer as usize].ports()
     }
 
-    // Brings along each edge from a place what its port hasn't got. Tells whether something was brought.
+    // Brings along each edge from a place what its port hasn't got. Returns whether something was brought.
     fn look_from<G: Gate, H: Hears>(
         &mut self,
         place: u32,
@@ -201,7 +201,7 @@ impl<C: NodeCalculator> Net<C> {
         Ok(false)
     }
 
-    // Lets the node at a place work, if there is one. Tells whether something was done.
+    // Lets the node at a place work, if there is one. Returns whether something was done.
     fn look_on<G: Gate, H: Hears>(
         &mut self,
         place: u32,
@@ -229,7 +229,7 @@ impl<C: NodeCalculator> Net<C> {
         Ok(false)
     }
 
-    // Lets a node work, and adds it to the agenda if it did something. Tells whether something was done.
+    // Lets a node work, and adds it to the agenda if it did something. Returns whether something was done.
     fn work_here<G: Gate, H: Hears>(
         &mut self,
         node: u32,
@@ -258,7 +258,7 @@ impl<C: NodeCalculator> Net<C> {
         Ok(false)
     }
 
-    // How many nodes there are.
+    // Returns how many nodes there are.
     pub(super) fn node_count(&self) -> u32
         ensures { result ≡ length self.now.plan.nodes }
     {
@@ -271,7 +271,7 @@ impl<C: NodeCalculator> Net<C> {
         self.plan.edges.len()
     }
 
-    // Makes a step, and lets the hearer hear it if it did something. Tells whether it did something.
+    // Makes a step, and lets the hearer hear it if it did something. Returns whether the step did something.
     pub(super) fn step<G: Gate, H: Hears>(
         &mut self,
         event: Event,

@@ -22,7 +22,7 @@ struct Parts<C: NodeCalculator> {
     rules: Rules,
 }
 
-// Returns the parts of a net, with room for `count` calculators that are handed in.
+// Returns the parts of a net, with room for `count` user-supplied calculators.
 fn parts_of<C: NodeCalculator>(
     alloc: Global,
     plan: &Plan,
@@ -54,7 +54,7 @@ fn parts_of<C: NodeCalculator>(
     Ok(Parts { kept, cells, rules })
 }
 
-// Returns the net of these parts, with the calculators that were handed in at their nodes. No memory is taken.
+// Returns the net of these parts, with the user-supplied calculators at their nodes. No memory is taken.
 fn joined<C: NodeCalculator>(alloc: Global, plan: &Plan, parts: Parts<C>, boxes: Vec<C>) -> Net<C>
     requires valid { IsValid plan.now }
     requires boxes { BoxesFit plan.now (map C.told boxes.items) }
@@ -120,8 +120,8 @@ fn joined<C: NodeCalculator>(alloc: Global, plan: &Plan, parts: Parts<C>, boxes:
 }
 
 impl<C: NodeCalculator> Net<C> {
-    /// Makes the net of a plan over inputs, with the calculators that are handed in: a node with a box number gets the one of that number.
-    /// No node is begun. Want of memory hands the calculators back.
+    /// Makes the net of a plan over inputs, with user-supplied calculators. A node with a box number gets the calculator of that number. No
+    /// node is begun. Out of memory: hands the calculators back.
     pub fn new(alloc: Global, plan: &Plan, inputs: &Inputs, boxes: Vec<C>) -> Result<Net<C>, Vec<C>>
         requires job { IsJob (record { plan = plan.now; inputs = inputs.now; laws = C.laws }) }
         requires boxes { BoxesFit plan.now (map C.told boxes.items) }

@@ -14,7 +14,7 @@ use mg_settled::{StreamEnd, StreamEndList};
 use mg_value::{BlockList, CountList};
 use std::alloc::{AllocError, Global};
 
-// How many packets engines keep.
+// Returns how many packets engines keep.
 fn kept_by<C: NodeCalculator>(engines: &[Engine<C>]) -> u64
     ensures { result ≡ min (sum_by packets_kept engines.now) (2 ^ 64 - 1) }
 {
@@ -25,7 +25,7 @@ fn kept_by<C: NodeCalculator>(engines: &[Engine<C>]) -> u64
     held
 }
 
-// How many packets wait at intakes.
+// Returns how many packets wait at intakes.
 fn waiting_at(intakes: &[Intake]) -> u64
     ensures { result ≡ min (sum_by (λ i. waiting_in i.waits) intakes.now) (2 ^ 64 - 1) }
 {
@@ -47,7 +47,7 @@ fn sets_of<C: NodeCalculator>(alloc: Global, engines: &[Engine<C>]) -> Result<Co
     Ok(BlockList::from_vec(sets)?)
 }
 
-// The faults of engines.
+// Returns the faults of engines.
 fn faults_of<C: NodeCalculator>(
     alloc: Global,
     engines: &[Engine<C>],
@@ -63,7 +63,7 @@ fn faults_of<C: NodeCalculator>(
     Ok(BlockList::from_vec(faults)?)
 }
 
-// How far the stream at an output has come.
+// Returns how far the stream at an output has come.
 fn end_at<C: NodeCalculator>(engine: &Engine<C>, output: u32) -> StreamEnd
     requires { output < length engine.now.outputs }
     ensures { result ≡ backlog_end (slice_index_or engine.now.outputs output empty_backlog) }
@@ -100,7 +100,7 @@ fn tell_all<C: NodeCalculator>(
     Ok(())
 }
 
-// How far the streams of the graph inputs have come, and those of the nodes.
+// Returns how far the streams of the graph inputs have come, and those of the nodes.
 fn streams_of<C: NodeCalculator>(
     alloc: Global,
     inputs: &[Engine<C>],
@@ -122,7 +122,7 @@ impl<C: NodeCalculator> Net<C> {
         kept_by(&self.engines).saturating_add(waiting_at(&self.intakes))
     }
 
-    // The engines of the nodes, and those of the graph inputs.
+    // Returns the engines of the nodes, and those of the graph inputs.
     fn engine_parts(&self) -> (&[Engine<C>], &[Engine<C>])
         ensures nodes { result.0.now ≡ node_engines self.now }
         ensures inputs { result.1.now ≡ input_engines self.now }
@@ -131,7 +131,7 @@ impl<C: NodeCalculator> Net<C> {
         self.engines.split_at(count)
     }
 
-    /// How far the net has come: the sets of its nodes, its streams, and the faults of its nodes.
+    /// Returns how far the net has come: the sets of its nodes, its streams, and the faults of its nodes.
     pub fn report(&self, alloc: Global) -> Result<Report, AllocError>
         ensures { IfOk result (λ r. r ≡ report_of self.now) }
     {

@@ -9,7 +9,7 @@ use super::Net;
 use mg_calc::{Effect, NodeCalculator};
 use std::alloc::AllocError;
 
-// Whether a step did something. Want of memory is an error.
+// Returns whether a step did something. Out of memory is an error.
 fn did(effect: Effect) -> Result<bool, AllocError>
     ensures { IfOk result (λ did. effect ≡ effect_if did) }
 {
@@ -21,9 +21,9 @@ fn did(effect: Effect) -> Result<bool, AllocError>
 }
 
 impl<C: NodeCalculator> Net<C> {
-    /// Whether the net is at rest: no event would do anything. Each event is looked at once at most, up to the first that would do
-    /// something. That event is made, unless it performs a work: no calculator is called. So a look costs what the graph has of nodes,
-    /// ports and edges, and one step. At want of memory what a delivery has moved stays moved.
+    /// Returns whether the net is at rest: no event would do anything. Looks at each event at most once, up to the first that would do
+    /// something. Makes that event unless it performs a work: no calculator is called. So a look costs what the graph has of nodes, ports
+    /// and edges, and one step. Out of memory: what a delivery has moved stays moved.
     pub fn rests(&mut self) -> Result<bool, AllocError>
         requires running { IsRunning self.old }
         requires stands { StandsForSome C.laws self.old }

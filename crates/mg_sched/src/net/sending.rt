@@ -50,9 +50,9 @@ fn hold_at(agenda: &mut Agenda, place: u32, edge: u32)
 }
 
 impl<C: NodeCalculator> Net<C> {
-    // Brings what came at a graph input along its edges until the input is throttled. The input is held back then, and sending goes on from
-    // the edge whose turn it was: along those before it all has gone, since nothing comes at a graph input while a net is swept. Tells
-    // whether something was brought.
+    // Brings what came at a graph input along its edges, edge by edge, until the input is throttled. Then holds the input back, and
+    // remembers the edge to resume from. All has gone along the edges before that edge, since nothing comes at a graph input while a net is
+    // swept. Returns whether something was brought.
     pub(super) fn send_until_held<G: Gate, H: Hears>(
         &mut self,
         place: u32,
@@ -96,8 +96,8 @@ impl<C: NodeCalculator> Net<C> {
         self.is_held(self.plan.edges.as_slice()[edge as usize])
     }
 
-    // Brings along the edges that lead from a place what their ports haven't got, and adds the nodes to which something came to the agenda.
-    // Tells whether something came.
+    // Brings along the edges that lead from a place what their ports haven't got. Adds each node to which something came to the agenda.
+    // Returns whether something came.
     pub(super) fn send<G: Gate, H: Hears>(
         &mut self,
         place: u32,
@@ -121,8 +121,8 @@ impl<C: NodeCalculator> Net<C> {
         Ok(did)
     }
 
-    // Brings along an edge, and along the later ones from the same place, what their ports haven't got, and adds the nodes to which
-    // something came to the agenda. Tells whether something came.
+    // Brings along an edge, and along the later edges from the same place, what their ports haven't got. Adds each node to which something
+    // came to the agenda. Returns whether something came.
     pub(super) fn send_from<G: Gate, H: Hears>(
         &mut self,
         first: Option<u32>,
@@ -152,7 +152,8 @@ impl<C: NodeCalculator> Net<C> {
         Ok(did)
     }
 
-    // Brings along an edge what its port hasn't got, and adds the node to the agenda if something came to it. Tells whether something came.
+    // Brings along an edge what its port hasn't got, and adds the node to the agenda if something came to it. Returns whether something
+    // came.
     pub(super) fn send_along<G: Gate, H: Hears>(
         &mut self,
         edge: u32,

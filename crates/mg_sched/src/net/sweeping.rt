@@ -39,8 +39,7 @@ fn is_queue_at_limit(limits: &Limits, number: u32, packets: u64) -> bool
     }
 }
 
-// Whether as many packets wait at some port of an intake as its queue's limit is, or more. The queues of the ports have the numbers from
-// `first` on.
+// Returns whether some queue of an intake holds its limit of packets or more. The queues of the ports have the numbers from `first` on.
 fn is_at_limit(limits: &Limits, first: u32, intake: &Intake) -> bool
     requires queues { first + ports_in intake.now.waits ≤ length limits.now.queues }
     requires short { length limits.now.queues < 2 ^ 32 }
@@ -79,7 +78,7 @@ pub(super) fn go_on_with(agenda: &mut Agenda, node: u32, again: bool, was_full: 
     }
 }
 
-// Returns the agenda as it is if it is known to have noted all that changed, and otherwise with all places woken.
+// Returns the agenda as it is if it is known to have noted all changes. Otherwise returns it with all places woken.
 fn woken_unless(known: bool, agenda: Agenda) -> Agenda
     ensures heads { length result.heads ≡ length agenda.heads }
     ensures leads { (result.starts ≡ agenda.starts) × (result.links ≡ agenda.links) }
@@ -94,18 +93,18 @@ fn woken_unless(known: bool, agenda: Agenda) -> Agenda
 }
 
 impl<C: NodeCalculator> Net<C> {
-    /// Makes steps until none would do anything; the net is at rest then. Of the nodes that may have something to do the one goes first
-    /// that stands last in the plan's order, and graph inputs come behind all nodes (MediaPipe, Synchronization). A feeder that is
-    /// throttled waits until a queue falls below its limit, and where nothing else can be done limits are relaxed (MediaPipe, Real-time
-    /// Streams). No set is taken from the collector. At want of memory the steps made so far stand, and this may be called again.
+    /// Makes steps until none would do anything; the net is at rest then. Of the nodes that may have something to do, the node that stands
+    /// last in the plan's order goes first. Graph inputs go after all nodes (MediaPipe, Synchronization). A feeder that is throttled waits
+    /// until a queue falls below its limit. If nothing else can be done, limits are relaxed (MediaPipe, Real-time Streams). No set is taken
+    /// from the collector. Out of memory: the steps made so far stand, and this may be called again.
     ///
-    /// Each event that does something is told to the hearer, once it has done it: what the hearer hears is a run of the net. That run leads
-    /// to where the net is now; at want of memory it may end before a step that was made only in part.
+    /// The net tells the hearer each event that does something, once the event has done it. What the hearer hears is a run of the net. That
+    /// run leads to where the net is now. Out of memory: the run may end before a step that was made only in part.
     ///
-    /// A packet costs what the steps on its way cost. At its end a sweep looks over the whole net, unless nothing but `extend`,
-    /// `extend_some`, `keep` and `take_out` has changed it since the last sweep, which came to rest. Then it begins with the graph inputs
-    /// that were extended, and looks over these, the collector and the places of its own steps alone. The first sweep takes memory for the
-    /// agenda that is kept, and so does the first one after the net was put together of its parts.
+    /// A packet costs what the steps on its way cost. At its end a sweep looks over the whole net, with one exception. If the last sweep
+    /// came to rest and only `extend`, `extend_some`, `keep` and `take_out` have changed the net since, the sweep looks over less. It
+    /// begins with the graph inputs that were extended, and looks over these, the collector and the places of its own steps alone. The
+    /// first sweep takes memory for the agenda that the net keeps. So does the first sweep after the net was put together of its parts.
     pub fn sweep<G: Gate, H: Hears>(&mut self, gate: &G, hearer: &mut H) -> Result<(), AllocError>
         requires running { IsRunning self.old }
         requires stands { StandsForSome C.laws self.old }
@@ -149,7 +148,8 @@ impl<C: NodeCalculator> Net<C> {
         }
     }
 
-    // Takes the agenda that the last sweep left, or makes a new one. All places are in it where it isn't known which have changed.
+    // Takes the agenda that the last sweep left, or makes a new one. All places are in the agenda if it isn't known which of them have
+    // changed.
     fn take_agenda(&mut self) -> Result<Agenda, AllocError>
         requires { StandsForSome C.laws self.old }
         ensures same { self.new ≡ self.old }
@@ -231,7 +231,7 @@ impl<C: NodeCalculator> Net<C> {
         Ok(())
     }
 
-    // Visits the places of the agenda until something is done, and relaxes limits if nothing was. Tells whether something was done.
+    // Visits the places of the agenda until something is done, and relaxes limits if nothing was. Returns whether something was done.
     fn go_on<G: Gate, H: Hears>(
         &mut self,
         agenda: &mut Agenda,
@@ -258,7 +258,7 @@ impl<C: NodeCalculator> Net<C> {
         Ok(relaxed)
     }
 
-    // Lets the node or the graph input at a place do what it can. Tells whether something was done.
+    // Lets the node or the graph input at a place do what it can. Returns whether something was done.
     fn visit<G: Gate, H: Hears>(
         &mut self,
         place: u32,
@@ -285,9 +285,9 @@ impl<C: NodeCalculator> Net<C> {
         }
     }
 
-    // Lets a node work, unless it is a source that is throttled, and sends on what it laid. A source may have more to do then, and any
-    // other node only once something comes to it. Where the node took packets from a full queue, the feeders that were held back may feed
-    // again. Tells whether something was done.
+    // Lets a node work, unless it is a source that is throttled, and sends on what it laid. A source may have more to do then. Any other
+    // node has more to do only once something new reaches it. If the node took packets from a full queue, the feeders that were held back
+    // may feed again. Returns whether something was done.
     fn visit_node<G: Gate, H: Hears>(
         &mut self,
         node: u32,

@@ -14,8 +14,8 @@ use mg_calc::NodeCalculator;
 use mg_settled::InputSet;
 
 impl<C: NodeCalculator> Net<C> {
-    /// Takes the next settled set of the graph's outputs, and returns whether there was one: it is then in `into`, which has a place for
-    /// each output. Otherwise nothing changes.
+    /// Takes the next settled set of the graph's outputs, and returns whether there was one. The set is then in `into`, which has a place
+    /// for each output. If there was none nothing changes.
     pub fn take_out(&mut self, into: &mut InputSet) -> bool
         requires places { length into.old ≡ length self.old.plan.outputs }
         requires stands { StandsForSome C.laws self.old }

@@ -11,7 +11,7 @@ use super::Net;
 use mg_calc::{Edge, NodeCalculator, Plan, Producer};
 use mg_node::{Engine, Intake};
 
-// Who writes a stream.
+// Returns who writes a stream.
 fn writer_of(plan: &Plan, stream: u32) -> Producer
     requires { stream < length plan.now.streams }
     ensures { writer_at plan.now stream ≡ Some result }
@@ -19,7 +19,7 @@ fn writer_of(plan: &Plan, stream: u32) -> Producer
     plan.streams.as_slice()[stream as usize].producer
 }
 
-/// The place of the engine that writes a stream, and at which of its outputs.
+/// Returns the place of the engine that writes a stream, and the number of the output at which it does.
 pub(super) fn output_of(plan: &Plan, stream: u32) -> (usize, u32)
     requires { stream < length plan.now.streams }
     ensures laid { LaidAt plan.now stream result.0 result.1 }
@@ -89,8 +89,9 @@ fn give_up<C: NodeCalculator>(engines: &mut [Engine<C>], plan: &Plan, got: &[u64
 }
 
 impl<C: NodeCalculator> Net<C> {
-    /// Gives up the packets that have come along all edges of their streams, and all that are laid of streams without edges; but none of a
-    /// stream that is kept. Each stream and each edge is looked at once, and the next sweep looks over the whole net.
+    /// Gives up the packets that have come along all edges of their streams. Of a stream without edges it gives up all packets that are
+    /// laid. Of a stream that is kept it gives up none. It looks at each stream and each edge once, and the next sweep looks over the whole
+    /// net.
     pub fn trim(&mut self)
         requires stands { StandsForSome C.laws self.old }
         ensures trims { Trims self.old self.new }

@@ -7,8 +7,8 @@ use mg_calc::NodeCalculator;
 use std::alloc::AllocError;
 
 impl<C: NodeCalculator> Net<C> {
-    /// Winds up each node that isn't wound up, in order: the calculator of a node that was opened and had no Close is closed. At want
-    /// of memory the nodes wound up so far stay so, and this may be called again.
+    /// Winds up each node that isn't wound up, in order. It closes each node's calculator that was opened and had no Close. Out of memory:
+    /// the nodes wound up so far stay so, and this may be called again.
     pub fn wind_up(&mut self) -> Result<(), AllocError>
         requires may { MayWindUp self.old }
         ensures wound_up { WindsUpNet C.laws self.old self.new }

@@ -43,7 +43,7 @@ fn hear<H: Hears>(hearer: &mut H, node: u32, reached: &Reached)
     }
 }
 
-// Whether something was done. There is an error where there was no memory for the next step.
+// Returns whether something was done. It is an error if there was no memory for the next step.
 fn did(reached: &Reached) -> Result<bool, AllocError>
     ensures some { IfOk result (λ did. did_of reached.now ≡ Some did) }
     ensures none { OnErr result (did_of reached.now ≡ None) }
@@ -72,8 +72,8 @@ fn did_nothing<C: NodeCalculator>(done: &AtOnce<C>) -> bool
 }
 
 impl<C: NodeCalculator> Net<C> {
-    /// Claims a node's next work, and performs and commits it at once: the work lies in the node's work queue or in its window only where
-    /// there is no memory for the next step. Tells whether something was done.
+    /// Claims a node's next work, and performs and commits it at once. Out of memory: leaves the claimed work in the node's work queue, or
+    /// the performed work in the node's window. Returns whether something was done.
     pub(super) fn work_at_once<G: Gate, H: Hears>(
         &mut self,
         node: u32,
@@ -120,7 +120,7 @@ impl<C: NodeCalculator> Net<C> {
         }
     }
 
-    // Shows a node's calculator its next set where no work is under way, lays what it answers, and tells the limits how many packets wait.
+    // Shows a node's calculator its next set if no work is under way, lays what it answers, and tells the limits how many packets wait.
     fn show<G: Gate>(&mut self, node: u32, gate: &G) -> AtOnce<C>
         requires there { node < length self.old.plan.nodes }
         requires stands { StandsForSome C.laws self.old }

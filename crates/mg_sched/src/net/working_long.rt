@@ -17,7 +17,7 @@ use std::alloc::AllocError;
 
 impl<C: NodeCalculator> Net<C> {
     /// Lets a node work off what waits at it, so that all of it goes on at once. A source works once, since what it lays has to go on
-    /// before it is known whether it is throttled. Tells whether something was done.
+    /// before it is known whether it is throttled. Returns whether something was done.
     pub(super) fn work_long<G: Gate, H: Hears>(
         &mut self,
         node: u32,
@@ -49,7 +49,7 @@ impl<C: NodeCalculator> Net<C> {
         self.plan.nodes.as_slice()[node as usize].inputs.is_empty()
     }
 
-    // Does all works of a node, one after the other, and then raises its outputs once: no further work comes of that. Tells whether
+    // Does all works of a node, one after the other, and then raises its outputs once: no further work comes of that. Returns whether
     // something was done.
     fn work_until_idle<G: Gate, H: Hears>(
         &mut self,
@@ -71,7 +71,7 @@ impl<C: NodeCalculator> Net<C> {
         Ok(worked | raised)
     }
 
-    // Does a node's works, one after the other, as long as there is one. Tells whether there was one.
+    // Does a node's works, one after the other, as long as there is one. Returns whether there was one.
     fn do_works<G: Gate, H: Hears>(
         &mut self,
         node: u32,
@@ -94,8 +94,8 @@ impl<C: NodeCalculator> Net<C> {
         Ok(did)
     }
 
-    // Claims a node's next work, and performs and commits what is claimed; only where there is nothing of that, raises the node's
-    // outputs. Tells whether something was done.
+    // Claims a node's next work, and performs and commits what is claimed. If nothing of that was done, raises the node's outputs. Returns
+    // whether something was done.
     pub(super) fn work<G: Gate, H: Hears>(
         &mut self,
         node: u32,
@@ -120,8 +120,7 @@ impl<C: NodeCalculator> Net<C> {
         Ok(raised)
     }
 
-    // Lets a node's next work be done at once; only where there is none, performs and commits what is claimed. Tells whether something was
-    // done.
+    // Does a node's next work at once. If there is no next work, performs and commits what is claimed. Returns whether something was done.
     fn work_on<G: Gate, H: Hears>(
         &mut self,
         node: u32,
@@ -146,7 +145,7 @@ impl<C: NodeCalculator> Net<C> {
         Ok(finished)
     }
 
-    // Performs a node's works that are claimed, and then commits those that are performed. Tells whether there was one.
+    // Performs a node's works that are claimed, and then commits those that are performed. Returns whether there was one.
     fn finish_works<G: Gate, H: Hears>(
         &mut self,
         node: u32,
@@ -172,7 +171,8 @@ impl<C: NodeCalculator> Net<C> {
         Ok(did)
     }
 
-    // The event that performs the first work of a node that is claimed, or else the one that commits the first that is performed.
+    // Returns the event that performs a node's first claimed work. If there is none, returns the event that commits the node's first
+    // performed work.
     #[tactic(auto, using(crate::proofs::Sweeping::due_shelves))]
     fn next_due(&self, node: u32) -> Option<Event>
         requires there { node < length self.now.plan.nodes }
@@ -191,7 +191,7 @@ impl<C: NodeCalculator> Net<C> {
         Some(Event::Commit { node, number })
     }
 
-    // The number of the first work of a node that is claimed and not performed.
+    // Returns the number of a node's first work that is claimed and not performed.
     pub(super) fn first_claimed(&self, node: u32) -> Option<u64>
         requires there { node < length self.now.plan.nodes }
         requires stands { StandsForSome C.laws self.now }
@@ -201,7 +201,7 @@ impl<C: NodeCalculator> Net<C> {
         self.work_queues[node as usize].first()
     }
 
-    // The number of the first work of a node that is performed and not committed.
+    // Returns the number of a node's first work that is performed and not committed.
     pub(super) fn first_performed(&self, node: u32) -> Option<u64>
         requires there { node < length self.now.plan.nodes }
         requires running { IsRunning self.now }

@@ -1,4 +1,4 @@
--- The first nodes have what was handed in.
+-- The first nodes have their user-supplied calculators.
 use Rattle.std.proofs.Common.{◌≡◌, List, length, map, option_map}
 use Rattle.mg_value.specs.Payload.{Plain}
 use Rattle.mg_settled.specs.Prefix.{StreamPrefix}

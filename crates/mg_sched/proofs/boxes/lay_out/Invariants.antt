@@ -1,4 +1,4 @@
--- What lies in places, and behind it what is left, from the last one to the first, is all of it.
+-- The calculators in places, and after them those that are left, from the last one to the first, are all of them.
 use Rattle.std.proofs.Common.{◌≡◌, ◌+◌, ◌≤◌, ◌++◌, Some, map, reverse, vec_len, vec_capacity}
 use Rattle.mg_sched.proofs.boxes.lay_out.Given as goal
 

@@ -1,4 +1,4 @@
--- The engines so far are those of the nodes, and behind them of the first graph inputs.
+-- The engines so far are those of the nodes, and after them those of the first graph inputs.
 use Rattle.std.proofs.Common.{◌≡◌, ◌+◌, length}
 use Rattle.mg_node.specs.Fresh.{own_told}
 use Rattle.mg_sched.specs.Code.Made.{AtPlaces, IsEngineAt}

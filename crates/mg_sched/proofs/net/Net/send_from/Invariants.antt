@@ -1,4 +1,4 @@
--- Along one of the edges so far something came, or all is as it was. Each edge stands behind the last one.
+-- Something came along one of the edges so far, or all is as it was. Each edge stands after the last one.
 use Rattle.std.proofs.Common.{◌≡◌, ◌<◌, false, length, IfSome}
 use Rattle.mg_sched.specs.Sweeps.{Becomes}
 use Rattle.mg_sched.specs.Code.Agendas.{IsAgendaOf}

@@ -1,4 +1,4 @@
--- With the lengths that are left it comes to the same.
+-- With the lengths that are left the result is the same.
 use Rattle.std.proofs.Common.{◌≡◌, ◌+◌, length, drop}
 use Rattle.mg_sched.specs.Places.{lengths_of}
 use Rattle.mg_sched.specs.Acts.{all_noted}

@@ -1,4 +1,4 @@
--- With what lies in the places that are left it comes to the same.
+-- With what lies in the places that are left the result is the same.
 use Rattle.std.proofs.Common.{◌≡◌, ◌+◌, ◌≤◌, ◌++◌, Option, length, map, option_map, vec_len, vec_capacity}
 use Rattle.std.specs.List.{filter_map}
 use Rattle.std.specs.Vec.Iter.{into_iter_items}

@@ -1,4 +1,4 @@
--- With the cells that are left it comes to the same.
+-- With the cells that are left the result is the same.
 use Rattle.std.proofs.Common.{◌≡◌, drop, map, option_map}
 use Rattle.std.specs.Vec.Iter.{into_iter_items}
 use Rattle.mg_sched.specs.GivesBack.{with_cells}

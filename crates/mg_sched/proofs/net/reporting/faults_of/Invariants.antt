@@ -1,4 +1,4 @@
--- With the engines that are left it comes to the same.
+-- With the engines that are left the result is the same.
 use Rattle.std.proofs.Common.{◌≡◌, ◌++◌, drop}
 use Rattle.std.specs.List.{filter_map}
 use Rattle.mg_node.specs.Views.{EngineView}

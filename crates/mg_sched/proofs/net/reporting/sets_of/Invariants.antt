@@ -1,4 +1,4 @@
--- With the engines that are left it comes to the same.
+-- With the engines that are left the result is the same.
 use Rattle.std.proofs.Common.{◌≡◌, ◌++◌, map, drop}
 use Rattle.mg_node.specs.Views.{EngineView}
 use Rattle.mg_sched.proofs.net.reporting.sets_of.Given as goal

@@ -1,4 +1,4 @@
--- With the outputs that are left it comes to the same.
+-- With the outputs that are left the result is the same.
 use Rattle.std.proofs.Common.{◌≡◌, ◌++◌, map, drop}
 use Rattle.mg_sched.specs.Reports.{backlog_end, stream_ends_of}
 use Rattle.mg_sched.proofs.net.reporting.tell_ends.Given as goal

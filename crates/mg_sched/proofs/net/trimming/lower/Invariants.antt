@@ -1,4 +1,4 @@
--- With the edges that are left it comes to the same.
+-- With the edges that are left the result is the same.
 use Rattle.std.proofs.Common.{◌≡◌, ℕ, length, min, fold, drop, get_or}
 use Rattle.mg_sched.specs.Trims.{came_of}
 use Rattle.mg_sched.proofs.net.trimming.lower.Given as goal

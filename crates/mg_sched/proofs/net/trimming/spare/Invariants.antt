@@ -1,4 +1,4 @@
--- The numbers of the first streams are none where these are kept.
+-- The numbers of the first streams are 0 if these are kept.
 use Rattle.mg_sched.proofs.KeptStreams.{Spared}
 use Rattle.mg_sched.proofs.net.trimming.spare.Given as goal
 
