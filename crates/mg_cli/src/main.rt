@@ -13,16 +13,16 @@ use std::process::ExitCode;
 use std::sync::Wait;
 use std::thread::Threads;
 
-/// How many TallyCalculator boxes are handed in.
+/// How many TallyCalculator boxes the program supplies.
 const TALLIES: usize = 4;
 
-/// How many BeginLoopCalculator boxes are handed in.
+/// How many BeginLoopCalculator boxes the program supplies.
 const BEGIN_LOOPS: usize = 4;
 
-/// How many BeginLoopCloneCalculator boxes are handed in.
+/// How many BeginLoopCloneCalculator boxes the program supplies.
 const BEGIN_CLONE_LOOPS: usize = 2;
 
-/// How many EndLoopCalculator boxes are handed in.
+/// How many EndLoopCalculator boxes the program supplies.
 const END_LOOPS: usize = 6;
 
 fn main(rt: HostRuntime) -> ExitCode {
@@ -33,8 +33,8 @@ fn main(rt: HostRuntime) -> ExitCode {
     ExitCode::from(status.number())
 }
 
-// Makes the call over the files below the current folder and the standard streams, and returns its status. Its threads come from the runtime
-// that `main` alone has whole.
+// Makes the call over the files below the current folder and the standard streams, and returns its status. Its threads come from the
+// runtime that `main` alone has whole.
 fn status_of<R: Threads + Wait + Sync>(
     threads: &R,
     rt: &HostRuntime,
@@ -54,7 +54,7 @@ fn status_of<R: Threads + Wait + Sync>(
     )
 }
 
-// Returns the words after the program's name: none where one of them isn't UTF-8, so that they are no command.
+// Returns the words after the program's name: none if one of them isn't UTF-8, so that they are no command.
 fn words(rt: &HostRuntime) -> Result<Vec<MgText>, AllocError> {
     let alloc = rt.alloc();
     let mut words = Vec::new(alloc);
@@ -70,8 +70,8 @@ fn words(rt: &HostRuntime) -> Result<Vec<MgText>, AllocError> {
     }
 }
 
-// Makes the top call over any devices and boxes of its own. The devices' types are parameters for the time of the proof: where they are
-// known, each clause of the top call is written out over them.
+// Makes the top call over any devices and boxes of its own. The devices' types are parameters, which makes the proof faster. If the types
+// are known, each clause of the top call is written out over them.
 fn call<R: Threads + Wait + Sync, T: Store, S: Source, K: Sink, E: Sink>(
     threads: &R,
     alloc: Global,

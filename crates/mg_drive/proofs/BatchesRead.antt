@@ -69,7 +69,7 @@ reads_on (End end) plan first before now mid fed graph past came lines taken som
   failed-by end first before now past gave unfailed failed,
 )
 
--- a batch that may have more behind it has lines
+-- a batch has lines if more may come after it
 cut_some : (early : Bool) (end : BatchEnd) (most : ℕ) (taken : List (List ℕ)) → 0 < most → CutsAt early end most taken → IsMore end → 0 < naming taken
 cut_some true More most taken some cut more = cut some
 cut_some false More most taken some cut more = subst (λ (n : ℕ). 0 < n) (sym cut.0) some
@@ -154,7 +154,7 @@ one_idle : (end : BatchEnd) (ended : Bool) (left : Option (List ℕ)) (reads : O
 one_idle More ended left reads = spends-late ended left reads
 one_idle (End end) ended left reads = spends-same 1 left reads
 
--- where the source had not ended
+-- if the source hadn't ended, a call read on
 further : (early : Bool) (most : ℕ) (end : BatchEnd) (plan : Plan) (first before now : SourceTold) (old mid : Fed) (past : List ℕ) (lines : List (List ℕ)) → HasReadBatch early most end before now old mid → BatchFailedBy end before now
     → Spends (late old.read.ended) (idle_by end mid.read.ended) before.left now.left before.reads now.reads → mid.view.graph ≡ old.view.graph → old.read.ended ≡ false
     → IsRead plan first More before old past lines → HasReadOn plan first before now old.read.ended past
@@ -176,7 +176,7 @@ further early most end plan first before now old mid past lines read failed spen
       none = λ ended. absurd (false≢true (sym not_ended ∙ ended));
     }
 
--- where it had, it isn't read again
+-- if the source had ended, it isn't read again
 not_again : (now_ended : Bool) (before now : SourceTold) → MetEnd true now_ended before now → now ≡ before
 not_again true before now same = same
 not_again false before now met = absurd met

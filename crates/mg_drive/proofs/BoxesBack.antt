@@ -1,4 +1,4 @@
--- What a run leaves of the calculators that were handed in.
+-- What a run leaves of the user-supplied calculators.
 use Rattle.std.proofs.Common.{◌≡◌, ◌<◌, inl, inr, ℕ, List, ◌++◌, length, All, Option, Some, None, IfSome, IsSomeAnd, Result, Ok, Err, IfOk, OnErr, slice_get, option_map, option_and_then, refl, sym, ap, ◌∙◌, subst, arith}
 use Rattle.std.proofs.lemmas.Option.{slice_get_cases}
 use Rattle.mg_edge.specs.Edge.{SourceTold}
@@ -29,9 +29,9 @@ use Rattle.mg_drive.specs.Code.Ending.{HadAllOf, CalculatorsCameBack, StoodWith,
 use Rattle.mg_drive.proofs.Jobs.{plan_stood}
 use Rattle.mg_drive.proofs.Looping.{keeps_itself, keeps_on}
 
--- One that no node uses --
+-- A calculator that no node uses --
 
--- it comes back as it lay
+-- a calculator that no node uses comes back as it lay
 lay_there : {laws : Laws} (plan : Plan) (inputs : Inputs) (boxes : List BoxTold) (made now : NetView) (place : ℕ) → IsMade laws plan inputs boxes made → Keeps made now → StoodWith laws boxes now
     → place < length boxes → All (λ node. ¬ (node.box_number ≡ Some place)) plan.nodes → slice_get (given_back now) place ≡ slice_get boxes place
 lay_there {laws} plan inputs boxes made now place is keeps stood less none =
@@ -46,7 +46,7 @@ count_back {laws} boxes now stood = as_many_back stood.job now stood.stood ∙ a
 
 -- All --
 
--- of a net that was made, ran and gave back what it had
+-- the calculators came back from a net that was made, ran and gave back what it had
 pub came_back : {laws : Laws} (plan : Plan) (inputs : Inputs) (boxes : List BoxTold) (made now : NetView) → IsMade laws plan inputs boxes made → Keeps made now → StoodWith laws boxes now
     → CalculatorsCameBack plan boxes (given_back now)
 came_back {laws} plan inputs boxes made now is keeps stood = record {
@@ -60,7 +60,7 @@ came_back {laws} plan inputs boxes made now is keeps stood = record {
   ];
 }
 
--- One that a node uses --
+-- A calculator that a node uses --
 
 abbrev FitsAt : List BoxTold → PlanNode → Type 0
 FitsAt boxes node = IfSome node.box_number (λ number. IsSomeAnd (slice_get boxes number) (FitsNew node))
@@ -69,14 +69,14 @@ found_in : (node : PlanNode) (o : Option BoxTold) → IsSomeAnd o (FitsNew node)
 found_in node None is = absurd is
 found_in node (Some told) is = (told, refl, is)
 
--- the one that was handed in for it
+-- the user-supplied calculator that a node uses
 pub box_at : (plan : Plan) (boxes : List BoxTold) (number place : ℕ) (node : PlanNode) → BoxesFit plan boxes → slice_get plan.nodes number ≡ Some node → node.box_number ≡ Some place
     → (told : BoxTold) × (slice_get boxes place ≡ Some told) × FitsNew node told
 box_at plan boxes number place node fit there has =
     found_in node (slice_get boxes place)
     (subst (λ (o : Option ℕ). IfSome o (λ n. IsSomeAnd (slice_get boxes n) (FitsNew node))) has (all_at (FitsAt boxes) plan.nodes number node there fit))
 
--- its log was that of the job
+-- the log that a job begins with is the calculator's log
 pub log_was : {laws : Laws} (job : LoggedJob laws) (boxes : List BoxTold) (place : ℕ) (node : PlanNode) (told : BoxTold) → job.boxes ≡ boxes → node.box_number ≡ Some place → slice_get boxes place ≡ Some told
     → first_log job node ≡ told.log
 log_was {laws} job boxes place node told same has there =
@@ -84,7 +84,7 @@ log_was {laws} job boxes place node told same has there =
     ∙ ap (λ (bs : List BoxTold). option_and_then (λ box. box.log) (slice_get bs place)) same
     ∙ ap (λ (o : Option BoxTold). option_and_then (λ box. box.log) o) there
 
--- each that a node uses had its calls
+-- each calculator that a node uses had the calls of its node
 all_had : {laws : Laws} (job : LoggedJob laws) (boxes : List BoxTold) (net : NetView) → BoxesFit job.job.plan boxes → job.boxes ≡ boxes → HadAllOf job net → HadCallsOf job.job (device boxes (given_back net))
 all_had {laws} job boxes net fit same had = record {
   streams = had.streams;
@@ -107,7 +107,7 @@ all_had {laws} job boxes net fit same had = record {
       };
 }
 
--- by what came back
+-- the same, by the calculators that came back
 pub all_had_now : {laws : Laws} (job : LoggedJob laws) (boxes now : List BoxTold) (net : NetView) → BoxesFit job.job.plan boxes → job.boxes ≡ boxes → now ≡ given_back net → HadAllOf job net → HadCallsOf job.job (device boxes now)
 all_had_now {laws} job boxes now net fit same is had = subst (λ (bs : List BoxTold). HadCallsOf job.job (device boxes bs)) (sym is) (all_had job boxes net fit same had)
 
@@ -137,7 +137,7 @@ same_back plan boxes now same = record { count = ap length same; unused = λ pla
 
 -- Runs --
 
--- whatever a run came to
+-- what holds however a run ended
 pub either : {X E P : Type 0} (r : Result X E) → IfOk r (λ x. P) → OnErr r P → P
 either (Ok x) one other = one
 either (Err e) one other = other
@@ -168,7 +168,7 @@ run_ended {laws} {B} gives writes form report plan boxes now began source later 
   had = all_had_now (logged laws plan h.inputs boxes) boxes now net fit refl back h.had;
 }
 
--- or was short of memory
+-- a net that was short of memory was run until memory ran out
 pub run_short : {laws : Laws} {B T : Type 0} (gives : Giving B) (reads_on : ReadingOn B) (has_told : TellingSets T) (form : OutputForm) (plan : Plan) (boxes now : List BoxTold) (began : B) (source later : SourceTold) (first sink : SinkTold) (notes : Device SinkTold) (net : NetView)
     → now ≡ given_back net → IsShort laws gives reads_on has_told form (start_of plan boxes source first began) later sink net
     → WasShort laws gives reads_on has_told form began plan (run_devices (device source later) (device first sink) notes) (device boxes now)

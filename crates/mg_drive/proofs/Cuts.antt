@@ -1,4 +1,4 @@
--- Lines have one cut into batches, and they have one.
+-- Lines have a cut into batches, and only one.
 use Rattle.std.proofs.Common.{◌≡◌, ◌<◌, ◌≤◌, ◌+◌, ◌⊎◌, inl, inr, ℕ, zero, suc, List, [], ◌∷◌, ◌++◌, length, drop, slice_index_or, Bool, true, false, refl, sym, ap, ◌∙◌, subst, arith}
 use Rattle.std.proofs.lemmas.List.Sums.{sum_by-append}
 use Rattle.mg_feed.specs.Accepted.{names_stream}
@@ -11,7 +11,7 @@ use Rattle.mg_drive.specs.InBatches.{batch_size, InBatches, last, more}
 naming_parts : (xs ys : List (List ℕ)) → naming (xs ++ ys) ≡ naming xs + naming ys
 naming_parts xs ys = sum_by-append _ xs ys
 
--- the rest of a batch behind its first line is full at what is left
+-- if a batch is full, the rest after its first line is full at what is left
 rest_full : (most : ℕ) (x : List ℕ) (xs : List (List ℕ)) → Fills More (naming (x ∷ []) + most) (x ∷ xs) → Fills More most xs
 rest_full most x [] full = (omega (arith, full.0), inl refl)
 rest_full most x (y ∷ ys) (full, inl none) = absurd cc
@@ -20,7 +20,7 @@ rest_full most x (y ∷ ys) (full, inr few) = (
   inr (let parts = naming_parts (x ∷ []) (but_last (y ∷ ys)) in omega (arith, few, parts)),
 )
 
--- a full batch with no line has none in it, and nothing is full behind it
+-- an empty batch and a batch with a line can't both be full
 none_full : (most : ℕ) (x : List ℕ) (xs : List (List ℕ)) → Fills More most [] → Fills More most (x ∷ xs) → ⊥
 none_full most x xs none (full, inl same) = cc
 none_full most x xs none (full, inr few) = omega (arith, none.0, few)
@@ -42,7 +42,7 @@ one_front most (x ∷ xs) (y ∷ ys) r rest one two same =
 naming_front : (xs ys : List (List ℕ)) → naming xs ≤ naming (xs ++ ys)
 naming_front xs ys = omega (arith, naming_parts xs ys)
 
--- a full batch at the front of lines is the first of their batches
+-- a full batch that is a prefix of lines is the first of their batches
 pub cut_front : (batch rest lines : List (List ℕ)) (cut : List (List (List ℕ))) → Fills More batch_size batch → lines ≡ batch ++ rest → InBatches lines cut → (later : List (List (List ℕ))) × (cut ≡ batch ∷ later) × InBatches rest later
 cut_front batch rest lines cut full same (last few) = absurd (omega (arith, full.0, naming_front batch rest, ap naming same, few))
 cut_front batch rest lines cut full same (more {batch = one} {rest = others} {batches = batches} filled behind) =

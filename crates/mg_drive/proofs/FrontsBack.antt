@@ -1,4 +1,4 @@
--- What a run leaves of the calculators that were handed in where memory ran out: a front of their calls.
+-- What a run leaves of the user-supplied calculators if memory ran out: a prefix of their calls.
 use Rattle.std.proofs.Common.{◌≡◌, ◌≤◌, ◌⊎◌, inl, ℕ, suc, List, [], ◌∷◌, ◌++◌, length, map, append-nil, Bool, false, Option, Some, None, slice_get, option_map, if◌then◌else◌, refl, sym, ap, ◌∙◌, subst, arith}
 use Rattle.std.proofs.Math.Nat.{min-le_left}
 use Rattle.std.proofs.lemmas.List.{length-map, length-take, take_all}
@@ -35,11 +35,11 @@ use Rattle.mg_drive.proofs.BoxesBack.{box_at, log_was}
 
 -- Calculators of a net --
 
--- what a node's calculator keeps, by what its node has come to
+-- what a node's calculator keeps, by its node's outcome after some sets
 pub state_kept : (job : Job) (streams : List (StreamPrefix Plain)) (node : PlanNode) (shown : ℕ) (close : Bool) → IsOuter node.law → state_by job streams node shown close ≡ kept_by job streams node shown close
 state_kept job streams node shown close outer = ap (λ (o : Outcome). if close then kept_after ((rules_at job node).finish o.state) o.state else o.state) (outer_stage node.law job streams node shown outer)
 
--- one comes back with a front of its calls
+-- a calculator comes back with a prefix of its calls
 kept_front : {laws : Laws} (boxes : List BoxTold) (job later : LoggedJob laws) (net : NetView) (streams : List (StreamPrefix Plain)) (number place : ℕ) (node : PlanNode) → BoxesFit later.job.plan boxes → later.boxes ≡ boxes → StoodFor job net
     → (later ≡ job) ⊎ Grows job later → net.plan ≡ later.job.plan → Solves later streams → slice_get later.job.plan.nodes number ≡ Some node → node.box_number ≡ Some place → IsRelatedAt place (KeepsAFront later.job streams node) (device boxes (given_back net))
 kept_front {laws} boxes job later net streams number place node fit same stood more plan_is solves there has =
@@ -65,7 +65,7 @@ kept_front {laws} boxes job later net streams number place node fit same stood m
       };
     }
 
--- and so does each, in the solution of a job that the net's is or that goes on from it
+-- each calculator does so, in the solution of the net's job or of a job that goes on from it
 pub kept_fronts : {laws : Laws} (boxes : List BoxTold) (job later : LoggedJob laws) (net : NetView) → BoxesFit later.job.plan boxes → later.boxes ≡ boxes → StoodFor job net → job.job.plan ≡ later.job.plan → (later ≡ job) ⊎ Grows job later
     → IsJob later.job → HadFronts later.job (device boxes (given_back net))
 kept_fronts {laws} boxes job later net fit handed stood same more is =
@@ -86,7 +86,7 @@ none_more : (log : Option (List Call)) → log ≡ option_map (λ (calls : List 
 none_more None = refl
 none_more (Some calls) = ap Some (sym (append-nil calls))
 
--- they had a front of none in any job
+-- calculators without calls had the empty prefix of their calls in any job
 pub none_had : (job : Job) (boxes : List BoxTold) → IsJob job → BoxesFit job.plan boxes → HadFronts job (device boxes boxes)
 none_had job boxes is fit =
     let found = solved (record { job = job; boxes = []; same = refl }) is in
@@ -121,7 +121,7 @@ last_is : (fault : Option Failure) → last_call fault ≡ finish (had_close fau
 last_is None = refl
 last_is (Some failure) = last_at failure.phase failure.cause
 
--- all of a node's calls are a front of them
+-- all of a node's calls are a prefix of these calls
 pub all_first : (job : Job) (streams : List (StreamPrefix Plain)) (node : PlanNode) → log_of job streams node ≡ first_calls job streams node (suc (count_of job streams node)) (had_close (outcome_of job streams node).fault)
 all_first job streams node =
     let sets = shown_sets job streams node in
@@ -131,7 +131,7 @@ all_first job streams node =
     let long : length shown ≤ count_of job streams node = subst (λ (n : ℕ). n ≤ count_of job streams node) (sym (length-map sets (λ e. Shown e.at e.set))) few in
     ap (λ (last : List Call). (Begun ∷ shown) ++ last) (last_is fault) ∙ ap (λ (calls : List Call). (Begun ∷ calls) ++ finish (had_close fault)) (sym (take_all (count_of job streams node) shown long))
 
--- so those that had all had a front
+-- so calculators that had all calls had a prefix of them
 pub all_are_fronts : (job : Job) (boxes : Device (List BoxTold)) → BoxesFit job.plan boxes.before → HadCallsOf job boxes → HadFronts job boxes
 all_are_fronts job boxes fit had = record {
   streams = had.streams;

@@ -36,7 +36,7 @@ plan_stood {laws} job net stands = stands.plan
 
 -- Sets --
 
--- the first elements of what stands at the front of a list
+-- the first elements of a prefix of a list are the first elements of the list
 front_of : {X : Type 0} (n : ℕ) (short long : List X) → n ≤ length short → take (length short) long ≡ short → take n short ≡ take n long
 front_of zero short long few is = refl
 front_of (suc n) [] long few is = absurd (omega arith)
@@ -46,7 +46,7 @@ front_of (suc n) (x ∷ short) (y ∷ long) few is =
     let tails : take (length short) long ≡ short = cc in
     ap (λ z. z ∷ take n short) (sym heads) ∙ ap (λ l. y ∷ l) (front_of n short long (omega arith) tails)
 
--- the sets that a job's solution settles stand in front of those of a later job's
+-- the sets that a job's solution settles are a prefix of those of a later job's solution
 sets_grow : {laws : Laws} (first later : LoggedJob laws) (xs ys : List (StreamPrefix Plain)) → Solves first xs → Grows first later → IsSolution later.job ys
     → take (length (settled_outputs first.job.plan xs)) (settled_outputs first.job.plan ys) ≡ settled_outputs first.job.plan xs
 sets_grow {laws} first later xs ys solves grows b =
@@ -80,7 +80,7 @@ told_of_later {laws} {T} has_told first later began sink net now telling stands 
 
 -- More input --
 
--- a job goes on where its inputs do
+-- a job goes on if its inputs do
 pub job_goes_on : {laws : Laws} (plan : Plan) (so_far more all : Inputs) (boxes : List BoxTold) → IsValid plan → InputsGoOn plan so_far more all → GoesOnWith more (logged laws plan so_far boxes) (logged laws plan all boxes)
 job_goes_on {laws} plan so_far more all boxes valid g = record {
   grows = record { plan = refl; sides = g.sides; boxes = refl; is_job = record { plan = valid; inputs = g.fits }; extended = g.extended };

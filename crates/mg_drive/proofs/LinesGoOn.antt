@@ -29,7 +29,7 @@ use Rattle.mg_drive.proofs.BatchesRead.{first_read, first_inputs}
 
 -- What lines give --
 
--- where the input hasn't ended, streams are as the lines left them
+-- if the input hasn't ended, streams are as the lines left them
 pub not_ended : (ss : List (StreamPrefix Plain)) → ended_streams false ss ≡ ss
 not_ended [] = refl
 not_ended (s ∷ ss) = ap (λ l. s ∷ l) (not_ended ss)
@@ -170,7 +170,7 @@ more_lines_came plan first before now end inputs so_far earlier old fed valid ca
           (goes_on false plan first now end inputs fed came.past lines valid (came.named tt) batch);
     }
 
--- Batches in turn, of which the newest alone is told --
+-- Batches in turn, if only the newest is told --
 
 pub first_newest : (plan : Plan) (before now : SourceTold) (end : BatchEnd) (inputs : Inputs) (fed : Fed) → IsValidWithFree plan → HasBatch true plan before end inputs now fed [] []
     → IsFirst (λ end inputs. LinesGave fed plan before now end inputs × NewestGave fed plan before now end (inputs ∷ [])) plan end inputs
@@ -184,7 +184,7 @@ more_newest plan first before now end inputs so_far earlier old fed valid gave b
     let more = more_lines true plan first before now end inputs so_far old fed valid gave batch in
     record { all = more.all; given = (more.given, more.given); goes_on = more.goes_on }
 
--- leaves fewer to come
+-- a batch more leaves fewer lines to come
 pub fewer_lines : (early : Bool) (plan : Plan) (first before now : SourceTold) (end : BatchEnd) (inputs so_far : Inputs) (old fed : Fed) (gave : LinesGave old plan first before More so_far)
     → HasBatch early plan first end inputs now fed gave.past gave.lines → IsMore end → lines_left fed < lines_left old
 fewer_lines early plan first before now end inputs so_far old fed gave batch more =

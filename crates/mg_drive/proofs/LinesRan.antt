@@ -60,7 +60,7 @@ use Rattle.mg_drive.proofs.OneRuns.{one_run, one_short}
 
 -- The text --
 
--- what is put of the first sets stands at the front of all of them
+-- the text of the first sets is a prefix of the text of all sets
 pub first_sets : (names : List (List ℕ)) (sets : List (TimedSet Plain)) (n : ℕ) → IsFront (sets_text names (take n sets)) (sets_text names sets)
 first_sets names sets n = (sets_text names (drop n sets), ap (sets_text names) (sym (take-append-drop n sets)) ∙ flat_map-append (λ (t : TimedSet Plain). set_text names t.set) (take n sets) (drop n sets))
 
@@ -75,7 +75,7 @@ none_told plan text sink is = record {
   put = subst (λ (t : TextView). HasPut sink sink t []) (sym is) (nothing-put sink (output_names plan));
 }
 
--- a front of the lines that were told was taken
+-- a prefix of the lines that tell a job's solution was taken
 pub front_lines : {laws : Laws} (job : LoggedJob laws) (first now : SinkTold) → IsJob job.job → IsToldSome HasLines job.job first now ⊎ FrontIn packet_lines first now job.job → FrontIn packet_lines first now job.job
 front_lines {laws} job first now is (inr front) = front
 front_lines {laws} job first now is (inl some) = λ streams solution.
@@ -87,9 +87,9 @@ front_lines {laws} job first now is (inl some) = λ streams solution.
     (subst (λ (whole : List ℕ). IsFront (sets_text names (take some.taken sets)) whole) (all_sets job streams solves) (first_sets names sets some.taken))
     (put-front some.telling.failed first now some.telling.kept (sets_text names (take some.taken sets)) has.put)
 
--- There is more behind the batch --
+-- More comes after the batch --
 
--- the lines so far stand in front of those that are accepted of the whole input
+-- the lines so far are a prefix of the lines that are accepted of the whole input
 pub lines_in_front : (plan : Plan) (first at : SourceTold) (fed : Fed) (inputs : Inputs) (gave : LinesGave fed plan first at More inputs) (rest : List ℕ) → (fed.read.ended ≡ true → rest ≡ [])
     → (more : List (List ℕ)) × (accepted (inputs_of plan) (all_lines (gave.past ++ rest)) ≡ gave.lines ++ more)
 lines_in_front plan first at fed inputs u rest fits =
@@ -143,7 +143,7 @@ fronts_more {laws} plan first at fed inputs boxes now net fit u rest valid fits 
 
 -- The input came to its end --
 
--- what it came to
+-- what was read of the input
 pub came_at : (plan : Plan) (first at : SourceTold) (fed : Fed) (end : FeedEnd) (inputs : Inputs) (gave : LinesGave fed plan first at (End end) inputs) → CameTo (inputs_of plan) (device first at) (record { lines = gave.lines; end = end })
 came_at plan first at fed end inputs u =
     came-by (inputs_of plan) (device first at) u.past u.lines end fed.read.ended u.is_read.gave u.is_read.so.1 u.is_read.met u.is_read.so.2 u.is_read.so.0
@@ -152,7 +152,7 @@ came_at plan first at fed end inputs u =
       reads = u.is_read.spent;
     })
 
--- the run was of that
+-- the run was over what was read
 pub lines_ran : {laws : Laws} (report : Reporting) (plan : Plan) (devices : RunDevices) (boxes : Device (List BoxTold)) (status : Status) (fed : Fed) (end : FeedEnd) (inputs : Inputs) → LinesGave fed plan devices.input.before devices.input.now (End end) inputs
     → CalculatorsCameBack plan boxes.before boxes.now → Wrote (by_lines report) (record { plan = plan; inputs = inputs; laws = laws }) end status devices.output devices.notes → HadCallsOf (record { plan = plan; inputs = inputs; laws = laws }) boxes
     → OneReading laws report plan status devices boxes
@@ -175,7 +175,7 @@ read_on plan input fed at inputs u (inr more) = more.1 u.past u.lines u.is_read
 pub end_came : (ended : Bool) (before at : SourceTold) → MetEnd false ended before at → ended ≡ true → EndCame before at
 end_came ended before at met is = subst (λ (b : Bool). MetEnd false b before at) is met
 
--- how far before there was a net: not at all, by a first call, or by a first batch
+-- how far the input was read before there was a net: not at all, by a first call, or by a first batch
 pub unread_yet : (plan : Plan) (input : Device SourceTold) → input.now ≡ input.before → ReadSome (inputs_of plan) input
 unread_yet plan input same = subst (λ (s : SourceTold). ReadSome (inputs_of plan) (device input.before s)) (sym same) (read-none (inputs_of plan) input.before)
 

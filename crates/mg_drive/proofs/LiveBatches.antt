@@ -1,4 +1,4 @@
--- Batches that come to a core with free nodes beside it.
+-- The batches that a core gets if there are free nodes beside it.
 use Rattle.std.proofs.Common.{◌≡◌, ◌<◌, ◌+◌, ℕ, zero, suc, slice_index_or, false, List, [], ◌∷◌, ◌++◌, length, map, zip, replicate, Option, Some, None, refl, sym, ap, ◌∙◌, subst, arith}
 use Rattle.std.specs.List.{AllByRecursion, AllZip}
 use Rattle.std.proofs.lemmas.List.Elements.{recursion_from_All, length_all_zip}
@@ -153,7 +153,7 @@ live_more {laws} {B} gives came is_due began core old batches first before sourc
           (subst (λ (p : Plan). InputsGoOn p (core_inputs split l.base l.takens) more (core_inputs split g.all l.takens)) (sym l.of.core_is) all);
     }
 
--- what the batches of the plan gave, where the next one is due
+-- what the batches of the plan gave, if the next one is due
 pub given_so_far : {laws : Laws} {B : Type 0} (gives : Giving B) (came : Coming B) (is_due : Due B) (began : B) (core : Plan) (live : LiveView B) (first source : SourceTold) (so_far : Inputs) (l : LiveGives laws gives came is_due began live core first source More so_far) → IsLiveDue live
     → gives began live.batches live.whole first source More l.base
 given_so_far {laws} {B} gives came is_due began core live first source so_far l due = subst (λ (e : Option FeedEnd). gives began live.batches live.whole first source (end_by e) l.base) due.0 l.given
@@ -190,7 +190,7 @@ pub given_head : {laws : Laws} {B : Type 0} (gives : Giving B) (came : Coming B)
 given_head {laws} {B} gives came is_due began live core first source so_far earlier c =
     subst (LiveGives laws gives came is_due began live core first source More) (sym (heads so_far c.inputs earlier c.earlier c.history_is)) c.given
 
--- it leaves less to come
+-- a batch more leaves less to come
 pub live_fewer : (old_end : Option FeedEnd) (end : BatchEnd) (ended : Option FeedEnd) (left left_now rounds : ℕ) → old_end ≡ None → ended ≡ ended_of end → (IsMore end → left_now < left)
     → batches_left ended left_now + rounds < batches_left old_end left + rounds
 live_fewer None More ended left left_now rounds unended is fewer = subst (λ (e : Option FeedEnd). batches_left e left_now + rounds < left + 1 + rounds) (sym is) (let less = fewer tt in omega (arith, less))

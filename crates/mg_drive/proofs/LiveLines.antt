@@ -104,7 +104,7 @@ cut_all (batch ∷ batches) rest lines cut all same is =
       here.2,
     )
 
--- what had come by some batches is the first of what comes by all
+-- what had come by some batches is a prefix of what comes by all batches
 come_of : (graph : GraphInputs) (end : FeedEnd) (batches : List (List (List ℕ))) (rest : List (List ℕ)) (later cut : List (List (List ℕ))) → cut ≡ reverse batches ++ later → InBatches rest later
     → (behind : List Inputs) × (come_after graph end [] cut ≡ reverse (given_after graph batches) ++ behind)
 come_of graph end batches rest later cut front (last {lines = some} few) = (come_after graph end (lines_of batches) (some ∷ []), ap (come_after graph end []) front ∙ come_from graph end batches some [])
@@ -185,7 +185,7 @@ pub live_lines_short : {laws : Laws} (whole : Plan) (input : Device SourceTold) 
 live_lines_short {laws} whole input output boxes fed ended at base earlier takens streams came read_last so_far is_job solution front had =
     short_lines whole input output boxes fed ended at base earlier came read_last (short_of whole output boxes base earlier takens streams so_far is_job solution front had)
 
--- what a further call reads, where it may come
+-- what a further call reads, if it may come
 pub may_read : (whole : Plan) (input : Device SourceTold) (fed : Fed) (ended : Option FeedEnd) (at : SourceTold) (allowed : Type 0) → allowed → (at ≡ input.now) ⊎ (IsMore (end_by ended) × (allowed → ReadsOn fed whole input.before at input.now))
     → (at ≡ input.now) ⊎ (IsMore (end_by ended) × ReadsOn fed whole input.before at input.now)
 may_read whole input fed ended at allowed may (inl same) = inl same

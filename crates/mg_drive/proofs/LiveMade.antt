@@ -31,7 +31,7 @@ use Rattle.mg_drive.specs.Told.{HasSums}
 use Rattle.mg_drive.proofs.PacketsRan.{front_sums}
 use Rattle.mg_drive.proofs.PiecesRan.{all_made, whole_made}
 
--- where a piece has room for all packets, these are one batch
+-- if a piece has room for all packets, these are one batch
 one_piece : (whole : Plan) (number most now : ℕ) (m : Making) (end : BatchEnd) (history : List Inputs) → number ≤ most → (came : HaveComeInPieces whole number most now m end history) → history ≡ came.inputs ∷ []
 one_piece whole number most now m end history le came =
     came.history_is ∙ ap (λ (earlier : List ℕ). came.inputs ∷ map (λ made. made_inputs (inputs_of whole) made false) earlier) (came.at_once le).0

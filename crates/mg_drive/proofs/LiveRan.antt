@@ -53,7 +53,7 @@ last_behind : (front : List Inputs) (base first : Inputs) (later : List Inputs) 
 last_behind [] base first later same = last_one base first later (ap (λ (l : List Inputs). slice_index_or l 0 base) same) (ap (λ (l : List Inputs). drop 1 l) same)
 last_behind (x ∷ front) base first later same = subst (λ (l : List Inputs). last_batch first l ≡ base) (ap (λ (l : List Inputs). drop 1 l) same) (ends_with front base first)
 
--- some things in the other order begin with one
+-- a list with an element at its end isn't empty
 begins_with : {X : Type 0} (xs : List X) (x : X) → (first : X) × (later : List X) × (xs ++ x ∷ [] ≡ first ∷ later)
 begins_with [] x = (x, [], refl)
 begins_with (y ∷ xs) x = (y, xs ++ x ∷ [], refl)

@@ -93,7 +93,7 @@ rounds_fall streams frees takens takers now h after did =
       | inr more ↦ omega (arith, one, two, more)
     ]
 
--- and one that did nothing as many
+-- a round that did nothing leaves as many
 pub rounds_stay : (streams : List (StreamPrefix Plain)) (frees : List FreeNode) (takens : List Taken) (takers now : List Taker) → HaveTaken frees takens takers → HaveTaken frees (turns_of streams frees takens) now → turns_of streams frees takens ≡ takens
     → rounds_left now ≡ rounds_left takers
 rounds_stay streams frees takens takers now h after same =

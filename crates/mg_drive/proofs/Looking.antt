@@ -53,7 +53,7 @@ has_output {laws} job net stream stands less =
     let is : IsOutputOf net stream output.0 = record { producer = s.0.producer; engine = engine.0; written = written; engine_is = engine.1; output_is = output.1 } in
     (output.0, is)
 
--- sets alone were taken since the net came to rest
+-- only sets were taken since the net came to rest, so its outputs are the same
 at_rest : {laws : Laws} (net : NetView) (streams : List (StreamPrefix Plain)) (are : AreRested laws net streams) (stream : ℕ) (output : Backlog Plain) → IsOutputOf net stream output → IsOutputOf are.has_rested.rested stream output
 at_rest {laws} net streams are stream output is =
     subst (λ (es : List EngineView). IsOutputAmong are.has_rested.rested.plan es stream output) (ap (λ (v : NetView). v.engines) are.has_rested.since)
@@ -84,7 +84,8 @@ bound_seen {laws} net streams stream bound are less seen =
     seen output.0 output.1
     ∙ bound_at_rest are.job are.has_rested.rested streams stream output.0 are.has_rested.stands are.has_rested.running are.has_rested.rests are.solves (at_rest net streams are stream output.0 output.1)
 
--- where the stream has at most so many packets, at most so many are laid
+-- A packet that wasn't given up stands among those that are left. This serves the next lemma: if a stream has at most so many packets, at
+-- most so many are laid.
 kept_there : (output : Backlog Plain) (k : ℕ) (x : Stamped Plain) → output.gone ≤ k → slice_get output.packets (k - output.gone) ≡ Some x → kept_packet output k ≡ Some x
 kept_there output k x le there = ap (λ (b : Bool). if b then None else slice_get output.packets (k - output.gone)) (le-ltb k output.gone le) ∙ there
 

@@ -92,7 +92,7 @@ same_runs before now same running = subst IsRunning (sym same) running
 
 -- Sets --
 
--- a net that came to rest, from which sets were taken then until there was none
+-- a net came to rest, and then its sets were taken until none was left
 pub rested_at : {laws : Laws} (job : LoggedJob laws) (before rested now : NetView) → ((j : LoggedJob laws) → StandsFor j before → StandsFor j rested) → StandsFor job before → IsRunning rested → IsAtRest laws rested
     → LeavesNodes rested now → ((j : LoggedJob laws) (streams : List (StreamPrefix Plain)) → StandsFor j rested → Solves j streams → HasAllOutputs streams rested
     → taken_out now ≡ length (settled_outputs now.plan streams)) → HasRested job now × IsAllTaken job now
@@ -111,7 +111,7 @@ pub run_told : {laws : Laws} {B T : Type 0} (gives : Giving B) (has_told : Telli
     → IsUnderWay laws gives has_told start end source sink batches telling net → IsSomeTold laws has_told sink net telling
 run_told {laws} {B} {T} gives has_told start end source sink batches telling net u = record { job = job_with laws start u.inputs; first = start.sink; stands = u.stands; is_told = u.is_told }
 
--- a run is under way still where its net stands still for each job, and as many sets are taken
+-- a run is still under way if its net still stands for each job, and as many sets are taken
 pub still_under_way : {laws : Laws} {B T : Type 0} (gives : Giving B) (has_told : TellingSets T) (start : Start B) (end : BatchEnd) (source : SourceTold) (sink : SinkTold) (batches : B) (telling : T) (net now : NetView)
     → ((job : LoggedJob laws) → StandsFor job net → StandsFor job now) → taken_out now ≡ taken_out net
     → IsUnderWay laws gives has_told start end source sink batches telling net → IsUnderWay laws gives has_told start end source sink batches telling now
@@ -146,12 +146,12 @@ some_given {laws} {B} {T} gives has_told start last source sink batches telling 
   as_given = as_given gives has_told start last source sink batches telling net now keeps rests u;
 }
 
--- how it goes on
+-- how a run goes on
 abbrev pub Onwards : (laws : Laws) {B : Type 0} → Giving B → Due B → (B → List Wanted) → BatchEnd → SourceTold → B → B → NetView → Onward → Type 0
 Onwards laws {B} gives is_due wants last source batches batches_now now onward =
     (began : B) (plan : Plan) (first source_is : SourceTold) (so_far : Inputs) → IsAsGiven laws gives began plan first source_is last so_far now batches → GoesOnward gives is_due wants began plan first source_is last so_far now batches_now onward
 
--- by further input that comes before the next batch
+-- a run may go on with further input that comes before the next batch
 pub round_may : {laws : Laws} {B T : Type 0} (gives : Giving B) (is_due : Due B) (wants : B → List Wanted) (has_told : TellingSets T) (start : Start B) (last : BatchEnd) (source : SourceTold) (sink : SinkTold) (batches batches_now : B) (telling : T) (net now : NetView) (onward : Onward) (inputs : List ℕ) (pieces : List (StreamPrefix Plain)) → onward ≡ Round inputs pieces
     → ((job : LoggedJob laws) → StandsFor job net → StandsFor job now) → ((job : LoggedJob laws) → StandsFor job net → HasRested job now × IsAllTaken job now)
     → Onwards laws gives is_due wants last source batches batches_now now onward → IsUnderWay laws gives has_told start last source sink batches telling net → MayGoOnAt laws inputs pieces now
@@ -208,7 +208,7 @@ over_at {laws} {B} {T} gives is_due wants has_told start last end source sink la
       all = (rests (job_with laws start u.inputs) u.stands).1;
     }
 
--- or with the next batch, which is due
+-- a run may go on with the next batch, which is due
 abbrev pub IsDueNow : (laws : Laws) {B T : Type 0} → Giving B → Due B → TellingSets T → Start B → SourceTold → SinkTold → B → T → NetView → Type 0
 IsDueNow laws gives is_due has_told start source sink batches telling net =
     (u : IsUnderWay laws gives has_told start More source sink batches telling net) × is_due batches start.plan u.inputs
@@ -236,7 +236,7 @@ pub run_more : {laws : Laws} {B T : Type 0} (gives : Giving B) (is_due : Due B) 
     → IsDueNow laws gives is_due has_told start source sink batches telling net → IsSomeMore laws gives is_due source batches net
 run_more {laws} {B} {T} gives is_due has_told start source sink batches telling net u = record { start = start; inputs = u.0.inputs; given = u.0.given; due = u.1; stands = u.0.stands }
 
--- and was read
+-- the next batch was read, and the run is under way still
 pub went_on : {laws : Laws} {B T : Type 0} (gives : Giving B) (is_due : Due B) (has_told : TellingSets T) (start : Start B) (end : BatchEnd) (source later : SourceTold) (sink : SinkTold) (batches batches_now : B) (telling : T) (net now : NetView) → taken_out now ≡ taken_out net
     → ((inputs : Inputs) → gives start.batches batches start.plan start.source source More inputs → is_due batches start.plan inputs → StandsFor (job_with laws start inputs) net → WentOn laws gives start end later batches_now inputs now)
     → IsDueNow laws gives is_due has_told start source sink batches telling net → IsUnderWay laws gives has_told start end later sink batches_now telling now
@@ -252,7 +252,7 @@ went_on {laws} {B} {T} gives is_due has_told start end source later sink batches
 
 -- Memory ran out --
 
--- where some sets were told since
+-- memory ran out after some sets were told
 pub short_told : {laws : Laws} {B T : Type 0} (gives : Giving B) (reads_on : ReadingOn B) (has_told : TellingSets T) (form : OutputForm) (start : Start B) (end : BatchEnd) (source : SourceTold) (sink sink_now : SinkTold) (batches : B) (telling : T) (net now : NetView)
     → ((job : LoggedJob laws) → StandsFor job net → StandsFor job now)
     → ((job : LoggedJob laws) (first : SinkTold) → StandsFor job net → IsTold has_told job.job first sink (taken_out net) telling → IsToldSome has_told job.job first sink_now)
@@ -271,13 +271,13 @@ short_told {laws} {B} {T} gives reads_on has_told form start end source sink sin
       unended = λ _. tells job start.sink u.stands u.is_told;
     }
 
--- where none was
+-- memory ran out, and no set was told since
 pub short_here : {laws : Laws} {B T : Type 0} (gives : Giving B) (reads_on : ReadingOn B) (has_told : TellingSets T) (form : OutputForm) (start : Start B) (end : BatchEnd) (source : SourceTold) (sink : SinkTold) (batches : B) (telling : T) (net now : NetView)
     → ((job : LoggedJob laws) → StandsFor job net → StandsFor job now) → IsUnderWay laws gives has_told start end source sink batches telling net → IsShort laws gives reads_on has_told form start source sink now
 short_here {laws} {B} {T} gives reads_on has_told form start end source sink batches telling net now keeps u =
     short_told gives reads_on has_told form start end source sink sink batches telling net now keeps (λ job first h t. told_some has_told job first sink (taken_out net) telling t) u
 
--- and more was read
+-- memory ran out while more was read
 pub short_more : {laws : Laws} {B T : Type 0} (gives : Giving B) (reads_on : ReadingOn B) (has_told : TellingSets T) (form : OutputForm) (start : Start B) (source later : SourceTold) (sink : SinkTold) (batches : B) (telling : T) (net now : NetView)
     → ((job : LoggedJob laws) → StandsFor job net → StandsFor job now) → reads_on batches start.plan start.source source later → IsUnderWay laws gives has_told start More source sink batches telling net
     → IsShort laws gives reads_on has_told form start later sink now

@@ -27,7 +27,7 @@ one_run telling job end status output notes boxes back wrote had = record {
   had = record { back = back; used = subst (EachHad job boxes) (one_solution job had.streams wrote.streams had.solution wrote.solution) had.each };
 }
 
--- memory ran out in it
+-- memory ran out in a run
 pub one_short : (form : OutputForm) (job : Job) (output : Device SinkTold) (boxes : Device (List BoxTold)) → CalculatorsCameBack job.plan boxes.before boxes.now → HadFronts job boxes
     → ((streams : List (StreamPrefix Plain)) → IsSolution job streams → TookFront output (output_in form job.plan streams)) → OneShort form job output boxes
 one_short form job output boxes back had front = record {

@@ -13,7 +13,7 @@ use Rattle.mg_sched.proofs.Solved.{solved}
 use Rattle.mg_drive.specs.Told.{HasSums}
 use Rattle.mg_drive.specs.Code.Running.{IsToldSome, FrontIn}
 
--- nothing is yet
+-- nothing is told yet
 pub none_summed : (plan : Plan) (sums : SummaryView) (sink : SinkTold) → sums.names ≡ output_names plan → HasSummed sums [] → HasSums sums plan sink sink []
 none_summed plan sums sink names none = record { names_are = names; summed = none; unwritten = refl }
 

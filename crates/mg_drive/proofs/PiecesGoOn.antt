@@ -20,12 +20,12 @@ use Rattle.mg_drive.specs.Batches.{IsMore, IsFirst, InputsGoOn, BatchesGoOn}
 use Rattle.mg_drive.specs.Code.InPieces.{made_inputs, piece_end, AreToCome, WereMade, HaveComeInPieces, packets_left}
 use Rattle.mg_drive.proofs.LinesGoOn.{not_ended}
 
--- a piece behind which there is more isn't the last
+-- a piece isn't the last if more comes after it
 pub not_last : (b : Bool) → More ≡ piece_end b → b ≡ false
 not_last true is = absurd cc
 not_last false is = refl
 
--- what was given so far, where there is more
+-- what was given so far, if more comes
 pub so_far_made : (plan : Plan) (number : ℕ) (m : Making) (inputs : Inputs) → WereMade plan number m More inputs → inputs ≡ made_inputs (inputs_of plan) m.made false
 so_far_made plan number m inputs was = was.inputs_are ∙ ap (made_inputs (inputs_of plan) m.made) (not_last (m.made == number) was.end_is)
 
@@ -144,7 +144,7 @@ more_made_came plan number most now old new end inputs so_far earlier valid came
       goes_on = on.goes_on;
     }
 
--- leaves fewer to come
+-- a piece more leaves fewer packets to come
 pub fewer_left : (graph : GraphInputs) (number most : ℕ) (old new : Making) (end : BatchEnd) (ended : Bool) → HasHandedOn graph number old → HasHandedOn graph number new → ended ≡ (new.made == number) → end ≡ piece_end ended
     → new.made ≡ min (old.made + most) old.number → 0 < most → IsMore end → packets_left new < packets_left old
 fewer_left graph number most old new end ended was now same is made some more = elim (eqb_tells new.made number) [
@@ -165,7 +165,7 @@ made_no_fewer old new number most le is = omega (arith, le, is)
 pub are_to_come : (plan : Plan) (number : ℕ) (m : Making) → AreToCome plan number m → AreToCome plan m.number m
 are_to_come plan number m fresh = subst (λ n. AreToCome plan n m) (sym fresh.handed_on.number_is) fresh
 
--- what was given since is of so many
+-- what was given since is of so many packets
 pub of_number : (plan : Plan) (number : ℕ) (began m : Making) (end : BatchEnd) (inputs : Inputs) → AreToCome plan number began → WereMade plan began.number m end inputs → WereMade plan number m end inputs
 of_number plan number began m end inputs fresh was = subst (λ n. WereMade plan n m end inputs) fresh.handed_on.number_is was
 

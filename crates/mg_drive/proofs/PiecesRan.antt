@@ -47,19 +47,19 @@ last_piece : (b : Bool) (end : FeedEnd) → End end ≡ piece_end b → (b ≡ t
 last_piece true end is = (refl, cc)
 last_piece false end is = absurd cc
 
--- all that was given then is all that is made
+-- all that was given with the last piece is all that is made
 pub all_made : (plan : Plan) (number : ℕ) (m : Making) (end : FeedEnd) (inputs : Inputs) → WereMade plan number m (End end) inputs → (inputs ≡ generated_inputs (inputs_of plan) number) × (end ≡ Ended)
 all_made plan number m end inputs was =
     let last = last_piece (m.made == number) end was.end_is in
     let all : m.made ≡ number = eqb-true m.made number last.0 in
     (was.inputs_are ∙ ap (made_inputs (inputs_of plan) m.made) last.0 ∙ ap (λ n. made_inputs (inputs_of plan) n true) all, last.1)
 
--- and so it is once all are made
+-- the same holds once all packets are made
 pub whole_made : (plan : Plan) (number : ℕ) (m : Making) (end : BatchEnd) (inputs : Inputs) → WereMade plan number m end inputs → m.made ≡ number → inputs ≡ generated_inputs (inputs_of plan) number
 whole_made plan number m end inputs was all =
     was.inputs_are ∙ ap (made_inputs (inputs_of plan) m.made) (eq-eqb m.made number all) ∙ ap (λ n. made_inputs (inputs_of plan) n true) all
 
--- they were run
+-- all packets were run
 pub pieces_ran : (laws : Laws) (report : Reporting) (plan : Plan) (number : ℕ) (m : Making) (output notes : Device SinkTold) (boxes : Device (List BoxTold)) (status : Status) (end : FeedEnd) (inputs : Inputs) → WereMade plan number m (End end) inputs
     → CalculatorsCameBack plan boxes.before boxes.now → Wrote (by_summary report) (record { plan = plan; inputs = inputs; laws = laws }) end status output notes → HadCallsOf (record { plan = plan; inputs = inputs; laws = laws }) boxes
     → OneMade laws report plan number status output notes boxes
@@ -93,7 +93,7 @@ unwritten_yet laws plan number inputs first now is some =
     let same = (some.is_told.told found.0 found.1.solution).unwritten in
     subst (λ (s : SinkTold). FrontIn totals first s (generated_job laws plan number)) (sym same) (front_unwritten first (generated_job laws plan number))
 
--- a front of the summary was taken, and each calculator had a front of its calls
+-- a prefix of the summary was taken, and each calculator had a prefix of its calls
 pub pieces_short : {laws : Laws} (plan : Plan) (number : ℕ) (m : Making) (output : Device SinkTold) (boxes now : List BoxTold) (net : NetView) (end : BatchEnd) (inputs : Inputs) → BoxesFit plan boxes → WereMade plan number m end inputs
     → IsJob (record { plan = plan; inputs = inputs; laws = laws })
     → IsToldSome HasSums (record { plan = plan; inputs = inputs; laws = laws }) output.before output.now ⊎ FrontIn totals output.before output.now (record { plan = plan; inputs = inputs; laws = laws })

@@ -1,4 +1,4 @@
--- Inputs, pieces that come behind them, and what they are then, place by place.
+-- Inputs, pieces that come after them, and both together, place by place.
 use Rattle.std.proofs.Common.{◌≡◌, ◌<◌, ℕ, zero, suc, List, [], ◌∷◌, ◌++◌, length, max, map, replicate, slice_index_or, refl, sym, ap, arith, append-nil}
 use Rattle.std.specs.List.{AllZip}
 use Rattle.mg_value.specs.Payload.{Plain}
@@ -41,7 +41,7 @@ as_many_pieces (s ∷ ss) [] zs p = absurd p
 as_many_pieces (s ∷ ss) (m ∷ ms) [] p = absurd p
 as_many_pieces (s ∷ ss) (m ∷ ms) (x ∷ zs) p = ap suc (as_many_pieces ss ms zs p.1)
 
--- some behind others
+-- some streams after other streams
 pub both : (ss ms zs us vs ws : List (StreamPrefix Plain)) → Piecewise ss ms zs → Piecewise us vs ws → Piecewise (ss ++ us) (ms ++ vs) (zs ++ ws)
 both [] [] [] us vs ws p q = q
 both [] [] (x ∷ zs) us vs ws p q = absurd p
@@ -52,7 +52,7 @@ both (s ∷ ss) (m ∷ ms) (x ∷ zs) us vs ws p q = (p.0, both ss ms zs us vs w
 
 -- Pieces --
 
--- nothing comes
+-- a stream stays as it is if nothing comes
 pub nothing_behind : (s : StreamPrefix Plain) → IsPrefix s → s ≡ joined s empty_prefix
 nothing_behind s is = (let low = is.opened in let bound : s.bound ≡ max s.bound 2 = omega (arith, low) in λ i. record { packets = sym (append-nil s.packets) i; bound = bound i })
 
@@ -60,7 +60,7 @@ pub nothing_comes : (ss : List (StreamPrefix Plain)) → AllZip (λ s t. IsPrefi
 nothing_comes [] all = tt
 nothing_comes (s ∷ ss) all = (nothing_behind s all.0, nothing_comes ss all.1)
 
--- what comes behind what was there
+-- an extended stream is what was there, joined with the piece after it
 piece_joined : (s t : StreamPrefix Plain) → IsExtendedBy s t → t ≡ joined s (piece_behind (length s.packets) t)
 piece_joined s t e = λ i. record { packets = sym (packets_behind s t e) i; bound = sym (bound_behind s t e) i }
 

@@ -51,14 +51,14 @@ use Rattle.mg_drive.proofs.FrontsBack.{all_are_fronts, kept_now}
 
 -- Events --
 
--- none was put yet
+-- no event was put yet
 pub no_events : (sink : SinkTold) (blocks : BlockView) → HasEvents sink blocks false sink blocks []
 no_events sink blocks = λ first text put. subst (λ (l : List ℕ). HasPutIn first sink blocks l) (sym (append-nil text)) put
 
 pub heard_none : (sink : SinkTold) (blocks : BlockView) (out : Bool) → out ≡ false → HasEvents sink blocks out sink blocks []
 heard_none sink blocks out is = subst (λ (b : Bool). HasEvents sink blocks b sink blocks []) (sym is) (no_events sink blocks)
 
--- whatever of events was put, a front was taken
+-- whether memory ran out or not, the sink took a prefix of the text
 pub front_unless : (out : Bool) (first sink : SinkTold) (blocks : BlockView) (text : List ℕ) → HasPutUnless out first sink blocks text → TookFront (device first sink) text
 front_unless false first sink blocks text put = put-front blocks.failed first sink blocks.kept text put
 front_unless true first sink blocks text front = front
@@ -88,7 +88,7 @@ recorded_some {laws} out sink later blocks blocks_now before there events run ha
   front = front_unless out first later blocks_now (lines ++ events_text events) (has first lines put);
 }
 
--- a front of what was recorded was taken, where nothing was written since
+-- the sink took a prefix of the recorded lines, if nothing was written since
 pub recorded_front : {laws : Laws} (first sink now : SinkTold) (blocks : BlockView) (lines : List ℕ) (before there : NetView) → HasRecorded laws first sink blocks lines [] before there → now ≡ sink → HasRecordedSome laws first now lines before
 recorded_front {laws} first sink now blocks lines before there r same = record {
   there = there;
@@ -102,7 +102,7 @@ recorded_front {laws} first sink now blocks lines before there r same = record {
 end_behind : (lines events end : List ℕ) → (lines ++ (events ++ [])) ++ end ≡ lines ++ (events ++ end)
 end_behind lines events end = append_assoc lines (events ++ []) end ∙ ap (λ (l : List ℕ). lines ++ (l ++ end)) (append-nil events)
 
--- a last line was put behind it
+-- a last line was put after the recorded lines
 pub recorded_end : {laws : Laws} (first sink now : SinkTold) (blocks blocks_now : BlockView) (text : TextView) (lines end : List ℕ) (before there : NetView) → HasRecorded laws first sink blocks lines [] before there
     → ((f : SinkTold) (t : List ℕ) → HasPutIn f sink blocks t → HasPutIn f now blocks_now (t ++ end)) → text ≡ record { names = []; kept = blocks_now.kept; failed = blocks_now.failed }
     → HasRecorded laws first now (record { kept = text.kept; failed = text.failed }) lines end before there
@@ -170,7 +170,7 @@ short_begun {laws} plan inputs boxes first sink made begun is keeps = record {
   stood = record { before = begun; stands = keeps (job_of laws plan inputs boxes) is.stands; since = inl refl };
 }
 
--- while the net ran
+-- memory ran out while the net ran
 pub short_run : {laws : Laws} (plan : Plan) (inputs : Inputs) (boxes : List BoxTold) (first sink now : SinkTold) (begun later : NetView) → IsBegun laws plan inputs boxes begun
     → ((job : LoggedJob laws) → StandsFor job begun → StandsFor job later) → HasRecordedSome laws first now (job_text plan inputs) begun → NetShort laws plan inputs boxes sink (device first now) later
 short_run {laws} plan inputs boxes first sink now begun later is keeps r = record {
@@ -178,7 +178,7 @@ short_run {laws} plan inputs boxes first sink now begun later is keeps r = recor
   stood = record { before = later; stands = keeps (job_of laws plan inputs boxes) is.stands; since = inl refl };
 }
 
--- or once all was put
+-- memory ran out once all was put
 pub short_end : {laws : Laws} (plan : Plan) (inputs : Inputs) (boxes : List BoxTold) (first sink put now : SinkTold) (text : TextView) (begun rested later : NetView) → IsBegun laws plan inputs boxes begun
     → ((job : LoggedJob laws) → StandsFor job begun → StandsFor job rested) → IsAtRest laws rested
     → HasRecorded laws first put (record { kept = text.kept; failed = text.failed }) (job_text plan inputs) (codes "end\n") begun rested
@@ -225,7 +225,7 @@ pub stood_untraced : {laws : Laws} (plan : Plan) (inputs : Inputs) (boxes handed
     → NetShort laws plan inputs handed before output net → StoodWith laws boxes net
 stood_untraced {laws} plan inputs boxes handed before output net same h = record { job = job_of laws plan inputs handed; stood = h.stood; boxes_are = same }
 
--- Over what the input came to --
+-- Over what was read of the input --
 
 traced_all : {laws : Laws} (report : Reporting) (plan : Plan) (inputs : Inputs) (input : Device SourceTold) (end : FeedEnd) (status : Status) (output notes : Device SinkTold) (boxes : Device (List BoxTold)) (gathered : GatheredInputs (inputs_of plan) input end inputs)
     → (j : JobTraced laws report plan (inputs_by (inputs_of plan) gathered.read) gathered.read.end status output notes boxes)
@@ -326,6 +326,6 @@ some_read {laws} plan inputs input end output boxes now fit is gathered j = inr 
 pub all_are_some : {laws : Laws} (plan : Plan) (input : Device SourceTold) (boxes : Device (List BoxTold)) → BoxesFit plan boxes.before → AllHadCalls laws plan input boxes → HadSome laws plan input boxes
 all_are_some {laws} plan input boxes fit h = inr (record { read = h.read; came = h.came; fronts = all_are_fronts (answers.job_of laws plan h.read) boxes fit h.had })
 
--- a text that was put whole, of which nothing is written yet
+-- a text that was put whole and isn't written yet
 pub opened : (sink : SinkTold) (blocks : BlockView) (text : List ℕ) → blocks ≡ record { kept = text; failed = false } → HasPutIn sink sink blocks text
 opened sink blocks text is = subst (λ (b : BlockView). HasPutIn sink sink b text) (sym is) ([], record { whole = TookAll-start sink.taken; steady = refl }, refl)

@@ -1,4 +1,4 @@
--- What free nodes hand on after a round comes to their own graph inputs of the core alone.
+-- What free nodes hand on after a round goes only to their own graph inputs of the core.
 use Rattle.std.proofs.Common.{◌≡◌, ◌<◌, ◌+◌, ◌-◌, ℕ, zero, suc, List, [], ◌∷◌, ◌++◌, length, length-append, map, drop, replicate, Some, slice_get, slice_index_or, inl, inr, refl, sym, ap, ◌∙◌, subst, arith}
 use Rattle.std.proofs.lemmas.Bool.{cases_lt}
 use Rattle.std.proofs.lemmas.List.{length-map}
@@ -73,7 +73,7 @@ drop_all (x ∷ xs) = drop_all xs
 
 -- The pieces --
 
--- at a node that did nothing all that it has was handed on before
+-- if a node did nothing, all that it has was handed on before
 pub handed_but : {laws : Laws} {B : Type 0} (gives : Giving B) (came : Coming B) (is_due : Due B) (began : B) (live : LiveView B) (core : Plan) (first source : SourceTold) (last : BatchEnd) (so_far : Inputs) (net : NetView) (still : IsStill laws gives came is_due began live core first source last so_far net)
     (places : List ℕ) → DidAt places still.given.takens (turns_of still.streams live.frees still.given.takens) → AreCountedBut places (handed_of live.takers) (outputs_so_far live.frees (turns_of still.streams live.frees still.given.takens))
 handed_but {laws} {B} gives came is_due began live core first source last so_far net still places did place n s none at_n at_s =
@@ -96,7 +96,7 @@ handed_but {laws} {B} gives came is_due began live core first source last so_far
     map_out : (ss : List (StreamPrefix Plain)) (p : ℕ) (x : StreamPrefix Plain) → slice_get ss p ≡ Some x → slice_get (map (λ s. length s.packets) ss) p ≡ Some (length x.packets)
     map_out ss p x at = map_at (λ (s : StreamPrefix Plain). length s.packets) ss p x at
 
--- what a piece for a node that did nothing brings: nothing
+-- a piece for a node that did nothing brings nothing
 little : (s : StreamPrefix Plain) (n : ℕ) → n ≡ length s.packets → BringsNothing s (piece_behind n s)
 little s n all = record { packets = ap (λ (k : ℕ). drop k s.packets) all ∙ drop_all s.packets; bound = omega arith }
 

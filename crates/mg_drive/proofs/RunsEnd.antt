@@ -49,7 +49,7 @@ none_taken net (Some intake) is fresh = fresh intake is
 pub none_yet : {laws : Laws} (plan : Plan) (inputs : Inputs) (boxes : List BoxTold) (net : NetView) → IsMade laws plan inputs boxes net → taken_out net ≡ 0
 none_yet {laws} plan inputs boxes net made = none_taken net (collector_of net) refl (λ intake there. (made.fresh (length net.plan.nodes) intake there).claimed)
 
--- a net that was made of the first batch begins a run, of which nothing is told
+-- a net that was made of the first batch begins a run, and nothing is told yet
 pub begins : {laws : Laws} {B T : Type 0} (gives : Giving B) (has_told : TellingSets T) (plan : Plan) (boxes handed : List BoxTold) (began batches : B) (telling : T) (first now : SourceTold) (sink : SinkTold) (end : BatchEnd) (inputs : Inputs) (net : NetView)
     → handed ≡ boxes → IsMade laws plan inputs handed net → gives began batches plan first now end inputs → ((s : SinkTold) → has_told telling plan s s [])
     → IsUnderWay laws gives has_told (start_of plan boxes first sink began) end now sink batches telling net
@@ -76,7 +76,7 @@ told_whole {laws} packet_lines job streams solves = ap (sets_text (output_names 
 told_whole {laws} totals job streams solves = ap (summary_text (output_names job.job.plan)) (outputs_by_default job streams solves)
 told_whole {laws} (in_place text) job streams solves = refl
 
--- all sets were told, so the text of what was told is whole
+-- all sets were told, so the whole text was put
 pub whole_told : {laws : Laws} {T : Type 0} (has_told : TellingSets T) (form : OutputForm) (job : LoggedJob laws) (first sink : SinkTold) (net : NetView) (telling : T) (text : TextView) → StandsFor job net → IsAllTaken job net
     → IsTold has_told job.job first sink (taken_out net) telling
     → ((plan : Plan) (f now : SinkTold) (sets : List (TimedSet Plain)) → has_told telling plan f now sets → HasPut f now text (told_in form plan sets)) → IsWhole form first sink job.job text
@@ -86,13 +86,13 @@ whole_told {laws} {T} has_told form job first sink net telling text stands all_c
     let all : take (taken_out net) sets ≡ sets = ap (λ (n : ℕ). take n sets) (all_taken job net streams stands all_came solves) ∙ take-length sets in
     subst (λ (t : List ℕ). HasPut first sink text t) (ap (told_in form job.job.plan) all ∙ told_whole form job streams solves) (puts job.job.plan first sink (take (taken_out net) sets) (told.told streams solution))
 
--- a front of what was put was taken
+-- the sink took a prefix of the text that was put
 pub front_whole : (form : OutputForm) (first sink : SinkTold) (job : Job) (text : TextView) → IsWhole form first sink job text → FrontIn form first sink job
 front_whole form first sink job text whole = λ streams solution. put-front text.failed first sink text.kept (output_in form job.plan streams) (whole streams solution)
 
 -- Calculators --
 
--- each that a node uses comes back with all its calls
+-- each calculator that a node uses comes back with all its calls
 pub had_of : {laws : Laws} (job : LoggedJob laws) (net wound : NetView) → StandsFor job net → HasRested job net → WindsUpNet laws net wound → wound.wound ≡ length net.plan.nodes → HadAllOf job wound
 had_of {laws} job net wound stands h winds all =
     let found = solved job (valid_plan job net stands) in
@@ -130,7 +130,7 @@ some_rested {laws} {B} {T} gives has_told plan start end source sink batches tel
       plan_is = is;
     }
 
--- and for some job
+-- a net that has rested over what batches gave has rested for some job
 pub rested_of : {laws : Laws} {B : Type 0} (gives : Giving B) (plan : Plan) (end : FeedEnd) (net : NetView) (batches : B) → SomeRestedOf laws gives plan end net batches → SomeRested laws plan net
 rested_of {laws} {B} gives plan end net batches r = record {
   job = logged laws r.given.plan r.given.so_far r.given.as_given.boxes;
@@ -139,7 +139,7 @@ rested_of {laws} {B} gives plan end net batches r = record {
   has_rested = r.given.as_given.has_rested;
 }
 
--- its answer was written
+-- the answer of a run that is over was written
 pub ended_over : {laws : Laws} {B T : Type 0} (gives : Giving B) (writes : Writing B) (has_told : TellingSets T) (form : OutputForm) (report : Reporting) (plan : Plan) (start : Start B) (end : FeedEnd) (source : SourceTold) (sink now : SinkTold) (batches : B) (telling : T) (net wound : NetView) (text : TextView) (status : Status)
     (notes : Device SinkTold) → start.plan ≡ plan
     → ((p : Plan) (f n : SinkTold) (sets : List (TimedSet Plain)) → has_told telling p f n sets → HasPut f n text (told_in form p sets))
@@ -160,7 +160,7 @@ ended_over {laws} {B} {T} gives writes has_told form report plan start end sourc
       stood = record { before = net; stands = u.stands; since = inr winds };
     }
 
--- or memory ran out before its text was made
+-- memory ran out before the text of a run that is over was made
 pub short_over : {laws : Laws} {B T : Type 0} (gives : Giving B) (reads_on : ReadingOn B) (has_told : TellingSets T) (form : OutputForm) (start : Start B) (end : FeedEnd) (source : SourceTold) (sink : SinkTold) (batches : B) (telling : T) (net : NetView)
     → RunIsOver laws gives has_told start end source sink batches telling net → IsShort laws gives reads_on has_told form start source sink net
 short_over {laws} {B} {T} gives reads_on has_told form start end source sink batches telling net over =
@@ -178,7 +178,7 @@ short_over {laws} {B} {T} gives reads_on has_told form start end source sink bat
       unended = λ more. absurd more;
     }
 
--- or after that
+-- memory ran out after the text of a run that is over was made
 pub short_end : {laws : Laws} {B T : Type 0} (gives : Giving B) (reads_on : ReadingOn B) (has_told : TellingSets T) (form : OutputForm) (start : Start B) (end : FeedEnd) (source : SourceTold) (sink now : SinkTold) (batches : B) (telling : T) (net later : NetView) (text : TextView)
     → ((p : Plan) (f n : SinkTold) (sets : List (TimedSet Plain)) → has_told telling p f n sets → HasPut f n text (told_in form p sets))
     → ((fm : OutputForm) (job : Job) (first : SinkTold) → IsWhole fm first sink job text → FrontIn fm first now job) → (later ≡ net) ⊎ WindsUpNet laws net later

@@ -16,18 +16,18 @@ use Rattle.mg_sched.proofs.Finding.{found}
 use Rattle.mg_sched.proofs.NothingGone.{leaves_keep}
 use Rattle.mg_drive.specs.Nets.{Wanted, AreThere, AreRead, HasAtMost, GaveNothingUp}
 
--- all that was there was read, and what was given up since was there
+-- if all that was laid was read, and only that was given up since, what is still to be read is there
 pub read_there : (wanted : List Wanted) (before after : NetView) → ((stream number : ℕ) → HasAtMost before stream number → HasFrom after stream number) → AreRead wanted before → AreThere wanted after
 read_there wanted before after laid read = All-weaker (λ (w : Wanted). HasAtMost before w.stream w.from) (λ (w : Wanted). HasFrom after w.stream w.from) (λ w h. laid w.stream w.from h) wanted read
 
--- nothing was given up since
+-- if nothing was given up since, what is still to be read is there
 pub still_there : (wanted : List Wanted) (before after : NetView) → GaveNothingUp before after → AreThere wanted before → AreThere wanted after
 still_there wanted before after whole there = All-weaker (λ (w : Wanted). HasFrom before w.stream w.from) (λ (w : Wanted). HasFrom after w.stream w.from) (λ w h. whole w.stream w.from h) wanted there
 
 pub same_there : (before after : List Wanted) (net : NetView) → after ≡ before → AreThere before net → AreThere after net
 same_there before after net same there = subst (λ (ws : List Wanted). AreThere ws net) (sym same) there
 
--- of a net that was made all is there
+-- all packets of a net that was just made are there
 from_there : (net : NetView) → ((stream : ℕ) → HasFrom net stream 0) → (stream number : ℕ) → HasFrom net stream number
 from_there net whole stream number output is = (let none = whole stream output is in omega (arith, none))
 
@@ -59,7 +59,7 @@ goes_most : (b : Bool) (n m : ℕ) → n ≤ m → (if b then 0 else n) ≤ m
 goes_most true n m le = omega arith
 goes_most false n m le = le
 
--- it gives up at most what is laid
+-- a trim gives up at most what is laid
 pub trims_laid : (before now : NetView) (stream number : ℕ) → Trims before now → HasAtMost before stream number → HasFrom now stream number
 trims_laid before now stream number t laid output is =
     let plan = ap (λ (v : NetView). v.plan) t.parts in

@@ -36,7 +36,7 @@ few_settled {laws} job streams solves =
     let all = All-from_recursion IsPrefix streams (solution_keeps job.job (job_known job.job solves.is_job) streams solves.solution) in
     subst (λ (l : List (TimedSet Plain)). length l ≤ done) (sym (outputs_by_default job streams solves)) (few_sets Default (inputs_of streams job.job.plan.outputs) (all_inputs streams job.job.plan.outputs all))
 
--- so as many may be taken
+-- so few sets are taken
 pub few_are_taken : {laws : Laws} (job : LoggedJob laws) (net : NetView) → StandsFor job net → taken_out net ≤ done
 few_are_taken {laws} job net stands =
     let found = solved job (valid_plan job net stands) in
@@ -45,7 +45,7 @@ few_are_taken {laws} job net stands =
     let same : length (settled_outputs net.plan found.0) ≡ length (settled_outputs job.job.plan found.0) = ap (λ (p : Plan). length (settled_outputs p found.0)) (plan_stood job net stands) in
     omega (arith, few, most, same)
 
--- and each that is taken leaves fewer to take
+-- each set that is taken leaves fewer to take
 pub fewer_to_take : {laws : Laws} (set_old set_now : List (Option (Stamped Plain))) (before now : NetView) → StandsForSome laws now → TakesOut true set_old set_now before now
     → 2 ^ 65 - taken_out now < 2 ^ 65 - taken_out before
 fewer_to_take {laws} set_old set_now before now some takes =
@@ -71,11 +71,11 @@ set_there {laws} job streams before set stands has =
 
 -- Takings --
 
--- what was taken, where something was
+-- what was taken, if something was
 pub taken_true : (taken : Bool) (set_old set_now : List (Option (Stamped Plain))) (before now : NetView) → taken ≡ true → TakesOut taken set_old set_now before now → TakesOut true set_old set_now before now
 taken_true taken set_old set_now before now is takes = subst (λ (b : Bool). TakesOut b set_old set_now before now) is takes
 
--- and where nothing was
+-- what was taken, if nothing was
 pub taken_false : (taken : Bool) (set_old set_now : List (Option (Stamped Plain))) (before now : NetView) → taken ≡ false → TakesOut taken set_old set_now before now → TakesOut false set_old set_now before now
 taken_false taken set_old set_now before now is takes = subst (λ (b : Bool). TakesOut b set_old set_now before now) is takes
 
@@ -102,7 +102,7 @@ set_places {laws} job before set stands shows =
 
 -- What is told --
 
--- a set more was told
+-- one more set was told
 pub told_more : {laws : Laws} {T : Type 0} (has_told : TellingSets T) (job : LoggedJob laws) (first was sink : SinkTold) (before now : NetView) (old new : T) (set_old set : List (Option (Stamped Plain))) → StandsFor job before
     → IsTold has_told job.job first was (taken_out before) old → TakesOut true set_old set before now
     → ((streams : List (StreamPrefix Plain)) → Solves job streams → HasSet job streams (length before.plan.nodes) (taken_out before) set)
@@ -118,7 +118,7 @@ told_more {laws} {T} has_told job first was sink before now old new set_old set 
       (tells job.job.plan first (take (taken_out before) all) one refl (told.told streams solution));
 }
 
--- there is room for it
+-- one more set can be counted
 pub told_few : {laws : Laws} {T : Type 0} (has_told : TellingSets T) (job : LoggedJob laws) (first was : SinkTold) (before now : NetView) (telling : T) (set_old set : List (Option (Stamped Plain))) → StandsFor job before → StandsFor job now
     → IsTold has_told job.job first was (taken_out before) telling → TakesOut true set_old set before now → IsFewTold has_told was telling
 told_few {laws} {T} has_told job first was before now telling set_old set stands stands_now told takes =
@@ -135,19 +135,19 @@ told_few {laws} {T} has_told job first was before now telling set_old set stands
       few = omega (arith, short, few, more);
     }
 
--- as many sets are taken
+-- if as many sets are taken, as many were told
 pub told_same : {laws : Laws} {T : Type 0} (has_told : TellingSets T) (job : LoggedJob laws) (first sink : SinkTold) (n m : ℕ) (telling : T) → m ≡ n → IsTold has_told job.job first sink n telling → IsTold has_told job.job first sink m telling
 told_same {laws} {T} has_told job first sink n m telling same told = subst (λ (k : ℕ). IsTold has_told job.job first sink k telling) (sym same) told
 
--- a number of them was told
+-- a number of sets was told
 pub told_some : {laws : Laws} {T : Type 0} (has_told : TellingSets T) (job : LoggedJob laws) (first sink : SinkTold) (taken : ℕ) (telling : T) → IsTold has_told job.job first sink taken telling → IsToldSome has_told job.job first sink
 told_some {laws} {T} has_told job first sink taken telling told = record { telling = telling; taken = taken; is_told = told }
 
--- where nothing was written since
+-- a number of sets was told, if nothing was written since
 pub told_some_then : {laws : Laws} {T : Type 0} (has_told : TellingSets T) (job : LoggedJob laws) (first sink now : SinkTold) (taken : ℕ) (telling : T) → now ≡ sink → IsTold has_told job.job first sink taken telling → IsToldSome has_told job.job first now
 told_some_then {laws} {T} has_told job first sink now taken telling same told =
     subst (λ (s : SinkTold). IsToldSome has_told job.job first s) (sym same) (told_some has_told job first sink taken telling told)
 
--- a net of which something is told stands for a job
+-- if sets of a net are told, the net stands for a job
 pub told_stands : {laws : Laws} {T : Type 0} (has_told : TellingSets T) (sink : SinkTold) (net : NetView) (telling : T) → IsSomeTold laws has_told sink net telling → StandsForSome laws net
 told_stands {laws} {T} has_told sink net telling some = record { job = some.job; stands = some.stands }

@@ -31,7 +31,7 @@ abbrev pub IsMore : BatchEnd → Type 0
 IsMore More = ⊤
 IsMore (End end) = ⊥
 
--- the job of a plan over inputs, with the calculators that are handed in
+-- the job of a plan over inputs, with the user-supplied calculators
 abbrev pub logged : (laws : Laws) → Plan → Inputs → List BoxTold → LoggedJob laws
 logged laws plan inputs boxes = record { job = record { plan = plan; inputs = inputs; laws = laws }; boxes = boxes; same = refl }
 
@@ -40,7 +40,7 @@ pub record IsFirst (gives : BatchEnd → Inputs → Type 0) (plan : Plan) (end :
   pub given : gives end inputs
   pub fits : InputsFit plan inputs
 
--- inputs so far and further inputs are together these: each stream has its further piece behind what it had, and all of them fit the plan
+-- Inputs so far and further inputs are together these. Each stream has its further piece after what it had, and all together fit the plan.
 pub record InputsGoOn (plan : Plan) (so_far more all : Inputs) : Type 0 where
   pub fits : InputsFit plan all
   pub sides : so_far.sides ≡ all.sides
@@ -49,7 +49,7 @@ pub record InputsGoOn (plan : Plan) (so_far more all : Inputs) : Type 0 where
   pub streams : (input : ℕ) → input < length more.streams → slice_index_or all.streams input empty_prefix
       ≡ joined (slice_index_or so_far.streams input empty_prefix) (slice_index_or more.streams input empty_prefix)
 
--- Further inputs were given: with those so far they come to all that was given, which goes on from these.
+-- Further inputs were given. Together with the inputs so far they are all that was given.
 pub record BatchesGoOn (gives : Inputs → Type 0) (plan : Plan) (so_far more : Inputs) : Type 0 where
   pub all : Inputs
   pub given : gives all
@@ -73,7 +73,7 @@ Due B = B → Plan → Inputs → Type 0
 abbrev pub MayRead : {B : Type 0} → (B → Plan → Type 0) → Due B → B → Plan → Type 0
 MayRead is_fresh is_due batches plan = is_fresh batches plan ⊎ ((inputs : Inputs) × is_due batches plan inputs)
 
--- A net has come to rest over what batches gave, the last of which ended in this way.
+-- A net has come to rest over what batches gave. The last batch ended in this way.
 pub record IsAsGiven (laws : Laws) {B : Type 0} (gives : Giving B) (began : B) (plan : Plan) (first source : SourceTold) (last : BatchEnd) (so_far : Inputs) (net : NetView) (batches : B) : Type 0 where
   pub valid : IsValid plan
   pub given : gives began batches plan first source last so_far
@@ -90,22 +90,22 @@ pub record SomeGiven (laws : Laws) {B : Type 0} (gives : Giving B) (last : Batch
   pub so_far : Inputs
   pub as_given : IsAsGiven laws gives began plan first source last so_far net batches
 
--- The next batch is due: the input has no end yet, nothing comes before the batch, and all that the net has laid for the batches to read
--- was read.
+-- The next batch is due: the input has no end yet, and nothing comes before the batch. The batches have read all that the net has laid for
+-- them.
 pub record NextIsDue {B : Type 0} (gives : Giving B) (is_due : Due B) (wants : B → List Wanted) (began : B) (plan : Plan) (first source : SourceTold) (last : BatchEnd) (so_far : Inputs) (net : NetView) (now : B) : Type 0 where
   pub more : last ≡ More
   pub given : gives began now plan first source More so_far
   pub due : is_due now plan so_far
   pub read : AreRead (wants now) net
 
--- Pieces come to some graph inputs, and together with what came so far they were given.
+-- Some graph inputs get pieces. Together with what came so far, these pieces were given.
 pub record SomeComes (gives : Inputs → Type 0) (plan : Plan) (so_far : Inputs) (inputs : List ℕ) (pieces : List (StreamPrefix Plain)) : Type 0 where
   pub more : Inputs
   pub goes : BatchesGoOn gives plan so_far more
   pub comes : ComesAt inputs pieces so_far.streams more
 
--- How a run goes on: pieces come to some graph inputs before the next batch; or the next batch is due; or the input ended, and all of
--- it was given.
+-- How a run goes on. Some graph inputs get pieces before the next batch; or the next batch is due; or the input ended, and all of it was
+-- given.
 abbrev pub GoesOnward : {B : Type 0} → Giving B → Due B → (B → List Wanted) → B → Plan → SourceTold → SourceTold → BatchEnd → Inputs → NetView → B → Onward → Type 0
 GoesOnward gives is_due wants began plan first source last so_far net now (Round inputs pieces) =
     (last ≡ More) × SomeComes (gives began now plan first source More) plan so_far inputs pieces
@@ -118,7 +118,7 @@ RoundLeaves (Round inputs pieces) before now = now < before
 RoundLeaves Next before now = now ≡ before
 RoundLeaves (Over end) before now = now ≡ before
 
--- how a run goes on where nothing comes between batches
+-- how a run goes on if nothing comes between batches
 abbrev pub PlainOnward : BatchEnd → Onward → Type 0
 PlainOnward More onward = onward ≡ Next
 PlainOnward (End end) onward = onward ≡ Over end
@@ -132,7 +132,7 @@ pub record OutcomesFit (plan : Plan) (outcomes : Outcomes) : Type 0 where
   pub sets : length outcomes.sets ≡ length plan.nodes
   pub nodes : All (λ fault. fault.node < length plan.nodes) outcomes.faults
 
--- outcomes are of streams of the job over all that batches gave, the last of which ended the input in this way
+-- Outcomes are of streams of the job over all that batches gave. The last batch ended the input in this way.
 pub record AreOfGiven (laws : Laws) {B : Type 0} (gives : Giving B) (plan : Plan) (end : FeedEnd) (batches : B) (outcomes : Outcomes) : Type 0 where
   pub began : B
   pub first : SourceTold
@@ -142,7 +142,7 @@ pub record AreOfGiven (laws : Laws) {B : Type 0} (gives : Giving B) (plan : Plan
   pub streams : List (StreamPrefix Plain)
   pub tells : TellsOf (record { plan = plan; inputs = inputs; laws = laws }) streams outcomes
 
--- a job of the plan has a solution of which the outcomes are, and a text that tells it in a form was put
+-- A job of the plan has a solution, and the outcomes are those of this solution. A text that tells the solution in a form was put.
 pub record TellsSolution (form : OutputForm) (job : Job) (first sink : SinkTold) (plan : Plan) (text : TextView) (outcomes : Outcomes) : Type 0 where
   pub plan_is : job.plan ≡ plan
   pub streams : List (StreamPrefix Plain)

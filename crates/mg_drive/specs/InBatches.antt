@@ -18,12 +18,12 @@ inputs_at graph lines ended = record { streams = ended_streams ended (given_by g
 abbrev pub batch_size : ℕ
 batch_size = BATCH
 
--- Lines are parted into batches: each but the last has `batch_size` lines that name a stream, and ends with one of these.
+-- Lines are split into batches: each but the last has `batch_size` lines that name a stream, and ends with one of these.
 pub data InBatches : List (List ℕ) → List (List (List ℕ)) → Type 0 where
   last : {lines : List (List ℕ)} → naming lines < batch_size → InBatches lines (lines ∷ [])
   more : {batch rest : List (List ℕ)} {batches : List (List (List ℕ))} → Fills More batch_size batch → InBatches rest batches → InBatches (batch ++ rest) (batch ∷ batches)
 
--- what all batches up to each one have given together, where the lines `past` stand before the first
+-- what all batches up to each one have given together, if the lines `past` come before the first batch
 abbrev pub come_after : GraphInputs → FeedEnd → List (List ℕ) → List (List (List ℕ)) → List Inputs
 come_after graph end past [] = []
 come_after graph end past (batch ∷ []) = inputs_at graph (past ++ batch) (is_ended end) ∷ []

@@ -1,4 +1,4 @@
--- What a run leaves of the calculators that are handed in.
+-- What a run leaves of the user-supplied calculators.
 use Rattle.std.specs.Prelude.{◌≡◌, ◌≢◌, ◌⊎◌, ℕ, suc, ◌≤◌, List, ◌∷◌, ◌++◌, map, take, length, All, Bool, true, [], Some, option_map, slice_get, if◌then◌else◌}
 use Rattle.mg_value.specs.Payload.{Plain}
 use Rattle.mg_settled.specs.Prefix.{StreamPrefix}
@@ -22,13 +22,14 @@ use Rattle.mg_answer.specs.declared.status.Status.TheVariants.{OutOfMemory}
 use Rattle.mg_node.specs.Lawful.{kept_after}
 use Rattle.mg_node.specs.Had.{state_by, had_close}
 
--- the first `count` calls of a node's calculator: Open, and a Process for each set that the node is shown; with Close behind them or not
+-- the first `count` calls of a node's calculator, with Close after them or not: Open, and a Process for each set that the node is shown
 abbrev pub first_calls : Job → List (StreamPrefix Plain) → PlanNode → ℕ → Bool → List Call
 first_calls job streams node count close =
     take count (Begun ∷ map (λ e. Shown e.at e.set) (shown_sets job streams node)) ++ (if close then Finished ∷ [] else [])
 
--- A calculator had the calls that its node has in a solution: its log, where it tells one, grew by just these, in their order; and its
--- state is what they leave: that of the node behind the last set that it was shown, and what Close gives for that, unless Open failed.
+-- A calculator had the calls that its node has in a solution. If it tells a log, the log grew by just these calls, in their order. Its
+-- state is what these calls leave. That is the node's state after the last set that it was shown, or, unless Open failed, what Close gives
+-- for that state.
 pub record HadItsCalls (job : Job) (streams : List (StreamPrefix Plain)) (node : PlanNode) (before now : BoxTold) : Type 0 where
   pub log : now.log ≡ option_map (λ calls. calls ++ log_of job streams node) before.log
   pub state : now.state ≡ state_by job streams node (count_of job streams node) (had_close (outcome_of job streams node).fault)
@@ -50,14 +51,14 @@ pub record HadCallsOf (job : Job) (boxes : Device (List BoxTold)) : Type 0 where
   pub each : (number place : ℕ) (node : PlanNode) → slice_get job.plan.nodes number ≡ Some node → node.box_number ≡ Some place
       → IsRelatedAt place (HadItsCalls job streams node) boxes
 
--- Each calculator that a node uses had all the calls that its node has in the solution over what the input came to.
+-- Each calculator that a node uses had all the calls that its node has in the solution over what was read of the input.
 pub record AllHadCalls (laws : Laws) (plan : Plan) (input : Device SourceTold) (boxes : Device (List BoxTold)) : Type 0 where
   pub read : Read
   pub came : CameTo (inputs_of plan) input read
   pub had : HadCallsOf (job_of laws plan read) boxes
 
--- A calculator had a front of the calls that its node has in a solution: the first of them, a number of them, and perhaps Close behind
--- them, but not without Open. Its log, where it tells one, grew by just these.
+-- A calculator had a prefix of the calls that its node has in a solution: a number of first calls, perhaps with Close after them. Close
+-- comes only if Open came. If the calculator tells a log, the log grew by just these calls.
 pub record HadAFront (job : Job) (streams : List (StreamPrefix Plain)) (node : PlanNode) (before now : BoxTold) : Type 0 where
   pub count : ℕ
   pub close : Bool
@@ -66,44 +67,44 @@ pub record HadAFront (job : Job) (streams : List (StreamPrefix Plain)) (node : P
   pub law : now.law ≡ before.law
   pub shape : now.shape ≡ before.shape
 
--- what a node has come to once it was opened and shown its first `shown` settled sets
+-- the outcome of a node after it was opened and shown its first `shown` settled sets
 abbrev pub come_to : Job → List (StreamPrefix Plain) → PlanNode → ℕ → Outcome
 come_to job streams node shown = shown_all (rules_at job node) node.shape.offset (length node.outputs) (sides_of job node) (take shown (settled_sets node.policy (ports_of streams node)))
 
--- what a node's calculator keeps once it was opened and shown its first `shown` settled sets, and perhaps had Close behind them
+-- what a node's calculator keeps after it was opened and shown its first `shown` settled sets, and perhaps had Close after them
 abbrev pub kept_by : Job → List (StreamPrefix Plain) → PlanNode → ℕ → Bool → List Plain
 kept_by job streams node shown close =
     if close then kept_after ((rules_at job node).finish (come_to job streams node shown).state) (come_to job streams node shown).state
     else (come_to job streams node shown).state
 
--- A calculator had a front of its node's calls. Before Open its state is what it was, and from Open on it is the one to which its node has
--- come after the sets that it was shown, or, where it had Close, the one that Close gives for that.
+-- A calculator had a prefix of its node's calls. Before Open its state is what it was. From Open on its state is that of its node after the
+-- sets that it was shown. If it had Close, its state is what Close gives for that state.
 pub record KeepsAFront (job : Job) (streams : List (StreamPrefix Plain)) (node : PlanNode) (before now : BoxTold) : Type 0 where
   pub front : HadAFront job streams node before now
   pub unopened : front.count ≡ 0 → now.state ≡ before.state
   pub state : (shown : ℕ) → front.count ≡ suc shown → now.state ≡ kept_by job streams node shown front.close
 
--- Each calculator that a node uses had a front of the calls that its node has in the solution of a job, and keeps what its node has come to
--- after these.
+-- Each calculator that a node uses had a prefix of the calls that its node has in the solution of a job. It keeps what these calls leave.
 pub record HadFronts (job : Job) (boxes : Device (List BoxTold)) : Type 0 where
   pub streams : List (StreamPrefix Plain)
   pub solution : IsSolution job streams
   pub each : (number place : ℕ) (node : PlanNode) → slice_get job.plan.nodes number ≡ Some node → node.box_number ≡ Some place
       → IsRelatedAt place (KeepsAFront job streams node) boxes
 
--- The input was read, and each calculator that a node uses had a front of its node's calls in the solution over what the input came to, and
--- keeps what its node has come to after these.
+-- The input was read. Each calculator that a node uses had a prefix of its node's calls in the solution over what was read. It keeps what
+-- these calls leave.
 pub record HadFrontsOfRead (laws : Laws) (plan : Plan) (input : Device SourceTold) (boxes : Device (List BoxTold)) : Type 0 where
   pub read : Read
   pub came : CameTo (inputs_of plan) input read
   pub fronts : HadFronts (job_of laws plan read) boxes
 
--- Memory ran out: no calculator had a call, or the input was read, and each that a node uses had a front of its node's calls.
+-- Memory ran out. Either no calculator had a call, or the input was read and each calculator that a node uses had a prefix of its node's
+-- calls.
 abbrev pub HadSome : Laws → Plan → Device SourceTold → Device (List BoxTold) → Type 0
 HadSome laws plan input boxes = Untouched boxes ⊎ HadFrontsOfRead laws plan input boxes
 
--- What a recorded run leaves of the calculators. All come back in their order. A calculator that no node uses had no call. Each other one
--- had all of its calls, or, where memory ran out, a front of them, perhaps with Close behind it.
+-- What a recorded run leaves of the calculators. All come back in their order. A calculator that no node uses had no call. Each other
+-- calculator had all of its calls, or, if memory ran out, a prefix of them, perhaps with Close after it.
 pub record RunLeaves (laws : Laws) (plan : Plan) (status : Status) (input : Device SourceTold) (boxes : Device (List BoxTold)) : Type 0 where
   pub count : length boxes.now ≡ length boxes.before
   pub unused : (place : ℕ) → All (λ node. ¬ (node.box_number ≡ Some place)) plan.nodes → slice_get boxes.now place ≡ slice_get boxes.before place

@@ -1,5 +1,5 @@
--- The outcomes of a run of a graph with free nodes: what a solution of its core has, by the plan's numbers, and a line for each arrival
--- where these lines are asked for.
+-- The outcomes of a run of a graph with free nodes: what a solution of its core has, by the plan's numbers. If the arrivals are asked for,
+-- there is also a line for each arrival.
 use Rattle.std.specs.Prelude.{◌≡◌, ℕ, true, false, List, [], ◌∷◌, map, drop, length, slice_index_or}
 use Rattle.std.specs.List.{flat_map, zip}
 use Rattle.mg_value.specs.Payload.{Plain}
@@ -23,13 +23,13 @@ use Rattle.mg_answer.specs.declared.run.Reporting.{Reporting}
 abbrev pub renumbered_fault : List ℕ → NodeFault → NodeFault
 renumbered_fault nodes fault = record fault { node = slice_index_or nodes fault.node 0 }
 
--- the first of some numbers, and 0 where there is none
+-- the first of some numbers, and 0 if there is none
 abbrev pub first_of : List ℕ → ℕ
 first_of [] = 0
 first_of (n ∷ ns) = n
 
--- For each node of a plan how many sets it was shown in the core, or, if it is free, how many packets arrived at it. `sets` has those of
--- the core's nodes and `arrivals` those of the free nodes, each in the order of the plan.
+-- For each node of a plan, how many sets it was shown in the core. For a free node, it is how many packets arrived there. `sets` has the
+-- numbers of the core's nodes and `arrivals` those of the free nodes, each in the order of the plan.
 abbrev pub sets_by : List PlanNode → List ℕ → List ℕ → List ℕ
 sets_by [] sets arrivals = []
 sets_by (node ∷ nodes) sets arrivals = elim (is_free node) [ true ↦ first_of arrivals ∷ sets_by nodes sets (drop 1 arrivals) | false ↦ first_of sets ∷ sets_by nodes (drop 1 sets) arrivals ]
@@ -42,8 +42,8 @@ lines_at e = flat_map (λ a. arrival_note e.0.node a.port a.packet.at) e.1.log
 abbrev pub arrivals_text : List FreeNode → List Taken → List ℕ
 arrivals_text frees takens = flat_map lines_at (zip frees takens)
 
--- The outcomes of a plan with free nodes, by a solution of its core and by what the free nodes have taken, with the lines of the arrivals
--- where they are asked for.
+-- The outcomes of a plan with free nodes, by a solution of its core and by what the free nodes have taken. If the arrivals are asked for,
+-- the outcomes have their lines.
 pub record LiveTells (report : Reporting) (whole : Plan) (job : Job) (streams : List (StreamPrefix Plain)) (frees : List FreeNode) (takens : List Taken) (outcomes : Outcomes) : Type 0 where
   pub faults : outcomes.faults ≡ map (renumbered_fault (split_of whole).numbers) (faults job streams)
   pub sets : outcomes.sets ≡ sets_by whole.nodes (counts job streams) (map (λ t. length t.log) takens)

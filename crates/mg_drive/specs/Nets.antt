@@ -15,7 +15,7 @@ pub record Keeps (before now : NetView) : Type 0 where
   pub plan : now.plan ≡ before.plan
   pub spare : now.spare ≡ before.spare
 
--- A net came to rest for a job, and since then nothing was done but that sets of its outputs were taken.
+-- A net came to rest for a job, and since then only sets of its outputs were taken.
 pub record HasRested {laws : Laws} (job : LoggedJob laws) (net : NetView) : Type 0 where
   pub rested : NetView
   pub stands : StandsFor job rested

@@ -1,5 +1,6 @@
--- A run of a graph with free nodes as one thing: there is one reading of its input, the batches of its lines, the logs to which the free
--- nodes' rounds over these come, and one solution of the core for these logs; and all that is seen of the run is theirs.
+-- A run of a graph with free nodes as one thing. There is one reading of its input, and there are the batches of its lines. The free nodes'
+-- rounds over these batches give logs. For these logs there is one solution of the core. All that is seen of the run belongs to these
+-- things.
 use Rattle.std.specs.Prelude.{◌≡◌, ◌⊎◌, ℕ, List, [], ◌∷◌, ◌++◌, reverse, Bool, true}
 use Rattle.std.specs.List.{AllZip}
 use Rattle.mg_edge.specs.Edge.{SourceTold, SinkTold}
@@ -36,8 +37,8 @@ use Rattle.mg_drive.specs.InBatches.{InBatches, come_after}
 
 -- A run --
 
--- The rounds over some batches come to logs. In the solution of the core for these, the log of each free node is lawful, the node's output
--- is the one that its law gives for its log, and `live` is what this tells of the plan.
+-- The rounds over some batches give logs. In the solution of the core for these, the log of each free node is lawful. The node's output is
+-- the one that its law gives for its log. `live` is what the solution and the logs tell of the plan.
 pub record ComesTo (laws : Laws) (report : Reporting) (whole : Plan) (first : Inputs) (later : List Inputs) : Type 0 where
   pub takens : List Taken
   pub rounds : AllRounds laws (split_of whole) (first ∷ later) (none_taken (split_of whole)) takens
@@ -53,17 +54,18 @@ pub record IsLiveAnswer (laws : Laws) (form : OutputForm) (report : Reporting) (
   pub comes : ComesTo laws report whole first later
   pub is : answer ≡ told_answer report whole end comes.live (output_in form (split_of whole).core comes.streams)
 
--- A run over batches, by how its input ended. The output, the status and the notes are those of the core's solution, by the plan's numbers,
--- with a line for each arrival where it is asked for; and each calculator that is handed in had exactly the calls that its node has in that
--- solution.
+-- A run over batches, by how its input ended. The output, the status and the notes are those of the core's solution, by the plan's numbers.
+-- If the arrivals are asked for, the notes have a line for each. Each user-supplied calculator had exactly the calls that its node has in
+-- that solution.
 pub record OneLive (laws : Laws) (form : OutputForm) (report : Reporting) (whole : Plan) (first : Inputs) (later : List Inputs) (end : FeedEnd) (status : Status) (output notes : Device SinkTold) (boxes : Device (List BoxTold)) : Type 0 where
   pub comes : ComesTo laws report whole first later
   pub wrote : WroteBy status (told_answer report whole end comes.live (output_in form (split_of whole).core comes.streams)) (told_failed report whole end comes.live) output notes
   pub had : AllHad (split_of whole).core (HadItsCalls (core_job laws (split_of whole) (last_batch first later) comes.takens) comes.streams) boxes
 
--- A run over batches in which memory ran out. By then a first number of the batches had come: the last of these is `base`, and those before
--- it are `earlier`, the newest first. Rounds over these had come to logs. In the solution of the core for what the free nodes had taken,
--- the output took a front of the text, and each calculator had a front of its calls and keeps what its node has come to after them.
+-- A run over batches in which memory ran out. By then a prefix of the batches had come: the last of these is `base`, and those before it
+-- are `earlier`, the newest first. Rounds over these had given logs. For what the free nodes had taken, there is a solution of the core. By
+-- this solution the output took a prefix of the text, and each calculator had a prefix of its calls. Each calculator keeps what these calls
+-- leave.
 pub record LiveShort (laws : Laws) (form : OutputForm) (whole : Plan) (batches : List Inputs) (output : Device SinkTold) (boxes : Device (List BoxTold)) : Type 0 where
   pub base : Inputs
   pub earlier : List Inputs
@@ -78,13 +80,13 @@ pub record LiveShort (laws : Laws) (form : OutputForm) (whole : Plan) (batches :
 
 -- Over packet lines --
 
--- the batches of the lines to which an input came: what all of them up to each one have given together
+-- the batches of the lines that were read of an input: what all batches up to each one have given together
 pub record AreBatchesOf (whole : Plan) (read : Read) (batches : List Inputs) : Type 0 where
   pub lines : List (List (List ℕ))
   pub in_batches : InBatches read.lines lines
   pub are : come_after (inputs_of whole) read.end [] lines ≡ batches
 
--- The input was read to its end, its first line that isn't good or its first failed read, and the batches of its lines were run.
+-- The input was read to its end, its first line that isn't good or its first failed read. The batches of its lines were run.
 pub record OneLiveReading (laws : Laws) (report : Reporting) (whole : Plan) (status : Status) (devices : RunDevices) (boxes : Device (List BoxTold)) : Type 0 where
   pub read : Read
   pub came : CameTo (inputs_of whole) devices.input read
@@ -101,8 +103,8 @@ pub record LiveShortAtEnd (laws : Laws) (whole : Plan) (input : Device SourceTol
   pub are : AreBatchesOf whole read batches
   pub short : LiveShort laws packet_lines whole batches output boxes
 
--- Memory ran out while the input went on. The input was read once, and `first` are the first of the bytes that came. Whatever bytes follow
--- these, of which there are none where the source had ended with them, what was written and called is a front of what belongs to the
+-- Memory ran out while the input went on. The input was read once, and `first` are the first of the bytes that came. More bytes may follow
+-- these, unless the source had ended with them. Whatever bytes follow, what was written and called is a prefix of what belongs to the
 -- batches of the whole input.
 pub record LiveShortBefore (laws : Laws) (whole : Plan) (input : Device SourceTold) (output : Device SinkTold) (boxes : Device (List BoxTold)) : Type 0 where
   pub read : ReadSome (inputs_of whole) input
@@ -118,13 +120,13 @@ pub record LiveShortBefore (laws : Laws) (whole : Plan) (input : Device SourceTo
 abbrev pub LiveShortIn : Laws → Plan → Device SourceTold → Device SinkTold → Device (List BoxTold) → Type 0
 LiveShortIn laws whole input output boxes = ShortAtOnce whole input output boxes ⊎ (LiveShortAtEnd laws whole input output boxes ⊎ LiveShortBefore laws whole input output boxes)
 
--- A run over packet lines ended since memory ran out, and the notes say that alone.
+-- A run over packet lines ended because memory ran out, and the notes say only that.
 pub record LiveShortReading (laws : Laws) (whole : Plan) (status : Status) (devices : RunDevices) (boxes : Device (List BoxTold)) : Type 0 where
   pub is : status ≡ OutOfMemory
   pub noted : TookNotes devices.notes memory_note
   pub by : LiveShortIn laws whole devices.input devices.output boxes
 
--- a run over packet lines ended with this status: over the whole input, or since memory ran out
+-- a run over packet lines ended with this status: over the whole input, or because memory ran out
 abbrev pub RanLive : Laws → Reporting → Plan → Status → RunDevices → Device (List BoxTold) → Type 0
 RanLive laws report whole status devices boxes = OneLiveReading laws report whole status devices boxes ⊎ LiveShortReading laws whole status devices boxes
 
@@ -135,7 +137,7 @@ pub record AnswersLive (laws : Laws) (report : Reporting) (whole : Plan) (bytes 
   pub batches : AreBatchesOf whole (ended_input (inputs_of whole) bytes) (first ∷ later)
   pub answers : IsLiveAnswer laws packet_lines report whole first later (ended_input (inputs_of whole) bytes).end answer
 
--- Over packets that are made, all of which are one batch --
+-- Over packets that are made, all in one batch --
 
 -- A number of packets were made, and were run as one batch.
 abbrev pub OneLiveMade : Laws → Reporting → Plan → ℕ → Status → Device SinkTold → Device SinkTold → Device (List BoxTold) → Type 0
@@ -145,13 +147,13 @@ OneLiveMade laws report whole number status output notes boxes = OneLive laws to
 abbrev pub LiveShortInMade : Laws → Plan → ℕ → Device SinkTold → Device (List BoxTold) → Type 0
 LiveShortInMade laws whole number output boxes = WasNothing output boxes ⊎ LiveShort laws totals whole ((generated_job laws whole number).inputs ∷ []) output boxes
 
--- A run over packets that are made ended since memory ran out, and the notes say that alone.
+-- A run over packets that are made ended because memory ran out, and the notes say only that.
 pub record LiveShortMade (laws : Laws) (whole : Plan) (number : ℕ) (status : Status) (output notes : Device SinkTold) (boxes : Device (List BoxTold)) : Type 0 where
   pub is : status ≡ OutOfMemory
   pub noted : TookNotes notes memory_note
   pub by : LiveShortInMade laws whole number output boxes
 
--- a run over packets that are made ended with this status: over all packets, or since memory ran out
+-- a run over packets that are made ended with this status: over all packets, or because memory ran out
 abbrev pub RanLiveMade : Laws → Reporting → Plan → ℕ → Status → Device SinkTold → Device SinkTold → Device (List BoxTold) → Type 0
 RanLiveMade laws report whole number status output notes boxes =
     OneLiveMade laws report whole number status output notes boxes ⊎ LiveShortMade laws whole number status output notes boxes

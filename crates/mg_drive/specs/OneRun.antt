@@ -1,5 +1,5 @@
--- A run as one thing: there is one reading of its input, one job and one solution of it, and all that is seen of the run is theirs: the
--- output, the notes, the status, and the calls of the calculators that are handed in.
+-- A run as one thing. There is one reading of its input, one job and one solution of the job. All that is seen of the run belongs to these:
+-- the output, the notes, the status, and the calls of the user-supplied calculators.
 use Rattle.std.specs.Prelude.{◌≡◌, ◌⊎◌, ℕ, List, [], ◌++◌, length, All, Bool, true, Some, slice_get}
 use Rattle.mg_edge.specs.Edge.{SourceTold, SinkTold}
 use Rattle.mg_value.specs.Payload.{Plain}
@@ -33,16 +33,16 @@ pub record AllHad (plan : Plan) (had : PlanNode → BoxTold → BoxTold → Type
   pub back : CalculatorsCameBack plan boxes.before boxes.now
   pub used : (number place : ℕ) (node : PlanNode) → slice_get plan.nodes number ≡ Some node → node.box_number ≡ Some place → IsRelatedAt place (had node) boxes
 
--- A run of a job, by how its input ended. There is one solution: the output, the notes and the status are those that it has, and each
--- calculator that is handed in had exactly the calls that its node has in it: Open, each of the node's settled sets, and Close.
+-- A run of a job, by how its input ended. There is one solution, and the output, the notes and the status are those of this solution. Each
+-- user-supplied calculator had exactly the calls that its node has in the solution: Open, each of the node's settled sets, and Close.
 pub record OneRun (telling : Telling) (job : Job) (end : FeedEnd) (status : Status) (output notes : Device SinkTold) (boxes : Device (List BoxTold)) : Type 0 where
   pub streams : List (StreamPrefix Plain)
   pub solution : IsSolution job streams
   pub wrote : WroteBy status (answer_of telling job end streams) (failed_notes telling job end streams) output notes
   pub had : AllHad job.plan (HadItsCalls job streams) boxes
 
--- A run of a job in which memory ran out. By the one solution the output took a front of the text, and each calculator had a front of its
--- calls and keeps what its node has come to after them.
+-- A run of a job in which memory ran out. By the one solution the output took a prefix of the text, and each calculator had a prefix of its
+-- calls. Each calculator keeps what these calls leave.
 pub record OneShort (form : OutputForm) (job : Job) (output : Device SinkTold) (boxes : Device (List BoxTold)) : Type 0 where
   pub streams : List (StreamPrefix Plain)
   pub solution : IsSolution job streams
@@ -56,7 +56,7 @@ pub record WasNothing (output : Device SinkTold) (boxes : Device (List BoxTold))
 
 -- Runs over packet lines --
 
--- The input was read to its end, its first line that isn't good or its first failed read, and the job of what it came to was run.
+-- The input was read to its end, its first line that isn't good or its first failed read. Then the job of all that was read was run.
 pub record OneReading (laws : Laws) (report : Reporting) (plan : Plan) (status : Status) (devices : RunDevices) (boxes : Device (List BoxTold)) : Type 0 where
   pub read : Read
   pub came : CameTo (inputs_of plan) devices.input read
@@ -73,8 +73,8 @@ pub record ShortAtEnd (laws : Laws) (plan : Plan) (input : Device SourceTold) (o
   pub came : CameTo (inputs_of plan) input read
   pub short : OneShort packet_lines (job_of laws plan read) output boxes
 
--- Memory ran out while the input went on. The input was read once, and `first` are the first of the bytes that came. Whatever bytes follow
--- these, of which there are none where the source had ended with them, what was written and called is a front of what belongs to the whole
+-- Memory ran out while the input went on. The input was read once, and `first` are the first of the bytes that came. More bytes may follow
+-- these, unless the source had ended with them. Whatever bytes follow, what was written and called is a prefix of what belongs to the whole
 -- input.
 pub record ShortBefore (laws : Laws) (plan : Plan) (input : Device SourceTold) (output : Device SinkTold) (boxes : Device (List BoxTold)) : Type 0 where
   pub read : ReadSome (inputs_of plan) input
@@ -89,13 +89,13 @@ pub record ShortBefore (laws : Laws) (plan : Plan) (input : Device SourceTold) (
 abbrev pub ShortIn : Laws → Plan → Device SourceTold → Device SinkTold → Device (List BoxTold) → Type 0
 ShortIn laws plan input output boxes = ShortAtOnce plan input output boxes ⊎ (ShortAtEnd laws plan input output boxes ⊎ ShortBefore laws plan input output boxes)
 
--- A run over packet lines ended since memory ran out, and the notes say that alone.
+-- A run over packet lines ended because memory ran out, and the notes say only that.
 pub record ShortReading (laws : Laws) (plan : Plan) (status : Status) (devices : RunDevices) (boxes : Device (List BoxTold)) : Type 0 where
   pub is : status ≡ OutOfMemory
   pub noted : TookNotes devices.notes memory_note
   pub by : ShortIn laws plan devices.input devices.output boxes
 
--- a run over packet lines ended with this status: over the whole input, or since memory ran out
+-- a run over packet lines ended with this status: over the whole input, or because memory ran out
 abbrev pub RanOverLines : Laws → Reporting → Plan → Status → RunDevices → Device (List BoxTold) → Type 0
 RanOverLines laws report plan status devices boxes = OneReading laws report plan status devices boxes ⊎ ShortReading laws plan status devices boxes
 
@@ -109,12 +109,12 @@ OneMade laws report plan number status output notes boxes = OneRun (by_summary r
 abbrev pub ShortInMade : Laws → Plan → ℕ → Device SinkTold → Device (List BoxTold) → Type 0
 ShortInMade laws plan number output boxes = WasNothing output boxes ⊎ OneShort totals (generated_job laws plan number) output boxes
 
--- A run over packets that are made ended since memory ran out, and the notes say that alone.
+-- A run over packets that are made ended because memory ran out, and the notes say only that.
 pub record ShortMade (laws : Laws) (plan : Plan) (number : ℕ) (status : Status) (output notes : Device SinkTold) (boxes : Device (List BoxTold)) : Type 0 where
   pub is : status ≡ OutOfMemory
   pub noted : TookNotes notes memory_note
   pub by : ShortInMade laws plan number output boxes
 
--- a run over packets that are made ended with this status: over all packets, or since memory ran out
+-- a run over packets that are made ended with this status: over all packets, or because memory ran out
 abbrev pub RanOverPackets : Laws → Reporting → Plan → ℕ → Status → Device SinkTold → Device SinkTold → Device (List BoxTold) → Type 0
 RanOverPackets laws report plan number status output notes boxes = OneMade laws report plan number status output notes boxes ⊎ ShortMade laws plan number status output notes boxes

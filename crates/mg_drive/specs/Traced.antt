@@ -23,7 +23,7 @@ use Rattle.mg_sched.specs.Runs.{IsRun, IsBegun, IsRunAtRest}
 
 -- Traces --
 
--- A trace of a job, with the calculators that are handed in: the job's lines, and the events of a run of it to rest.
+-- A trace of a job, with the user-supplied calculators: the job's lines, and the events of a run of the job to rest.
 pub record IsTrace (laws : Laws) (plan : Plan) (inputs : Inputs) (boxes : List BoxTold) (text : List ℕ) : Type 0 where
   pub events : List Event
   pub run : IsRunAtRest laws plan inputs boxes events
@@ -36,12 +36,12 @@ pub record IsRunSoFar (laws : Laws) (plan : Plan) (inputs : Inputs) (boxes : Lis
   pub now : NetView
   pub run : IsRun laws events begun now
 
--- The output took a front of a trace of a job, or of the job's lines and of the events of a run so far.
+-- The output took a prefix of a trace of a job, or of the job's lines and the events of a run so far.
 abbrev pub TookSomeTrace : Laws → Plan → Inputs → List BoxTold → Device SinkTold → Type 0
 TookSomeTrace laws plan inputs boxes output = ((text : List ℕ) × IsTrace laws plan inputs boxes text × TookFront output text)
     ⊎ ((events : List Event) × IsRunSoFar laws plan inputs boxes events × TookFront output (job_text plan inputs ++ events_text events))
 
--- The answer of a recorded run over what its input came to: the answer of a run, but that the output is a trace.
+-- The answer of a recorded run over what was read of its input. It is the answer of a run, but the output is a trace.
 pub record IsTraced (laws : Laws) (report : Reporting) (plan : Plan) (boxes : List BoxTold) (read : Read) (answer : RunAnswer) : Type 0 where
   pub text : List ℕ
   pub trace : IsTrace laws plan (inputs_by (inputs_of plan) read) boxes text
@@ -63,7 +63,7 @@ pub record TracedAll (laws : Laws) (report : Reporting) (plan : Plan) (boxes : L
   pub is : IsTraced laws report plan boxes read answer
   pub met : Meets answer status devices.output devices.notes
 
--- A write failed, after the input was read; what was written is of the recorded run's answer.
+-- A write failed after the input was read. The text that was written belongs to the recorded run's answer.
 pub record TracedShort (laws : Laws) (report : Reporting) (plan : Plan) (boxes : List BoxTold) (devices : RunDevices) : Type 0 where
   pub read : Read
   pub input : CameTo (inputs_of plan) devices.input read
@@ -71,7 +71,7 @@ pub record TracedShort (laws : Laws) (report : Reporting) (plan : Plan) (boxes :
   pub is : IsTraced laws report plan boxes read answer
   pub short : MetShort answer (failed_notes (by_lines report) (job_of laws plan read) read.end is.is_answer.streams) devices.output devices.notes
 
--- The output took some of a trace of the job of what the input came to.
+-- The output took some of a trace of the job of what was read of the input.
 pub record TracedSome (laws : Laws) (plan : Plan) (boxes : List BoxTold) (input : Device SourceTold) (output : Device SinkTold) : Type 0 where
   pub read : Read
   pub came : CameTo (inputs_of plan) input read
@@ -81,7 +81,7 @@ pub record TracedSome (laws : Laws) (plan : Plan) (boxes : List BoxTold) (input 
 abbrev pub TracedOut : Laws → Plan → List BoxTold → RunDevices → Type 0
 TracedOut laws plan boxes devices = Untouched devices.output ⊎ TracedSome laws plan boxes devices.input devices.output
 
--- A recorded run ended with this status. Where memory ran out the notes say that alone, and what was read of the input was read once.
+-- A recorded run ended with this status. If memory ran out, the notes say only that, and what was read of the input was read once.
 abbrev pub Traced : Laws → Reporting → Plan → List BoxTold → Status → RunDevices → Type 0
 Traced laws report plan boxes WriteFault devices = TracedShort laws report plan boxes devices
 Traced laws report plan boxes OutOfMemory devices = TracedOut laws plan boxes devices × TookNotes devices.notes memory_note × ReadSome (inputs_of plan) devices.input

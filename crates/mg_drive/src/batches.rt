@@ -34,7 +34,7 @@ pub struct Batch {
 /// How a run goes on once its net has come to rest.
 #[derive(Drop)]
 pub enum Onward {
-    /// First further input comes to some graph inputs, by their rising numbers, a piece for each; no batch is read yet.
+    /// Before the next batch is read, some graph inputs get further input: their numbers, in rising order, and a piece for each.
     Round(NumberList, PrefixList),
     /// The next batch is due.
     Next,
@@ -42,7 +42,7 @@ pub enum Onward {
     End(FeedEnd),
 }
 
-/// What a run comes to its end with: how its input ended, and the text of its outputs.
+/// What a run has at its end: how its input ended, and the text of its outputs.
 #[derive(Drop)]
 pub struct Closing {
     pub end: FeedEnd,
@@ -55,21 +55,21 @@ pub trait Batches: Drop {
     ghost is_fresh: { Self → Plan → Type 0 };
 
     /// Between two states it has given these inputs for a plan, all batches together. The source told the first of the two `SourceTold`
-    /// before that, and tells the second now; and the last batch ended in this way. What free nodes give goes by the rules of a net's stated
-    /// laws.
+    /// before that, and tells the second now; and the last batch ended in this way. What free nodes give goes by the rules of a net's
+    /// stated laws.
     ghost gives: { Laws → Self → Self → Plan → SourceTold → SourceTold → Ending → Given → Type 0 };
 
     /// As `gives`, but batch by batch: the list has what all batches up to each one gave together, the newest batch first.
     ghost came: { Laws → Self → Self → Plan → SourceTold → SourceTold → Ending → List Given → Type 0 };
 
-    /// Where it has given these inputs for a plan, the next batch is due: nothing else comes before that.
+    /// After it has given these inputs for a plan, the next batch is due: nothing else comes before that batch.
     ghost is_due: { Self → Plan → Given → Type 0 };
 
     /// Which packets of a net's streams it still has to read. The net mustn't give them up.
     ghost wants: { Self → List Wanted };
 
-    /// What a further call of `next` reads of its source for a plan, whatever that call returns: the source told the first when the run
-    /// began, the second before the call, and the third after it.
+    /// What a further call of `next` reads of its source for a plan, whatever that call returns. The source told the first `SourceTold`
+    /// when the run began, the second before the call, and the third after it.
     ghost reads_on: { Self → Plan → SourceTold → SourceTold → SourceTold → Type 0 };
 
     /// A bound on the batches and rounds that may still come.
@@ -78,11 +78,11 @@ pub trait Batches: Drop {
     /// Whether it reads its source.
     ghost reads: { Bool };
 
-    /// What is written at the end of a run over these batches: the form and what the notes report, the job over what was given, how its
-    /// input ended, the status, and what the output and the notes took.
+    /// What is written at the end of a run over these batches. The first arguments are the form, what the notes report, the job over what
+    /// was given, and how its input ended. The last arguments are the status, what the output took, and what the notes took.
     ghost wrote: { Self → OutputForm → Reporting → Job → FeedEnding → Stands → Device SinkTold → Device SinkTold → Type 0 };
 
-    /// Reads the next batch. Behind a batch with which the input ended there is none.
+    /// Reads the next batch. After a batch with which the input ended there is none.
     fn next<S: Source>(&mut self, input: &mut S) -> Result<Batch, AllocError>
         ensures first { (laws : Laws) (plan : Plan) → IsValidWithFree plan → is_fresh self.old plan
             → IfOk result (λ b. IsFirst (gives laws self.old self.new plan (S.told input.old) (S.told input.new)) plan b.end b.inputs) }

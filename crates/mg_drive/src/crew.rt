@@ -2,17 +2,17 @@ use mg_calc::{Law, Plan, PlanNode, Producer};
 use mg_edge::Gate;
 use mg_settled::PrefixList;
 
-// How many packets have to come to a net with loops over lists before workers are called, where no calculator's law is stated. Each may be a
-// list, but of fewer packets nobody knows whether they are worth the start of threads.
+// How many packets a net with loops over lists has to get before workers are called, if no calculator's law is stated. Each packet may be a
+// list, but nobody knows whether fewer packets are worth the start of threads.
 const LEAST: u64 = 256;
 
-// How many sets a part of a graph has at least where a worker is worth it: some half a millisecond of work.
+// The least number of sets with which a part of a graph is worth a worker: some half a millisecond of work.
 const WORTH: u64 = 4096;
 
 // The most nodes of a plan.
 const NODES: usize = 4096;
 
-// The most parts of a graph that are told apart, and the number of what several parts lead to.
+// One more than the most parts of a graph that are told apart. It is also the number of what several parts lead to.
 const MIXED: u8 = 65;
 
 /// What workers need: a runtime that starts threads and may wait for them, and the gate round each Process call.
@@ -193,8 +193,8 @@ impl Parts {
     }
 }
 
-// Returns how many parts of a graph are worth a worker each. None is unless at least half of the nodes are in parts. None is if a part waits
-// for another one.
+// Returns how many parts of a graph are worth a worker each. The result is 0 if several sets of some node may be worked on at once, or if a
+// part waits for another part. It is also 0 if fewer than half of the nodes are in parts.
 fn parts_in(plan: &Plan) -> u32 {
     if has_flights(plan) {
         return 0;
@@ -209,7 +209,7 @@ fn parts_in(plan: &Plan) -> u32 {
 
 /// Returns how many workers are called for a plan: as many as it asks for, but no more than have something to do for long. Each calculator
 /// of its author's own counts as one. So does each part of the graph that is worth a worker. All other nodes beside a calculator of its
-/// author's own count as one if no part does. A single worker would do no more than a sweep does, so 0 in place of 1.
+/// author's own count as one if no part does. A single worker would do no more than a sweep does, so the result is 0 in place of 1.
 pub(crate) fn workers_for(plan: &Plan) -> u32 {
     if plan.workers < 2 {
         return 0;
@@ -226,8 +226,8 @@ pub(crate) fn workers_for(plan: &Plan) -> u32 {
     if workers > 1 { workers } else { 0 }
 }
 
-/// Returns how many packets have to come to the net of a plan before workers are called. One is enough if some calculator is its author's
-/// own, and `LEAST` if there are loops over lists. Otherwise only sources are worth workers, which have no packets to wait for.
+/// Returns how many packets the net of a plan has to get before workers are called. One is enough if some calculator is its author's own,
+/// and `LEAST` if there are loops over lists. Otherwise only sources are worth workers, which have no packets to wait for.
 pub(crate) fn least_for(plan: &Plan) -> u64 {
     if own_nodes(plan) > 0 {
         1

@@ -33,8 +33,8 @@ pub trait Driven {
     /// The net as contracts see it.
     ghost net: { Self → NetView };
 
-    /// Begins each node that isn't begun yet: opens its calculator, and lays what that emits. After an `Err`, for want of memory, this may
-    /// be called again.
+    /// Begins each node that isn't begun yet: opens its calculator, and lays what that emits. An `Err` means that memory ran out; the call
+    /// may be made again.
     fn begin(&mut self) -> Result<(), AllocError>
         requires stands { StandsForSome laws (net self.old) }
         ensures running { OnOk result (IsRunning (net self.new)) }
@@ -54,7 +54,7 @@ pub trait Driven {
         ensures taken { taken_out (net self.new) ≡ taken_out (net self.old) }
         ensures stands { (job : LoggedJob laws) → StandsFor job (net self.old) → StandsFor job (net self.new) };
 
-    /// Takes in further input. After an `Err`, for want of memory, the net is as it was.
+    /// Takes in further input. An `Err` means that memory ran out, and leaves the net as it was.
     fn extend(&mut self, more: &Inputs) -> Result<(), AllocError>
         requires may { MayGoOnWith laws more.now (net self.old) }
         ensures running { IsRunning (net self.old) → IsRunning (net self.new) }
@@ -64,8 +64,8 @@ pub trait Driven {
         ensures unchanged { OnErr result (net self.new ≡ net self.old) }
         ensures stands { (first later : LoggedJob laws) → GoesOnWith more.now first later → StandsFor first (net self.old) → OnOk result (StandsFor later (net self.new)) };
 
-    /// Takes in further input at some graph inputs alone, by their rising numbers, a piece for each of them. After an `Err`, for want of
-    /// memory, the net is as it was.
+    /// Takes in further input at some graph inputs alone, by their rising numbers, a piece for each of them. An `Err` means that memory ran
+    /// out, and leaves the net as it was.
     fn extend_some(&mut self, inputs: &NumberList, pieces: &PrefixList) -> Result<(), AllocError>
         requires may { MayGoOnAt laws inputs.now pieces.now (net self.old) }
         ensures running { IsRunning (net self.old) → IsRunning (net self.new) }
@@ -94,7 +94,7 @@ pub trait Driven {
         ensures in_solution { (job : LoggedJob laws) (streams : List (StreamPrefix Plain)) → Solves job streams → StandsFor job (net self.old)
             → OnTrue result (HasSet job streams (length (net self.old).plan.nodes) (taken_out (net self.old)) into.new) };
 
-    /// Returns the packet of a stream with a number, counted from 0. It is there exactly where it was laid and wasn't given up.
+    /// Returns the packet of a stream with a number, counted from 0. The packet is there exactly if it was laid and wasn't given up.
     fn packet(&self, stream: u32, number: u64) -> Option<&Packet>
         requires stands { StandsForSome laws (net self.now) }
         ensures packet { (output : Backlog Plain) → IsOutputOf (net self.now) stream output → option_copied result ≡ kept_packet output number }

@@ -65,7 +65,7 @@ pub fn take_all<N: Driven, T: Telling, K: Sink>(
     ensures front { OnErr result ((job : LoggedJob N.laws) (first : SinkTold) → StandsFor job (N.net net.old) → IsTold T.has_told job.job first (K.told output.old) (taken_out (N.net net.old)) telling.old
         → IsToldSome T.has_told job.job first (K.told output.new)) }
 
-    // Where all that a solution has at the graph's outputs had come, all of its sets were taken.
+    // If all that a solution has at the graph's outputs had come, all of its sets were taken.
     ensures all { OnOk result ((job : LoggedJob N.laws) (streams : List (StreamPrefix Plain)) → StandsFor job (N.net net.old) → Solves job streams → HasAllOutputs streams (N.net net.old)
         → taken_out (N.net net.new) ≡ length (settled_outputs (N.net net.new).plan streams)) }
 {
@@ -110,8 +110,8 @@ pub enum Step {
     Over(FeedEnd),
 }
 
-/// Makes a step of a run: brings its net to rest, tells the sets of its outputs, and lets the next round or batch come to it. `last` tells
-/// how the last batch ended.
+/// Makes a step of a run: brings its net to rest, and tells the sets of its outputs. Then hands the next round or batch to the net, if
+/// there is one. `last` tells how the last batch ended.
 pub fn make_step<N: Driven, B: Batches, T: Telling, S: Source, K: Sink>(
     net: &mut N,
     ends: &mut NetEnds<B, T>,

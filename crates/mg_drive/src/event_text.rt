@@ -26,8 +26,8 @@ impl Puts for EventLine {
     }
 }
 
-/// A text to which the line of each event is added as it is heard, and the sink to which the text is written; both are borrowed. Once
-/// memory has run out no more lines are added.
+/// A text, and the sink to which the text is written; both are borrowed. The line of each event is added to the text as the event is heard.
+/// Once memory has run out, no more lines are added.
 #[derive(Drop)]
 pub struct EventText<'b, 'o, K: Sink> {
     pub blocks: &'b mut BlockText,

@@ -20,8 +20,8 @@ use mg_edge::Sink;
 use mg_feed::FeedEnd;
 use std::alloc::{AllocError, Global};
 
-/// Ends a run whose net has come to rest: winds the nodes up, and writes the rest of the text and then the notes, with the report behind
-/// them where it is asked for. The text may have any form.
+/// Ends a run whose net has come to rest: winds the nodes up, and writes the rest of the text and then the notes. If the report is asked
+/// for, it is written after the notes. The text may have any form.
 pub fn finish<N: Driven, K: Sink, E: Sink>(
     run: &Run<'_>,
     net: &mut N,
@@ -44,7 +44,7 @@ pub fn finish<N: Driven, K: Sink, E: Sink>(
     Ok(status)
 }
 
-/// Ends a run over batches whose net has come to rest, as `finish` does, but that the batches write the text and the notes.
+/// Ends a run over batches whose net has come to rest, as `finish` does. But the batches write the text and the notes.
 pub(crate) fn finish_batches<N: Driven, B: Batches, K: Sink, E: Sink>(
     run: &Run<'_>,
     net: &mut N,
@@ -67,7 +67,7 @@ pub(crate) fn finish_batches<N: Driven, B: Batches, K: Sink, E: Sink>(
     Ok(status)
 }
 
-/// Ends a run whose input was frozen and whose net has come to rest, as `finish` ends any other.
+/// Ends a run with a frozen input after its net has come to rest, as `finish` ends any other run.
 pub fn finish_frozen<N: Driven, K: Sink, E: Sink>(
     run: &Run<'_>,
     net: &mut N,

@@ -92,8 +92,8 @@ fn ends_of(alloc: Global, streams: &[u32], ends: &[StreamEnd]) -> Result<Vec<Str
 }
 
 impl<'p> InPlan<'p> {
-    /// Returns the outcomes of the plan: those of its core by the plan's numbers, and the lines of all arrivals at free nodes where `report`
-    /// asks for them.
+    /// Returns the outcomes of the plan: those of its core, by the plan's numbers. If `report` asks for the arrivals, the outcomes also
+    /// have the lines of all arrivals at free nodes.
     pub fn outcomes(
         &self,
         alloc: Global,
@@ -127,7 +127,7 @@ impl<'p> InPlan<'p> {
     }
 }
 
-// Returns the lines of all arrivals at free nodes where they are asked for, and else nothing.
+// Returns the lines of all arrivals at free nodes if they are asked for, and otherwise nothing.
 fn asked_lines(alloc: Global, report: Reporting, live: &LiveNodes) -> Result<Vec<u8>, AllocError>
     requires { length live.now.free ≡ length live.now.takers.items }
     ensures { (takens : List Taken) → HaveTaken live.now.free takens live.now.takers.items → IfOk result (λ lines. lines.items ≡ asked_arrivals report (arrivals_text live.now.free takens)) }
@@ -139,7 +139,7 @@ fn asked_lines(alloc: Global, report: Reporting, live: &LiveNodes) -> Result<Vec
     }
 }
 
-// The lines of all arrivals at free nodes, node by node.
+// Returns the lines of all arrivals at free nodes, node by node.
 fn arrival_lines(alloc: Global, live: &LiveNodes) -> Result<Vec<u8>, AllocError>
     requires { length live.now.free ≡ length live.now.takers.items }
     ensures { (takens : List Taken) → HaveTaken live.now.free takens live.now.takers.items → IfOk result (λ lines. lines.items ≡ arrivals_text live.now.free takens) }

@@ -1,6 +1,7 @@
-//! Drives a net over the batches of an input: the net is brought to rest after each, the sets of its outputs are told as they come, and at
-//! the end its nodes are wound up and the notes written. A step of it stands once, over three small traits: the net, where batches come
-//! from, and what tells the sets. Whoever is handed no runtime loops over it alone, and who is, lets workers run the net before each. Answers to the definitions of `specs/OneRun.antt`, `specs/OneLive.antt`, `specs/Traced.antt` and
+//! Drives a net over the batches of an input. After each batch it brings the net to rest, and tells the sets of the net's outputs as they
+//! come. At the end it winds the nodes up and writes the notes. A step of a run is written once (`make_step`), over three small traits: the
+//! net, where batches come from, and what tells the sets. A caller without a runtime only loops over the step. A caller with a runtime lets
+//! workers run the net before each step. Answers to the definitions of `specs/OneRun.antt`, `specs/OneLive.antt`, `specs/Traced.antt` and
 //! `specs/Leaves.antt`, and, of what is written, to those of mg_answer.
 #![tactic(auto)]
 

@@ -25,11 +25,11 @@ use std::alloc::AllocError;
 use std::sync::Wait;
 use std::thread::Threads;
 
-/// The most lines that name a stream in one batch. Where batches don't end early each but the last has so many.
+/// The most lines that name a stream in one batch. If batches don't end early, each but the last has so many.
 pub const BATCH: u32 = 4096;
 
-/// The lines of a feed, in batches that end early: a batch ends also where the source has nothing more for now, so that what its lines
-/// come to is written then. How lines are parted into batches changes no answer of a graph without free nodes.
+/// The lines of a feed, in batches that end early. A batch ends also when the source has nothing more for now, so that the results of its
+/// lines are written then. How lines are split into batches changes no answer of a graph without free nodes.
 pub struct Promptly {
     pub feed: Feed,
 }
@@ -160,13 +160,13 @@ impl Batches for Promptly {
     }
 }
 
-/// Runs the graph of a plan over packet lines, with the calculators that are handed in, and leaves these in their places. It reads
-/// batches of lines, drives a net over them, and writes the sets of its outputs as they come; at the input's end, its first fault or
-/// its first line that isn't good it writes the notes, with the report behind them where it is asked for. As many workers as the plan
-/// says run the net before a sweep, where enough packets have come for that. Each Process call goes through the crew's gate.
+/// Runs the graph of a plan over packet lines with the user-supplied calculators, and leaves these in their places. It reads batches of
+/// lines, drives a net over them, and writes the sets of the net's outputs as they come. It stops at the input's end, its first fault or
+/// its first line that isn't good. Then it writes the notes, and after them the report if it is asked for. If enough packets have come,
+/// workers run the net before a sweep, at most as many as the plan says. Each Process call goes through the crew's gate.
 ///
-/// Once a write to the output has failed nothing more is written to it. The run goes on all the same, and the notes are written and say
-/// so. Where memory runs out they say that alone.
+/// Once a write to the output has failed, nothing more is written to it. The run goes on all the same, and the notes say that the write
+/// failed. If memory runs out, the notes say only that.
 pub fn run_lines<
     R: Threads + Wait + Sync,
     G: Gate + Sync,
@@ -183,7 +183,7 @@ pub fn run_lines<
     requires valid { IsValid run.now.plan.now }
     requires boxes { BoxesFit run.now.plan.now (map C.told boxes.old.items) }
 
-    // There is one reading of the input, one job and one solution, and all that is seen of the run is theirs; or memory ran out.
+    // Unless memory ran out, there is one reading of the input, one job and one solution. All that is seen of the run belongs to these.
     ensures ran { RanOverLines C.laws run.now.report run.now.plan.now result (told_by S.told K.told E.told devices.old devices.new) (device (map C.told boxes.old.items) (map C.told boxes.new.items)) }
     ensures same { SameDevices devices.old devices.new }
 {
@@ -219,7 +219,8 @@ fn run_whole<
     Ok(status)
 }
 
-/// Runs the graph of a plan over packet lines without workers, and does all else as `run_lines` does. It is handed no runtime, so it returns.
+/// Runs the graph of a plan over packet lines without workers, and does all else as `run_lines` does. It is handed no runtime, so it
+/// returns.
 pub fn run_lines_alone<G: Gate, C: NodeCalculator, S: Source, K: Sink, E: Sink>(
     run: &Run<'_>,
     gate: &G,
@@ -229,7 +230,7 @@ pub fn run_lines_alone<G: Gate, C: NodeCalculator, S: Source, K: Sink, E: Sink>(
     requires valid { IsValid run.now.plan.now }
     requires boxes { BoxesFit run.now.plan.now (map C.told boxes.old.items) }
 
-    // There is one reading of the input, one job and one solution, and all that is seen of the run is theirs; or memory ran out.
+    // Unless memory ran out, there is one reading of the input, one job and one solution. All that is seen of the run belongs to these.
     ensures ran { RanOverLines C.laws run.now.report run.now.plan.now result (told_by S.told K.told E.told devices.old devices.new) (device (map C.told boxes.old.items) (map C.told boxes.new.items)) }
     ensures same { SameDevices devices.old devices.new }
 {
@@ -257,7 +258,7 @@ fn run_whole_alone<G: Gate, C: NodeCalculator, S: Source, K: Sink, E: Sink>(
     Ok(status)
 }
 
-// The lines of a feed and a text for a plan, of which nothing is read or put yet.
+// Returns the lines of a feed and a text for a plan. No line is read yet, and nothing is put into the text.
 fn ends_of(run: &Run<'_>) -> Result<(Promptly, OutputText), AllocError>
     requires { IsValid run.now.plan.now }
     ensures feed { IfOk result (λ ends. IsNew (fed ends.0.feed) run.now.plan.now) }

@@ -17,7 +17,7 @@ use mg_time::Timestamp;
 use mg_value::{NumberList, PacketList};
 use std::alloc::{AllocError, Global};
 
-/// Where the batches of a core come from: those of a graph with free nodes, and between two of them what the free nodes lay in a round.
+/// What gives the batches of a core: those of a graph with free nodes. Between two of these it gives what the free nodes lay in a round.
 #[derive(Drop)]
 pub struct Live<'p, B> {
     /// The batches of the plan with free nodes.
@@ -33,7 +33,7 @@ pub struct Live<'p, B> {
     pub rested: bool,
 }
 
-// Returns how the input ended with a batch, where it did.
+// Returns how the input ended with a batch, if it did.
 fn ended_by(end: BatchEnd) -> Option<FeedEnd>
     ensures { result ≡ ended_of end }
 {
@@ -43,14 +43,15 @@ fn ended_by(end: BatchEnd) -> Option<FeedEnd>
     }
 }
 
-// Returns the number of a graph input that stands so many places behind the first.
+// Returns the number of the graph input that stands `place` places after `first`.
 fn input_at(first: u32, place: u32) -> Result<u32, AllocError>
     ensures { IfOk result (λ input. input ≡ first + place) }
 {
     first.checked_add(place).ok_or(AllocError)
 }
 
-// Returns the numbers of a core's graph inputs at which the outputs of some free nodes come in, where `first` is the first of these inputs.
+// Returns the numbers of a core's graph inputs that take the outputs of some free nodes. `first` is the first graph input that takes the
+// output of a free node.
 fn inputs_at(alloc: Global, first: u32, places: &[u32]) -> Result<NumberList, AllocError>
     ensures { IfOk result (λ inputs. inputs ≡ map (λ place. first + place) places.now) }
 {
@@ -61,7 +62,7 @@ fn inputs_at(alloc: Global, first: u32, places: &[u32]) -> Result<NumberList, Al
     Ok(NumberList::from_vec(inputs)?)
 }
 
-// Appends `count` streams of which nothing is known to some streams.
+// Appends `count` streams to some streams. Nothing is known of the new streams.
 fn opened(alloc: Global, streams: Vec<Prefix>, count: usize) -> Result<Vec<Prefix>, AllocError>
     ensures { IfOk result (λ opened. opened.items ≡ streams.items ++ replicate count empty_prefix) }
 {
@@ -76,7 +77,7 @@ fn opened(alloc: Global, streams: Vec<Prefix>, count: usize) -> Result<Vec<Prefi
     Ok(opened)
 }
 
-// Returns what comes to a core with a batch: the batch at the plan's own inputs, and nothing at the outputs of its `count` free nodes.
+// Returns what a core gets with a batch: the batch at the plan's own inputs, and nothing at the outputs of its `count` free nodes.
 fn with_open(alloc: Global, inputs: Inputs, count: usize) -> Result<Inputs, AllocError>
     ensures { IfOk result (λ more. IsWidened inputs more count) }
 {

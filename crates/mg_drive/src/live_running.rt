@@ -24,9 +24,10 @@ use std::alloc::AllocError;
 use std::sync::Wait;
 use std::thread::Threads;
 
-/// Runs the graph of a plan with free nodes over packet lines. The net of the graph's core is brought to rest; then each free node takes a
-/// packet or closes its output, and the core goes on with what these laid, until no free node does anything; then comes the next batch of
-/// lines. All else is as in `run_lines`, and the notes have a line for each arrival at a free node where it is asked for.
+/// Runs the graph of a plan with free nodes over packet lines. With each batch of lines it brings the net of the graph's core to rest. Then
+/// each free node takes a packet or closes its output, and the core goes on with what these laid. This repeats until no free node does
+/// anything; then the next batch comes. All else is as in `run_lines`. If the arrivals are asked for, the notes have a line for each
+/// arrival at a free node.
 pub fn run_live_lines<
     R: Threads + Wait + Sync,
     G: Gate + Sync,
@@ -43,8 +44,8 @@ pub fn run_live_lines<
     requires valid { IsValidWithFree run.now.plan.now }
     requires boxes { BoxesFit (split_of run.now.plan.now).core (map C.told boxes.old.items) }
 
-    // There is one reading of the input, its batches, the logs to which the free nodes' rounds over these come, and one solution, and all
-    // that is seen of the run is theirs; or memory ran out.
+    // Unless memory ran out, there is one reading of the input, its batches, the free nodes' logs, and one solution. The logs are those
+    // that the free nodes' rounds over the batches give. All that is seen of the run belongs to these.
     ensures ran { RanLive C.laws run.now.report run.now.plan.now result (told_by S.told K.told E.told devices.old devices.new) (device (map C.told boxes.old.items) (map C.told boxes.new.items)) }
     ensures same { SameDevices devices.old devices.new }
 {
@@ -82,7 +83,8 @@ fn lines_whole<
     Ok(status)
 }
 
-/// Runs the graph of a plan with free nodes over `number` packets that are made, all in one batch, and writes a summary of its outputs.
+/// Runs the graph of a plan with free nodes over `number` packets that are made, all in one batch. It writes a summary of the graph's
+/// outputs.
 pub fn run_live_made<
     R: Threads + Wait + Sync,
     G: Gate + Sync,
@@ -100,8 +102,8 @@ pub fn run_live_made<
     requires valid { IsValidWithFree run.now.plan.now }
     requires boxes { BoxesFit (split_of run.now.plan.now).core (map C.told boxes.old.items) }
 
-    // There is one job, the logs to which its rounds come, and one solution, and all that is seen of the run is theirs; or memory ran out.
-    // The input has no part in it.
+    // Unless memory ran out, there is one job, the logs that its rounds give, and one solution. All that is seen of the run belongs to
+    // these. The input has no part in it.
     ensures ran { RanLiveMade C.laws run.now.report run.now.plan.now number result (told_by S.told K.told E.told devices.old devices.new).output (told_by S.told K.told E.told devices.old devices.new).notes (device (map C.told boxes.old.items) (map C.told boxes.new.items)) }
     ensures unread { S.told devices.new.input.now ≡ S.told devices.old.input.now }
     ensures same { SameDevices devices.old devices.new }
@@ -213,8 +215,8 @@ pub fn run_live_lines_alone<G: Gate, C: NodeCalculator, S: Source, K: Sink, E: S
     requires valid { IsValidWithFree run.now.plan.now }
     requires boxes { BoxesFit (split_of run.now.plan.now).core (map C.told boxes.old.items) }
 
-    // There is one reading of the input, its batches, the logs to which the free nodes' rounds over these come, and one solution, and all
-    // that is seen of the run is theirs; or memory ran out.
+    // Unless memory ran out, there is one reading of the input, its batches, the free nodes' logs, and one solution. The logs are those
+    // that the free nodes' rounds over the batches give. All that is seen of the run belongs to these.
     ensures ran { RanLive C.laws run.now.report run.now.plan.now result (told_by S.told K.told E.told devices.old devices.new) (device (map C.told boxes.old.items) (map C.told boxes.new.items)) }
     ensures same { SameDevices devices.old devices.new }
 {
@@ -256,8 +258,8 @@ pub fn run_live_made_alone<G: Gate, C: NodeCalculator, S: Source, K: Sink, E: Si
     requires valid { IsValidWithFree run.now.plan.now }
     requires boxes { BoxesFit (split_of run.now.plan.now).core (map C.told boxes.old.items) }
 
-    // There is one job, the logs to which its rounds come, and one solution, and all that is seen of the run is theirs; or memory ran out.
-    // The input has no part in it.
+    // Unless memory ran out, there is one job, the logs that its rounds give, and one solution. All that is seen of the run belongs to
+    // these. The input has no part in it.
     ensures ran { RanLiveMade C.laws run.now.report run.now.plan.now number result (told_by S.told K.told E.told devices.old devices.new).output (told_by S.told K.told E.told devices.old devices.new).notes (device (map C.told boxes.old.items) (map C.told boxes.new.items)) }
     ensures unread { S.told devices.new.input.now ≡ S.told devices.old.input.now }
     ensures same { SameDevices devices.old devices.new }

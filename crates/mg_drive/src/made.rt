@@ -19,13 +19,12 @@ use std::alloc::AllocError;
 use std::sync::Wait;
 use std::thread::Threads;
 
-/// Runs the graph of a plan over `number` packets that are made, with the calculators that are handed in, and leaves these in their places.
-/// The packets are made piece by piece: the net is driven to rest over each piece, and the sets of its outputs are added to a summary. At
-/// the end the summary is written and then the notes, with the report behind them where it is asked for. As many workers as the plan says
-/// run the net before a sweep, where enough packets have come for that. Each Process call goes through the crew's gate. The input is left
-/// as it was.
+/// Runs the graph of a plan over `number` packets that are made, with the user-supplied calculators, and leaves these in their places. It
+/// makes the packets piece by piece. It drives the net to rest over each piece, and adds the sets of the net's outputs to a summary. At the
+/// end it writes the summary, then the notes, and after them the report if it is asked for. If enough packets have come, workers run the
+/// net before a sweep, at most as many as the plan says. Each Process call goes through the crew's gate. The input is left as it was.
 ///
-/// Where a write of the summary fails, the notes are written all the same, and say so. Where memory runs out they say that alone.
+/// If a write of the summary fails, the notes are written all the same, and say so. If memory runs out, the notes say only that.
 pub fn run_made<
     R: Threads + Wait + Sync,
     G: Gate + Sync,
@@ -43,7 +42,7 @@ pub fn run_made<
     requires valid { IsValid run.now.plan.now }
     requires boxes { BoxesFit run.now.plan.now (map C.told boxes.old.items) }
 
-    // There is one job and one solution, and all that is seen of the run is theirs; or memory ran out. The input has no part in it.
+    // Unless memory ran out, there is one job and one solution. All that is seen of the run belongs to these. The input has no part in it.
     ensures ran { RanOverPackets C.laws run.now.report run.now.plan.now number result (told_by S.told K.told E.told devices.old devices.new).output (told_by S.told K.told E.told devices.old devices.new).notes (device (map C.told boxes.old.items) (map C.told boxes.new.items)) }
     ensures unread { S.told devices.new.input.now ≡ S.told devices.old.input.now }
     ensures same { SameDevices devices.old devices.new }
@@ -94,7 +93,7 @@ pub fn run_made_alone<G: Gate, C: NodeCalculator, S: Source, K: Sink, E: Sink>(
     requires valid { IsValid run.now.plan.now }
     requires boxes { BoxesFit run.now.plan.now (map C.told boxes.old.items) }
 
-    // There is one job and one solution, and all that is seen of the run is theirs; or memory ran out. The input has no part in it.
+    // Unless memory ran out, there is one job and one solution. All that is seen of the run belongs to these. The input has no part in it.
     ensures ran { RanOverPackets C.laws run.now.report run.now.plan.now number result (told_by S.told K.told E.told devices.old devices.new).output (told_by S.told K.told E.told devices.old devices.new).notes (device (map C.told boxes.old.items) (map C.told boxes.new.items)) }
     ensures unread { S.told devices.new.input.now ≡ S.told devices.old.input.now }
     ensures same { SameDevices devices.old devices.new }

@@ -16,7 +16,7 @@ use std::mem;
 use std::sync::Wait;
 use std::thread::Threads;
 
-/// A net that workers run side by side, where `work` lets them. The thread that drives it does what they leave undone.
+/// A net that workers run side by side, if `work` lets them. The thread that drives it does what they leave undone.
 pub struct ManyThreads<'a, C: NodeCalculator, R, G: Gate> {
     pub one: OneThread<'a, C, G>,
     pub rt: &'a R,
@@ -37,8 +37,8 @@ impl<'a, C: NodeCalculator + Send, R: Threads + Wait + Sync, G: Gate + Sync> Man
     R,
     G,
 > {
-    /// Lets workers run the net, where enough packets have come or `fresh` is set. Meanwhile a net of no node stands in its place. Nothing
-    /// else that drives a net is handed its runtime.
+    /// Lets workers run the net, if enough packets have come or `fresh` is set. Meanwhile a net of no node stands in its place. Nothing
+    /// else that drives a net gets the runtime.
     pub fn work(&mut self)
         requires running { IsRunning self.old.one.net }
         requires stands { StandsForSome C.laws self.old.one.net }

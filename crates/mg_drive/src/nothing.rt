@@ -1,4 +1,4 @@
-//! A net of no node, which stands in the place of another one while workers have that.
+//! A net of no node, which stands in the place of a net while workers have that net.
 ghost use Rattle.std.specs.Prelude.{◌≡◌, []};
 ghost use Rattle.mg_drive.specs.Code.Nothing.{no_plan, no_inputs};
 

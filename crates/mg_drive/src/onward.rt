@@ -1,4 +1,4 @@
-//! How a run goes on where nothing comes between its batches.
+//! How a run goes on if nothing comes between its batches.
 ghost use Rattle.mg_drive.specs.Batches.{PlainOnward};
 
 use crate::Onward;

@@ -12,12 +12,13 @@ use mg_edge::{Sink, Source};
 use mg_feed::{BatchEnd, FeedEnd, Generator};
 use std::alloc::{AllocError, Global};
 
-// The size of a piece is chosen by it: so many packets wait at all ports of a graph's nodes together, or are kept of all its streams, where
-// the whole of a piece is at each. Where nothing waits, a net holds a piece and not much more: what it holds of all packets doesn't grow
-// with their number, nor with that of its nodes and edges.
+// The size of a piece follows from this number of packets. If a whole piece waits at each port of a graph's nodes, so many packets wait at
+// all ports together. If a whole piece is kept of each of its streams, so many packets are kept of all streams together. If nothing waits,
+// a net holds a piece and not much more. So what it holds doesn't grow with the number of all packets, nor with that of its nodes and
+// edges.
 const MOST_HELD: u32 = 1 << 16;
 
-/// Packets that are made piece by piece, each of which is a batch.
+/// Packets that are made piece by piece; each piece is a batch.
 #[derive(Drop)]
 pub struct Pieces {
     generator: Generator,
@@ -27,7 +28,7 @@ pub struct Pieces {
 }
 
 impl Pieces {
-    /// Returns `number` packets that are to be made for a plan, none of which is made yet.
+    /// Returns `number` packets that are to be made for a plan. None is made yet.
     pub fn new(alloc: Global, plan: &Plan, number: u32) -> Result<Pieces, AllocError>
         ensures { IfOk result (λ pieces. AreToCome plan.now number (making pieces.generator)) }
     {
@@ -36,8 +37,8 @@ impl Pieces {
         Ok(Pieces { generator, most })
     }
 
-    /// Returns `number` packets that are to be made for a plan in one piece, none of which is made yet. What arrives at free nodes depends
-    /// on how packets are parted into batches.
+    /// Returns `number` packets that are to be made for a plan in one piece. None is made yet. What arrives at free nodes depends on how
+    /// packets are split into batches.
     pub fn at_once(alloc: Global, plan: &Plan, number: u32) -> Result<Pieces, AllocError>
         ensures packets { IfOk result (λ pieces. AreToCome plan.now number (making pieces.generator)) }
         ensures most { IfOk result (λ pieces. number ≤ pieces.most) }
@@ -48,8 +49,8 @@ impl Pieces {
     }
 }
 
-// Returns how many packets a piece has for a plan: at least one for each input, as the packets go to the inputs in turn, and the net is
-// looked over for each piece. A graph without inputs gets all packets at once: there are none.
+// Returns how many packets a piece has for a plan. A piece has at least one packet for each input. The reason: the packets go to the inputs
+// in turn, and the net is looked over for each piece. A graph without inputs gets all packets at once: there are none.
 fn piece_for(plan: &Plan) -> u32
     ensures { 0 < result }
 {

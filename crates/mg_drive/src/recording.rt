@@ -29,8 +29,8 @@ impl Puts for LastLine {
     }
 }
 
-/// Runs a net to rest, and puts the line of each event that it makes behind a text, and then the last line of a trace. Where memory runs
-/// out for a line no more lines are put, and the net still runs to rest if it has memory for that.
+/// Runs a net to rest, and appends the line of each event that it makes to a text. Then it appends the last line of a trace. If there is no
+/// memory for a line, no more lines are put. The net still runs to rest if memory suffices for that.
 pub fn record_run<G: Gate, C: NodeCalculator, K: Sink>(
     alloc: Global,
     net: &mut OneThread<'_, C, G>,
@@ -54,7 +54,7 @@ pub fn record_run<G: Gate, C: NodeCalculator, K: Sink>(
     Ok(OutputText::of_blocks(alloc, blocks))
 }
 
-// Runs a net to rest, and puts the line of each event behind a text.
+// Runs a net to rest, and appends the line of each event to a text.
 fn record_events<G: Gate, C: NodeCalculator, K: Sink>(
     net: &mut OneThread<'_, C, G>,
     blocks: &mut BlockText,

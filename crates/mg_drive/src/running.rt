@@ -1,5 +1,5 @@
-//! A run of a graph over batches: its net is made of the first batch and driven, and its calculators come back. How the net is driven alone
-//! tells the two ways of a run apart: with workers, or without a runtime.
+//! A run of a graph over batches: its net is made of the first batch and driven, and its calculators come back. The two ways of a run
+//! differ only in how the net is driven: with workers, or without a runtime.
 ghost use Rattle.std.specs.Prelude.{◌≡◌, List, [], false, map, length, IfOk, OnErr};
 ghost use Rattle.mg_edge.specs.Edge.{SourceTold, SinkTold};
 ghost use Rattle.mg_calc.specs.Plan.{IsValid};
@@ -36,7 +36,7 @@ struct Begun<C: NodeCalculator, B, T> {
     came: u64,
 }
 
-// Makes a net of a plan and the calculators that are handed in. Where memory runs out these are left as they were.
+// Makes a net of a plan and the user-supplied calculators. If memory runs out, these calculators are left as they were.
 fn make_net<C: NodeCalculator>(
     run: &Run<'_>,
     inputs: &Inputs,
@@ -57,7 +57,7 @@ fn make_net<C: NodeCalculator>(
     }
 }
 
-// Begins a run: reads the first batch, and makes a net of it and of the calculators that are handed in.
+// Begins a run: reads the first batch, and makes a net of it and of the user-supplied calculators.
 fn begin_run<C: NodeCalculator, B: Batches, T: Telling, S: Source>(
     run: &Run<'_>,
     boxes: &mut Vec<C>,
@@ -127,7 +127,7 @@ fn finish_net<N: Driven, B: Batches, T: Telling, S: Source, K: Sink, E: Sink>(
     Ok(status)
 }
 
-// Ends a run whose steps came to `end`.
+// Ends a run whose steps ended with `end`.
 fn finish_driven<N: Driven, B: Batches, T: Telling, S: Source, K: Sink, E: Sink>(
     run: &Run<'_>,
     net: &mut N,
@@ -153,7 +153,7 @@ fn finish_driven<N: Driven, B: Batches, T: Telling, S: Source, K: Sink, E: Sink>
     }
 }
 
-// Ends a run whose steps came to `end`, and takes the calculators out of its net again.
+// Ends a run whose steps ended with `end`, and takes the calculators out of its net again.
 fn end_run<G: Gate, C: NodeCalculator, B: Batches, T: Telling, S: Source, K: Sink, E: Sink>(
     run: &Run<'_>,
     gate: &G,
@@ -186,8 +186,8 @@ fn end_run<G: Gate, C: NodeCalculator, B: Batches, T: Telling, S: Source, K: Sin
     ran
 }
 
-/// Runs the graph of a plan over batches, by as many workers as the plan says, with the calculators that are handed in, and leaves these
-/// in their places. All sets of its outputs are told, and at the end the notes are written.
+/// Runs the graph of a plan over batches with the user-supplied calculators, and leaves these in their places. At most as many workers as
+/// the plan says run the net. All sets of the graph's outputs are told, and at the end the notes are written.
 pub fn run_batches<
     R: Threads + Wait + Sync,
     G: Gate + Sync,

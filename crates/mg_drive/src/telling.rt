@@ -32,7 +32,7 @@ pub trait Telling: Drop {
         ensures { (plan : Plan) (first : SinkTold) (sets : List (TimedSet Plain))
             → has_told self.old plan first (K.told output.old) sets → has_told self.new plan first (K.told output.new) sets };
 
-    /// Returns the text of all that was told, of which a part may have been written.
+    /// Returns the text of all that was told. A part of this text may have been written.
     fn into_text(self, alloc: Global) -> Result<OutputText, AllocError>
         ensures { IfOk result (λ text. (plan : Plan) (first now : SinkTold) (sets : List (TimedSet Plain)) → has_told self plan first now sets
             → HasPut first now text (told_in form plan sets)) };

@@ -28,13 +28,13 @@ use mg_trace::write_job;
 use std::alloc::AllocError;
 use std::mem;
 
-/// Runs the graph of a plan over packet lines, all of which it reads before the nodes begin, with the calculators that are handed in,
-/// and leaves these in their places. What it writes is a trace: the lines of the job in canonical form, and behind them a line for each
-/// event of the run, as it is made, and a last line. Behind it come the notes, with the report where it is asked for. Each Process call
-/// goes through the gate.
+/// Runs the graph of a plan over packet lines with the user-supplied calculators, and leaves these in their places. It reads all lines
+/// before the nodes begin. It writes a trace: the lines of the job in canonical form, then a line for each event of the run, and a last
+/// line. The line of an event is put as the event is made. After the trace come the notes, with the report if it is asked for. Each Process
+/// call goes through the gate.
 ///
-/// Once a write to the output has failed nothing more is written to it. The run goes on all the same, and the notes are written and say
-/// so. Where memory runs out they say that alone.
+/// Once a write to the output has failed, nothing more is written to it. The run goes on all the same, and the notes say that the write
+/// failed. If memory runs out, the notes say only that.
 pub fn trace_lines<G: Gate, C: NodeCalculator, S: Source, K: Sink, E: Sink>(
     run: &Run<'_>,
     gate: &G,
@@ -44,10 +44,10 @@ pub fn trace_lines<G: Gate, C: NodeCalculator, S: Source, K: Sink, E: Sink>(
     requires valid { IsValid run.now.plan.now }
     requires boxes { BoxesFit run.now.plan.now (map C.told boxes.old.items) }
 
-    // What each status means: the same as in a run that isn't recorded, but that the output took a trace.
+    // What each status means: the same as in a run that isn't recorded, but the output took a trace.
     ensures traced { Traced C.laws run.now.report run.now.plan.now (map C.told boxes.old.items) result (told_by S.told K.told E.told devices.old devices.new) }
 
-    // What the run leaves of the calculators that are handed in.
+    // What the run leaves of the user-supplied calculators.
     ensures left { RunLeaves C.laws run.now.plan.now result (told_by S.told K.told E.told devices.old devices.new).input (device (map C.told boxes.old.items) (map C.told boxes.new.items)) }
     ensures same { SameDevices devices.old devices.new }
 {
@@ -85,7 +85,7 @@ fn trace_whole<G: Gate, C: NodeCalculator, S: Source, K: Sink, E: Sink>(
     Ok(status)
 }
 
-// An input that was read, and a text that has its lines in canonical form and takes the lines of events behind them.
+// An input that was read, and a text. The text has the input's lines in canonical form, and takes the lines of events after them.
 #[derive(Drop)]
 struct Opening {
     whole: WholeInput,

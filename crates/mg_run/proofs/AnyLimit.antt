@@ -28,7 +28,7 @@ use Rattle.mg_words.specs.declared.words.Verb.TheVariants.{Check, Expand, Use}
 use Rattle.mg_words.specs.declared.words.Way.{Way}
 use Rattle.mg_words.specs.declared.words.Way.TheVariants.{Run, Solve, Generate, Trace, Replay}
 
--- each answer of one job is one of the other, where it is of no recorded run
+-- each answer of one action is an answer of the other, unless the first records a run or makes a recorded run again
 abbrev Answers : Laws → Action → Action → Type 0
 Answers laws one other = (boxes : List BoxTold) (input : List ℕ) (a : RunAnswer) → ¬ Records one → ¬ Replays one → AnswersAction laws one boxes input a → AnswersAction laws other boxes input a
 
@@ -40,7 +40,7 @@ ended_same laws report None plan input a answers = answers
 ended_same laws report (Some limit) plan input a answers =
     unlimited_answer (by_lines report) (input_job laws plan (ended_input (inputs_of plan) input)) (limit_or limit plan.limit) plan.workers (ended_input (inputs_of plan) input).end a answers
 
--- and so it is where the words ask for workers too
+-- the same holds if the words ask for workers, too
 ended_asked : (laws : Laws) (report : Reporting) (limit : Option ℤ) (workers : Option ℕ) (plan : Plan) (input : List ℕ) (a : RunAnswer) → AnswersEnded laws report (with_workers workers (with_limit limit plan)) input a
     → AnswersEnded laws report plan input a
 ended_asked laws report limit None plan input a answers = ended_same laws report limit plan input a answers
@@ -57,7 +57,7 @@ made_asked laws report number None (Some workers) plan a answers = unlimited_ans
 made_asked laws report number (Some limit) (Some workers) plan a answers =
     unlimited_answer (by_summary report) (generated_job laws plan number) (limit_or limit plan.limit) (min workers MOST_WORKERS) Ended a answers
 
--- an instruction that asks for neither
+-- an instruction that asks for neither a limit nor workers
 abbrev free : Instruction → Instruction
 free instruction = record instruction { limit = None; workers = None }
 
@@ -101,7 +101,7 @@ pub words_same : (laws : Laws) (invocation : Invocation) (files : Files) (boxes 
     → AnswersAction laws (action_of invocation files) boxes input a → AnswersAction laws (action_of (record invocation { instruction = free invocation.instruction }) files) boxes input a
 words_same laws invocation files boxes input a unrecorded given answers = files_same laws invocation.instruction invocation.outers files boxes input a unrecorded given answers
 
--- of a recorded run the end is that of the run without a limit of the words
+-- the notes and the status of a recorded run are those of the run without the limit of the words
 pub limit_ends : (laws : Laws) (report : Reporting) (limit : Option ℤ) (plan : Plan) (boxes : List BoxTold) (input : List ℕ) (a b : RunAnswer) → TracesEnded laws report (with_limit limit plan) boxes input a → AnswersEnded laws report plan input b → EndAlike a b
 limit_ends laws report limit plan boxes input a b one two =
     let same = one-of-run laws report plan input one.of_run b (ended_same laws report limit plan input one.of_run one.is_answer) two in

@@ -16,7 +16,7 @@ use Rattle.mg_run.specs.declared.action.Use.{Use}
 use Rattle.mg_run.specs.declared.beginning.Begun.{Begun}
 use Rattle.mg_run.specs.declared.beginning.Begun.TheVariants.{Ended, Left}
 
--- what follows from what is known is known
+-- if something follows from what is known of a call, it is known, too
 pub begun_then : (laws : Laws) (outers : List OuterShape) (known further : Status → CallDevices → Type 0) (begun : Begun) (store : Device StoreTold) (run : RunDevices) (boxes : List BoxTold)
     → ((status : Status) (later : RunDevices) (now : Device (List BoxTold)) → known status (with_run store later now) → further status (with_run store later now))
     → IsBegun laws outers known begun store run boxes → IsBegun laws outers further begun store run boxes
@@ -38,7 +38,7 @@ pub begun_left : (laws : Laws) (outers : List OuterShape) (known : Status → Ca
     → IsBegun laws outers known begun store run boxes → IsLeft laws outers known used report plan store run
 begun_left laws outers known begun used report plan store run boxes is begins = subst (λ (b : Begun). IsBegun laws outers known b store run boxes) is begins
 
--- what comes of a use is what comes of the call, whose devices were the same when the use began
+-- what comes of a use is what comes of the call; the call's devices were the same when the use began
 pub left_came : (laws : Laws) (outers : List OuterShape) (known : Status → CallDevices → Type 0) (used : Use) (report : Reporting) (plan : Plan) (store : Device StoreTold) (i0 i1 i2 : SourceTold) (o0 o1 o2 n0 n1 n2 : SinkTold) (status : Status) (boxes : Device (List BoxTold))
     → IsLeft laws outers known used report plan store (record { input = device i0 i1; output = device o0 o1; notes = device n0 n1 })
     → DidAction laws (use_action used report plan) status (devices store (device i1 i2) (device o1 o2) (device n1 n2) boxes) → known status (devices store (device i0 i2) (device o0 o2) (device n0 n2) boxes)

@@ -156,7 +156,7 @@ came-write laws outers asks_usage status all came risen = usage-write status all
 came-write laws outers (asks_text text) status all came risen = told-write text status all came risen
 came-write laws outers (asks_command command) status all came risen = inr (write-risen laws status (invocation command outers) all came risen)
 
--- Want of memory --
+-- Out of memory --
 
 usage-noted : (all : CallDevices) → WasUsage OutOfMemory all → TookNotes all.notes memory_note
 usage-noted all was = by was.noted
@@ -307,7 +307,7 @@ came-uncalled laws outers asks_usage status all came = tt
 came-uncalled laws outers (asks_text text) status all came = tt
 came-uncalled laws outers (asks_command command) status all came = λ is. called-uncalled laws status (invocation command outers) all is came
 
--- The devices apart: what each tells is what those told that were held together.
+-- Devices that are held apart tell what the devices told that were held together.
 pub came_apart : (laws : Laws) (outers : List OuterShape) (request : Request) (status : Status) (store : Device StoreTold) (ib ia : SourceTold) (ob oa nb na : SinkTold) (boxes : Device (List BoxTold)) (i : SourceTold) (o n : SinkTold) → i ≡ ia → o ≡ oa → n ≡ na
     → CallEnded laws outers request status (devices store (device ib ia) (device ob oa) (device nb na) boxes) → CallEnded laws outers request status (devices store (device ib i) (device ob o) (device nb n) boxes)
 came_apart laws outers request status store ib ia ob oa nb na boxes i o n same_i same_o same_n came =

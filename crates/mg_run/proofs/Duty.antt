@@ -1,4 +1,4 @@
--- What there is to do with files that were loaded, by what is known of the calculators that are handed in.
+-- What there is to do with files that were loaded, by what is known of the user-supplied calculators.
 use Rattle.std.proofs.Common.{◌≡◌, ℕ, List, All, subst}
 use Rattle.mg_edge.specs.Edge.{StoreTold}
 use Rattle.mg_calc.specs.declared.shape.OuterShape.{OuterShape}

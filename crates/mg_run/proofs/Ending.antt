@@ -32,7 +32,7 @@ use Rattle.mg_answer.specs.declared.status.Status.{Status}
 use Rattle.mg_answer.specs.declared.status.Status.TheVariants.{Good, StoreFault, Usage, GraphRefused, LineRefused, NodeFault, Stalled, ReadFault, WriteFault, OutOfMemory}
 use Rattle.mg_answer.specs.declared.run.Reporting.{Reporting}
 
--- the input may be read where this action is done
+-- the input may be read if this action is done
 abbrev MayRead : Action → Type 0
 MayRead (refuse note) = ⊥
 MayRead (show text) = ⊥
@@ -44,7 +44,7 @@ MayRead (generate_live report number plan) = ⊥
 MayRead (trace report plan) = Unit {0}
 MayRead (replay report plan) = Unit {0}
 
--- A check, an expansion and a run over packets that are made don't read it.
+-- A check, an expansion and a run over packets that are made don't read the input.
 check-unread : (checked : Result Plan CheckFault) → MayRead (check_action checked) → ⊥
 check-unread (Ok plan) may = may
 check-unread (Err fault) may = may
@@ -111,7 +111,7 @@ called-unread laws Stalled invocation all is called = call-unread laws Stalled i
 called-unread laws ReadFault invocation all is called = call-unread laws ReadFault invocation all is called
 called-unread laws WriteFault invocation all is called = call-unread laws WriteFault invocation all is called
 
--- What reads it is refused, or reads: it shows no text, and no packets are made.
+-- An action needs no input if it shows a text or makes packets. A command that reads the input has no such action.
 abbrev NeedsNone : Action → Type 0
 NeedsNone (refuse note) = ⊥
 NeedsNone (show text) = Unit {0}

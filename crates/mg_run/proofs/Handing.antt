@@ -1,4 +1,4 @@
--- The calculators that are handed in fit a plan that was checked with what is known of them.
+-- The user-supplied calculators fit a plan that was checked with what is known of them.
 use Rattle.std.proofs.Common.{◌≡◌, ℕ, List, All, Option, None, Some, IfSome, IsSomeAnd, filter, option_map, slice_get, subst}
 use Rattle.std.proofs.lemmas.Option.{slice_get-map}
 use Rattle.std.proofs.lemmas.List.Elements.{All-weaker, All-map, All-filter}

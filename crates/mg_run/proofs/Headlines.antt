@@ -53,7 +53,7 @@ record Finds (invocation : Invocation) (contents : List (List ℕ)) (way : Way) 
   graph : IsGraph invocation contents plan
   is : job ≡ way_action way invocation.instruction plan
 
--- or one with a free node
+-- a graph with a free node is found, and this is to be done with its plan
 record FindsLive (invocation : Invocation) (contents : List (List ℕ)) (way : Way) (job : Action) : Type 0 where
   plan : Plan
   graph : IsLiveGraph invocation contents plan
@@ -148,7 +148,7 @@ bare_batches : (instruction : Instruction) (plan : Plan) (read : Read) (batches 
 bare_batches instruction plan read batches are =
     batches_same (bare plan) (as_asked instruction plan).limit (as_asked instruction plan).workers read batches (subst (λ (p : Plan). AreBatchesOf p read batches) (request_is instruction instruction.limit instruction.workers plan) are)
 
--- what is made for a plan doesn't ask for its limit and workers
+-- what is made for a plan doesn't depend on its limit and workers
 made_asked : (laws : Laws) (limit : Option ℤ) (workers : Option ℕ) (plan : Plan) (number : ℕ) → (generated_job laws (with_workers workers (with_limit limit plan)) number).inputs ≡ (generated_job laws (bare plan) number).inputs
 made_asked laws None None plan number = refl
 made_asked laws None (Some workers) plan number = refl
@@ -170,7 +170,7 @@ headline laws invocation contents plan status all from loaded graph origin run =
   run = bare_run laws invocation.instruction plan from status all.output all.notes all.boxes run;
 }
 
--- what the inputs of a plan's graph are doesn't ask for its limit and workers
+-- the inputs of a plan's graph don't depend on its limit and workers
 came_asked : (limit : Option ℤ) (workers : Option ℕ) (plan : Plan) (input : Device SourceTold) (read : Read) → CameTo (inputs_of (with_workers workers (with_limit limit plan))) input read → CameTo (inputs_of plan) input read
 came_asked None None plan input read came = came
 came_asked None (Some workers) plan input read came = came
@@ -245,7 +245,7 @@ call_headline laws status invocation all called (inl verb) good some =
 call_headline laws status invocation all called (inr verb) good some =
     did_headline laws invocation status all called Generate (inr refl) verb good some (due_by invocation called.shaped called.contents Generate called.action verb called.due)
 
--- no run ends so
+-- no call that ran its graph ends with a fault of the store
 store_ran : IsOneOf StoreFault ran_statuses → ⊥
 store_ran (inl e) = cc
 store_ran (inr (inl e)) = cc
@@ -301,7 +301,7 @@ same_contents told contents (Some known) is same = sym same ∙ (let e : known �
 pub told_contents : (names contents told : List (List ℕ)) (store : Device StoreTold) → LoadedAll names contents store → loads_of store.before.content names ≡ Some told → contents ≡ told
 told_contents names contents told store loaded is = same_contents told contents (loads_of store.before.content names) is (of-loads store.before.content names contents (λ known. known ≡ contents) loaded.given refl)
 
--- what the input came to is the whole of what it tells
+-- what was read of the input is the whole of what it tells
 pub told_reading : (plan : Plan) (input : Device SourceTold) (read : Read) (bytes : List ℕ) → CameTo (inputs_of plan) input read → input.before.left ≡ Some bytes → Unrisen input.before.faults input.now.faults → read ≡ ended_input (inputs_of plan) bytes
 told_reading plan input read bytes came is un = whole-read (inputs_of plan) input read bytes came is un
 
@@ -331,7 +331,7 @@ one_plan invocation contents plan other a b =
 not_both : (instruction : Instruction) → instruction.verb ≡ Use Run → instruction.verb ≡ Use Generate → ⊥
 not_both instruction run made = (let e : Use Run ≡ Use Generate = sym run ∙ made in cc)
 
--- over an input that tells its bytes, of which no read failed, there is one origin
+-- if an input tells its bytes and no read of it failed, there is one origin
 pub one_origin : (instruction : Instruction) (plan : Plan) (input other : Device SourceTold) (bytes : List ℕ) (a b : Origin) → input.before.left ≡ Some bytes → other.before.left ≡ Some bytes → Unrisen input.before.faults input.now.faults
     → Unrisen other.before.faults other.now.faults → IsOrigin instruction plan input a → IsOrigin instruction plan other b → a ≡ b
 one_origin instruction plan input other bytes (from_input read) (from_input again) left left_too un un_too one two =

@@ -86,7 +86,7 @@ live-made-no-other laws report whole number status output notes boxes other (inl
     no_other report whole Ended one.comes.live (output_in totals (split_of whole).core one.comes.streams) status output notes other (made_so laws report whole number status output notes boxes one)
 live-made-no-other laws report whole number status output notes boxes other (inr short) = not_short status other short.is
 
--- Where memory ran out the notes say so.
+-- If memory ran out, the notes say so.
 pub live-noted : (laws : Laws) (report : Reporting) (whole : Plan) (all : RunDevices) (boxes : Device (List BoxTold)) → RanLive laws report whole OutOfMemory all boxes → TookNotes all.notes memory_note
 live-noted laws report whole all boxes (inr short) = short.noted
 live-noted laws report whole all boxes (inl one) = absurd (by (read_so laws report whole OutOfMemory all boxes one))

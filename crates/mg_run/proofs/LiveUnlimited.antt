@@ -1,4 +1,4 @@
--- What a graph with free nodes comes to doesn't look at the limit of its plan's queues nor at the number of its workers.
+-- What a graph with free nodes gives depends neither on the limit of its plan's queues nor on the number of its workers.
 use Rattle.std.proofs.Common.{◌≡◌, ℕ, ℤ, min, List, [], ◌∷◌, ◌++◌, map, length, Option, None, Some, ap, ◌∙◌, subst}
 use Rattle.std.specs.List.{flat_map}
 use Rattle.mg_edge.specs.Edge.{SinkTold}

@@ -25,7 +25,7 @@ use Rattle.mg_drive.specs.OneRun.{OneReading, ShortIn, RanOverLines, OneMade, Sh
 use Rattle.mg_run.specs.Devices.{Device, RunDevices, HasRisen, TookNotes}
 use Rattle.mg_run.specs.Call.{IsOneOf}
 
--- Without want of memory a run is what mg_answer says of one.
+-- If memory suffices, a run is what mg_answer says of a run.
 one_ran : (laws : Laws) (report : Reporting) (plan : Plan) (status : Status) (all : RunDevices) (boxes : Device (List BoxTold)) → OneReading laws report plan status all boxes → runs.RanOn laws report plan status all
 one_ran laws report plan status all boxes one =
     written-ran laws report plan one.read all status one.came (record { streams = one.run.streams; solution = one.run.solution; by = one.run.wrote })
@@ -35,7 +35,8 @@ made_ran laws report plan number status all boxes one = generated-ran laws repor
 
 -- Its status --
 
--- no run ends so: its status is one that is told of an input, or a write failed, or memory ran out
+-- No run ends with the status of a store fault or of words that are no command. Its status is one that is told of an input, or a write
+-- failed, or memory ran out.
 pub no-status : (status : Status) (end : FeedEnd) (fs : List Fault) (ns : List ℕ) → (status ≡ StoreFault) ⊎ (status ≡ Usage) → status ≡ status_of end fs ns → ⊥
 no-status status Ended [] [] (inl store) is = cc
 no-status status Ended [] (n ∷ ns) (inl store) is = cc
@@ -71,7 +72,7 @@ pub packets-no-usage : (laws : Laws) (report : Reporting) (plan : Plan) (number 
 packets-no-usage laws report plan number output notes boxes (inl one) = no-status Usage Ended (faults (generated_job laws plan number) one.streams) (stalled one.streams) (inr refl) one.wrote.told
 packets-no-usage laws report plan number output notes boxes (inr short) = let e = short.is in cc
 
--- Where memory ran out the notes say so.
+-- If memory ran out, the notes say so.
 pub lines-noted : (laws : Laws) (report : Reporting) (plan : Plan) (all : RunDevices) (boxes : Device (List BoxTold)) → RanOverLines laws report plan OutOfMemory all boxes → TookNotes all.notes memory_note
 lines-noted laws report plan all boxes (inl one) =
     absurd (no-want plan all.input one.read.end (faults (job_of laws plan one.read) one.run.streams) (stalled one.run.streams) one.came.came one.read one.came.by one.run.wrote.told)

@@ -1,4 +1,4 @@
--- Which statuses a call may have whose devices failed.
+-- Which statuses a call may have if its devices failed.
 use Rattle.std.proofs.Common.{◌≡◌, ℕ, List, [], ◌∷◌, ◌⊎◌, inl, inr, refl, ap, arith}
 use Rattle.mg_edge.specs.Edge.{SourceTold, SinkTold}
 use Rattle.mg_calc.specs.Rules.{Laws}

@@ -2,7 +2,7 @@
 use Rattle.std.proofs.Common.{◌≡◌, ◌<◌, ◌+◌, ℕ, List, [], ◌∷◌, ◌++◌, map, take, length, get_or, ap}
 use Rattle.std.proofs.lemmas.List.{map-append, take_more}
 
--- what is pushed is what is known of the next
+-- the entry that is pushed is what is known of the next calculator
 pub known-more : {X Y Z : Type 0} (f : X → Y) (g : Y → Z) (xs : List X) (zs : List Z) (i : ℕ) (x : X) (z : Z) → zs ≡ map g (map f (take i xs)) → i < length xs → x ≡ get_or xs i x
     → z ≡ g (f x) → zs ++ z ∷ [] ≡ map g (map f (take (i + 1) xs))
 known-more f g xs zs i x z so_far below item same =

@@ -1,4 +1,4 @@
--- The equations, and what is told of their solution, don't look at the limit of a plan's queues nor at the number of its workers.
+-- The equations, and what is told of their solution, depend neither on the limit of a plan's queues nor on the number of its workers.
 use Rattle.std.proofs.Common.{◌≡◌, ℕ, ℤ, zero, suc, Bool, if◌then◌else◌, List, ◌∷◌, ◌++◌, map, take, option_map, refl, sym, ap, subst, ◌∙◌}
 use Rattle.std.specs.List.{flat_map, filter_map}
 use Rattle.mg_value.specs.Payload.{Plain}

@@ -20,7 +20,7 @@ use Rattle.mg_check.proofs.Valid.{checked_is_valid}
 use Rattle.mg_subgraph.specs.Expansion.{expansion_of}
 use Rattle.mg_run.proofs.Fewer.{few-views}
 
--- where no node is free, all have laws that are served
+-- if no node is free, all nodes have laws that are served
 served : (law : Law) → is_some (free_law_of law) ≡ false → IsServed law
 served (FirstCome lanes) fails = absurd (false≢true (sym fails))
 served (Limiter most) fails = absurd (false≢true (sym fails))

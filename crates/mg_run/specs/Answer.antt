@@ -35,9 +35,10 @@ use Rattle.mg_answer.specs.declared.run.Reporting.{Reporting}
 
 -- What is to be done --
 
--- What a command has to do: to refuse a file, the expansion or the graph with a note; to write a text; to run the graph of a plan, without
--- free nodes or with; to solve it; to run it over a number of packets that are made, without free nodes or with; to run it and record the
--- run; or to make a recorded run of it again. Where a graph is used, `Reporting` says what the notes tell beside what went wrong.
+-- What a command has to do. It refuses a file, the expansion or the graph with a note, or it writes a text, or it uses the graph of a plan.
+-- It may run the graph, without free nodes or with, or solve it. It may run the graph over a number of packets that are made, without free
+-- nodes or with. It may run the graph and record the run, or make a recorded run of the graph again. If a graph is used, `Reporting` says
+-- what the notes tell beside what went wrong.
 pub data Action : Type 0 where
   refuse : List ℕ → Action
   show : List ℕ → Action
@@ -49,23 +50,23 @@ pub data Action : Type 0 where
   trace : Reporting → Plan → Action
   replay : Reporting → Plan → Action
 
--- The action of `check`: to write a text where the graph has a plan, and else to refuse the graph. A graph is checked before its plan is used,
--- too.
+-- The action of `check`: to write a text if the graph has a plan, and otherwise to refuse the graph. A graph is checked before its plan is
+-- used, too.
 abbrev pub check_action : Result Plan CheckFault → Action
 check_action (Ok plan) = show (check_text plan)
 check_action (Err fault) = refuse (check_note fault)
 
--- the limit that the words ask for, where 0 stands for the plan's own
+-- the limit that the words ask for; 0 stands for the plan's own limit
 abbrev pub limit_or : ℤ → ℤ → ℤ
 limit_or (pos n) own = if n == 0 then own else pos n
 limit_or (negsuc n) own = negsuc n
 
--- A plan with the limit of queues that the words ask for, where they do.
+-- A plan with the limit of queues that the words ask for, if they ask for one.
 abbrev pub with_limit : Option ℤ → Plan → Plan
 with_limit None plan = plan
 with_limit (Some limit) plan = record plan { limit = limit_or limit plan.limit }
 
--- A plan with the number of workers that the words ask for, where they do, and 64 at most.
+-- A plan with the number of workers that the words ask for, if they ask for one, and 64 at most.
 abbrev pub with_workers : Option ℕ → Plan → Plan
 with_workers None plan = plan
 with_workers (Some workers) plan = record plan { workers = min workers MOST_WORKERS }
@@ -101,7 +102,7 @@ abbrev pub solve_action : Option ℕ → Reporting → Plan → Action
 solve_action None report plan = solve report plan
 solve_action (Some first) report plan = refuse (own_law_note first)
 
--- the action of using a plan without free nodes in a way; for a run that is recorded or made again the number of workers doesn't count
+-- The action of using a plan without free nodes in a way. For a run that is recorded or made again, the number of workers doesn't count.
 abbrev pub way_action : Way → Instruction → Plan → Action
 way_action Run instruction plan = run_plan (reporting instruction) (as_asked instruction plan)
 way_action Solve instruction plan = solve_action (first_stated plan) (reporting instruction) plan
@@ -109,8 +110,8 @@ way_action Generate instruction plan = generate (reporting instruction) instruct
 way_action Trace instruction plan = trace (reporting instruction) (with_limit instruction.limit plan)
 way_action Replay instruction plan = replay (reporting instruction) (with_limit instruction.limit plan)
 
--- The action of using a graph with free nodes in a way, of which `first` is the first: it is run, over the input or over packets that are
--- made, and refused in each other way.
+-- The action of using a graph with free nodes in a way. `first` is its first free node. The graph is run over the input or over packets
+-- that are made, and refused in each other way.
 abbrev pub live_action : Way → Instruction → ℕ → Plan → Action
 live_action Run instruction first plan = run_live (reporting instruction) (as_asked instruction plan)
 live_action Solve instruction first plan = refuse (free_note (way_word Solve) first)
@@ -137,7 +138,7 @@ verb_action (Use way) instruction outers g = plan_action way instruction (check_
 abbrev pub graph_action : Instruction → List OuterShape → GraphView → Action
 graph_action instruction outers g = verb_action instruction.verb instruction outers g
 
--- the action of a command, by what the expansion of its graph comes to
+-- the action of a command, by the result of the expansion of its graph
 abbrev pub expanded_action : Instruction → List OuterShape → Result GraphView ExpandFault → Action
 expanded_action instruction outers (Ok g) = graph_action instruction outers g
 expanded_action instruction outers (Err fault) = refuse (expand_note fault)
@@ -159,10 +160,10 @@ action_of invocation files = files_action invocation.instruction invocation.oute
 
 -- The answers --
 
--- The answer of an action where an input of these bytes ends well, and these calculators are handed in. Running a graph without free nodes
--- and solving it have the same answer, and recording a run has that answer too, but that the output is a trace of any run of the graph over
--- that input. Making a recorded run again has the answer of its graph's run where the input's lines are such a run to rest, and else
--- refuses a line. Where packets are made the input doesn't matter.
+-- The answer of an action, if an input of these bytes ends well and the caller supplies these calculators. Running a graph without free
+-- nodes and solving it have the same answer. Recording a run has that answer, too, but the output is a trace of any run of the graph over
+-- that input. Making a recorded run again has the answer of its graph's run if the input's lines are such a run to rest. Otherwise it
+-- refuses a line. If packets are made, the input doesn't matter.
 abbrev pub AnswersAction : Laws → Action → List BoxTold → List ℕ → RunAnswer → Type 0
 AnswersAction laws (refuse note) boxes input given = given ≡ record { output = []; notes = note; status = GraphRefused }
 AnswersAction laws (show text) boxes input given = given ≡ record { output = text; notes = []; status = Good }
@@ -186,7 +187,7 @@ Records (generate_live report number plan) = ⊥
 Records (trace report plan) = Unit {0}
 Records (replay report plan) = ⊥
 
--- an action makes a recorded run again, whose events the input's lines tell
+-- an action makes a recorded run again, and the input's lines tell its events
 abbrev pub Replays : Action → Type 0
 Replays (refuse note) = ⊥
 Replays (show text) = ⊥

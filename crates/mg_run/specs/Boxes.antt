@@ -1,4 +1,4 @@
--- The calculators that are handed in. What a run leaves of them is said in mg_drive.
+-- The user-supplied calculators. What a run leaves of them is said in mg_drive.
 use Rattle.std.specs.Prelude.{List, map, Bool, [], None, Some, codes, pos, false, if◌then◌else◌}
 use Rattle.mg_value.specs.declared.kind.Kind.TheVariants.{Any, Int}
 use Rattle.mg_calc.specs.declared.law.Law.TheVariants.{Tally}
@@ -30,6 +30,6 @@ outer_told told = record { shape = told.shape; law = told.law }
 abbrev pub outers_told : List BoxTold → List OuterShape
 outers_told boxes = map outer_told boxes
 
--- a calculator with this law may be handed in
+-- the caller may supply a calculator with this law
 abbrev pub MayBeHandedIn : OuterShape → Type 0
 MayBeHandedIn outer = IsOuter outer.law

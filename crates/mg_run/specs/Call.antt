@@ -27,8 +27,8 @@ use Rattle.mg_answer.specs.declared.run.Reporting.{Reporting}
 
 -- What a call did --
 
--- The words were no command, and the note says how the program is used. Where memory didn't suffice to judge them, the note says that.
--- Nothing else was done.
+-- The words were no command, and the note says how the program is used. If memory didn't suffice to judge them, the note says that. Nothing
+-- else was done.
 pub record WasUsage (status : Status) (devices : CallDevices) : Type 0 where
   pub noted : ((status ≡ Usage) × TookNotes devices.notes usage_note) ⊎ ((status ≡ OutOfMemory) × TookNotes devices.notes memory_note)
   pub unloaded : Untouched devices.store
@@ -41,8 +41,8 @@ abbrev pub Written : List ℕ → Status → CallDevices → Type 0
 Written text status devices = ((status ≡ Good) × TookText devices.output text × Untouched devices.notes)
     ⊎ ((status ≡ WriteFault) × TookPart devices.output text × TookNotes devices.notes write_note)
 
--- A text of the program's own was asked for: it was written, or a write of it failed. Where memory didn't suffice to judge the words, the
--- note says that. Nothing else was done.
+-- A text of the program's own was asked for: it was written, or a write of it failed. If memory didn't suffice to judge the words, the note
+-- says that. Nothing else was done.
 pub record WasTold (text : List ℕ) (status : Status) (devices : CallDevices) : Type 0 where
   pub written : Written text status devices ⊎ ((status ≡ OutOfMemory) × Untouched devices.output × TookNotes devices.notes memory_note)
   pub unloaded : Untouched devices.store
@@ -103,7 +103,7 @@ pub record ReplayedGraph (laws : Laws) (report : Reporting) (plan : Plan) (statu
 
 -- A call --
 
--- what was done with an action; where a graph is run over the input, its outputs are written as they settle
+-- what was done with an action; if a graph is run over the input, its outputs are written as they settle
 abbrev pub DidAction : Laws → Action → Status → CallDevices → Type 0
 DidAction laws (refuse note) status devices = WasRefused note status devices
 DidAction laws (show text) status devices = WasShown text status devices
@@ -119,7 +119,7 @@ DidAction laws (replay report plan) status devices = ReplayedGraph laws report p
 abbrev pub IsActionOf : Invocation → List (List ℕ) → Action → Type 0
 IsActionOf invocation contents action = (files : Files) × AreFiles invocation.files contents files × (action ≡ action_of invocation files)
 
--- All files were loaded, and what the command has to do with their contents was done. The calculators that are handed in have the shapes of
+-- All files were loaded, and what the command has to do with their contents was done. The user-supplied calculators have the shapes of
 -- their laws.
 pub record CallDid (laws : Laws) (status : Status) (invocation : Invocation) (devices : CallDevices) : Type 0 where
   pub shaped : All IsOuterShape invocation.outers
@@ -147,7 +147,7 @@ Called laws Usage invocation devices = ⊥
 Called laws OutOfMemory invocation devices = CallShort laws invocation devices
 Called laws status invocation devices = CallDid laws status invocation devices
 
--- A call ended with this status, by what its words ask for and by the calculators that are handed in.
+-- A call ended with this status, by what its words ask for and by the user-supplied calculators.
 abbrev pub CallEnded : Laws → List OuterShape → Request → Status → CallDevices → Type 0
 CallEnded laws outers asks_usage status devices = WasUsage status devices
 CallEnded laws outers (asks_text text) status devices = WasTold text status devices
@@ -157,7 +157,7 @@ CallEnded laws outers (asks_command command) status devices = Called laws status
 abbrev pub MetAnswer : Laws → Action → List ℕ → Status → CallDevices → Type 0
 MetAnswer laws action read status devices = (given : RunAnswer) × AnswersAction laws action devices.boxes.before read given × Meets given status devices.output devices.notes
 
--- Where the devices tell the files' bytes and the input's, the call wrote the answer to them.
+-- If the devices tell the bytes of the files and of the input, the call wrote the answer to these bytes.
 abbrev pub IsAnswered : Laws → Status → Invocation → CallDevices → Type 0
 IsAnswered laws status invocation devices =
     IfSome (loads_of devices.store.before.content invocation.files) (λ contents. IfSome devices.input.before.left (λ read.

@@ -1,5 +1,5 @@
--- The devices of a call, with the calculators that are handed in, and what the call did to each: what each told of itself before the call,
--- and tells now. The definitions for the devices of a run stand in mg_answer.
+-- The devices of a call, with the user-supplied calculators, and what the call did to each. A device has what it told of itself before the
+-- call, and what it tells now. The definitions for the devices of a run stand in mg_answer.
 use Rattle.std.specs.Prelude.{◌≡◌, List, [], map, Some, IfSome}
 use Rattle.std.specs.Global.{Vec}
 use Rattle.mg_calc.specs.Told.{BoxTold}
@@ -22,17 +22,17 @@ devices store input output notes boxes = record { store = store; input = input; 
 abbrev pub run_devices_of : CallDevices → RunDevices
 run_devices_of all = run_devices all.input all.output all.notes
 
--- the devices of a call, made of a store, those of a run and the calculators that are handed in
+-- the devices of a call, made of a store, the devices of a run and the user-supplied calculators
 abbrev pub with_run : Device StoreTold → RunDevices → Device (List BoxTold) → CallDevices
 with_run store run boxes = devices store run.input run.output run.notes boxes
 
--- what the devices of a call tell, before the call and after it, where those of a run are held as one value
+-- what the devices of a call tell, before the call and after it, if the devices of a run are held as one value
 abbrev pub told_at : {T S K E C : Type 0} → (T → StoreTold) → (S → SourceTold) → (K → SinkTold) → (E → SinkTold) → (C → BoxTold)
     → T → T → Held S K E → Held S K E → Vec C → Vec C → CallDevices
 told_at t s k e c store store_now held held_now boxes boxes_now =
     with_run (device (t store) (t store_now)) (told_by s k e held held_now) (device (map c boxes.items) (map c boxes_now.items))
 
--- what the devices of a call tell, before the call and after it, where each is by itself
+-- what the devices of a call tell, before the call and after it, if each device is held by itself
 abbrev pub told_apart : {T S K E C : Type 0} → (T → StoreTold) → (S → SourceTold) → (K → SinkTold) → (E → SinkTold) → (C → BoxTold)
     → T → T → S → S → K → K → E → E → Vec C → Vec C → CallDevices
 told_apart t s k e c store store_now input input_now output output_now notes notes_now boxes boxes_now =
@@ -50,7 +50,7 @@ pub record NoneFailed (devices : CallDevices) : Type 0 where
 
 -- Sources --
 
--- The source answered `End`, and where it tells its bytes none is left.
+-- The source answered `End`, and if it tells its bytes, none is left.
 pub record InputHasEnded (input : Device SourceTold) : Type 0 where
   pub rose : Rose input.before.ends input.now.ends
   pub none : IfSome input.before.left (λ bytes. input.now.left ≡ Some [])

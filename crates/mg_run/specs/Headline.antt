@@ -1,5 +1,6 @@
--- A `run` or a `generate` that reached its graph, as no fault of a file and no want of memory kept it from that, is one thing: there is one
--- content of each file, one graph and its plan, one reading of the input and one solution, and all that is seen of the call is theirs.
+-- A `run` or a `generate` that reached its graph is one thing. It reached its graph if no fault of a file and no lack of memory kept it
+-- from that. There is one content of each file, one graph and its plan, one reading of the input and one solution. All that is seen of the
+-- call belongs to these.
 use Rattle.std.specs.Prelude.{◌≡◌, ◌⊎◌, ℕ, negsuc, List, [], ◌∷◌, None, Some, Ok}
 use Rattle.mg_edge.specs.Edge.{SourceTold}
 use Rattle.mg_config.specs.Config.{GraphView}
@@ -35,13 +36,13 @@ use Rattle.mg_words.specs.declared.words.Way.TheVariants.{Run, Generate}
 abbrev pub RunsGraph : Verb → Type 0
 RunsGraph verb = (verb ≡ Use Run) ⊎ (verb ≡ Use Generate)
 
--- the statuses of a call that ran its graph: all went well, a line was refused, a node failed, a stream never closed, a read failed, or a
--- write failed
+-- The statuses of a call that ran its graph. All went well, or a line was refused, a node failed, a stream never closed, or a read or a
+-- write failed.
 abbrev pub ran_statuses : List Status
 ran_statuses = Good ∷ LineRefused ∷ NodeFault ∷ Stalled ∷ ReadFault ∷ WriteFault ∷ []
 
--- The contents are graphs. The first expands with the others as its library to a graph that is checked and has this valid plan, where the
--- calculators that are handed in have these shapes and laws, and no node of it is free.
+-- The contents are graphs. The first expands to a graph, with the others as its library. Checked with the shapes and laws of the
+-- user-supplied calculators, the graph has this valid plan. No node of the plan is free.
 pub record IsGraph (invocation : Invocation) (contents : List (List ℕ)) (plan : Plan) : Type 0 where
   pub main : GraphView
   pub library : List GraphView
@@ -52,18 +53,18 @@ pub record IsGraph (invocation : Invocation) (contents : List (List ℕ)) (plan 
   pub valid : IsValid plan
   pub unfree : first_free plan ≡ None
 
--- What a graph was run over: what the input came to, or a number of packets that are made.
+-- What a graph was run over: what was read of the input, or a number of packets that are made.
 pub data Origin : Type 0 where
   from_input : Read → Origin
   from_number : ℕ → Origin
 
--- The graph was run over the input, which was read once, to its end, its first line that isn't good or its first failed read; or over
--- packets that are made, and the input was left as it was.
+-- The graph was run over the input, or over packets that are made. In the first case the input was read once, to its end, its first line
+-- that isn't good or its first failed read. In the second case the input was left as it was.
 abbrev pub IsOrigin : Instruction → Plan → Device SourceTold → Origin → Type 0
 IsOrigin instruction plan input (from_input read) = (instruction.verb ≡ Use Run) × CameTo (inputs_of plan) input read
 IsOrigin instruction plan input (from_number number) = (instruction.verb ≡ Use Generate) × (number ≡ instruction.number) × Untouched input
 
--- the job of a plan over what the input came to, or over packets that are made
+-- the job of a plan over what was read of the input, or over packets that are made
 abbrev pub job_from : Laws → Plan → Origin → equations.Job
 job_from laws plan (from_input read) = job_of laws plan read
 job_from laws plan (from_number number) = generated_job laws plan number
@@ -73,7 +74,7 @@ abbrev pub end_from : Origin → FeedEnd
 end_from (from_input read) = read.end
 end_from (from_number number) = Ended
 
--- how a run is told: by lines where it was over an input, and by a summary where packets were made
+-- how a run is told: by lines if it was over an input, and by a summary if packets were made
 abbrev pub telling_from : Reporting → Origin → Telling
 telling_from report (from_input read) = by_lines report
 telling_from report (from_number number) = by_summary report
@@ -82,8 +83,8 @@ telling_from report (from_number number) = by_summary report
 abbrev pub bare : Plan → Plan
 bare plan = record plan { limit = negsuc 0; workers = 0 }
 
--- A call ran its graph, in which no node is free: there is one content of each file, one plan, one thing that it was run over, and one
--- solution.
+-- A call ran its graph, and no node of the graph is free. There is one content of each file, one plan, one thing that the graph was run
+-- over, and one solution.
 pub record Headline (laws : Laws) (invocation : Invocation) (status : Status) (devices : CallDevices) : Type 0 where
   pub contents : List (List ℕ)
   pub loaded : LoadedAll invocation.files contents devices.store
@@ -95,8 +96,8 @@ pub record Headline (laws : Laws) (invocation : Invocation) (status : Status) (d
 
 -- Graphs with free nodes --
 
--- The contents are graphs. The first expands with the others as its library to a graph that is checked and has this valid plan, where the
--- calculators that are handed in have these shapes and laws, and some node of it is free, of which this is the first.
+-- The contents are graphs. The first expands to a graph, with the others as its library. Checked with the shapes and laws of the
+-- user-supplied calculators, the graph has this valid plan. Some node of the plan is free, and `first` is the first free node.
 pub record IsLiveGraph (invocation : Invocation) (contents : List (List ℕ)) (plan : Plan) : Type 0 where
   pub main : GraphView
   pub library : List GraphView
@@ -108,8 +109,8 @@ pub record IsLiveGraph (invocation : Invocation) (contents : List (List ℕ)) (p
   pub first : ℕ
   pub free : first_free plan ≡ Some first
 
--- The batches over which a graph was run, each with what had come by its end: the lines to which the input came, or all packets that are
--- made as one batch.
+-- The batches over which a graph was run, each with what had come by its end. They are batches of the lines that were read, or all packets
+-- that are made as one batch.
 abbrev pub AreBatchesFrom : Laws → Plan → Origin → List Inputs → Type 0
 AreBatchesFrom laws plan (from_input read) batches = AreBatchesOf plan read batches
 AreBatchesFrom laws plan (from_number number) batches = batches ≡ (generated_job laws plan number).inputs ∷ []
@@ -118,8 +119,8 @@ abbrev pub form_from : Origin → OutputForm
 form_from (from_input read) = packet_lines
 form_from (from_number number) = totals
 
--- A call ran its graph, which has free nodes: there is one content of each file, one plan, one thing that it was run over, the logs to
--- which the free nodes' rounds over its batches come, and one solution of the core for these.
+-- A call ran its graph, which has free nodes. There is one content of each file, one plan, and one thing that the graph was run over. There
+-- are the logs that the free nodes' rounds over the batches give, and one solution of the core for these.
 pub record LiveHeadline (laws : Laws) (invocation : Invocation) (status : Status) (devices : CallDevices) : Type 0 where
   pub contents : List (List ℕ)
   pub loaded : LoadedAll invocation.files contents devices.store

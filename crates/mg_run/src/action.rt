@@ -55,7 +55,7 @@ pub enum Action {
 }
 
 /// Reads the contents of a command's files, and returns what the command has to do with them. `outers` are the shapes and laws of the
-/// calculators that are handed in.
+/// user-supplied calculators.
 pub fn action_of(
     alloc: Global,
     instruction: Instruction,
@@ -77,7 +77,7 @@ pub fn action_of(
     }
 }
 
-// Returns the action of refusing a file with its note, or an error where memory ran out.
+// Returns the action of refusing a file with its note, or an error if memory ran out.
 fn refused(fault: Fault) -> Result<Action, AllocError>
     ensures valid { IfOk result (λ action. (outers : List OuterShape) → CanBeDone outers (action_view action)) }
     ensures due { IfOk result (λ action. (invocation : Invocation) (contents : List (List ℕ)) → AreNotedOf fault invocation.files contents → IsActionOf invocation contents (action_view action)) }
@@ -88,7 +88,7 @@ fn refused(fault: Fault) -> Result<Action, AllocError>
     }
 }
 
-// Returns what there is to do with graphs, of which the first is the main one and the others are its library.
+// Returns what there is to do with graphs. The first graph is the main graph, and the further graphs are its library.
 fn graphs_action(
     alloc: Global,
     instruction: Instruction,
@@ -150,7 +150,7 @@ fn graph_action(
     }
 }
 
-// Returns the action of `check`: to write its text where the graph has a plan, and else to refuse the graph.
+// Returns the action of `check`: to write its text if the graph has a plan, and otherwise to refuse the graph.
 fn check_action(
     alloc: Global,
     outers: &[OuterShape],

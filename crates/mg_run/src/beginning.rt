@@ -27,12 +27,12 @@ use mg_value::MgText;
 use mg_words::{Instruction, Request, help_text, request_of, usage_text, version_text};
 use std::alloc::Global;
 
-/// What a call has come to before a graph is used.
+/// How far a call has got before a graph is used.
 #[derive(Drop)]
 pub enum Begun {
     /// All is done, and the call ends with this status.
     Ended(Status),
-    /// The graph of this plan is to be used in this way, with a report behind the notes or without.
+    /// The graph of this plan is to be used in this way, with a report after the notes or without a report.
     Left(Use, Reporting, Plan),
 }
 
@@ -82,7 +82,7 @@ fn begin_request<C: NodeCalculator, S: Source, K: Sink, E: Sink, T: Store>(
     }
 }
 
-// Writes a text, and no note. Where a write of it fails, the note says so.
+// Writes a text, and no note. If a write of the text fails, the note says so.
 fn told<K: Sink, E: Sink>(output: &mut K, notes: &mut E, text: &[u8]) -> Status
     ensures { ((result ≡ Status.Good) × TookText (device (K.told output.old) (K.told output.new)) text.now × Untouched (device (E.told notes.old) (E.told notes.new)))
         ⊎ ((result ≡ Status.WriteFault) × TookPart (device (K.told output.old) (K.told output.new)) text.now × TookNotes (device (E.told notes.old) (E.told notes.new)) write_note) }
@@ -101,8 +101,7 @@ struct Ordered<'a> {
     files: &'a [MgText],
 }
 
-// Loads all files of a command, and does what it has to do with them, up to the use of a graph. `boxes` are the calculators that are
-// handed in.
+// Loads all files of a command, and does what it has to do with them, up to the use of a graph. `boxes` are the user-supplied calculators.
 fn begin_command<C: NodeCalculator, S: Source, K: Sink, E: Sink, T: Store>(
     alloc: Global,
     ordered: &Ordered<'_>,
@@ -124,7 +123,7 @@ fn begin_command<C: NodeCalculator, S: Source, K: Sink, E: Sink, T: Store>(
     }
 }
 
-// Loads the files of a command, and returns what there is to do with them. `boxes` are the calculators that are handed in.
+// Loads the files of a command, and returns what there is to do with them. `boxes` are the user-supplied calculators.
 fn due_action<C: NodeCalculator, T: Store>(
     alloc: Global,
     ordered: &Ordered<'_>,

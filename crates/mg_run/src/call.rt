@@ -23,9 +23,10 @@ use std::alloc::Global;
 use std::sync::Wait;
 use std::thread::Threads;
 
-/// Does what the words of a command line ask for, and returns the status to exit with. A `run` and a `generate` call workers, as many as
-/// the option `--workers` says, or else the graph's `num_threads`, each in a thread of its own; with none of them the call waits for
-/// nobody, and does what `run_alone` does. Their number changes nothing of what the call answers.
+/// Does what the words of a command line ask for, and returns the status to exit with. A `run` and a `generate` may call workers, each in a
+/// thread of its own. The most that they call is the number of the option `--workers`, or, without the option, the graph's `num_threads`.
+/// Without workers the call waits for nobody, and does what `run_alone` does. The number of workers changes nothing of what the call
+/// answers.
 pub fn run_words<
     R: Threads + Wait + Sync,
     S: Source,
@@ -45,21 +46,21 @@ pub fn run_words<
     boxes: &mut Vec<C>,
     gate: &G,
 ) -> Status
-    // What the call came to, by what its words ask for. `what_a_call_came_to` tells what follows from it: of each status its cause, of the
-    // devices what was done to them, and of the calculators which had a call.
+    // What the call came to, by what its words ask for. `what_a_call_came_to` says what follows from that: the cause of each status, what
+    // was done to the devices, and which calculators had a call.
     ensures came { CallEnded C.laws (outers_told (map C.told boxes.old.items)) (request_of words.now) result
         (told_apart T.told S.told K.told E.told C.told store.old store.new input.old input.new output.old output.new notes.old notes.new boxes.old boxes.new) }
 
-    // A `run` or a `generate` that reached its graph is one thing: there is one content of each file, one graph and its plan, one reading
-    // of the input and one solution, and the output, the notes, the status and the calls of every box are theirs. Where a node is free
-    // there are also the logs to which the free nodes' rounds come over the batches of the input, and the notes tell these. Neither the
-    // limit of queues nor the number of workers has a part in it.
+    // A `run` or a `generate` that reached its graph is one thing. There is one content of each file, one graph and its plan, one reading
+    // of the input and one solution. The output, the notes, the status and the calls of every box belong to these. If a node is free, there
+    // are also logs, and the notes tell these. The free nodes' rounds over the batches of the input give the logs. Neither the limit of
+    // queues nor the number of workers has a part in it.
     ensures headline { IfSome (command_of words.now) (λ command. RunsGraph command.instruction.verb → IsOneOf result ran_statuses
         → RanGraph C.laws (invocation command (outers_told (map C.told boxes.old.items))) result
         (told_apart T.told S.told K.told E.told C.told store.old store.new input.old input.new output.old output.new notes.old notes.new boxes.old boxes.new)) }
 
-    // Where no device failed and memory didn't run out, the output's text, the notes and the status are those of the answer to the files'
-    // bytes and the input's.
+    // If no device failed and memory didn't run out, the call gave the answer to the bytes of the files and of the input. The output's
+    // text, the notes and the status are those of this answer.
     ensures answered { IfSome (command_of words.now) (λ command.
         NoneFailed (told_apart T.told S.told K.told E.told C.told store.old store.new input.old input.new output.old output.new notes.old notes.new boxes.old boxes.new)
         → result ≢ Status.OutOfMemory
@@ -75,7 +76,7 @@ pub fn run_words<
     do_words(alloc, words, &Crew { rt, gate }, boxes, store, &mut devices)
 }
 
-/// Does what `run_words` does, in the calling thread, and is handed no runtime: so it waits for nobody, and it returns, whatever the devices
+/// Does what `run_words` does, in the calling thread. It is handed no runtime, so it waits for nobody, and it returns, whatever the devices
 /// give. The number of workers in the words, or in the graph, is taken as 0.
 pub fn run_alone<S: Source, K: Sink, E: Sink, T: Store, G: Gate, C: NodeCalculator>(
     alloc: Global,
@@ -87,21 +88,21 @@ pub fn run_alone<S: Source, K: Sink, E: Sink, T: Store, G: Gate, C: NodeCalculat
     boxes: &mut Vec<C>,
     gate: &G,
 ) -> Status
-    // What the call came to, by what its words ask for. `what_a_call_came_to` tells what follows from it: of each status its cause, of the
-    // devices what was done to them, and of the calculators which had a call.
+    // What the call came to, by what its words ask for. `what_a_call_came_to` says what follows from that: the cause of each status, what
+    // was done to the devices, and which calculators had a call.
     ensures came { CallEnded C.laws (outers_told (map C.told boxes.old.items)) (request_of words.now) result
         (told_apart T.told S.told K.told E.told C.told store.old store.new input.old input.new output.old output.new notes.old notes.new boxes.old boxes.new) }
 
-    // A `run` or a `generate` that reached its graph is one thing: there is one content of each file, one graph and its plan, one reading
-    // of the input and one solution, and the output, the notes, the status and the calls of every box are theirs. Where a node is free
-    // there are also the logs to which the free nodes' rounds come over the batches of the input, and the notes tell these. Neither the
-    // limit of queues nor the number of workers has a part in it.
+    // A `run` or a `generate` that reached its graph is one thing. There is one content of each file, one graph and its plan, one reading
+    // of the input and one solution. The output, the notes, the status and the calls of every box belong to these. If a node is free, there
+    // are also logs, and the notes tell these. The free nodes' rounds over the batches of the input give the logs. Neither the limit of
+    // queues nor the number of workers has a part in it.
     ensures headline { IfSome (command_of words.now) (λ command. RunsGraph command.instruction.verb → IsOneOf result ran_statuses
         → RanGraph C.laws (invocation command (outers_told (map C.told boxes.old.items))) result
         (told_apart T.told S.told K.told E.told C.told store.old store.new input.old input.new output.old output.new notes.old notes.new boxes.old boxes.new)) }
 
-    // Where no device failed and memory didn't run out, the output's text, the notes and the status are those of the answer to the files'
-    // bytes and the input's.
+    // If no device failed and memory didn't run out, the call gave the answer to the bytes of the files and of the input. The output's
+    // text, the notes and the status are those of this answer.
     ensures answered { IfSome (command_of words.now) (λ command.
         NoneFailed (told_apart T.told S.told K.told E.told C.told store.old store.new input.old input.new output.old output.new notes.old notes.new boxes.old boxes.new)
         → result ≢ Status.OutOfMemory
@@ -117,7 +118,7 @@ pub fn run_alone<S: Source, K: Sink, E: Sink, T: Store, G: Gate, C: NodeCalculat
     do_words_alone(alloc, words, gate, boxes, store, &mut devices)
 }
 
-// Does what the words ask for. Only where the graph of a plan is run, workers may have a part in it.
+// Does what the words ask for. Workers may have a part in it only if the graph of a plan is run.
 fn do_words<
     R: Threads + Wait + Sync,
     G: Gate + Sync,

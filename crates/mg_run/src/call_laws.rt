@@ -1,4 +1,5 @@
-//! What follows from what a call came to, which is the clause `came` of the top calls. The function does nothing, and its contract is the law.
+//! What follows from the clause `came` of the top calls, which says what a call came to. The function does nothing, and its contract is the
+//! law.
 ghost use Rattle.std.specs.Prelude.{◌≡◌, ◌≢◌, ◌↔◌, ◌⊎◌, ℕ, List, ◌∷◌, [], false, true, IfSome, length};
 ghost use Rattle.mg_calc.specs.Rules.{Laws};
 ghost use Rattle.mg_calc.specs.declared.shape.OuterShape.{OuterShape};
@@ -11,8 +12,8 @@ ghost use Rattle.mg_run.specs.Invocation.{invocation};
 ghost use Rattle.mg_run.specs.Devices.{CallDevices, Untouched, InputHasEnded, HasRisen, TookNotes};
 ghost use Rattle.mg_run.specs.Call.{WasUsage, WasTold, CallEnded, Called, IsOneOf};
 
-/// Tells of a call that came to this what a program that makes it may go by: what each status means, and what was done to the devices and the
-/// calculators that were handed in.
+/// States what a program that makes a call may rely on, by what the call came to. It says what each status means, and what was done to the
+/// devices and to the user-supplied calculators.
 pub fn what_a_call_came_to()
     // Whether the words are a command is judged first, and depends on no device.
     ensures usage { (laws : Laws) (outers : List OuterShape) (request : Request) (status : Status) (devices : CallDevices) → CallEnded laws outers request status devices
@@ -28,7 +29,7 @@ pub fn what_a_call_came_to()
     ensures called { (laws : Laws) (outers : List OuterShape) (request : Request) (status : Status) (devices : CallDevices) → CallEnded laws outers request status devices
         → IfSome (command_by request) (λ command. Called laws status (invocation command outers) devices) }
 
-    // Where memory ran out the notes say that alone.
+    // If memory ran out, the notes say only that.
     ensures memory_noted { (laws : Laws) (outers : List OuterShape) (request : Request) (status : Status) (devices : CallDevices) → CallEnded laws outers request status devices
         → status ≡ OutOfMemory → TookNotes devices.notes memory_note }
 
@@ -50,7 +51,7 @@ pub fn what_a_call_came_to()
         → HasRisen devices.output.before.faults devices.output.now.faults ⊎ HasRisen devices.notes.before.faults devices.notes.now.faults
         → IsOneOf status (Usage ∷ StoreFault ∷ GraphRefused ∷ WriteFault ∷ OutOfMemory ∷ []) }
 
-    // As many calculators come back as were handed in, and a command that doesn't run its graph calls none.
+    // As many calculators come back as the caller supplied. A command that doesn't run its graph calls none.
     ensures boxes { (laws : Laws) (outers : List OuterShape) (request : Request) (status : Status) (devices : CallDevices) → CallEnded laws outers request status devices
         → length devices.boxes.now ≡ length devices.boxes.before }
     ensures uncalled { (laws : Laws) (outers : List OuterShape) (request : Request) (status : Status) (devices : CallDevices) → CallEnded laws outers request status devices

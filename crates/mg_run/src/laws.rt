@@ -16,9 +16,9 @@ ghost use Rattle.mg_files.specs.Loads.{LoadedAll, loads_of};
 ghost use Rattle.mg_run.specs.Headline.{Headline, LiveHeadline};
 ghost use Rattle.mg_run.specs.Answer.{RunAnswer, Action, run_plan, solve, trace, action_of, with_limit, AnswersAction, Records, Replays};
 
-/// The program has at most one answer to the bytes of an input, but for the events of a run that it records: these are those of any run of
-/// the action. A recorded run too has one status and one text of notes, which are those of the run. A recorded run that is made again isn't
-/// part of this law.
+/// The program has at most one answer to the bytes of an input. Only the events of a run that it records may differ: they are those of any
+/// run of the action. A recorded run, too, has one status and one text of notes, which are those of the run. A recorded run that is made
+/// again isn't part of this law.
 pub fn one_answer()
     ensures one { (laws : Laws) (action : Action) (boxes : List BoxTold) (input : List ℕ) (a b : RunAnswer) → ¬ Records action → ¬ Replays action → AnswersAction laws action boxes input a → AnswersAction laws action boxes input b → a ≡ b }
     ensures ends { (laws : Laws) (action : Action) (boxes : List BoxTold) (input : List ℕ) (a b : RunAnswer) → ¬ Replays action → AnswersAction laws action boxes input a → AnswersAction laws action boxes input b → (a.notes ≡ b.notes) × (a.status ≡ b.status) }
@@ -26,8 +26,8 @@ pub fn one_answer()
         → (a.notes ≡ b.notes) × (a.status ≡ b.status) }
 {}
 
-/// Neither the limit of queues nor the number of workers changes an answer: whatever the words ask for, the answer is that of the same
-/// words without these options. Of a recorded run the notes and the status are the same. A recorded run that is made again isn't part of
+/// Neither the limit of queues nor the number of workers changes an answer. Whatever the words ask for, the answer is that of the same
+/// words without these options. For a recorded run, the notes and the status are the same. A recorded run that is made again isn't part of
 /// this law, since that is done under the limit that the words ask for.
 pub fn limits_and_workers_change_no_answer()
     ensures words { (laws : Laws) (invocation : Invocation) (files : Files) (boxes : List BoxTold) (input : List ℕ) (a : RunAnswer) → ¬ Records (action_of invocation files) → ¬ Replays (action_of invocation files)
@@ -43,16 +43,16 @@ pub fn run_and_solve_answer_the_same()
         → AnswersAction laws (run_plan report (with_limit limit plan)) boxes input a → AnswersAction laws (solve report plan) boxes input b → a ≡ b }
 {}
 
-/// Devices that tell what they hold determine what was run: the contents of the files are those that the store tells, and where no read
-/// failed, what came is the whole input.
+/// Devices that tell what they hold determine what was run. The contents of the files are those that the store tells. If no read failed,
+/// what came is the whole input.
 pub fn told_devices_pin_a_headline()
     ensures contents { (names contents told : List (List ℕ)) (store : Device StoreTold) → LoadedAll names contents store → loads_of store.before.content names ≡ Some told → contents ≡ told }
     ensures reading { (plan : Plan) (input : Device SourceTold) (read : Read) (bytes : List ℕ) → CameTo (inputs_of plan) input read → input.before.left ≡ Some bytes
         → Unrisen input.before.faults input.now.faults → read ≡ ended_input (inputs_of plan) bytes }
 {}
 
-/// Two calls have the same headline where no node is free: with the same words and boxes, and with stores and inputs that tell the same and
-/// of which no read failed, they have the same plan, the same reading and the same solution.
+/// Two calls have the same headline if no node is free. Suppose that they have the same words and boxes, that their stores and inputs tell
+/// the same, and that no read of an input failed. Then they have the same plan, the same reading and the same solution.
 pub fn one_headline()
     ensures { (laws : Laws) (invocation : Invocation) (status other_status : Status) (devices other : CallDevices) (contents : List (List ℕ)) (bytes : List ℕ) (a : Headline laws invocation status devices) (b : Headline laws invocation other_status other)
         → loads_of devices.store.before.content invocation.files ≡ Some contents → loads_of other.store.before.content invocation.files ≡ Some contents
@@ -61,9 +61,9 @@ pub fn one_headline()
         → (a.plan ≡ b.plan) × (a.from ≡ b.from) × (a.run.streams ≡ b.run.streams) }
 {}
 
-/// Two calls have the same headline where some node is free: with the same words and boxes, and with stores and inputs that tell the same
-/// and of which no read failed, they have the same plan, the same reading, the same batches, the same logs of the free nodes and the same
-/// solution of the core.
+/// Two calls have the same headline if some node is free. Suppose that they have the same words and boxes, that their stores and inputs
+/// tell the same, and that no read of an input failed. Then they have the same plan, reading and batches, the same logs of the free nodes,
+/// and the same solution of the core.
 pub fn one_live_headline()
     ensures { (laws : Laws) (invocation : Invocation) (status other_status : Status) (devices other : CallDevices) (contents : List (List ℕ)) (bytes : List ℕ) (a : LiveHeadline laws invocation status devices) (b : LiveHeadline laws invocation other_status other)
         → loads_of devices.store.before.content invocation.files ≡ Some contents → loads_of other.store.before.content invocation.files ≡ Some contents

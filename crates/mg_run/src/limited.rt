@@ -7,7 +7,7 @@ ghost use Rattle.mg_run.specs.Answer as answers;
 use mg_calc::Plan;
 use mg_words::{Instruction, MOST_WORKERS};
 
-/// Returns a plan with another limit of queues, where one is given; 0 leaves the plan's own.
+/// Returns a plan with another limit of queues, if one is given; 0 leaves the plan's own limit.
 pub fn limited(limit: Option<i32>, plan: Plan) -> Plan
     ensures limit { result ≡ answers.with_limit limit plan }
     ensures valid { IsValid plan → IsValid result }
@@ -20,7 +20,7 @@ pub fn limited(limit: Option<i32>, plan: Plan) -> Plan
     }
 }
 
-// Returns `limit`, or `own` where that is 0.
+// Returns `limit`, or `own` if `limit` is 0.
 fn limit_or(limit: i32, own: i32) -> i32
     ensures limit { result ≡ answers.limit_or limit own }
     ensures some { own ≢ pos 0 → result ≢ pos 0 }
@@ -39,7 +39,7 @@ fn with_limit(limit: i32, plan: Plan) -> Plan
     plan
 }
 
-// Returns a plan with another number of workers, at most 64, where one is given.
+// Returns a plan with another number of workers, at most 64, if one is given.
 fn with_workers(workers: Option<u32>, plan: Plan) -> Plan
     ensures workers { result ≡ answers.with_workers workers plan }
     ensures valid { IsValid plan → IsValid result }

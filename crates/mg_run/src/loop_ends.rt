@@ -1,4 +1,4 @@
-//! The calculators of loops over lists, as boxes by their laws: the programs hand them in beside others of that form.
+//! The calculators of loops over lists, as boxes by their laws. The programs supply them beside other boxes of that form.
 ghost use Rattle.std.specs.Prelude.{◌≡◌, IfOk};
 ghost use Rattle.mg_batch.specs.Loops.{new_begin, new_end};
 

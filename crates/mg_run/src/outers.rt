@@ -1,4 +1,4 @@
-//! What is known of the calculators that are handed in, before one is called.
+//! What is known of the user-supplied calculators before any of them is called.
 ghost use Rattle.std.specs.Prelude.{◌≡◌, All, IfOk, map};
 ghost use Rattle.mg_check.specs.Check.{IsOuterShape};
 ghost use Rattle.mg_run.specs.Boxes.{outer_told, outers_told, MayBeHandedIn};
@@ -6,7 +6,7 @@ ghost use Rattle.mg_run.specs.Boxes.{outer_told, outers_told, MayBeHandedIn};
 use mg_calc::{NodeCalculator, OuterShape, TryClone};
 use std::alloc::{AllocError, Global};
 
-/// Returns the shape and the law of each calculator that is handed in, in order.
+/// Returns the shape and the law of each user-supplied calculator, in order.
 pub fn outers_of<C: NodeCalculator>(
     alloc: Global,
     boxes: &[C],

@@ -12,7 +12,7 @@ fn is_stated(law: &Law) -> bool
     matches!(law, Law::Stated { .. })
 }
 
-/// Returns the number of a plan's first node whose law is stated, if it has one. In a plan that has none no node's law is stated.
+/// Returns the number of a plan's first node whose law is stated, if it has one. If there is no such node, no node's law is stated.
 pub fn first_stated(plan: &Plan) -> Option<u32>
     ensures first { result ≡ answers.first_stated plan.now }
     ensures unstated { IfNone result (All (λ node. IsStated node.law → ⊥) plan.now.nodes) }

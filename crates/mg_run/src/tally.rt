@@ -1,4 +1,4 @@
-//! The TallyCalculator, as a box that can be handed in.
+//! The TallyCalculator, as a box that a caller can supply.
 ghost use Rattle.std.specs.Prelude.{◌≡◌, IfOk};
 ghost use Rattle.mg_calc.specs.Shape.{untagged};
 ghost use Rattle.mg_run.specs.Boxes.{tally_shape, new_tally};

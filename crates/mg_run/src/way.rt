@@ -38,8 +38,8 @@ fn reporting(instruction: Instruction) -> Reporting
     }
 }
 
-/// Returns the action of using a plan without free nodes in a way. A plan with a node whose law is stated isn't solved, but refused. For a run
-/// that is recorded or made again the number of workers in the words doesn't count.
+/// Returns the action of using a plan without free nodes in a way. A plan with a node whose law is stated isn't solved, but refused. For a
+/// run that is recorded or made again the number of workers in the words doesn't count.
 pub fn way_action(
     alloc: Global,
     way: Way,
@@ -62,7 +62,7 @@ pub fn way_action(
     }
 }
 
-// Returns the action of solving a plan without free nodes: it is refused where a node's law is stated.
+// Returns the action of solving a plan without free nodes: it is refused if a node's law is stated.
 fn solve_action(alloc: Global, report: Reporting, plan: Plan) -> Result<Action, AllocError>
     ensures due { IfOk result (λ action. action_view action ≡ answers.solve_action (answers.first_stated plan) report plan) }
     ensures valid { (outers : List OuterShape) → IsValid plan → IfOk result (λ action. CanBeDone outers (action_view action)) }

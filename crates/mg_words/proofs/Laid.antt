@@ -1,4 +1,4 @@
--- Where the names of a parser lie in memory is nothing to the matches of a command.
+-- The matches of a command don't depend on where the names of a parser lie in memory.
 use Rattle.std.proofs.Common.{◌≡◌, ◌∙◌, ℕ, Bool, cond, true, false, zero, suc, refl, sym, ap, List, [], ◌∷◌, map, length, drop, Option, Some, None, option_map}
 use Rattle.std.specs.Prelude.{fold, encode_utf8, slice_get, ◌&&◌}
 use Rattle.std.specs.Str.{bytes_eq, chars}
@@ -12,7 +12,7 @@ use Rattle.clap.specs.declared.builder.value_parser.ValueParser.TheVariants as v
 use Rattle.clap.proofs.WalkLemmas.{find-map}
 use Rattle.mg_words.specs.CommandLine.{placed}
 
--- a slice of texts as one that lies at nought
+-- a slice of texts as a slice that lies at address 0
 abbrev pub laid : Bor (List (Bor Text)) → Bor (List (Bor Text))
 laid names = placed (map placed (map (λ name. name.now) names.now))
 

@@ -1,5 +1,5 @@
--- Where the names of a parser lie in memory is nothing to the kinds of fault that a command without subcommands has at
--- some words, and it has one kind at most.
+-- A command without subcommands has at most one kind of fault at some words. The kind doesn't depend on where the names of a parser lie in
+-- memory.
 use Rattle.std.proofs.Common.{◌≡◌, ℕ, ◌+◌, ◌&&◌, ◌||◌, ◌==◌, Bool, cond, true, false, not, zero, suc, refl, sym, ap, ap₂, subst, List, [], ◌∷◌, length, drop, min, Option, Some, None, option_map, is_some}
 use Rattle.std.specs.Prelude.{nat_lt, encode_utf8, slice_get}
 use Rattle.std.specs.List.{list_any}

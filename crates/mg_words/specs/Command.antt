@@ -15,7 +15,7 @@ pub record Command : Type 0 where
 abbrev pub command : Instruction → List (List ℕ) → Command
 command instruction files = record { instruction = instruction; files = files }
 
--- what a word says that is done, where COMMAND may be that word
+-- what a word says that is done, if COMMAND may be that word
 abbrev pub verb_of : List ℕ → Option Verb
 verb_of word =
     if bytes_eq word (codes "run") then Some (Use Run)
@@ -26,7 +26,7 @@ verb_of word =
     else (if bytes_eq word (codes "trace") then Some (Use Trace)
     else (if bytes_eq word (codes "replay") then Some (Use Replay) else None))))))
 
--- whether the input is read, where no file is refused
+-- whether the input is read, if no file is refused
 abbrev pub reads_input : Verb → Bool
 reads_input (Use Run) = true
 reads_input (Use Solve) = true
@@ -36,7 +36,7 @@ reads_input (Use Generate) = false
 reads_input (Use Trace) = true
 reads_input (Use Replay) = true
 
--- whether calculators that are handed in are called, where no file is refused
+-- whether user-supplied calculators are called, if no file is refused
 abbrev pub calls_boxes : Verb → Bool
 calls_boxes (Use Run) = true
 calls_boxes (Use Solve) = false

@@ -27,7 +27,7 @@ verbs = codes "run" ∷ codes "solve" ∷ codes "check" ∷ codes "expand" ∷ c
 abbrev pub verb_word : Bor (List (Bor Text)) → Rule
 verb_word names = record (required_word (codes "COMMAND")) { parser = Some (Names names) }
 
--- the command line before it has arguments: it reads all words that it is given, and asks for its help and its version as `clap` has it
+-- The command line before it has arguments. It reads all words that it is given, and asks for its help and its version as `clap` has it.
 abbrev pub plain_app : App
 plain_app = record (new_app (codes "mg")) { top = record (new_app (codes "mg")).top { no_binary_name = true; has_version = true } }
 

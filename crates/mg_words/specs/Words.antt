@@ -28,7 +28,7 @@ pub record Line : Type 0 where
 abbrev pub number_in : Text → Option ℕ
 number_in text = if accepts false (Unsigned 0 4294967295) text then Some (digits_value 10 (without_leading_plus text)) else None
 
--- the number that an option was given, where it was used
+-- the number that an option was given, if it was used
 abbrev pub number_of : Text → List Row → Option ℕ
 number_of name rows = option_and_then number_in (one_of name rows)
 
@@ -63,7 +63,7 @@ abbrev pub is_plain : Text → Bool
 is_plain [] = false
 is_plain (first ∷ rest) = nat_le 48 first && nat_le first 57 && (not (first == 48) || (length rest == 0))
 
--- whether the number that an option was given is written plainly, where it was used
+-- whether the number that an option was given is written plainly, if it was used
 abbrev pub is_plain_at : Text → List Row → Bool
 is_plain_at name rows = option_map_or is_plain (first_of name rows) true
 
@@ -75,7 +75,7 @@ are_plain rows = is_plain_at (codes "workers") rows && is_plain_at (codes "max-q
 abbrev pub keeps_rules : Line → Bool
 keeps_rules line = nat_le (length line.files) most_files && (is_some line.options.number || not (bytes_eq line.word (codes "generate")))
 
--- The limit of queues that the options ask for, where they do; below 0 there is none. Of both options the flag counts.
+-- The limit of queues that the options ask for, if they ask for one; below 0 there is none. If both options are used, the flag counts.
 abbrev pub limit_in : Options → Option ℤ
 limit_in options = if options.no_queue_limit then Some (negsuc 0) else option_map (λ size. pos (min size MOST_LIMIT)) options.max_queue_size
 
@@ -83,7 +83,7 @@ limit_in options = if options.no_queue_limit then Some (negsuc 0) else option_ma
 abbrev pub instruction_in : Options → Verb → Instruction
 instruction_in options verb = record { verb = verb; limit = limit_in options; workers = options.workers; number = unwrap_or options.number 0; report = options.report; arrivals = not options.no_arrivals }
 
--- the command that words stand for, where they keep the rules and COMMAND is one of its words
+-- the command that words stand for, if they keep the rules and COMMAND is one of its words
 abbrev pub command_in : Line → Option Command
 command_in line = if keeps_rules line then option_map (λ verb. command (instruction_in line.options verb) line.files) (verb_of line.word) else None
 
@@ -115,12 +115,12 @@ request_from (kind ∷ kinds) rows = request_at kind
 unfoldable pub request_of : List Text → Request
 request_of words = request_from (fault_of lines.command words) (matches_of lines.command words)
 
--- the command for which words ask, where they ask for one
+-- the command that words ask for, if they ask for one
 abbrev pub command_by : Request → Option Command
 command_by asks_usage = None
 command_by (asks_text text) = None
 command_by (asks_command command) = Some command
 
--- the command for which words ask, where they ask for one
+-- the command that words ask for, if they ask for one
 abbrev pub command_of : List Text → Option Command
 command_of words = command_by (request_of words)

@@ -8,7 +8,7 @@ use clap::ArgMatches;
 // The greatest limit of queues that a plan can have.
 const MOST_LIMIT: u32 = 2_147_483_647;
 
-/// The options of a command line, where `None` and `false` are of those that weren't used.
+/// The options of a command line. `None` and `false` stand for options that weren't used.
 #[derive(Clone, Copy, Debug, PartialEq, Eq)]
 pub struct Options {
     /// How many workers are to run the graph, 0 to 64.
@@ -40,8 +40,8 @@ impl Options {
         }
     }
 
-    /// Returns the limit of queues that is asked for, as a plan has it, where one is: below 0 there is no limit. Of both options the flag
-    /// counts.
+    /// Returns the limit of queues that is asked for, if one is, as a plan has it: below 0 there is no limit. If both options are used, the
+    /// flag counts.
     pub fn limit(self) -> Option<i32>
         ensures { result ≡ asking.limit_in self }
     {

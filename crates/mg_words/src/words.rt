@@ -43,11 +43,11 @@ pub enum Verb {
 #[derive(Clone, Copy, Debug, PartialEq, Eq)]
 pub struct Instruction {
     pub verb: Verb,
-    /// The limit of queues in packets, where the words say one; below 0 there is none. Solving a graph doesn't use it.
+    /// The limit of queues in packets, if the words give one; below 0 there is no limit. Solving a graph doesn't use it.
     pub limit: Option<i32>,
-    /// How many workers run the graph, 0 to 64, where the words say so. Only `run` and `generate` use it.
+    /// How many workers run the graph, 0 to 64, if the words say so. Only `run` and `generate` use it.
     pub workers: Option<u32>,
-    /// How many packets `generate` makes, 0 to 1,000,000; 0 where the words don't say.
+    /// How many packets `generate` makes, 0 to 1,000,000; 0 if the words don't say.
     pub number: u32,
     /// Whether the notes of a run or a solution end with a report.
     pub report: bool,
@@ -131,7 +131,7 @@ fn request_with(instruction: Option<Instruction>, files: Vec<MgText>) -> Request
     }
 }
 
-// Returns what a command does, where COMMAND, the number of files and the options are those of one.
+// Returns what a command does, if COMMAND, the number of files and the options are those of a command.
 fn instruction_in(word: &str, files: usize, options: Options) -> Option<Instruction>
     ensures { (all : List (List ℕ)) → length all ≡ files → option_map (λ o. commands.command o all) result ≡ asking.command_in (record { word = word.now; files = all; options = options }) }
 {

@@ -50,7 +50,7 @@ pub record CalculatorComesBack {laws : Laws} (job : LoggedJob laws) (streams : L
   pub there : slice_get (given_back net) place ≡ Some told
   pub had : HadCalls job streams node told
 
--- each calculator that is handed in and that a node uses comes back with all the calls that its node has in a solution of a job
+-- each user-supplied calculator that a node uses comes back with all the calls that its node has in a solution of a job
 pub record HadAllOf {laws : Laws} (job : LoggedJob laws) (net : NetView) : Type 0 where
   pub streams : List (StreamPrefix Plain)
   pub solution : IsSolution job.job streams
@@ -76,7 +76,7 @@ pub record WasMade (laws : Laws) (plan : Plan) (boxes : List BoxTold) (net : Net
 abbrev pub Writing : Type 0 → Type 1
 Writing B = B → OutputForm → Reporting → Job → FeedEnd → Status → Device SinkTold → Device SinkTold → Type 0
 
--- the devices of a run, where the input told `source` at the beginning of the run
+-- the devices of a run, if the input told `source` at the beginning of the run
 abbrev pub since : SourceTold → RunDevices → RunDevices
 since source devices = record devices { input = device source devices.input.now }
 
@@ -90,7 +90,7 @@ pub record HasEnded (laws : Laws) {B : Type 0} (gives : Giving B) (writes : Writ
   pub had : HadAllOf (job_with laws start inputs) net
   pub stood : StoodFor (job_with laws start inputs) net
 
--- A run is over: the answer of the job of all that was given was written, and the calculators that were handed in had their calls.
+-- A run is over. The answer of the job over all that was given was written, and the user-supplied calculators had their calls.
 pub record HasRunBatches (laws : Laws) {B : Type 0} (gives : Giving B) (writes : Writing B) (form : OutputForm) (report : Reporting) (began : B) (plan : Plan) (status : Status) (devices : RunDevices) (boxes : Device (List BoxTold)) : Type 0 where
   pub batches : B
   pub end : FeedEnd
@@ -121,11 +121,11 @@ pub record HasGiven {B : Type 0} (gives : Giving B) (began : B) (plan : Plan) (i
   pub inputs : Inputs
   pub given : gives began batches plan input.before input.now end inputs
 
--- What was read where memory ran out before there was a net: nothing, or what the first call of `next` reads, or the first batch.
+-- What was read if memory ran out before there was a net: nothing, or what the first call of `next` reads, or the first batch.
 abbrev pub ReadFirst : {B : Type 0} → Giving B → ReadingOn B → B → Plan → Device SourceTold → Type 0
 ReadFirst gives reads_on began plan input = (input.now ≡ input.before) ⊎ (reads_on began plan input.before input.before input.now ⊎ HasGiven gives began plan input)
 
--- a run over batches ended since memory ran out, before there was a net or later
+-- a run over batches ended because memory ran out, before there was a net or later
 abbrev pub RanOutOfMemory : (laws : Laws) {B T : Type 0} → Giving B → ReadingOn B → TellingSets T → OutputForm → B → Plan → RunDevices → Device (List BoxTold) → Type 0
 RanOutOfMemory laws gives reads_on has_told form began plan devices boxes =
     (ReadFirst gives reads_on began plan devices.input × WasNothing devices.output boxes) ⊎ WasShort laws gives reads_on has_told form began plan devices boxes

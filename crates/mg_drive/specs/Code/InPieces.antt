@@ -14,7 +14,7 @@ use Rattle.mg_feed.specs.declared.feed_end.BatchEnd.TheVariants.{More, End}
 abbrev pub made_inputs : GraphInputs → ℕ → Bool → Inputs
 made_inputs graph number ended = record { streams = ended_streams ended (generated_streams graph.kinds number); sides = generated_sides (length graph.sides); ended = ended }
 
--- how a piece ends: the input has ended with it, or there is more behind it
+-- how a piece ends: the input has ended with it, or more comes after it
 abbrev pub piece_end : Bool → BatchEnd
 piece_end true = End Ended
 piece_end false = More
@@ -33,7 +33,7 @@ pub record WereMade (plan : Plan) (number : ℕ) (m : Making) (end : BatchEnd) (
   pub inputs_are : inputs ≡ made_inputs (inputs_of plan) m.made (m.made == number)
 
 -- Packets came piece by piece, and how many packets a piece has (`most`) hasn't changed since the first. Each earlier entry is what some
--- number of packets give, and nothing is said of these numbers. Where there are no more packets than a piece has, all came at once.
+-- number of packets give, and nothing is said of these numbers. If there are no more packets than a piece has, all came at once.
 pub record HaveComeInPieces (plan : Plan) (number most now : ℕ) (m : Making) (end : BatchEnd) (history : List Inputs) : Type 0 where
   pub inputs : Inputs
   pub given : WereMade plan number m end inputs

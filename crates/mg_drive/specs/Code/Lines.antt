@@ -32,14 +32,14 @@ abbrev pub HadMemory : BatchEnd → Type 0
 HadMemory More = ⊤
 HadMemory (End end) = end ≢ OutOfMemory
 
--- what is known of all reads, by how the last batch ended: no read failed, and there may be more; or the input came to its end
+-- What is known of all reads, by how the last batch ended. Either no read failed, and there may be more; or the input came to its end.
 abbrev pub ReadsAs : BatchEnd → Plan → SourceTold → SourceTold → Fed → List ℕ → List (List ℕ) → Type 0
 ReadsAs More plan first source fed past lines = Unfailed first source
 ReadsAs (End end) plan first source fed past lines =
     (end ≢ OutOfMemory) × EndsAs end (inputs_of plan) [] past lines fed.read.ended × FailedBy end first source
 
--- A feed read batches, the last of which ended in this way: of the bytes that came since the source told `first` it accepted these lines,
--- and it has handed on all that they gave.
+-- A feed read batches, and the last batch ended in this way. Of the bytes that came since the source told `first`, the feed accepted these
+-- lines. It has handed on all that these lines gave.
 pub record IsRead (plan : Plan) (first : SourceTold) (end : BatchEnd) (source : SourceTold) (fed : Fed) (past : List ℕ) (lines : List (List ℕ)) : Type 0 where
   pub graph : fed.view.graph ≡ inputs_of plan
   pub gave : Gave first.left source.left past
@@ -48,7 +48,8 @@ pub record IsRead (plan : Plan) (first : SourceTold) (end : BatchEnd) (source : 
   pub spent : Spends 0 (idle_by end fed.read.ended) first.left source.left first.reads source.reads
   pub so : ReadsAs end plan first source fed past lines
 
--- A feed read one more batch behind these lines, which may have ended early or not. The batch hands on what the feed then had and had not handed on before.
+-- A feed read one more batch after these lines. The batch may have ended early or not. It hands on what the feed then had and hadn't handed
+-- on before.
 pub record HasBatch (early : Bool) (plan : Plan) (first : SourceTold) (end : BatchEnd) (inputs : Inputs) (source : SourceTold) (fed : Fed) (past : List ℕ) (lines : List (List ℕ)) : Type 0 where
   pub came : List ℕ
   pub more : List (List ℕ)
@@ -59,13 +60,13 @@ pub record HasBatch (early : Bool) (plan : Plan) (first : SourceTold) (end : Bat
   pub streams : inputs.streams ≡ ended_streams (has_ended end) view.given.streams
   pub sides : inputs.sides ≡ view.given.sides
   pub ended : inputs.ended ≡ has_ended end
-  -- where more follows the batch, it has a line, and one of the lines so far names a stream
+  -- if more follows the batch, the batch has a line, and one of the lines so far names a stream
   pub longer : IsMore end → length lines < length (lines ++ more)
   pub named : IsMore end → (given_by (inputs_of plan) (lines ++ more)).named ≡ true
   pub few : length (lines ++ more) ≤ most_lines
   pub filled : CutsAt early end batch_size more
 
--- A call read some more bytes, or none, behind these, and all that was read was read once. The source told `at` before the call. Where the
+-- A call read some more bytes after these, or none, and all that was read was read once. The source told `at` before the call. If the
 -- source had ended, nothing more was read.
 pub record HasReadOn (plan : Plan) (first at now : SourceTold) (ended : Bool) (past : List ℕ) : Type 0 where
   pub read : ReadSome (inputs_of plan) (device first now)
@@ -91,12 +92,12 @@ pub record LinesGave (fed : Fed) (plan : Plan) (first source : SourceTold) (end 
   pub inputs_are : inputs ≡ inputs_at (inputs_of plan) lines (has_ended end)
   pub named : IsMore end → (given_by (inputs_of plan) lines).named ≡ true
 
--- all lines of batches in order, where the newest batch stands first
+-- all lines of batches, in order; the newest batch stands first in the list of batches
 abbrev pub lines_of : List (List (List ℕ)) → List (List ℕ)
 lines_of [] = []
 lines_of (batch ∷ batches) = lines_of batches ++ batch
 
--- what had been given after each of some batches, where the newest batch stands first
+-- what had been given after each of some batches; the newest batch stands first
 abbrev pub given_after : GraphInputs → List (List (List ℕ)) → List Inputs
 given_after graph [] = []
 given_after graph (batch ∷ batches) = inputs_at graph (lines_of (batch ∷ batches)) false ∷ given_after graph batches

@@ -1,4 +1,5 @@
--- Runs of graphs with free nodes: what comes to the core of a plan, batch by batch and round by round, and what is written at the end.
+-- Runs of graphs with free nodes. These definitions say what the core of a plan gets, batch by batch and round by round, and what is
+-- written at the end.
 use Rattle.std.specs.Prelude.{◌≡◌, ◌+◌, ◌-◌, ◌^◌, ℕ, Bool, true, false, List, ◌∷◌, map, length, replicate, Option, Some, None, sum_by, ⊤}
 use Rattle.std.specs.List.{flat_map, zip}
 use Rattle.mg_edge.specs.Edge.{SourceTold, SinkTold}
@@ -51,7 +52,7 @@ wanted_by frees takers = flat_map wanted_at (zip frees takers)
 
 -- The batches --
 
--- how the input ended with a batch, where it did
+-- how the input ended with a batch, if it did
 abbrev pub ended_of : BatchEnd → Option FeedEnd
 ended_of More = None
 ended_of (End end) = Some end
@@ -66,9 +67,9 @@ pub record AreNumbersOf (whole : Plan) (nodes streams : List ℕ) : Type 0 where
   pub nodes_are : nodes ≡ (split_of whole).numbers
   pub streams_are : streams ≡ (split_of whole).streams
 
--- What is kept of a run of a graph with free nodes, as contracts see it: the batches of its plan, the plan that it began with, the plan
--- with the numbers of its core, how the input ended, once it has, whether a round has done nothing since the last batch came, and what is
--- kept of the free nodes.
+-- What is kept of a run of a graph with free nodes, as contracts see it. `batches` are the batches of its plan, and `plan` is the plan that
+-- it began with. `whole` is the plan, with the numbers of its core (`nodes` and `streams`). `ended` says how the input ended, once it has.
+-- `rested` says whether a round has done nothing since the last batch came. `frees` and `takers` are what is kept of the free nodes.
 pub record LiveView (B : Type 0) : Type 0 where
   pub batches : B
   pub plan : Plan
@@ -89,7 +90,7 @@ pub record IsLiveOf {B : Type 0} (is_due : Due B) (core : Plan) (live : LiveView
   pub frees_are : live.frees ≡ (split_of live.whole).free
   pub due : (batches : B) (plan : Plan) (inputs : Inputs) → is_due batches plan inputs
 
--- nothing has come to a core yet: the batches of its plan are new, and the free nodes have taken nothing
+-- a core has got nothing yet: the batches of its plan are new, and the free nodes have taken nothing
 pub record IsFreshLive {B : Type 0} (is_fresh : B → Plan → Type 0) (is_due : Due B) (core : Plan) (live : LiveView B) : Type 0 where
   pub of : IsLiveOf is_due core live
   pub fresh : is_fresh live.batches live.whole
@@ -97,13 +98,13 @@ pub record IsFreshLive {B : Type 0} (is_fresh : B → Plan → Type 0) (is_due :
   pub none_handed : handed_of live.takers ≡ replicate (length live.frees) 0
   pub unended : live.ended ≡ None
 
--- what is known where no batch is left: the input ended with the last one, and a round over it did nothing
+-- what is known if no batch is left: the input ended with the last batch, and a round over that batch did nothing
 abbrev pub EndsLive : {B : Type 0} → BatchEnd → LiveView B → Type 0
 EndsLive More live = ⊤
 EndsLive (End end) live = (live.ended ≡ Some end) × (live.rested ≡ true)
 
--- What came to a core: what the batches of the plan gave together, now and by the end of each earlier batch, and what rounds over these
--- laid, in which the free nodes have taken what they have.
+-- What came to a core. The batches of the plan gave `base` together, and `earlier` has what they had given by the end of each earlier
+-- batch. In rounds over these the free nodes have taken what they have. `inputs` is `base` with what these rounds laid.
 pub record LiveGives (laws : Laws) {B : Type 0} (gives : Giving B) (came : Coming B) (is_due : Due B) (began : B) (live : LiveView B) (core : Plan) (first source : SourceTold) (end : BatchEnd) (inputs : Inputs) : Type 0 where
   pub of : IsLiveOf is_due core live
   pub base : Inputs
@@ -119,7 +120,7 @@ pub record LiveGives (laws : Laws) {B : Type 0} (gives : Giving B) (came : Comin
   pub rests : live.rested ≡ true → IsRound laws (split_of live.whole) base takens takens
   pub ends : EndsLive end live
 
--- What came to a core, as a history: the newest entry is all that came to it, and nothing is said of the others.
+-- What came to a core, as a history: the newest entry is all that came to it, and nothing is said of the earlier entries.
 pub record LiveCame (laws : Laws) {B : Type 0} (gives : Giving B) (came : Coming B) (is_due : Due B) (began : B) (live : LiveView B) (core : Plan) (first source : SourceTold) (end : BatchEnd) (history : List Inputs) : Type 0 where
   pub inputs : Inputs
   pub earlier : List Inputs
@@ -134,15 +135,15 @@ IsLiveDue live = (live.ended ≡ None) × (live.rested ≡ true)
 abbrev pub rounds_left : List Taker → ℕ
 rounds_left takers = sum_by (λ taker. (2 ^ 64 - length taker.log.items) + (elim taker.closed [ true ↦ 0 | false ↦ 1 ])) takers
 
--- a bound on the batches that may still come: one more than the bound `left` of the plan's batches, and 0 once the input has ended
+-- A bound on the batches that may still come. It is one more than the bound `left` of the plan's batches, and 0 once the input has ended.
 abbrev pub batches_left : Option FeedEnd → ℕ → ℕ
 batches_left None left = left + 1
 batches_left (Some end) left = 0
 
 -- What is written --
 
--- The answer of a solution of the core was written, with notes by the plan's numbers and the lines of the logs, which are those of whatever
--- the free nodes may have taken by what is kept of them.
+-- The answer of a solution of the core was written, with notes by the plan's numbers and with the lines of the logs. The logs are those of
+-- whatever the free nodes may have taken, by what is kept of them.
 pub record LiveWrote (whole : Plan) (frees : List FreeNode) (takers : List Taker) (form : OutputForm) (report : Reporting) (job : Job) (end : FeedEnd) (status : Status) (output notes : Device SinkTold) : Type 0 where
   pub streams : List (StreamPrefix Plain)
   pub solution : IsSolution job streams

@@ -39,12 +39,12 @@ pub record HasRunLive (laws : Laws) {B : Type 0} (gives : Giving B) (came : Comi
   pub in_order : reverse (base ∷ earlier) ≡ first ∷ later
   pub run : OneLive laws form report whole first later end status devices.output devices.notes boxes
 
--- what a further call of batches reads, where one may come
+-- what a further call of batches reads, if one may come
 abbrev pub ReadsWhere : {B : Type 0} → (B → Plan → Type 0) → Due B → ReadingOn B → ReadingOn B
 ReadsWhere is_fresh is_due reads_on batches plan first at now = MayRead is_fresh is_due batches plan → reads_on batches plan first at now
 
--- Memory ran out once there was a net of the core: after a batch of the plan had come, with which the input may have ended, or while more
--- was read behind it.
+-- Memory ran out once there was a net of the core. It ran out after a batch of the plan had come, or while more was read after that batch.
+-- The input may have ended with the batch.
 pub record CoreShort (laws : Laws) {B T : Type 0} (came : Coming B) (reads_on : ReadingOn B) (has_told : TellingSets T) (form : OutputForm) (began : B) (whole : Plan) (devices : RunDevices) (boxes : Device (List BoxTold)) : Type 0 where
   pub batches : B
   pub ended : Option FeedEnd
@@ -62,12 +62,12 @@ pub record CoreShort (laws : Laws) {B T : Type 0} (came : Coming B) (reads_on : 
       ⊎ FrontIn form devices.output.before devices.output.now (core_job laws (split_of whole) base takens)
   pub had : AllHad (split_of whole).core (KeepsAFront (core_job laws (split_of whole) base takens) streams) boxes
 
--- a run of a core over batches of its plan ended since memory ran out, before there was a net or later
+-- a run of a core over batches of its plan ended because memory ran out, before there was a net or later
 abbrev pub HasRunLiveShort : (laws : Laws) {B T : Type 0} → Giving B → Coming B → ReadingOn B → TellingSets T → OutputForm → B → Plan → RunDevices → Device (List BoxTold) → Type 0
 HasRunLiveShort laws gives came reads_on has_told form began whole devices boxes =
     (ReadFirst gives reads_on began whole devices.input × WasNothing devices.output boxes) ⊎ CoreShort laws came reads_on has_told form began whole devices boxes
 
--- the further inputs are these, with `count` streams of which nothing is known behind their streams
+-- The further inputs are these, with `count` more streams after their streams. Nothing is known of the new streams.
 pub record IsWidened (inputs more : Inputs) (count : ℕ) : Type 0 where
   pub streams : more.streams ≡ inputs.streams ++ replicate count empty_prefix
   pub sides : more.sides ≡ inputs.sides

@@ -30,12 +30,11 @@ use Rattle.mg_drive.specs.declared.driving.Step.TheVariants.{On, Over}
 abbrev pub ReadingOn : Type 0 → Type 1
 ReadingOn B = B → Plan → SourceTold → SourceTold → SourceTold → Type 0
 
--- the type of `TellingSets::has_told`: which sets were told
+-- the type of `Telling::has_told`: which sets were told
 abbrev pub TellingSets : Type 0 → Type 1
 TellingSets T = T → Plan → SinkTold → SinkTold → List (TimedSet Plain) → Type 0
 
--- how a run began: its plan, the calculators that were handed in, what the input and the output told, and where its batches
--- come from
+-- how a run began: its plan, the user-supplied calculators, what the input and the output told, and where its batches come from
 pub record Start (B : Type 0) : Type 0 where
   pub plan : Plan
   pub boxes : List BoxTold
@@ -68,7 +67,7 @@ pub record IsSomeTold (laws : Laws) {T : Type 0} (has_told : TellingSets T) (sin
   pub stands : StandsFor job net
   pub is_told : IsTold has_told job.job first sink (taken_out net) telling
 
--- A run over batches is under way: its net stands for the job of what they gave, and the last of them ended in this way.
+-- A run over batches is under way. Its net stands for the job over what they gave, and the last batch ended in this way.
 pub record IsUnderWay (laws : Laws) {B T : Type 0} (gives : Giving B) (has_told : TellingSets T) (start : Start B) (end : BatchEnd) (source : SourceTold) (sink : SinkTold) (batches : B) (telling : T) (net : NetView) : Type 0 where
   pub inputs : Inputs
   pub given : gives start.batches batches start.plan start.source source end inputs
@@ -107,7 +106,7 @@ pub record SomeRested (laws : Laws) (plan : Plan) (net : NetView) : Type 0 where
   pub stands : StandsFor job net
   pub has_rested : HasRested job net
 
--- a net has come to rest over what batches gave for a plan, the last of which ended the input in this way
+-- A net has come to rest over what batches gave for a plan. The last batch ended the input in this way.
 pub record SomeRestedOf (laws : Laws) {B : Type 0} (gives : Giving B) (plan : Plan) (end : FeedEnd) (net : NetView) (batches : B) : Type 0 where
   pub given : SomeGiven laws gives (End end) net batches
   pub plan_is : given.plan ≡ plan
@@ -135,11 +134,11 @@ abbrev pub LeavesFewer : Step → BatchEnd → ℕ → ℕ → Type 0
 LeavesFewer (On end) last before now = steps_left end now < steps_left last before
 LeavesFewer (Over end) last before now = ⊤
 
--- a front of the text by which a job's solution is told in a form was taken
+-- a prefix of the text by which a job's solution is told in a form was taken
 abbrev pub FrontIn : OutputForm → SinkTold → SinkTold → Job → Type 0
 FrontIn form first sink job = (streams : List (StreamPrefix Plain)) → IsSolution job streams → TookFront (device first sink) (output_in form job.plan streams)
 
--- Memory ran out in a run: after a batch had come, or while more was read behind it.
+-- Memory ran out in a run: after a batch had come, or while more was read after that batch.
 pub record IsShort (laws : Laws) {B T : Type 0} (gives : Giving B) (reads_on : ReadingOn B) (has_told : TellingSets T) (form : OutputForm) (start : Start B) (source : SourceTold) (sink : SinkTold) (net : NetView) : Type 0 where
   pub batches : B
   pub end : BatchEnd

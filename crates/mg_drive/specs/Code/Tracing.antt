@@ -33,13 +33,13 @@ pub record IsSomeMade (laws : Laws) (plan : Plan) (net : NetView) : Type 0 where
   pub boxes : List BoxTold
   pub made : IsMade laws plan inputs boxes net
 
--- The lines of the events of a run from one net to another were put behind a text, and an end behind them.
+-- The lines of the events of a run from one net to another were put after a text, and an end after these lines.
 pub record HasRecorded (laws : Laws) (first sink : SinkTold) (blocks : BlockView) (text end : List ℕ) (before now : NetView) : Type 0 where
   pub events : List Event
   pub run : IsRun laws events before now
   pub put : HasPutIn first sink blocks (text ++ (events_text events ++ end))
 
--- memory ran out in a run: the sink took a front of a text and of the lines of the events of a run from a net on.
+-- Memory ran out in a run. The sink took a prefix of a text with the lines of the events of a run from a net on after it.
 pub record HasRecordedSome (laws : Laws) (first sink : SinkTold) (text : List ℕ) (before : NetView) : Type 0 where
   pub there : NetView
   pub events : List Event
@@ -59,14 +59,14 @@ pub record NetShort (laws : Laws) (plan : Plan) (inputs : Inputs) (boxes : List 
   pub took : (output.now ≡ before) ⊎ TookSomeTrace laws plan inputs boxes output
   pub stood : StoodFor (job_of laws plan inputs boxes) net
 
--- A job was run and a trace of it written, and the calculators that were handed in had their calls.
+-- A job was run and a trace of it written, and the user-supplied calculators had their calls.
 pub record JobTraced (laws : Laws) (report : Reporting) (plan : Plan) (inputs : Inputs) (end : FeedEnd) (status : Status) (output notes : Device SinkTold) (boxes : Device (List BoxTold)) : Type 0 where
   pub text : List ℕ
   pub trace : IsTrace laws plan inputs boxes.before text
   pub wrote : Wrote (by_text text report) (plan_job laws plan inputs) end status output notes
   pub had : HadCallsOf (plan_job laws plan inputs) boxes
 
--- Memory ran out while a job was run and recorded: the output took nothing or some of a trace, and the calculators came back from the net.
+-- Memory ran out while a job was run and recorded. The output took nothing or some of a trace, and the calculators came back from the net.
 pub record JobShort (laws : Laws) (plan : Plan) (inputs : Inputs) (output : Device SinkTold) (boxes : Device (List BoxTold)) : Type 0 where
   pub took : Untouched output ⊎ TookSomeTrace laws plan inputs boxes.before output
   pub net : NetView

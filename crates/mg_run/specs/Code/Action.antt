@@ -33,8 +33,8 @@ action_view (Refuse note) = refuse note.items
 action_view (Show text) = show text.items
 action_view (Graph used report plan) = use_action used report plan
 
--- An action can be done: a plan that is used is valid, with free nodes where such are run; the calculators that are handed in fit a plan
--- that is run; and no node of a plan that is solved has a stated law.
+-- An action can be done. A plan that is used is valid, with free nodes if a graph with free nodes is run. The user-supplied calculators fit
+-- a plan that is run. No node of a plan that is solved has a stated law.
 abbrev pub CanBeDone : List OuterShape → Action → Type 0
 CanBeDone outers (refuse note) = Unit {0}
 CanBeDone outers (show text) = Unit {0}
@@ -46,8 +46,8 @@ CanBeDone outers (generate_live report number plan) = IsValidWithFree plan × Ou
 CanBeDone outers (trace report plan) = IsValid plan × OutersFit plan outers
 CanBeDone outers (replay report plan) = IsValid plan × OutersFit plan outers
 
--- All files of an invocation were loaded, and this action is what there is to do with them. The calculators that are handed in have the
--- shapes of their laws.
+-- All files of an invocation were loaded, and this action is what there is to do with them. The user-supplied calculators have the shapes
+-- of their laws.
 pub record IsDue (invocation : Invocation) (store : Device StoreTold) (action : Action) : Type 0 where
   pub shaped : All IsOuterShape invocation.outers
   pub contents : List (List ℕ)

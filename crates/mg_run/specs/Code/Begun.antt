@@ -1,4 +1,4 @@
--- What a call has come to before a graph is used.
+-- How far a call has got before a graph is used.
 use Rattle.std.specs.Prelude.{◌≡◌, List, All}
 use Rattle.mg_calc.specs.Rules.{Laws}
 use Rattle.mg_calc.specs.Told.{BoxTold}
@@ -15,8 +15,8 @@ use Rattle.mg_run.specs.declared.action.Use.{Use}
 use Rattle.mg_run.specs.declared.beginning.Begun.{Begun}
 use Rattle.mg_run.specs.declared.beginning.Begun.TheVariants.{Ended, Left}
 
--- The graph of a plan is left to be used, which can be done. Nothing was done to the devices of a run, and whatever comes of that use, this is
--- known of the call.
+-- The graph of a plan is left to be used, and that use can be done. Nothing was done to the devices of a run. Whatever comes of that use,
+-- this is known of the call.
 pub record IsLeft (laws : Laws) (outers : List OuterShape) (known : Status → CallDevices → Type 0) (used : Use) (report : Reporting) (plan : Plan) (store : Device StoreTold) (run : RunDevices) : Type 0 where
   pub can : CanBeDone outers (use_action used report plan)
   pub lawful : All MayBeHandedIn outers

@@ -1,4 +1,4 @@
--- Those so far.
+-- The entries so far.
 use Rattle.std.proofs.Common.{◌≡◌, List, map, take}
 use Rattle.mg_value.specs.Payload.{Plain}
 use Rattle.mg_settled.specs.Prefix.{StreamPrefix}

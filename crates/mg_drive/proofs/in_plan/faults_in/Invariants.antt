@@ -1,4 +1,4 @@
--- Those so far.
+-- The entries so far.
 use Rattle.std.proofs.Common.{◌≡◌, map, take}
 use Rattle.mg_drive.specs.Live.{renumbered_fault}
 use Rattle.mg_drive.proofs.in_plan.faults_in.Given as goal

@@ -1,4 +1,4 @@
--- With those of the nodes that are left it comes to the same.
+-- The numbers so far, with those of the nodes that are left, are the numbers of all nodes.
 use Rattle.std.proofs.Common.{◌≡◌, ◌+◌, ◌++◌, List, map, drop, length, filter}
 use Rattle.mg_free.specs.Core.{is_free, is_core}
 use Rattle.mg_free.specs.Rounds.{Taken}

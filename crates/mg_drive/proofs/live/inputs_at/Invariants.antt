@@ -1,4 +1,4 @@
--- Those so far.
+-- The entries so far.
 use Rattle.std.proofs.Common.{◌≡◌, ◌+◌, map, take}
 use Rattle.mg_drive.proofs.live.inputs_at.Given as goal
 

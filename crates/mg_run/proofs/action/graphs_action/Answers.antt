@@ -15,8 +15,8 @@ use Rattle.mg_run.specs.Code.Action.{action_view}
 use Rattle.mg_run.specs.declared.action.Action.{Action}
 use Rattle.mg_run.proofs.action.graphs_action.Goals as goal
 
--- An action of the first of some graphs, with those behind it, is the action of all of them. What the actions are doesn't count: `all` and `by` are
--- any two functions that agree so.
+-- An action of the first of some graphs, with those after it, is the action of all of them. What the actions are doesn't count: `all` and
+-- `by` are any two functions that agree so.
 of_all : {J : Type 0} (all : List GraphView → J) (by : GraphView → List GraphView → J) → ((g : GraphView) (gs : List GraphView) → by g gs ≡ all (g ∷ gs))
     → (graphs : List GraphConfig) (main : GraphConfig) (library : List GraphConfig) → 0 < length graphs → main ≡ get_or graphs 0 main → library ≡ drop 1 graphs
     → by (graph_view main) (map graph_view library) ≡ all (map graph_view graphs)

@@ -21,7 +21,7 @@ unstated : (law : Law) → is_stated law ≡ false → IsStated law → ⊥
 unstated (Stated number parameters offset) fails is = false≢true (sym fails)
 unstated law fails is = is
 
--- where no node is found, no node's law is stated
+-- if no node is found, no node's law is stated
 all_unstated : (i : ℕ) (nodes : List PlanNode) → position_from at_node i nodes ≡ None → AllByRecursion IsOther nodes
 all_unstated i [] none = tt
 all_unstated i (n ∷ ns) none = by_test (at_node n) refl (λ fails. all_unstated (i + 1) ns (sym (ap (λ t. cond t (Some i) (position_from at_node (i + 1) ns)) fails) ∙ none))
