@@ -1,4 +1,5 @@
--- What an EndLoop makes of ends of batches and items: for each end a list of the items up to it that no earlier list has.
+-- What an EndLoop makes of ends of batches and of items. For each end it makes a list of the items up to that end that no earlier list
+-- has.
 use Rattle.std.proofs.Common.{◌≡◌, ℕ, ◌+◌, ◌≤◌, nat_le, Bool, true, false, List, [], ◌∷◌, ◌++◌, map, Option, Some, None, ◌⊎◌, inl, inr, Ok, Err, refl, sym, ap, ap₂, subst, ◌∙◌, arith, le-leb, if◌then◌else◌}
 use Rattle.std.proofs.lemmas.List.{append_assoc, append-nil}
 use Rattle.std.proofs.lemmas.Bool.Decides.{nat_tests}
@@ -24,7 +25,7 @@ use Rattle.mg_batch.proofs.SetsOf.{Among, StandsFirst, StandsLater, first_or_lat
 abbrev pub values : List (Stamped Plain) → List Plain
 values ps = map (λ p. p.value) ps
 
--- the first packets that stand at a time or before, and the others
+-- the first packets that stand at a time or before, and all other packets
 abbrev pub up_to : ℕ → List (Stamped Plain) → List (Stamped Plain)
 up_to t [] = []
 up_to t (p ∷ ps) = if nat_le p.at t then p ∷ up_to t ps else []
@@ -42,7 +43,7 @@ abbrev pub gathers : List Plain → List (Stamped Plain) → List (Stamped Plain
 gathers list [] ps = []
 gathers list (end ∷ ends) ps = list_at (list ++ values (up_to end.at ps)) end ∷ gathers [] ends (beyond end.at ps)
 
--- what is emitted at a set, and what is gathered behind it
+-- what is emitted at a set, and what is gathered after it
 abbrev lists_of : List Plain → Option (Stamped Plain) → List (Stamped Plain)
 lists_of list None = []
 lists_of list (Some end) = list_at list end ∷ []
@@ -90,7 +91,7 @@ item_first list [] ps p before = refl
 item_first list (e ∷ es) ps p before =
     rw (le-leb p.at e.at (before e es refl)) (ap (λ l. list_at l e ∷ gathers [] es (beyond e.at ps)) (append_assoc list (p.value ∷ []) (values (up_to e.at ps))))
 
--- where all items stand behind an end, the list goes on as it is
+-- if all items stand after an end, the list goes on as it is
 none_up_to : (t : ℕ) (ps : List (Stamped Plain)) → Rises (t + 1) (times_of ps) → (up_to t ps ≡ []) × (beyond t ps ≡ ps)
 none_up_to t [] r = (refl, refl)
 none_up_to t (p ∷ ps) r = (let no : nat_le p.at t ≡ false = grind (arith, nat_tests, r.0) in rw no (refl, refl))
@@ -104,13 +105,13 @@ end_first list e es ps r =
 abbrev pub sets : List (Stamped Plain) → List (Stamped Plain) → List ℕ → List (TimedSet Plain)
 sets es is us = map (λ t. record { at = t; set = packet_at t es ∷ packet_at t is ∷ [] }) us
 
--- the sets behind the first, of what is left of the packets
+-- the sets after the first, of the packets that are left
 others : (us : List ℕ) (es is fs js : List (Stamped Plain)) → ((t : ℕ) → In t us → packet_at t es ≡ packet_at t fs) → ((t : ℕ) → In t us → packet_at t is ≡ packet_at t js) → sets es is us ≡ sets fs js us
 others us es is fs js same_e same_i =
     map_agree (λ t. record { at = t; set = packet_at t es ∷ packet_at t is ∷ [] }) (λ t. record { at = t; set = packet_at t fs ∷ packet_at t js ∷ [] }) us
     (λ t i. ap₂ (λ (o q : Option (Stamped Plain)). record { at = t; set = o ∷ q ∷ [] }) (same_e t i) (same_i t i))
 
--- the first set shows an end, an item, both or neither, and behind it the calculator goes on
+-- the first set shows an end, an item, both or neither, and after it the calculator goes on
 abbrev GoesOn : ℕ → List ℕ → List (Stamped Plain) → List (Stamped Plain) → List Plain → List (Stamped Plain) → Type 0
 GoesOn u us es is list ps = (end item : Option (Stamped Plain)) (fs js : List (Stamped Plain)) → packet_at u es ≡ end → packet_at u is ≡ item → Rises (u + 1) (times_of fs) → Rises (u + 1) (times_of js) → Among fs us → Among js us
     → sets es is us ≡ sets fs js us → ps ≡ lists_of (with_more list item) end ++ gathers (left_of (with_more list item) end) fs js

@@ -62,7 +62,7 @@ items_above a c (p ∷ ps) le =
     both_from (inner_time a) (at_inner_times c (items_in p.value)) (items_from (last_inner c (length (items_in p.value)) + 1) ps) (inner_from a c (items_in p.value) le)
     (items_above a (last_inner c (length (items_in p.value)) + 1) ps (omega (arith, le)))
 
--- those of one list are up to its end, and the others beyond
+-- the packets of one list are up to its end, and all other packets beyond
 cut_here : (t : ℕ) (ps : List (Stamped Plain)) → From (t + 1) ps → (up_to t ps ≡ []) × (beyond t ps ≡ ps)
 cut_here t [] h = (refl, refl)
 cut_here t (p ∷ ps) h = (let no : nat_le p.at t ≡ false = grind (arith, nat_tests, h.0) in rw no (refl, refl))

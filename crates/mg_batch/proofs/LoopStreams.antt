@@ -1,4 +1,4 @@
--- The streams of a node in the solution: what becomes of the node, and what its settled sets are where its inputs have ended.
+-- The streams of a node in the solution: what becomes of the node, and what its settled sets are if its inputs have ended.
 use Rattle.std.proofs.Common.{◌≡◌, ℕ, zero, suc, ◌+◌, ◌<◌, List, [], ◌∷◌, ◌++◌, length, length-append, map, get_or, Some, slice_get, ap, ap₂, sym, refl, subst, ◌∙◌, inl, inr, arith}
 use Rattle.std.specs.List.{flat_map, range_with_len, AllByRecursion}
 use Rattle.std.proofs.lemmas.List.{length-map}
@@ -96,7 +96,7 @@ node_streams job streams number node is_job solution there =
     (sym (map-both (stream_of streams) plan.inputs (flat_map (λ n. n.outputs) plan.nodes)) ∙ all) (length-map plan.inputs (stream_of streams) ∙ sym is_job.inputs.streams) in
     part_of job streams plan.nodes number node parts.1 (all_long job streams plan.nodes known.loops prefixes) there
 
--- where streams have ended, all their packets stand below the least bound
+-- if streams have ended, all their packets stand below the least bound
 pub all_ended : (ss : List (StreamPrefix Plain)) → AllByRecursion (λ s. s.bound ≡ done) ss → low ss ≡ done
 all_ended [] h = refl
 all_ended (s ∷ ss) h = omega (arith, h.0, all_ended ss h.1)

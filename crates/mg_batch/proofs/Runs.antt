@@ -103,7 +103,7 @@ all_raised_packets None bound outputs i = (refl, refl)
 all_raised_packets (Some offset) bound outputs i =
     (map_packets (λ output. raised output (shift bound offset)) (λ s. refl) outputs i, length-map outputs (λ output. raised output (shift bound offset)))
 
--- what one set comes to, where the node hasn't failed behind it
+-- what one set results in, if the node hasn't failed after it
 pub record Stepped (law : Law) (before : Outcome) (set : TimedSet Plain) (now : Outcome) (i : ℕ) : Type 0 where
   pub given : List Plain × List Laid
   pub answers : step law before.state set.at set.set ≡ Ok given

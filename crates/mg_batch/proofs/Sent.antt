@@ -1,5 +1,5 @@
--- A law may cross threads, and so may what holds one. The search over all of a law's variants wants what its emissions are first,
--- and a struct asks it of a field, which is another term than the row of the field's type.
+-- A law may cross threads, and so may what holds one. The search over all of a law's variants first needs this of its emissions. A
+-- struct needs the same of a field, which is another term than the row of the field's type.
 use denote.Param.Send.{IsSend, sendable}
 use Rattle.std.proofs.Crossing.{crosses}
 use Rattle.mg_time.proofs.timestamp.Timestamp.TheSendSync.{the_send as timestamp}

@@ -71,7 +71,7 @@ pub filter_map-agree : {Y : Type 0} (f g : ℕ → Option Y) (us : List ℕ) →
 filter_map-agree f g [] same = refl
 filter_map-agree {Y} f g (u ∷ us) same = ap₂ (λ (o : Option Y) (ys : List Y). cons_option o ys) (same u (inl refl)) (filter_map-agree f g us (λ t i. same t (inr i)))
 
--- at times among which those of the packets are, the packets are found, and nothing else
+-- if the packets' times are among some times, the packets are found at these, and nothing else is
 pub all_found : {X : Type 0} (a b : ℕ) (us : List ℕ) (ps : List (Stamped X)) → Rises a us → Rises b (times_of ps) → Among ps us → filter_map (λ t. packet_at t ps) us ≡ ps
 all_found a b [] [] ru rp among = refl
 all_found a b [] (p ∷ ps) ru rp among = absurd (among p.at (inl refl))

@@ -21,14 +21,14 @@ IsInner (Map op operand) = ⊤
 IsInner (Filter keep raises) = ⊤
 IsInner _ = ⊥
 
--- what a law that may stand inside a loop makes of a payload, or none where it drops it
+-- what a law that may stand inside a loop makes of a payload, or none if it drops the payload
 abbrev pub image : Law → Plain → Option Plain
 image Pass v = Some v
 image (Map op operand) v = Some (int (mapped op operand (number_of v)))
 image (Filter keep raises) v = if is_kept keep (number_of v) then Some v else None
 image _ v = None
 
--- what nodes inside a loop make of a payload, one after the other, or none where one of them drops it
+-- what nodes inside a loop make of a payload, one after the other, or none if one of them drops it
 abbrev pub images : List PlanNode → Plain → Option Plain
 images [] v = Some v
 images (node ∷ nodes) v = option_and_then (images nodes) (image node.law v)
@@ -37,7 +37,8 @@ images (node ∷ nodes) v = option_and_then (images nodes) (image node.law v)
 abbrev pub list_of_images : List PlanNode → Stamped Plain → Stamped Plain
 list_of_images nodes p = record { at = p.at; value = items (items_of (filter_map (images nodes) (items_in p.value))) }
 
--- nodes of laws that may stand inside a loop lead from one stream to another: each reads one stream and writes one, which the next reads
+-- nodes of laws that may stand inside a loop lead from one stream to another. Each reads one stream and writes one, and the next node
+-- reads that.
 abbrev pub Leads : List PlanNode → ℕ → ℕ → Type 0
 Leads [] from to = from ≡ to
 Leads (node ∷ nodes) from to = IsInner node.law × (node.inputs ≡ from ∷ []) × (out : ℕ) × (node.outputs ≡ out ∷ []) × Leads nodes out to
@@ -46,8 +47,8 @@ Leads (node ∷ nodes) from to = IsInner node.law × (node.inputs ≡ from ∷ [
 abbrev pub IsOf : Plan → PlanNode → Type 0
 IsOf plan node = (number : ℕ) × (slice_get plan.nodes number ≡ Some node)
 
--- a loop over the lists of a stream, whose lists come out on another: a BeginLoop reads the lists; nodes lead from its ITEM, the last of
--- its outputs, to the ITEM of an EndLoop; and this reads its BATCH_END, the first of its outputs
+-- a loop over the lists of a stream, whose lists come out on another. A BeginLoop reads the lists. Nodes lead from its ITEM, the last
+-- of its outputs, to the ITEM of an EndLoop. The EndLoop also reads BATCH_END, the first output of the BeginLoop.
 pub record IsLoop (plan : Plan) (clone : Bool) (lists : ℕ) (begin : PlanNode) (inner : List PlanNode) (end : PlanNode) (out : ℕ) : Type 0 where
   pub items : ℕ
   pub images : ℕ

@@ -1,4 +1,4 @@
--- The calculators of loops over lists that the program hands in.
+-- The calculators of loops over lists that the program supplies.
 use Rattle.std.specs.Prelude.{Bool, [], ◌++◌, None, codes, false, if◌then◌else◌}
 use Rattle.mg_value.specs.declared.kind.Kind.TheVariants.{Any, Int, Items}
 use Rattle.mg_calc.specs.declared.law.Law.TheVariants.{BeginLoop, EndLoop}

@@ -14,7 +14,7 @@ use mg_time::Timestamp;
 use std::alloc::{AllocError, Global};
 use std::marker::Model;
 
-/// A BeginLoop or EndLoop calculator that can be handed in. If it is telling, it keeps a log of its calls, whose sets share the
+/// A BeginLoop or EndLoop calculator that a caller can supply. If it is telling, it keeps a log of its calls, whose sets share the
 /// payloads of the sets that it was shown.
 #[derive(Drop)]
 pub struct BatchBox {

@@ -18,7 +18,7 @@ use std::sync::Arc;
 /// The greatest number of an inner time: that of `Timestamp::MAX`.
 const LAST: u64 = 9223372036854775804;
 
-// The inner times of a list: the number of the first, and the number behind the last.
+// The inner times of a list: the number of the first, and the number after the last.
 #[derive(Drop)]
 struct Span {
     first: u64,
@@ -57,7 +57,7 @@ fn iterable_port(clone: bool) -> u32
     if clone { 1 } else { 0 }
 }
 
-// The items of a list; none where a payload is no list.
+// Returns the items of a payload's list, or no items if the payload is no list.
 fn items_in(payload: &Payload) -> &[Payload]
     ensures { map plain result.now ≡ its_items (plain payload.now) }
 {
@@ -67,8 +67,8 @@ fn items_in(payload: &Payload) -> &[Payload]
     }
 }
 
-// Returns the number behind the inner times of a list of `count` items, which begin at `first`, or none where that is past the last
-// timestamp. An empty list takes one inner time.
+// Returns the number after the inner times of a list of `count` items, or none if that is past the last timestamp. The inner times
+// begin at `first`. An empty list takes one inner time.
 fn next_inner(first: u64, count: usize) -> Option<u64>
     ensures some { IfSome result (λ next. (next ≡ last_inner first count + 1) × (next ≤ 2 ^ 63 - 4)) }
     ensures none { IsNone result → nat_le (last_inner first count + 1) (2 ^ 63 - 4) ≡ false }
@@ -89,7 +89,7 @@ fn inner_time(number: u64) -> Timestamp
     }
 }
 
-// Copies of payloads as packets, at the inner times from a number on.
+// Returns copies of payloads as packets, at the inner times from a number on.
 fn stamped(alloc: Global, first: u64, items: &[Payload]) -> Result<Vec<Packet>, AllocError>
     requires { first + length items.now ≤ 2 ^ 63 - 4 }
     ensures { IfOk result (λ packets. packets.items ≡ at_inner_times first (map plain items.now)) }
@@ -124,7 +124,7 @@ fn copies(
     Ok(packets)
 }
 
-// What is laid at an output: packets, and then a raise to the next inner time.
+// Returns what is laid at an output: packets, and then a raise to the next inner time.
 fn laid_up_to(packets: Vec<Packet>, next: u64) -> Result<Laid, AllocError>
     requires { next ≤ 2 ^ 63 - 4 }
     ensures { IfOk result (λ laid. (last : ℕ) → next ≡ last + 1 → laid ≡ the_laid last packets.items) }
@@ -136,7 +136,7 @@ fn laid_up_to(packets: Vec<Packet>, next: u64) -> Result<Laid, AllocError>
     })
 }
 
-// Returns what is laid at the output CLONE, or none where the calculator hasn't that output.
+// Returns what is laid at the output CLONE, or none if the calculator hasn't that output.
 fn copies_laid(
     alloc: Global,
     clone: bool,
@@ -155,7 +155,7 @@ fn copies_laid(
     Ok(None)
 }
 
-// Returns `count` packets that share the payload of the packet of CLONE, or no packets where CLONE has none.
+// Returns `count` packets that share the payload of the packet of CLONE, or no packets if CLONE has none.
 fn cloned(
     alloc: Global,
     first: u64,
@@ -171,7 +171,8 @@ fn cloned(
     }
 }
 
-// Returns what is laid at BATCH_END for a list at a time: that time, at the last inner time of the list, and a raise to `next`.
+// Returns what is laid at BATCH_END for a list at a time. It is that time, in a packet at the list's last inner time, and a raise to
+// `next`.
 fn end_laid(alloc: Global, at: Timestamp, next: u64) -> Result<Laid, AllocError>
     requires some { 1 ≤ next }
     requires last { next ≤ 2 ^ 63 - 4 }

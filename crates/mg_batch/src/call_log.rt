@@ -11,7 +11,7 @@ use std::alloc::{AllocError, AllocFailed, Global};
 use std::marker::Model;
 use std::mem;
 
-/// A log of a calculator's calls, which is kept only if it is telling. Contracts see the list of calls, or none where it isn't.
+/// A log of a calculator's calls, which is kept only if it is telling. Contracts see the list of calls, or none if the log isn't kept.
 #[derive(Drop)]
 pub struct CallLog {
     telling: bool,
@@ -45,7 +45,7 @@ impl CallLog {
         }
     }
 
-    /// Returns the calls in order, or an empty list where the log isn't kept.
+    /// Returns the calls in order, or an empty list if the log isn't kept.
     pub fn calls(&self) -> &CallList
         ensures { result.now ≡ shown_calls self.now }
     {
@@ -89,7 +89,7 @@ impl CallLog {
         self.note(alloc, Call::Shown { at, set })
     }
 
-    /// Removes the last call if its answer is want of memory; a call that gave an emission or failed stays.
+    /// Removes the last call if its answer is `OutOfMemory`; a call that gave an emission or failed stays.
     pub fn keep_answered(&mut self, alloc: Global, answer: &Result<Emission, CalcFault>)
         ensures { (before : Option (List TheCall)) (call : TheCall) → self.old ≡ with_a_call before call → Logs answer.now before self.new call }
     {
@@ -128,7 +128,7 @@ fn no_calls(alloc: Global) -> CallList
     list_of(Vec::new(alloc))
 }
 
-// Returns a list with a further call. Where there is no memory for it, the error gives the list back as it was.
+// Returns a list with a further call. Out of memory: the error gives the list back as it was.
 fn with_call(log: CallList, call: Call) -> Result<CallList, AllocFailed<CallList>>
     ensures more { IfOk result (λ now. now ≡ log ++ call ∷ []) }
     ensures same { IfErr result (λ e. e.value ≡ log) }

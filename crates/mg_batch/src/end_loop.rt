@@ -64,7 +64,7 @@ fn keep(alloc: Global, state: &mut State, item: Option<&Packet>) -> Result<(), A
     }
 }
 
-// Returns the emission, at a time, of the list that a state keeps, with the payload of a packet behind it, if there is one.
+// Returns the emission, at a time, of the list that a state keeps. If there is a packet, its payload is the list's last item.
 fn gathered(
     alloc: Global,
     state: &State,

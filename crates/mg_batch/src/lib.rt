@@ -1,4 +1,4 @@
-//! Loops over lists: what begins and ends them, and calculators of these two laws that can be handed in.
+//! Loops over lists: what begins and ends them, and calculators of these two laws that a caller can supply.
 //! Answers to the definitions of `specs/Batch.antt` and `specs/Told.antt` of mg_calc, and of `specs/Loop.antt`.
 #![tactic(auto)]
 

@@ -1,4 +1,4 @@
-//! The calculators of loops over lists that the program hands in.
+//! The calculators of loops over lists that the program supplies.
 ghost use Rattle.std.specs.Prelude.{◌≡◌, ◌++◌, [], None, true, false, IfOk};
 ghost use Rattle.mg_calc.specs.Shape.{tagged};
 ghost use Rattle.mg_batch.specs.Loops.{begin_shape, end_shape, new_begin, new_end};

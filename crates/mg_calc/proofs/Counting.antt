@@ -104,7 +104,7 @@ all_of_first P zero xs a = tt
 all_of_first P (suc n) [] a = tt
 all_of_first P (suc n) (x ∷ xs) a = (a.0, all_of_first P n xs a.1)
 
--- no stream is stalled where each has ended
+-- no stream is stalled if each has ended
 none_stalled_from : (k : ℕ) (streams : List (StreamPrefix Plain)) → AllByRecursion (λ s. s.bound ≡ done) streams → map (λ entry. entry.0) (filter (λ entry. not (entry.1.bound == done)) (enumerate_from k streams)) ≡ []
 none_stalled_from k [] a = refl
 none_stalled_from k (s ∷ streams) a = elim (eqb_tells s.bound done) [
@@ -125,7 +125,7 @@ none_stalled streams = (
   (λ a. none_stalled_from 0 streams (recursion_from_All (λ (s : StreamPrefix Plain). s.bound ≡ done) streams a)),
 )
 
--- no fault is told exactly where no node failed
+-- no fault is told exactly if no node failed
 cons_nothing : {X : Type 0} (o : Option X) (xs : List X) → cons_option o xs ≡ [] → (o ≡ None) × (xs ≡ [])
 cons_nothing None xs e = (refl, e)
 cons_nothing (Some x) xs e = absurd cc
@@ -191,7 +191,7 @@ shown_below job streams node k =
     (all_of_first P (count_of job streams node) (settled_sets node.policy inputs)
     (recursion_from_All P (settled_sets node.policy inputs) (below-bounds node.policy inputs (All-from_recursion IsPrefix inputs (streams_are_prefixes streams node.inputs k)))))
 
--- a log tells each shown set, behind Open and before Close, which comes where Open succeeded
+-- a log tells Open, then each shown set, and then Close, if Open succeeded
 pub log_long : (job : Job) (streams : List (StreamPrefix Plain)) (node : PlanNode) → length (log_of job streams node) ≡ length (shown_sets job streams node) + 1 + length (last_call (outcome_of job streams node).fault)
 log_long job streams node =
     let all = length-append (Begun ∷ map (λ e. Shown e.at e.set) (shown_sets job streams node)) (last_call (outcome_of job streams node).fault) in

@@ -1,5 +1,5 @@
--- In a valid plan each input of a node comes from a graph input or from a node that stands earlier in the order, but for
--- LOOP of a loopback.
+-- In a valid plan each input of a node comes from a graph input or from an earlier node in the order. Only LOOP of a loopback may come
+-- from another node.
 use Rattle.std.proofs.Common.{◌≡◌, ℕ, zero, suc, ◌+◌, ◌<◌, ◌≤◌, zero-add, length, List, [], ◌∷◌, ◌++◌, map, true, false, Option, Some, None, IfSome, IsSomeAnd, slice_get, get_or, All, refl, sym, ap, ap₂, subst, arith, inl, inr, ◌⊎◌}
 use Rattle.std.specs.List.{AllByRecursion, flat_map, range_with_len, enumerate_from}
 use Rattle.std.specs.Option.{option_and_then}
@@ -68,7 +68,7 @@ come_at P k (suc w) (n ∷ nodes) node c e =
     subst (λ (i : ℕ). AllByRecursion P (ends_at i node.inputs)) (let s : k + 1 + w ≡ k + suc w = omega arith in s)
     (come_at P (k + 1) w nodes node c.1 e)
 
--- what holds of each edge holds of those into a node
+-- what holds of each edge holds of the edges into a node
 pub edges_into : (plan : Plan) (P : Ends → Type 0) (w : ℕ) (node : PlanNode) → IsValid plan → AllByRecursion P (map ends_of plan.edges) → slice_get plan.nodes w ≡ Some node → AllByRecursion P (ends_at w node.inputs)
 edges_into plan P w node valid edges e =
     let ends : AllByRecursion P (all_ends plan) = subst (AllByRecursion P) valid.edges edges in
@@ -114,12 +114,12 @@ at_place P [] i x a e = absurd cc
 at_place P (y ∷ ys) zero x a e = subst P (some_same y x e) a.0
 at_place P (y ∷ ys) (suc i) x a e = at_place P ys i x a.1 e
 
--- The producers that are known: graph inputs, and the nodes of which something holds.
+-- The producers that are known: graph inputs, and the nodes that have a given property.
 abbrev pub KnownBy : (ℕ → Type 0) → Producer → Type 0
 KnownBy Held (Input i) = Unit {0}
 KnownBy Held (Node node port) = Held node
 
--- where a list stands behind others
+-- the element that stands after the first of two lists
 pub behind : {X : Type 0} (xs ys : List X) (x : X) → slice_get (xs ++ x ∷ ys) (length xs) ≡ Some x
 behind [] ys x = refl
 behind (z ∷ xs) ys x = behind xs ys x
@@ -194,13 +194,13 @@ read_below plan nodes w node a e = recursion_from_All (λ (s : ℕ). s < length 
 pub node_reads_below : (plan : Plan) (w : ℕ) (node : PlanNode) → IsValid plan → slice_get plan.nodes w ≡ Some node → AllByRecursion (λ s. s < length plan.streams) node.inputs
 node_reads_below plan w node valid e = read_below plan plan.nodes w node (recursion_from_All (λ (n : PlanNode). All (λ s. s < length plan.streams) n.inputs) plan.nodes valid.ranges.read) e
 
--- the inputs of a node that is no loopback, where the nodes before it are known
+-- the inputs of a node that is no loopback, if the nodes before it are known
 pub known_inputs : (plan : Plan) (Held : ℕ → Type 0) (w : ℕ) (node : PlanNode) (xs ys : List (StreamPrefix Plain)) → IsValid plan → IsNext plan Held w → slice_get plan.nodes w ≡ Some node → ¬ (node.law ≡ Loopback)
     → Agree (KnownBy Held) (producers plan) xs ys → map (stream_of xs) node.inputs ≡ map (stream_of ys) node.inputs
 known_inputs plan Held w node xs ys valid next e other agree =
     inputs_same plan Held w node 0 node.inputs xs ys valid next e other (node_reads_below plan w node valid e) (inputs_come plan w node valid e) agree
 
--- and MAIN of one that is
+-- and MAIN of a loopback
 main_by : (plan : Plan) (Held : ℕ → Type 0) (w : ℕ) (streams : List ℕ) (xs ys : List (StreamPrefix Plain)) → IsValid plan → IsNext plan Held w
     → AllByRecursion (λ t. t < length plan.streams) streams → AllByRecursion (Comes plan) (ends_at w streams)
     → Agree (KnownBy Held) (producers plan) xs ys → stream_of (map (stream_of xs) streams) 1 ≡ stream_of (map (stream_of ys) streams) 1

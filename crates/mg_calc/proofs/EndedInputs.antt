@@ -1,4 +1,4 @@
--- What becomes of a node whose input streams have all ended: where it doesn't fail, its outputs end.
+-- What becomes of a node once its input streams have all ended: if it doesn't fail, its outputs end.
 use Rattle.std.proofs.Common.{◌≡◌, ℕ, ℤ, zero, suc, ◌-◌, ◌≤◌, Bool, true, cond, eqb, ltb, List, [], ◌∷◌, map, drop, length, Option, Some, None, option_map, unwrap_or, Result, Ok, Err, refl, sym, ap, subst, ◌∙◌, arith, lt-ltb}
 use Rattle.std.specs.List.{AllByRecursion, prefix_len, take_while}
 use Rattle.std.proofs.lemmas.Bool.{eq-eqb}
@@ -115,7 +115,7 @@ closed_twice (s ∷ ss) = ap (λ (rest : List (StreamPrefix Plain)). closed s �
 some_none : {X : Type 0} (x : X) → Some x ≡ None → ⊥
 some_none x same = none-some x (sym same)
 
--- where a node goes on and doesn't fail then, what holds of that holds
+-- if a node goes on and doesn't fail then, what holds of the next outcome holds of the node's
 goes_to : (P : Outcome → Type 0) (fault : Option Failure) (outcome next : Outcome) → fault ≡ outcome.fault → (unless_failed fault outcome next).fault ≡ None → (next.fault ≡ None → P next) → P (unless_failed fault outcome next)
 goes_to P None outcome next same good holds = holds good
 goes_to P (Some failure) outcome next same good holds = absurd (some_none failure (same ∙ good))

@@ -171,7 +171,7 @@ shift_past_max = refl
 shift_below_min : step (Shift (negsuc 0)) [] least (Some (pk least (pos 3)) ∷ []) ≡ Err Overflow
 shift_below_min = refl
 
--- a side packet that is missing, and one that isn't
+-- a missing side packet, and one that is there
 side_missing : opening (SideOnce (t 0)) (None ∷ []) ≡ Err NoSide
 side_missing = refl
 

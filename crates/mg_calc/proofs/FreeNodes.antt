@@ -1,4 +1,4 @@
--- Plans without free nodes among those that may have some.
+-- Plans without free nodes, among the plans that may have free nodes.
 use Rattle.std.proofs.Common.{◌≡◌, Option, Some, None, IsSomeAnd, slice_get, get_or, ◌⊎◌, inl, inr, refl}
 use Rattle.std.proofs.lemmas.List.Elements.{recursion_from_All}
 use Rattle.mg_calc.specs.declared.law.Law.{Law}

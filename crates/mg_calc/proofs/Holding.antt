@@ -32,7 +32,7 @@ given job held xs k node = unwrap_or (held k) (outcome_of job xs node).outputs
 abbrev pub held_round : Job → Held → List (StreamPrefix Plain) → List (StreamPrefix Plain)
 held_round job held xs = job.inputs.streams ++ parts (given job held xs) 0 job.plan.nodes
 
--- what is held are prefixes, one for each output
+-- the held outputs are prefixes, one for each output of the node
 abbrev pub HeldFits : Job → Held → Type 0
 HeldFits job held = OfNodes job.plan.nodes (λ k node. IfSome (held k) (λ outs. (length outs ≡ length node.outputs) × AllByRecursion IsPrefix outs))
 
@@ -164,7 +164,7 @@ one_node nodes k j a b e f same = some_is a b (sym e ∙ (ap (slice_get nodes) s
     some_is : (x y : PlanNode) → Some x ≡ Some y → x ≡ y
     some_is x y h = ap (λ o. (elim o [ Some z ↦ z | None ↦ x ])) h
 
--- which changes no round in which the node gives just that
+-- a round stays the same if the node gives just the held outputs there
 pub with_held_same : (job : Job) (held : Held) (j : ℕ) (node : PlanNode) (outs xs : List (StreamPrefix Plain)) → slice_get job.plan.nodes j ≡ Some node → given job held xs j node ≡ outs
     → held_round job (with_held held j outs) xs ≡ held_round job held xs
 with_held_same job held j node outs xs at is =

@@ -50,7 +50,7 @@ reaches_by : (plan : Plan) (input k stream : ℕ) (p : Producer) → Reads plan 
 reaches_by plan input k stream (Input other) r e d = at_once k stream r (e ∙ ap (λ i. Some (Input i)) d)
 reaches_by plan input k stream (Node writer port) r e d = through k stream writer port r e d
 
--- all streams that a list of numbers names, of which each is in another list
+-- all streams that a list of numbers names, if each number is in another list
 streams_same : (plan : Plan) (inputs more : Inputs) (k : ℕ) (node : PlanNode) (streams : List ℕ) (xs ys : List (StreamPrefix Plain)) → IsValid plan → slice_get plan.nodes k ≡ Some node
     → ((port : ℕ) → Safe plan inputs more (Node k port)) → AllByRecursion (λ t. t < length plan.streams) streams → AllByRecursion (Contains node.inputs) streams → Agree (Safe plan inputs more) (producers plan) xs ys
     → map (stream_of xs) streams ≡ map (stream_of ys) streams

@@ -1,5 +1,5 @@
--- What the lemmas on rounds ask for holds of each job of which the plan is valid and the inputs fit; and what the solution
--- does when the inputs change.
+-- Each job with a valid plan and inputs that fit has what the lemmas on rounds ask for. Further lemmas say what the solution does
+-- when the inputs change.
 use Rattle.std.proofs.Common.{◌≡◌, ◌+◌, length, length-append, List, [], ◌∷◌, ◌++◌, refl, sym, ap, ap₂, subst, ◌∙◌}
 use Rattle.std.specs.List.{AllByRecursion, flat_map}
 use Rattle.std.proofs.lemmas.List.Concat.{flat_map-cons, length-flat_map}
@@ -41,7 +41,7 @@ job_known job is = record {
       ∙ ap₂ (λ a b. a + b) (sym is.inputs.streams) (length-flat_map (λ node. node.outputs) job.plan.nodes)));
 }
 
--- a node's outcome depends on the side packets alone of what else is handed in
+-- a node's outcome depends on its input streams, and on nothing else of the job's inputs but the side packets
 pub outcome_of_sides_by : (laws : Laws) (law : Law) (plan : Plan) (inputs more : Inputs) (node : PlanNode) (xs : List (StreamPrefix Plain)) → inputs.sides ≡ more.sides
     → outcome_by law (record { plan = plan; inputs = inputs; laws = laws }) xs node ≡ outcome_by law (record { plan = plan; inputs = more; laws = laws }) xs node
 outcome_of_sides_by laws (Count count start step) plan inputs more node xs same = ap (λ sides. source_outcome (rules_of laws node.law) node.law (calls_of node.law) (length node.outputs) (node_sides plan sides node)) same
@@ -64,7 +64,7 @@ first_extend [] (q ∷ qs) cs e = absurd e
 first_extend (p ∷ ps) [] cs e = absurd e
 first_extend (p ∷ ps) (q ∷ qs) cs e = (e.0, first_extend ps qs cs e.1)
 
--- where the inputs are extended, so is the solution
+-- if the inputs are extended, so is the solution
 pub solution_grows : {laws : Laws} (plan : Plan) (inputs more : Inputs) (xs ys : List (StreamPrefix Plain)) → IsJob (record { plan = plan; inputs = inputs; laws = laws }) → IsJob (record { plan = plan; inputs = more; laws = laws })
     → inputs.sides ≡ more.sides → AreExtendedBy inputs.streams more.streams → IsSolution (record { plan = plan; inputs = inputs; laws = laws }) xs → IsSolution (record { plan = plan; inputs = more; laws = laws }) ys → AreExtendedBy xs ys
 solution_grows {laws} plan inputs more xs ys is other sides e a b =

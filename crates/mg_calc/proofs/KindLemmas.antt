@@ -1,4 +1,4 @@
--- Sets of which some packet isn't of its port's kind: what is left of a set decides, once no place before it is wrong.
+-- Sets with a packet that isn't of its port's kind. If no place so far is wrong, the rest of the set decides.
 use Rattle.std.proofs.Common.{◌≡◌, ℕ, ◌+◌, ◌<◌, Bool, ◌||◌, List, ◌∷◌, Option, None, drop, length, get_or, refl, add-one}
 use Rattle.std.proofs.lemmas.Option.{unwrap_or-slice_get}
 use Rattle.std.proofs.Math.Seq.{drop-cons}

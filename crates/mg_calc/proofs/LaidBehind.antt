@@ -15,7 +15,7 @@ use Rattle.mg_calc.specs.declared.emission.Laid.{Laid}
 use Rattle.mg_calc.specs.declared.node_fault.Phase.{Phase}
 use Rattle.mg_calc.specs.Laying.{is_allowed, is_below_offset, is_bound_to_silence, is_not_alone, laying_fault, unless, after, with_packets, raised_to, with_laid, laid_behind, all_raised}
 
--- what stands behind a good answer
+-- what follows from a good answer
 pub unless_good : {A : Type 0} (fault : Option Cause) (answer : Result A Cause) (value : A) → unless fault answer ≡ Ok value → (fault ≡ None) × (answer ≡ Ok value)
 unless_good (Some cause) answer value h = absurd cc
 unless_good None answer value h = (refl, h)
@@ -47,7 +47,7 @@ may_be_laid offset phase output packet h =
       alone = (λ e. grind (arith, nat_tests, tests.2, e));
     }
 
--- packets behind an output extend it, and make a prefix of a prefix
+-- packets that are appended to an output extend it, and a prefix stays a prefix
 pub packets_extend : (offset : Option ℤ) (phase : Phase) (output longer : StreamPrefix Plain) (packets : List (Stamped Plain)) → with_packets offset phase output packets ≡ Ok longer → IsExtendedBy output longer
 packets_extend offset phase output longer [] h = subst (IsExtendedBy output) (good_same output longer h) (extended_by_itself output)
 packets_extend offset phase output longer (packet ∷ packets) h =

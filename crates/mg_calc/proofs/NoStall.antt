@@ -1,4 +1,4 @@
--- A graph without back edges whose input ended, and in which no node failed: every stream has ended, node by node in the order.
+-- If a graph has no back edges, its input ended and no node failed, every stream has ended. The proof goes node by node in the order.
 use Rattle.std.proofs.Common.{◌≡◌, ℕ, zero, suc, ◌+◌, ◌<◌, ◌-◌, length, List, [], ◌∷◌, ◌++◌, append-nil, append_assoc, map, false, All, Some, None, slice_get, refl, sym, ap, ap₂, subst, ◌∙◌, arith}
 use Rattle.std.specs.List.{AllByRecursion, enumerate_from}
 use Rattle.std.proofs.lemmas.List.{map-append, length-map}
@@ -26,7 +26,7 @@ use Rattle.mg_calc.proofs.Positions.{Agree, agree_both, agree_parts, agree_same,
 use Rattle.mg_calc.proofs.Rounds.{outcome_has_outputs, stream_is_prefix, streams_are_prefixes}
 use Rattle.mg_calc.proofs.Solutions.{solution_has_each, solution_keeps}
 
--- a job without back edges whose inputs ended, and its solution, in which no node failed
+-- a job without back edges and with inputs that ended, and its solution, in which no node failed
 pub record RunsThrough (job : Job) (streams : List (StreamPrefix Plain)) : Type 0 where
   pub is_job : IsJob job
   pub solution : IsSolution job streams
@@ -65,7 +65,7 @@ closed_parts : (give : ℕ → PlanNode → List (StreamPrefix Plain)) (k : ℕ)
 closed_parts give k [] = refl
 closed_parts give k (node ∷ nodes) = map-append closed (give k node) (parts give (k + 1) nodes) ∙ ap (λ rest. map closed (give k node) ++ rest) (closed_parts give (k + 1) nodes)
 
--- ---- the streams of a solution are closed where their nodes have ended
+-- ---- the streams of a solution are closed if their nodes have ended
 whole : (job : Job) (streams : List (StreamPrefix Plain)) → RunsThrough job streams → streams ≡ job.inputs.streams ++ parts (λ k node. (outcome_of job streams node).outputs) 0 job.plan.nodes
 whole job streams r =
     sym r.solution.meets ∙ ap (λ rest. job.inputs.streams ++ rest) (sym (parts_flat (λ node. (outcome_of job streams node).outputs) 0 job.plan.nodes))
@@ -100,7 +100,7 @@ agrees job streams r =
     (from_zero nodes (λ k node. (port : ℕ) → K (Node k port) → (outcome_of job streams node).outputs ≡ map closed (outcome_of job streams node).outputs)
     (λ k node at port is. sym (is node at)))))))
 
--- ---- what a node reads, where the nodes before it have ended
+-- ---- what a node reads, if the nodes before it have ended
 edges_forward : (plan : Plan) (edges : List Edge) → AllByRecursion (λ e. e.back ≡ false → LeadsForward plan e) edges → AllByRecursion (λ e. e.back ≡ false) edges → AllByRecursion (Forward plan) (map ends_of edges)
 edges_forward plan [] f b = tt
 edges_forward plan (e ∷ edges) f b = (f.0 b.0, edges_forward plan edges f.1 b.1)

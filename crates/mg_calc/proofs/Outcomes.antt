@@ -37,7 +37,7 @@ unless_extends : (fault : Option Failure) (outcome next : Outcome) → AreExtend
 unless_extends (Some failure) outcome next e = all_by_themselves outcome.outputs
 unless_extends None outcome next e = e
 
--- where nothing failed, what comes next
+-- if nothing failed, what comes next
 pub goes_on : (fault : Option Failure) (outcome next : Outcome) → fault ≡ None → unless_failed fault outcome next ≡ next
 goes_on (Some failure) outcome next h = absurd cc
 goes_on None outcome next h = refl
@@ -50,7 +50,7 @@ stays None outcome next failure h = absurd cc
 abbrev before_set : Option ℤ → Outcome → ℕ → Outcome
 before_set offset outcome at = record outcome { outputs = all_raised offset at outcome.outputs; taken = outcome.taken + 1 }
 
--- a set extends the outputs; where the node hasn't failed, also those that are raised for it
+-- a set extends the outputs, and, if the node hasn't failed, also the outputs that are raised for the set
 pub set_extends : (rules : Rules) (offset : Option ℤ) (outcome : Outcome) (set : TimedSet Plain) → AreExtendedBy outcome.outputs (shown rules offset outcome set).outputs
 set_extends rules offset outcome set =
     unless_extends outcome.fault outcome (after_call offset (Process set.at) (before_set offset outcome set.at) (rules.step outcome.state set.at set.set))
@@ -268,7 +268,7 @@ source_keeps rules law calls outputs sides =
     let made = fold (called law) (opened rules None outputs sides) (range_with_len 0 calls) in
     last_call_keeps made.fault made (calls_keep law (opened rules None outputs sides) (range_with_len 0 calls) (opened_keeps rules None outputs sides))
 
--- No outputs are lost: they extend so many empty ones.
+-- No outputs are lost: the outputs extend as many empty prefixes.
 opened_extends : (rules : Rules) (offset : Option ℤ) (outputs : ℕ) (sides : List (Option Plain)) → AreExtendedBy (replicate outputs empty_prefix) (opened rules offset outputs sides).outputs
 opened_extends rules offset outputs sides = call_extends offset Open (unopened outputs) (rules.opening sides)
 

@@ -9,7 +9,7 @@ use Rattle.mg_calc.specs.declared.plan_stream.Producer.{Producer}
 use Rattle.mg_calc.specs.declared.plan_stream.Producer.TheVariants.{Node}
 use Rattle.mg_calc.specs.Equations.{stream_of}
 
--- streams agree where their producers are known
+-- streams agree if their producers are known
 abbrev pub Agree : (Producer → Type 0) → List Producer → List (StreamPrefix Plain) → List (StreamPrefix Plain) → Type 0
 Agree K [] [] [] = Unit {0}
 Agree K (p ∷ ps) (x ∷ xs) (y ∷ ys) = (K p → x ≡ y) × Agree K ps xs ys

@@ -40,8 +40,8 @@ pub streams_are_prefixes : (xs : List (StreamPrefix Plain)) (numbers : List ℕ)
 streams_are_prefixes xs [] k = tt
 streams_are_prefixes xs (n ∷ ns) k = (stream_is_prefix xs n k, streams_are_prefixes xs ns k)
 
--- What is known of a job: a loopback has one output, what is handed in are prefixes, and there is a
--- stream for each of them and for each output.
+-- What is known of a job: a loopback has one output, and the graph inputs are prefixes. There is a stream for each graph input and for
+-- each output.
 pub record IsKnown (job : Job) : Type 0 where
   pub loops : AllByRecursion (λ node. node.law ≡ Loopback → length node.outputs ≡ 1) job.plan.nodes
   pub inputs : AllByRecursion IsPrefix job.inputs.streams
@@ -85,7 +85,7 @@ pub outcome_keeps : (job : Job) (node : PlanNode) (xs : List (StreamPrefix Plain
     → AllByRecursion IsPrefix xs → AllByRecursion IsPrefix (outcome_of job xs node).outputs
 outcome_keeps job node = outcome_keeps_by node.law job node
 
--- lists one behind the other
+-- lists one after the other
 both_extend : (ps qs cs ds : List (StreamPrefix Plain)) → AreExtendedBy ps qs → AreExtendedBy cs ds → AreExtendedBy (ps ++ cs) (qs ++ ds)
 both_extend [] [] cs ds e f = f
 both_extend [] (q ∷ qs) cs ds e f = absurd e

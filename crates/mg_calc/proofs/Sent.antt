@@ -1,5 +1,6 @@
 -- What a calculator of an author's own is made of may cross threads: its law, its shape, a state and a list of calls. The search over a
--- law's variants wants what its emissions are first. A struct asks it of a field, which is another term than the row of the field's type.
+-- law's variants first needs this of its emissions. A struct needs the same of a field, which is another term than the row of the
+-- field's type.
 use denote.Param.Send.{IsSend}
 pub use denote.Param.Send.{sendable}
 pub use Rattle.std.proofs.Crossing.{crosses}
@@ -48,5 +49,5 @@ call = search (set, timestamp, sendable) depth 20 fits 20000
 pub calls : IsSend (BlockList.the_row Call.the_row)
 calls = search (call, sendable, crosses) depth 20
 
--- what shows of a calculator in its box that it may cross threads, where its other parts are numbers, texts, payloads and times
+-- what shows of a calculator in its box that it may cross threads, if its other parts are numbers, texts, payloads and times
 pub ruleset sent = (law, shape, state, state_row, calls, timestamp, sendable, crosses, knot)

@@ -1,7 +1,7 @@
--- The rounds settle: there is one that the equations leave unchanged. The proof goes along the order of the nodes. Where all
--- nodes before one are held, the inputs of this one stay, so it may be held too; and a loopback, whose LOOP may still grow,
--- is held at what it answers now: either the others settle and it answers no more packets, or it then answers more of them,
--- and MAIN has so many packets at most.
+-- The rounds settle: there is one that the equations leave unchanged. The proof goes along the order of the nodes. If all nodes before
+-- a node are held, its inputs stay, so it may be held too. A loopback is held at what it answers now, though its LOOP may still grow.
+-- Either the other nodes then settle and it answers no more packets, or it answers more. It answers at most as many packets as MAIN
+-- has.
 use Rattle.std.proofs.Common.{◌≡◌, ℕ, zero, suc, ◌+◌, ◌<◌, ◌≤◌, length, List, [], ◌∷◌, ◌++◌, append-nil, append_assoc, map, take, length-take, Option, Some, None, IsSome, unwrap_or, slice_get, refl, sym, ap, subst, ◌∙◌, arith, inl, inr, ◌⊎◌}
 use Rattle.std.specs.List.{AllByRecursion}
 use Rattle.std.proofs.lemmas.Bool.{cases_lt}
@@ -36,7 +36,7 @@ loop_cases : (law : Law) → (law ≡ Loopback) ⊎ (¬ (law ≡ Loopback))
 loop_cases Loopback = inl refl
 loop_cases law = inr (λ e. absurd cc)
 
--- so many held rounds
+-- the streams after a number of held rounds
 abbrev pub iterate : Job → Held → ℕ → List (StreamPrefix Plain) → List (StreamPrefix Plain)
 iterate job held zero xs = xs
 iterate job held (suc n) xs = held_round job held (iterate job held n xs)
@@ -197,12 +197,12 @@ first_greater f old (suc n) rises = elim (first_greater f old n rises) [
   ]
 ]
 
--- the others settle with a node held at some outputs, whatever these are
+-- the other nodes settle with a node held at some outputs, whatever these are
 abbrev OthersSettle : Job → Held → ℕ → PlanNode → Type 0
 OthersSettle job held w node =
     (outs : List (StreamPrefix Plain)) → Holds job held w node outs → (ys : List (StreamPrefix Plain)) → Stands job (with_held held w outs) ys → Settles job (with_held held w outs) ys
 
--- With a loopback held at what it answers now, the others settle. Then all is settled, or some round comes in which it
+-- With a loopback held at what it answers now, the other nodes settle. Then all is settled, or some round comes in which the loopback
 -- answers more.
 loop_step : (job : Job) (held : Held) (w : ℕ) (node : PlanNode) (main : StreamPrefix Plain) (xs : List (StreamPrefix Plain)) → IsLoop job held w node main → OthersSettle job held w node
     → Stands job held xs → IsGiven job held xs
@@ -271,7 +271,7 @@ all_more : (held : Held) (w : ℕ) (outs : List (StreamPrefix Plain)) (ks : List
 all_more held w outs [] all = (with_held_holds held w outs, tt)
 all_more held w outs (k ∷ ks) all = (with_held_more held w outs k all.0, all_more held w outs ks all.1)
 
--- One node further, where the others settle with it held.
+-- One node further, if the other nodes settle with it held.
 node_settles : (job : Job) (held : Held) (w : ℕ) (node : PlanNode) (xs : List (StreamPrefix Plain)) → Sound job → HeldFits job held → slice_get job.plan.nodes w ≡ Some node
     → IsNext job.plan (IsHeld held) w → OthersSettle job held w node → Stands job held xs → IsGiven job held xs → Settles job held xs
 node_settles job held w node xs sound fits at next others s g =

@@ -1,4 +1,4 @@
--- The rules of a law that isn't stated are those of the table, and in the equations a node of a stated law has its author's.
+-- The rules of a law that isn't stated are those of the table. In the equations a node of a stated law has its author's rules.
 use Rattle.std.proofs.Common.{◌≡◌, ℕ, ℤ, List, Option, refl, ap}
 use Rattle.mg_value.specs.Plain.{Plain}
 use Rattle.mg_calc.specs.declared.law.Law.{Law}
@@ -14,7 +14,7 @@ pub by_table : (laws : Laws) (law : Law) → (IsStated law → ⊥) → rules_of
 by_table laws (Stated number parameters offset) other = absurd (other tt)
 by_table laws law other = refl
 
--- whatever the stated laws are, the rules of one that isn't stated are the same
+-- whatever the stated laws are, the rules of a law that isn't stated are the same
 pub same_rules : (laws others : Laws) (law : Law) → (IsStated law → ⊥) → rules_of laws law ≡ rules_of others law
 same_rules laws others (Stated number parameters offset) other = absurd (other tt)
 same_rules laws others law other = refl

@@ -173,7 +173,8 @@ selects_stays = refl
 selects_counts : counts selects_badly (round selects_badly 2) ≡ 2 ∷ []
 selects_counts = refl
 
--- Under its own policy a mux waits for the input that is selected, and not for the others; under the default policy for all.
+-- Under its own policy a mux waits for the input that is selected, and not for the other inputs. Under the default policy it waits for
+-- all.
 abbrev waits : Policy → Job
 waits policy = muxes policy (until pre_stream [] ∷ until (at 11) (pk 10 2 ∷ []) ∷ until (at 11) (pk 10 1 ∷ []) ∷ [])
 
@@ -335,7 +336,7 @@ tallies_log = refl
 tallies_stays : next_round tallies (round tallies 2) ≡ round tallies 2
 tallies_stays = refl
 
--- An offset, and one that leaves the range.
+-- An offset, and an offset that leaves the range.
 abbrev shifts : StreamPrefix Plain → Job
 shifts input = job_of 2 (node (Shift (negsuc 4)) (0 ∷ []) (1 ∷ []) ∷ []) (input ∷ [])
 

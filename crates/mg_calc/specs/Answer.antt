@@ -21,13 +21,13 @@ laid place = record { packets = option_to_list place; bound = None }
 abbrev pub emission_of : List (Option (Stamped Plain)) → List Laid
 emission_of places = if list_any is_some places then map laid places else []
 
--- the result of a call is the answer; want of memory may come in place of any answer
+-- the result of a call is the answer; out of memory may come in place of any answer
 abbrev pub Gives : Result (List Plain × List Laid) CalcFault → Answer → Type 0
 Gives (Ok given) answer = answer ≡ Ok given
 Gives (Err (Fault cause)) answer = answer ≡ Err cause
 Gives (Err OutOfMemory) answer = ⊤
 
--- the result of a call is the answer without its new state, which is the given one; want of memory may come in place of any answer
+-- the result of a call is the answer without its new state, which is the given one. Out of memory may come in place of any answer.
 abbrev pub GivesEmission : Result (List Laid) CalcFault → List Plain → Answer → Type 0
 GivesEmission (Ok emission) state answer = answer ≡ Ok (state, emission)
 GivesEmission (Err (Fault cause)) state answer = answer ≡ Err cause

@@ -1,8 +1,7 @@
--- What a graph means. Each stream of a plan has an equation: a graph input is what was handed in, and every other stream
--- is what becomes of its node from the node's input streams. The solution is the least list of prefixes, one per stream,
--- that meets all equations, and it is reached in rounds: at first nothing is known of any stream, and in each round every
--- stream is computed anew from those of the round before. Nothing here speaks of queues, limits, workers or an order of
--- events (MediaPipe, Synchronization).
+-- What a graph means. Each stream of a plan has an equation. A graph input is what the caller gave. Every other stream is what its node
+-- makes of the node's input streams. The solution is the least list of prefixes, one per stream, that meets all equations. It is
+-- reached in rounds. At first nothing is known of any stream. In each round every stream is computed anew from the streams of the round
+-- before. Nothing here speaks of queues, limits, workers or an order of events (MediaPipe, Synchronization).
 use Rattle.std.specs.Prelude.{ℕ, zero, suc, ◌≡◌, ◌<◌, List, map, ◌++◌, length, replicate, Option, slice_index_or}
 use Rattle.std.specs.List.{flat_map}
 use Rattle.mg_value.specs.Payload.{Plain}
@@ -18,13 +17,13 @@ use Rattle.mg_calc.specs.Rules.{Rules, Laws}
 use Rattle.mg_calc.specs.Law.{rules_of}
 use Rattle.mg_calc.specs.Outcome.{Outcome, node_outcome, source_outcome, loopback_outcome}
 
--- a job: a plan, what is handed to it, and what the program's calculators of their authors' own compute
+-- a job: a plan, its inputs, and what the program's calculators of their authors' own compute
 pub record Job : Type 0 where
   pub plan : Plan
   pub inputs : Inputs
   pub laws : Laws
 
--- a job of which the plan is valid and the inputs fit
+-- a job with a valid plan and inputs that fit
 pub record IsJob (job : Job) : Type 0 where
   pub plan : IsValid job.plan
   pub inputs : InputsFit job.plan job.inputs
@@ -33,7 +32,7 @@ pub record IsJob (job : Job) : Type 0 where
 abbrev pub sides_of : Job → PlanNode → List (Option Plain)
 sides_of job node = node_sides job.plan job.inputs.sides node
 
--- the rules of a node: those of its law, which for a law that its author states are the program's
+-- the rules of a node: those of its law. For a law that its author states, they are the program's.
 abbrev pub rules_at : Job → PlanNode → Rules
 rules_at job node = rules_of job.laws node.law
 
@@ -45,8 +44,8 @@ stream_of streams number = slice_index_or streams number empty_prefix
 abbrev pub inputs_of : List (StreamPrefix Plain) → PlanNode → List (StreamPrefix Plain)
 inputs_of streams node = map (stream_of streams) node.inputs
 
--- what becomes of a node, by its own law: sources are called by number, a loopback answers MAIN, and every other node is shown
--- the settled sets of its policy. A loopback's ports are LOOP and MAIN, in this order.
+-- what becomes of a node, by its own law. Sources are called by number, and a loopback answers MAIN. Every other node is shown the
+-- settled sets of its policy. A loopback's ports are LOOP and MAIN, in this order.
 abbrev pub outcome_by : Law → Job → List (StreamPrefix Plain) → PlanNode → Outcome
 outcome_by (Count count start step) job streams node = source_outcome (rules_at job node) node.law (calls_of node.law) (length node.outputs) (sides_of job node)
 outcome_by (SideOnce at) job streams node = source_outcome (rules_at job node) node.law (calls_of node.law) (length node.outputs) (sides_of job node)

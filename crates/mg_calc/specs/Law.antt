@@ -1,6 +1,6 @@
--- The table of laws, after the pages of the MediaPipe framework on its calculators. A calculator is opened once, then shown its
--- input sets, each at its time, or, if it is a source, called a number of times, and then closed. Each of these gives a new state
--- with an emission, or a cause.
+-- The table of laws, after the pages of the MediaPipe framework on its calculators. A calculator is opened once, then shown its input
+-- sets, each at its time, and then closed. A source is called a number of times in place of being shown sets. Each of these gives a new
+-- state with an emission, or a cause.
 use Rattle.std.specs.Prelude.{ℕ, ℤ, pos, negsuc, ◌+◌, ◌+ℤ◌, ◌*ℤ◌, ◌%◌, ◌==◌, Bool, true, false, not, ◌||◌, List, [], ◌∷◌, Option, Some, None, option_map, unwrap_or, slice_get, Ok, Err, if◌then◌else◌}
 use Rattle.mg_time.specs.Time.{next}
 use Rattle.mg_value.specs.Plain.{Plain, int}
@@ -23,16 +23,16 @@ use Rattle.mg_calc.specs.Batch.{begin_loop, end_loop}
 
 -- The rules of the calculators that compute: what each gives for its state and the set at a time t.
 
--- the answer that emits a number at t and keeps a state; Overflow where the number doesn't fit in 64 signed bits
+-- the answer that emits a number at t and keeps a state; Overflow if the number doesn't fit in 64 signed bits
 abbrev pub emits_number : List Plain → ℕ → ℤ → Answer
 emits_number state t n = if fits n then Ok (state, emission_of (Some (record { at = t; value = int n }) ∷ [])) else Err Overflow
 
--- the answer that emits a payload at a time and keeps a state; Overflow where there is no time
+-- the answer that emits a payload at a time and keeps a state; Overflow if there is no time
 abbrev pub emits_at : List Plain → Option ℕ → Plain → Answer
 emits_at state None value = Err Overflow
 emits_at state (Some t) value = Ok (state, emission_of (Some (record { at = t; value = value }) ∷ []))
 
--- the answer of a law of one input: what f gives for the packet of the set; without a packet the state stays and nothing is emitted
+-- the answer of a law of one input: what f gives for the packet of the set. Without a packet the state stays and nothing is emitted.
 abbrev pub with_packet : (Stamped Plain → Answer) → List Plain → List (Option (Stamped Plain)) → Answer
 with_packet f state set = unwrap_or (option_map f (place_at set 0)) (Ok (state, []))
 
@@ -61,7 +61,8 @@ is_kept Odd n = not (is_even n)
 is_kept Negative n = is_below_zero n
 is_kept NonNegative n = not (is_below_zero n)
 
--- what a filter emits for a packet at t: the packet, if it keeps its number, and then, if it raises, a bound at the next time after t
+-- what a filter emits for a packet at t: the packet, if the filter keeps its number. If the filter raises, it then emits a bound at the
+-- next time after t.
 abbrev pub filtered : Bool → Bool → ℕ → Stamped Plain → List Laid
 filtered keeps raises t p =
     if keeps || raises
@@ -77,7 +78,7 @@ abbrev pub running : List Plain → ℕ → List (Option (Stamped Plain)) → An
 running state t set =
     with_packet (λ p. let sum = number_in state +ℤ number_of p.value in emits_number (state_of sum) t sum) state set
 
--- Shift: the packet at t moved by the offset; Overflow where that leaves the range
+-- Shift: the packet at t moved by the offset; Overflow if that leaves the range
 abbrev pub shifted : ℤ → List Plain → ℕ → List (Option (Stamped Plain)) → Answer
 shifted offset state t set = with_packet (λ p. emits_at state (moved_time t offset) p.value) state set
 
@@ -92,7 +93,7 @@ scripted steps state =
 
 -- The table.
 
--- the state that keeps a side packet, or NoSide where it is missing
+-- the state that keeps a side packet, or NoSide if it is missing
 abbrev pub keeps_side : Option Plain → Answer
 keeps_side None = Err NoSide
 keeps_side (Some value) = Ok (stored (Some value) ∷ [], [])
@@ -128,12 +129,12 @@ rule (FirstCome lanes) state t set = Ok (state, [])
 rule (Limiter most) state t set = Ok (state, [])
 rule (Stated number parameters offset) state t set = Ok (state, [])
 
--- Process: WrongKind where a packet isn't of its port's kind, and otherwise the law's rule
+-- Process: WrongKind if a packet isn't of its port's kind, and otherwise the law's rule
 abbrev pub step : Law → List Plain → ℕ → List (Option (Stamped Plain)) → Answer
 step law state t set = if has_wrong_kind law set then Err WrongKind else rule law state t set
 
--- the call of a source by its number, from 0 on: Count emits the number, at its start and so many steps later, or gives Overflow
--- where that leaves the range; SideOnce emits the payload that it keeps; laws that aren't sources do nothing
+-- the call of a source by its number, from 0 on: Count emits the number, at its start and so many steps later, or gives Overflow if
+-- that leaves the range; SideOnce emits the payload that it keeps; laws that aren't sources do nothing
 abbrev pub call : Law → List Plain → ℕ → Answer
 call (Count count start apart) state i = emits_at state (time_of (start +ℤ (pos i *ℤ apart))) (int (pos i))
 call (SideOnce at) state i = Ok (state, emission_of (copy_at at (kept_at state 0) ∷ []))
@@ -148,7 +149,7 @@ finish _ state = Ok (state, [])
 abbrev pub table_rules : Law → Rules
 table_rules law = record { opening = opening law; step = step law; finish = finish law }
 
--- the rules of a law: those of its author where it is stated, and otherwise those of the table
+-- the rules of a law: those of its author if it is stated, and otherwise those of the table
 abbrev pub rules_of : Laws → Law → Rules
 rules_of laws (Stated number parameters offset) = laws number parameters
 rules_of laws law = table_rules law

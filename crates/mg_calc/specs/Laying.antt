@@ -1,4 +1,4 @@
--- Laying: how what a call of a calculator emits is put behind the node's output streams, after the pages Calculators and
+-- Laying: how the emission of a calculator's call is appended to the node's output streams. It follows the pages Calculators and
 -- Synchronization of the MediaPipe framework. Definitions speak of the whole prefixes of these streams, one per output.
 use Rattle.std.specs.Prelude.{ℕ, ℤ, Bool, true, false, not, ◌&&◌, ◌==◌, nat_lt, nat_le, List, [], ◌∷◌, length, map, min, Option, Some, None, Result, Ok, Err, if◌then◌else◌}
 use Rattle.mg_time.specs.Time.{pre_stream, post_stream, done, shift}
@@ -20,16 +20,16 @@ abbrev pub is_below_offset : Option ℤ → Phase → ℕ → Bool
 is_below_offset (Some offset) (Process set_at) at = nat_lt at (shift set_at offset)
 is_below_offset offset phase at = false
 
--- whether a node may emit nothing, as one with an offset promises for Close
+-- whether a node may emit nothing: a node with an offset promises that for Close
 abbrev pub is_bound_to_silence : Option ℤ → Phase → Bool
 is_bound_to_silence (Some offset) Close = true
 is_bound_to_silence offset phase = false
 
--- whether a packet would stand at PostStream behind others of its output, where it has to be the only one
+-- whether a packet would stand at PostStream after others of its output, where it has to be the only one
 abbrev pub is_not_alone : List (Stamped Plain) → ℕ → Bool
 is_not_alone packets at = (at == post_stream) && nat_lt 0 (length packets)
 
--- why a packet can't be put behind an output, the first reason in this order, if there is one
+-- why a packet can't be appended to an output, the first reason in this order, if there is one
 abbrev pub laying_fault : Option ℤ → Phase → StreamPrefix Plain → Stamped Plain → Option Cause
 laying_fault offset phase output packet =
     if not (is_allowed packet.at) then Some NotAllowed
@@ -39,7 +39,7 @@ laying_fault offset phase output packet =
     else (if is_not_alone output.packets packet.at then Some NotAlone
     else None))))
 
--- the given result where there is no cause against it, or the cause
+-- the given result if there is no cause against it, or the cause
 abbrev pub unless : {A : Type 0} → Option Cause → Result A Cause → Result A Cause
 unless (Some cause) answer = Err cause
 unless None answer = answer
@@ -49,7 +49,7 @@ abbrev pub after : {A B : Type 0} → Result A Cause → (A → Result B Cause) 
 after (Err cause) make = Err cause
 after (Ok value) make = make value
 
--- an output with packets put behind it, one after the other, or the cause against the first that can't be put there
+-- an output with packets appended, one after the other, or the cause against the first that can't be appended
 abbrev pub with_packets : Option ℤ → Phase → StreamPrefix Plain → List (Stamped Plain) → Result (StreamPrefix Plain) Cause
 with_packets offset phase output [] = Ok output
 with_packets offset phase output (packet ∷ packets) =
@@ -60,13 +60,13 @@ abbrev pub raised_to : Option ℕ → StreamPrefix Plain → StreamPrefix Plain
 raised_to None output = output
 raised_to (Some bound) output = raised output (min bound done)
 
--- an output with what is emitted there put behind it, first the packets and then the bound, or the cause against a packet
+-- an output with what is emitted there laid on it, first the packets and then the bound, or the cause against a packet
 abbrev pub with_laid : Option ℤ → Phase → StreamPrefix Plain → Laid → Result (StreamPrefix Plain) Cause
 with_laid offset phase output laid =
     after (with_packets offset phase output laid.packets) (λ longer. Ok (raised_to laid.bound longer))
 
--- the outputs with an emission put behind them, an entry for each, or the first cause against it in the order of the outputs. An
--- emission without entries lays nothing.
+-- the outputs with an emission laid on them, an entry for each, or the first cause against it in the order of the outputs. An emission
+-- without entries lays nothing.
 abbrev pub laid_behind : Option ℤ → Phase → List (StreamPrefix Plain) → List Laid → Result (List (StreamPrefix Plain)) Cause
 laid_behind offset phase outputs [] = Ok outputs
 laid_behind offset phase [] (laid ∷ emission) = Ok []

@@ -1,5 +1,5 @@
--- What is told of a run, as functions of the solution: faults, stalled streams, the sets that each node is shown, counts,
--- the calls that a calculator has had, and how much work a job is.
+-- What is told of a run, as functions of the solution. These are the faults, the stalled streams, the sets that each node is shown, and
+-- the counts. These are also the calls that a calculator has had, and how much work a job is.
 use Rattle.std.specs.Prelude.{ℕ, ◌+◌, ◌==◌, not, List, [], ◌∷◌, ◌++◌, map, take, sum_by, Option, Some, None, option_map, filter}
 use Rattle.std.specs.List.{filter_map, enumerate_from}
 use Rattle.mg_time.specs.Time.{done}
@@ -31,8 +31,8 @@ faults job streams = filter_map (fault_of job streams) (numbered job.plan.nodes)
 abbrev pub stalled : List (StreamPrefix Plain) → List ℕ
 stalled streams = map (λ entry. entry.0) (filter (λ entry. not (entry.1.bound == done)) (numbered streams))
 
--- the count of a node: how many sets it is shown, how often a source is called, or how many packets of MAIN a loopback answers;
--- the set or call that fails included
+-- the count of a node: how many sets it is shown, how often a source is called, or how many MAIN packets a loopback answers. The set or
+-- call that fails is included.
 abbrev pub count_of : Job → List (StreamPrefix Plain) → PlanNode → ℕ
 count_of job streams node = (outcome_of job streams node).taken
 
@@ -44,13 +44,12 @@ counts job streams = map (count_of job streams) job.plan.nodes
 abbrev pub shown_sets : Job → List (StreamPrefix Plain) → PlanNode → List (TimedSet Plain)
 shown_sets job streams node = take (count_of job streams node) (settled_sets node.policy (inputs_of streams node))
 
--- the call of Close, by the fault of the node: there is none where Open failed
+-- the call of Close, by the fault of the node: there is none if Open failed
 abbrev pub last_call : Option Failure → List Call
 last_call None = Finished ∷ []
 last_call (Some failure) = elim failure.phase [ Open ↦ [] | _ ↦ Finished ∷ [] ]
 
--- the calls that a calculator has had once its graph has run: Open, a Process for each shown set, and Close, which comes
--- where Open succeeded
+-- the calls that a calculator has had once its graph has run: Open, a Process for each shown set, and, if Open succeeded, Close
 abbrev pub log_of : Job → List (StreamPrefix Plain) → PlanNode → List Call
 log_of job streams node =
     (Begun ∷ map (λ e. Shown e.at e.set) (shown_sets job streams node)) ++ last_call (outcome_of job streams node).fault

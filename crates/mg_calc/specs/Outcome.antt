@@ -1,6 +1,5 @@
--- What becomes of a node, after the page Calculators of the MediaPipe framework: it is opened, shown its settled sets one
--- after the other, and closed; it stops at its first fault. Definitions take the whole list of sets, and begin anew
--- whenever the list grows.
+-- What becomes of a node, after the page Calculators of the MediaPipe framework. It is opened, shown its settled sets one after the
+-- other, and closed. It stops at its first fault. Definitions take the whole list of sets, and begin anew whenever the list grows.
 use Rattle.std.specs.Prelude.{ℕ, ℤ, ◌+◌, ◌==◌, List, [], ◌∷◌, map, length, replicate, Option, Some, None, Result, Ok, Err, if◌then◌else◌}
 use Rattle.std.specs.List.{fold, range_with_len}
 use Rattle.mg_time.specs.Time.{done}
@@ -23,8 +22,8 @@ pub record Failure : Type 0 where
   pub phase : Phase
   pub cause : Cause
 
--- what a node has come to: what its calculator keeps, its output streams, how many sets or calls were taken, the one that
--- failed included, and its fault
+-- the outcome of a node: what its calculator keeps, its output streams, how many sets or calls were taken, and its fault. The set or
+-- call that failed counts as taken.
 pub record Outcome : Type 0 where
   pub state : List Plain
   pub outputs : List (StreamPrefix Plain)
@@ -40,8 +39,8 @@ abbrev pub after_laying : Phase → Outcome → Result (List (StreamPrefix Plain
 after_laying phase outcome (Ok outputs) = record outcome { outputs = outputs }
 after_laying phase outcome (Err cause) = failed phase cause outcome
 
--- what becomes of a node once a call of its calculator has answered: where the call fails, the calculator keeps what it kept;
--- where the emission can't be laid, it keeps what the call gave
+-- what becomes of a node once a call of its calculator has answered. If the call fails, the calculator keeps what it kept. If the
+-- emission can't be laid, the calculator keeps what the call gave.
 abbrev pub after_call : Option ℤ → Phase → Outcome → Answer → Outcome
 after_call offset phase outcome (Err cause) = failed phase cause outcome
 after_call offset phase outcome (Ok given) =
@@ -55,7 +54,7 @@ unopened outputs = record { state = []; outputs = replicate outputs empty_prefix
 abbrev pub opened : Rules → Option ℤ → ℕ → List (Option Plain) → Outcome
 opened rules offset outputs sides = after_call offset Open (unopened outputs) (rules.opening sides)
 
--- the next outcome of a node, or, where it has failed, the outcome as it is
+-- the next outcome of a node, or, if it has failed, the outcome as it is
 abbrev pub unless_failed : Option Failure → Outcome → Outcome → Outcome
 unless_failed (Some failure) outcome next = outcome
 unless_failed None outcome next = next
@@ -76,8 +75,8 @@ abbrev pub after_close : Outcome → Result (List (StreamPrefix Plain)) Cause �
 after_close outcome (Ok outputs) = record outcome { outputs = map closed outputs }
 after_close outcome (Err cause) = failed Close cause outcome
 
--- a node once the call of Close has answered: where the call fails, the calculator keeps what it kept; where the emission can't be
--- laid, it keeps what the call gave
+-- a node once the call of Close has answered. If the call fails, the calculator keeps what it kept. If the emission can't be laid, the
+-- calculator keeps what the call gave.
 abbrev pub closed_with : Option ℤ → Outcome → Answer → Outcome
 closed_with offset outcome (Err cause) = failed Close cause outcome
 closed_with offset outcome (Ok given) = after_close (record outcome { state = given.0 }) (laid_behind offset Close outcome.outputs given.1)
@@ -86,15 +85,15 @@ closed_with offset outcome (Ok given) = after_close (record outcome { state = gi
 abbrev pub finished : Rules → Option ℤ → Outcome → Outcome
 finished rules offset outcome = closed_with offset outcome (rules.finish outcome.state)
 
--- a node that was shown its settled sets, by how far these reach: its outputs are raised to the reach plus its offset, and
--- where the reach is the end of all times, it is closed
+-- a node that was shown its settled sets, by how far these reach. Its outputs are raised to the reach plus its offset. If the reach is
+-- the end of all times, the node is closed.
 abbrev pub with_reach : Rules → Option ℤ → ℕ → Outcome → Outcome
 with_reach rules offset reached outcome =
     if reached == done
     then finished rules offset (record outcome { outputs = all_raised offset reached outcome.outputs })
     else record outcome { outputs = all_raised offset reached outcome.outputs }
 
--- a node that was shown its settled sets, by how far these reach; where it has failed, it stays as it is
+-- a node that was shown its settled sets, by how far these reach; if it has failed, it stays as it is
 abbrev pub ended : Rules → Option ℤ → ℕ → Outcome → Outcome
 ended rules offset reached outcome = unless_failed outcome.fault outcome (with_reach rules offset reached outcome)
 

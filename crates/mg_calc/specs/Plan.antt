@@ -1,6 +1,6 @@
--- Plans. Streams are numbered: the graph inputs in order, and then the outputs of each node, by node and by port. Edges are numbered
--- by their consumers and then by port; after the nodes comes one more consumer, the collector, whose ports are the graph's outputs
--- and whose number is the number of nodes.
+-- Plans. Streams are numbered: the graph inputs in order, and then the outputs of each node, by node and by port. Edges are numbered by
+-- their consumers and then by port. After the nodes comes one more consumer, the collector. Its ports are the graph's outputs, and its
+-- number is the number of nodes.
 use Rattle.std.specs.Prelude.{◌≡◌, ◌≢◌, ℕ, pos, ◌<◌, ◌≤◌, ◌⊎◌, true, false, List, ◌++◌, map, length, filter, All, AllPairs, Contains, Option, Some, None, IfSome, IsSome, IsSomeAnd, unwrap_or, slice_get, ⊤, ◌==◌}
 use Rattle.std.specs.List.{range_with_len, enumerate_from, flat_map, filter_map}
 use Rattle.std.specs.Option.{option_and_then}
@@ -27,16 +27,16 @@ numbers count = range_with_len 0 count
 
 -- Side packets.
 
--- the place of a side packet, if it is handed in
+-- the place of a side packet, if the caller gives it
 abbrev pub place_of : PlainSideValue → Option ℕ
 place_of (given_at place) = Some place
 place_of (fixed payload) = None
 
--- the places of the side packets that are handed in
+-- the places of the side packets that the caller gives
 abbrev pub given_places : Plan → List ℕ
 given_places plan = filter_map (λ side. place_of side.value) plan.sides
 
--- a side packet, or none where it is handed in and missing
+-- a side packet, or none if the caller has to give it and it is missing
 abbrev pub side_packet : List (Option Plain) → PlainSideValue → Option Plain
 side_packet given (given_at place) = unwrap_or (slice_get given place) None
 side_packet given (fixed payload) = Some payload
@@ -47,8 +47,9 @@ node_sides plan given node = map (λ number. option_and_then (λ side. side_pack
 
 -- Numbers.
 
--- numbers are in their ranges: no more nodes, edges, graph outputs and workers than there may be; streams that are read or shown, and
--- side packets that are taken, are there; the side packets that are handed in have their places in order; and a limit isn't 0
+-- numbers are in their ranges. There are no more nodes, edges, graph outputs and workers than there may be. Streams that are read or
+-- shown are there, and so are side packets that are taken. The side packets that the caller gives have their places in order. A limit
+-- isn't 0.
 pub record AreInRange (plan : Plan) : Type 0 where
   pub nodes : length plan.nodes ≤ 4096
   pub edges : length plan.edges ≤ 16384
@@ -97,7 +98,7 @@ pub record HasNumbers (node : PlanNode) : Type 0 where
   pub outputs : length node.outputs ≡ length node.shape.outputs
   pub sides : length node.sides ≡ length node.shape.sides
 
--- how many sets of a node may be in flight: from 1 to 64, but one where a calculator is handed in or keeps a state
+-- how many sets of a node may be in flight: from 1 to 64, but 1 if its calculator is user-supplied or keeps a state
 pub record FlightFits (node : PlanNode) : Type 0 where
   pub some : 1 ≤ node.in_flight
   pub most : node.in_flight ≤ 64
@@ -162,9 +163,9 @@ pub record HoldsTogether (Allows : Law → Type 0) (MayBeBack : Plan → Edge �
   pub flights : All FlightFits plan.nodes
   -- only a node of the law Mux has the policy Mux
   pub policies : All (λ node. MayHavePolicy node.law node.policy) plan.nodes
-  -- a node whose law is stated has a calculator that is handed in
+  -- a node whose law is stated has a user-supplied calculator
   pub stated : All (λ node. IsStated node.law → IsSome node.box_number) plan.nodes
-  -- no calculator that is handed in works at two nodes
+  -- no user-supplied calculator works at two nodes
   pub boxes : AllPairs ◌≢◌ (filter_map (λ node. node.box_number) plan.nodes)
   -- the order has each node once, and each edge that isn't back leads forward in it
   pub order : HasEachOnce (length plan.nodes) plan.order
@@ -186,13 +187,13 @@ IsValid plan = HoldsTogether IsServed EndsAtLoop plan
 abbrev pub IsValidWithFree : Plan → Type 0
 IsValidWithFree plan = HoldsTogether (λ law. ⊤) (λ p e. EndsAtLoop p e ⊎ EndsAtFinished p e) plan
 
--- What is handed in beside a plan.
+-- What the caller gives beside a plan.
 
 -- a plan has a node of a number
 abbrev pub HasNode : Plan → ℕ → Type 0
 HasNode plan node = node < length plan.nodes
 
--- inputs fit: a prefix for each graph input, and a place for each side packet that is handed in
+-- inputs fit: a prefix for each graph input, and a place for each side packet that the caller gives
 pub record InputsFit (plan : Plan) (inputs : Inputs) : Type 0 where
   pub streams : length inputs.streams ≡ length plan.inputs
   pub prefixes : All IsPrefix inputs.streams
@@ -203,7 +204,7 @@ pub record FitsNode (node : PlanNode) (law : Law) (shape : Shape) : Type 0 where
   pub same_law : law ≡ node.law
   pub same_shape : shape ≡ node.shape
 
--- the calculators that are handed in fit: where a node has the number of one, this one is there and has the node's law and shape
+-- user-supplied calculators fit: if a node has the number of a calculator, that calculator is there and has the node's law and shape
 abbrev pub OutersFit : Plan → List OuterShape → Type 0
 OutersFit plan outers =
     All (λ node. IfSome node.box_number (λ number. IsSomeAnd (slice_get outers number) (λ outer. FitsNode node outer.law outer.shape))) plan.nodes

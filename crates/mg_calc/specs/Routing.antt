@@ -14,12 +14,13 @@ use Rattle.mg_calc.specs.State.{state_of, next_valid, places_in}
 abbrev pub pass : List Plain → List (Option (Stamped Plain)) → Answer
 pass state set = Ok (state, emission_of set)
 
--- the truth value of a payload that is one; false where it is none
+-- the truth value of a payload; false if the payload is of another kind
 abbrev pub truth_of : Plain → Bool
 truth_of (flag b) = b
 truth_of _ = false
 
--- whether a gate is open: where the control packet is true, or, for a gate with DISALLOW, false; without one as empty_as_allow says
+-- whether a gate is open: if the control packet is true, or, for a gate with DISALLOW, false. Without a control packet it is as
+-- empty_as_allow says.
 abbrev pub is_open : Bool → Bool → Option (Stamped Plain) → Bool
 is_open disallow empty_as_allow None = empty_as_allow
 is_open disallow empty_as_allow (Some p) = if disallow then not (truth_of p.value) else truth_of p.value
@@ -29,7 +30,7 @@ abbrev pub gate : ℕ → Bool → Bool → List Plain → List (Option (Stamped
 gate lanes disallow empty_as_allow state set =
     if is_open disallow empty_as_allow (place_at set lanes) then Ok (state, emission_of (take lanes set)) else Ok (state, [])
 
--- the answer of Mux by the input that SELECT chose: its packet goes on; BadSelect where SELECT chose none
+-- the answer of Mux by the input that SELECT chose: its packet goes on; BadSelect if SELECT chose none
 abbrev pub chosen : List Plain → List (Option (Stamped Plain)) → Option ℕ → Answer
 chosen state set None = Err BadSelect
 chosen state set (Some i) = Ok (state, emission_of (place_at set i ∷ []))
@@ -51,8 +52,8 @@ renewed_places lanes state set = map renewed (zip (take lanes set) (places_in la
 abbrev pub copy_at : ℕ → Option Plain → Option (Stamped Plain)
 copy_at t kept = option_map (λ v. record { at = t; value = v }) kept
 
--- Cloner: the packets of the data inputs are kept, each in its place; and where TICK is present, the last input, what each place
--- keeps is emitted at t
+-- Cloner: the newest payload of each data input is kept in its place. If TICK, the last input, has a packet, what each place keeps is
+-- emitted at t.
 abbrev pub cloner : ℕ → List Plain → ℕ → List (Option (Stamped Plain)) → Answer
 cloner lanes state t set =
     let places = renewed_places lanes state set in
@@ -68,13 +69,13 @@ first_packet (Some p ∷ places) = Some p
 abbrev pub merge : List Plain → List (Option (Stamped Plain)) → Answer
 merge state set = Ok (state, emission_of (first_packet set ∷ []))
 
--- the next valid timestamp after a packet that passes at t: a period later, or OneOverPostStream where that is past Max or t isn't
--- of the range
+-- the next valid timestamp after a packet that passes at t: a period later. It is OneOverPostStream if that is past Max or t isn't of
+-- the range.
 abbrev pub valid_after : ℤ → ℕ → ℕ
 valid_after period t = if is_in_range t then unwrap_or (time_of (raw_of t +ℤ period)) one_over_post_stream else one_over_post_stream
 
--- what a thinner gives to its packet at t: it passes where t is at least the next valid timestamp, which then moves on; and the
--- output is raised to the next valid timestamp
+-- what a thinner gives to its packet at t. The packet passes if t is at least the next valid timestamp, which then moves on. The output
+-- is raised to the next valid timestamp.
 abbrev pub thinned : ℤ → List Plain → ℕ → Stamped Plain → Answer
 thinned period state t p =
     if nat_le (next_valid state) t

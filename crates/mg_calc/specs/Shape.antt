@@ -45,9 +45,9 @@ IsBatch (BeginLoop clone) = ⊤
 IsBatch EndLoop = ⊤
 IsBatch _ = ⊥
 
--- the laws that are served: all but those of free nodes, which take packets as they arrive and are shown no set. Only served laws
--- have calls, calculators that are handed in, and plans with a meaning by equations. The table of laws is total, and has for the
--- others that nothing is emitted.
+-- the laws that are served: all but those of free nodes, which take packets as they arrive and are shown no set. Only served laws have
+-- calls, user-supplied calculators, and plans with a meaning by equations. The table of laws is total, and has for the others that
+-- nothing is emitted.
 abbrev pub IsServed : Law → Type 0
 IsServed (FirstCome lanes) = ⊥
 IsServed (Limiter most) = ⊥
@@ -69,8 +69,8 @@ IsSource (Count count start apart) = ⊤
 IsSource (SideOnce at) = ⊤
 IsSource _ = ⊥
 
--- all laws but those of sources, Constants and Loopback. Those of them that are served are shown sets, and a calculator that is
--- handed in may have any of these.
+-- all laws but those of sources, Constants and Loopback. Those of them that are served are shown sets, and a user-supplied calculator
+-- may have any of these.
 abbrev pub IsOuter : Law → Type 0
 IsOuter (Count count start apart) = ⊥
 IsOuter (SideOnce at) = ⊥
@@ -141,7 +141,7 @@ pub record AreAnyInputs (ps : List PortKind) : Type 0 where
 abbrev pub control_tag : Bool → List ℕ
 control_tag disallow = if disallow then codes "DISALLOW" else codes "ALLOW"
 
--- the port CLONE of a BeginLoop, whose packet is copied for each item, or no port where it hasn't one
+-- the port CLONE of a BeginLoop, whose packet is copied for each item, or no port if it hasn't one
 abbrev pub clone_ports : Bool → List PortKind
 clone_ports clone = if clone then tagged (codes "CLONE") Any else []
 
@@ -177,8 +177,9 @@ HasInputs (FirstCome lanes) ps = ps ≡ untagged lanes Any
 HasInputs (Limiter most) ps = ps ≡ untagged 1 Any ++ tagged (codes "FINISHED") Any
 HasInputs (Stated number parameters offset) ps = AreInputs ps
 
--- the kind of an input by its place, for the laws of the table: those of numbers take whole numbers, the last input of Gate is a truth value, that of
--- Mux a whole number, that of BeginLoop a list, the first of EndLoop a whole number, and all others are of any kind
+-- the kind of an input by its place, for the laws of the table. The laws of numbers take whole numbers. The last input of Gate is a
+-- truth value, that of Mux a whole number, and that of BeginLoop a list. The first input of EndLoop is a whole number. All other inputs
+-- are of any kind.
 abbrev pub input_kind : Law → ℕ → Kind
 input_kind (Gate lanes disallow empty_as_allow) i = if i == lanes then Flag else Any
 input_kind (Mux lanes) i = if i == lanes then Int else Any

@@ -2,7 +2,7 @@
 use Rattle.std.specs.Prelude.{ℕ, List}
 use Rattle.mg_value.specs.Payload.{Plain}
 
--- where a side packet comes from: the place of one that is handed in, or a payload that stands in the graph
+-- where a side packet comes from: its place if the caller gives it, or a payload that stands in the graph
 pub data PlainSideValue : Type 0 where
   given_at : ℕ → PlainSideValue
   fixed : Plain → PlainSideValue

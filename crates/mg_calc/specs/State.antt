@@ -31,7 +31,7 @@ abbrev pub next_valid : List Plain → ℕ
 next_valid (int n ∷ _) = time_kept n
 next_valid _ = pre_stream
 
--- what a state keeps at a place: a payload, or none, also where there is no such place
+-- what a state keeps at a place: a payload, or none, also if there is no such place
 abbrev pub kept_at : List Plain → ℕ → Option Plain
 kept_at state i = option_and_then kept_in (slice_get state i)
 

@@ -10,22 +10,21 @@ use Rattle.mg_calc.specs.Shape.{ParametersFit, IsShapeOf, IsOuter, IsServed}
 use Rattle.mg_calc.specs.declared.cause.CalcFault.{CalcFault}
 use Rattle.mg_calc.specs.declared.cause.CalcFault.TheVariants.{Fault, OutOfMemory}
 
--- what a calculator that is handed in tells of itself at a moment: its rules, its shape, its state, and the calls that it has had, if it
--- keeps a log
+-- what a user-supplied calculator tells of itself at a moment: its rules, shape and state, and, if it keeps a log, its calls so far
 pub record CalculatorTold : Type 0 where
   pub rules : Rules
   pub shape : Shape
   pub state : List Plain
   pub log : Option (List Call)
 
--- the same of a calculator in its box, which has the law of its rules
+-- the same of a calculator in its box, which has the law in place of the rules
 pub record BoxTold : Type 0 where
   pub law : Law
   pub shape : Shape
   pub state : List Plain
   pub log : Option (List Call)
 
--- what a calculator tells that computes what the table has for its law
+-- what a calculator tells of itself if it computes what the table has for its law
 abbrev pub of_table : BoxTold → CalculatorTold
 of_table told = record { rules = table_rules told.law; shape = told.shape; state = told.state; log = told.log }
 
@@ -33,7 +32,8 @@ of_table told = record { rules = table_rules told.law; shape = told.shape; state
 abbrev pub in_box : Law → CalculatorTold → BoxTold
 in_box law told = record { law = law; shape = told.shape; state = told.state; log = told.log }
 
--- a calculator computes a law: it has the law's rules, and its shape is one of that law; and the law is one of those that are shown sets
+-- a calculator computes a law: it has the law's rules, and its shape is one of that law. The law is one of those that are shown sets,
+-- and its parameters are in their ranges.
 pub record IsOfLaw (laws : Laws) (law : Law) (told : CalculatorTold) : Type 0 where
   pub rules : told.rules ≡ rules_of laws law
   pub shape : IsShapeOf law told.shape
@@ -41,22 +41,22 @@ pub record IsOfLaw (laws : Laws) (law : Law) (told : CalculatorTold) : Type 0 wh
   pub served : IsServed law
   pub parameters : ParametersFit law
 
--- what Open leaves of the state: where it fails nothing, and where it finds no memory the state as it was
+-- what Open leaves of the state: nothing if it fails, and the state as it was if it is out of memory
 abbrev pub KeepsAtOpen : {X : Type 0} → Result X CalcFault → List Plain → List Plain → Type 0
 KeepsAtOpen (Ok emission) before now = ⊤
 KeepsAtOpen (Err (Fault cause)) before now = now ≡ []
 KeepsAtOpen (Err OutOfMemory) before now = now ≡ before
 
--- a log with a further call behind the others, if there is a log
+-- a log with a further call after the others, if there is a log
 abbrev pub with_call : Option (List Call) → Call → Option (List Call)
 with_call log call = option_map (λ calls. calls ++ call ∷ []) log
 
--- a call that answers or fails comes into the log; one that finds no memory doesn't
+-- a call that answers or fails comes into the log; a call that is out of memory doesn't
 abbrev pub Logs : {E : Type 0} → Result E CalcFault → Option (List Call) → Option (List Call) → Call → Type 0
 Logs (Ok emission) before now call = now ≡ with_call before call
 Logs (Err (Fault cause)) before now call = now ≡ with_call before call
 Logs (Err OutOfMemory) before now call = now ≡ before
 
--- the calls of a log, or no calls where there is no log
+-- the calls of a log, or no calls if there is no log
 abbrev pub shown_calls : Option (List Call) → List Call
 shown_calls log = unwrap_or log []

@@ -5,7 +5,7 @@ use Rattle.mg_time.specs.Time.{raw_of, place_of, least, greatest}
 use Rattle.mg_value.specs.Plain.{Plain, Items, int, items, no_items, item}
 use Rattle.mg_value.specs.Packet.{Stamped}
 
--- what a set has at a port: a packet, or none, also where there is no such port
+-- what a set has at a port: a packet, or none, also if there is no such port
 abbrev pub place_at : List (Option (Stamped Plain)) → ℕ → Option (Stamped Plain)
 place_at set port = unwrap_or (slice_get set port) None
 
@@ -14,12 +14,12 @@ abbrev pub fits : ℤ → Bool
 fits (pos n) = nat_lt n (2 ^ 63)
 fits (negsuc n) = nat_lt n (2 ^ 63)
 
--- the number that a payload is, or 0 where it is another kind
+-- the number that a payload is, or 0 if it is of another kind
 abbrev pub number_of : Plain → ℤ
 number_of (int n) = n
 number_of _ = pos 0
 
--- the number at a place of a set; 0 where it has no packet
+-- the number at a place of a set; 0 if the place has no packet
 abbrev pub number_at : Option (Stamped Plain) → ℤ
 number_at place = unwrap_or (option_map (λ p. number_of p.value) place) (pos 0)
 
@@ -31,11 +31,11 @@ total set = fold ◌+ℤ◌ (pos 0) (map number_at set)
 abbrev pub is_in_range : ℕ → Bool
 is_in_range t = nat_le least t && nat_le t greatest
 
--- the time with a signed number, where the range has it
+-- the time with a signed number, if the range has it
 abbrev pub time_of : ℤ → Option ℕ
 time_of n = if is_in_range (place_of n) then Some (place_of n) else None
 
--- a time moved by an offset: none where it was of the range and leaves it; special times stay
+-- a time moved by an offset: none if it was of the range and leaves it; special times stay
 abbrev pub moved_time : ℕ → ℤ → Option ℕ
 moved_time t offset = if is_in_range t then time_of (raw_of t +ℤ offset) else Some t
 
@@ -54,11 +54,11 @@ abbrev pub listed : Items → List Plain
 listed no_items = []
 listed (item p ps) = p ∷ listed ps
 
--- the items of a payload, or none where it isn't a list
+-- the items of a payload, or none if it isn't a list
 abbrev pub items_in : Plain → List Plain
 items_in (items is) = listed is
 items_in _ = []
 
--- the number of the input ITERABLE of BeginLoop, which takes the lists: it stands behind CLONE, where BeginLoop has that
+-- the number of the input ITERABLE of BeginLoop, which takes the lists: it stands after CLONE, if BeginLoop has that
 abbrev pub iterable_port : Bool → ℕ
 iterable_port clone = if clone then 1 else 0

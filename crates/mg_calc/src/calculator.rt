@@ -8,11 +8,11 @@ use mg_settled::InputSet;
 use mg_time::Timestamp;
 use std::alloc::Global;
 
-/// A calculator that is handed in (MediaPipe, Calculators: Open, Process and Close are `begin`, `process` and `finish`).
+/// A user-supplied calculator (MediaPipe, Calculators: Open, Process and Close are `begin`, `process` and `finish`).
 ///
-/// The author states what the calculator computes, as its rules: three functions of plain data. Each call returns what they give for the
-/// calculator's state, and the calculator then keeps the new state. A call that fails leaves the state, and where it opens the calculator
-/// it leaves none; one that returns `OutOfMemory` leaves state and log, and may be made again.
+/// The author states what the calculator computes, as its rules: three functions of plain data. Each call returns what they give for
+/// the calculator's state, and the calculator then keeps the new state. A call that fails leaves the state. If it was to open the
+/// calculator, it leaves no state. A call that returns `OutOfMemory` leaves state and log, and may be made again.
 pub trait Calculator: Drop {
     /// What the calculator tells of itself: its rules, its shape, its state, and its log, if it keeps one.
     ghost told: { Self → CalculatorTold };
@@ -51,7 +51,7 @@ pub trait Calculator: Drop {
         ensures rules { (told self.new).rules ≡ (told self.old).rules }
         ensures shape { (told self.new).shape ≡ (told self.old).shape };
 
-    /// Returns the calls that the calculator has had, in order, or an empty list where it keeps no log.
+    /// Returns the calls that the calculator has had, in order, or an empty list if it keeps no log.
     fn log(&self) -> &CallList
         ensures { result.now ≡ shown_calls (told self.now).log };
 }

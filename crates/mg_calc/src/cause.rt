@@ -33,7 +33,7 @@ pub enum Cause {
 pub enum CalcFault {
     /// The calculator fails.
     Fault(Cause),
-    /// There is no memory. Nothing has changed, and the call may be made again.
+    /// Out of memory. Nothing has changed, and the call may be made again.
     OutOfMemory,
 }
 

@@ -21,7 +21,7 @@ pub struct Laid {
 /// Packets that a call emits at one output, in order.
 pub type LaidPackets = ShortList<Packet>;
 
-/// What a call emits: an entry for each output, or the empty list where nothing is emitted at any.
+/// What a call emits: an entry for each output, or the empty list if nothing is emitted at any.
 pub type Emission = ShortList<Laid>;
 
 /// Emissions in order.

@@ -22,6 +22,6 @@ pub enum Effect {
     Did,
     /// There was nothing to do.
     Idle,
-    /// There was no memory for the step.
+    /// The step was out of memory.
     OutOfMemory,
 }

@@ -6,7 +6,7 @@ use std::alloc::{AllocError, AllocFailed, Global};
 use std::marker::Model;
 use std::sync::Arc;
 
-/// Side packets by their places, each of which may be missing. Contracts see the list of their payloads as plain trees.
+/// Side packets by their places. Each may be missing. Contracts see the list of their payloads as plain trees.
 #[derive(Debug, Drop)]
 pub struct GivenList {
     places: Vec<Option<Arc<Payload>>>,
@@ -59,21 +59,21 @@ impl GivenList {
         Ok(GivenList::from_vec(places)?)
     }
 
-    /// How many places there are.
+    /// Returns how many places there are.
     pub fn len(&self) -> u32
         ensures { result ≡ length self.now }
     {
         self.places.len() as u32
     }
 
-    /// Whether there are no places.
+    /// Returns whether there are no places.
     pub fn is_empty(&self) -> bool
         ensures { result ≡ (length self.now == 0) }
     {
         self.places.is_empty()
     }
 
-    /// Returns what is at a place, from 0 on: a side packet, or none where it is missing. `None` where there is no such place.
+    /// Returns what is at a place, from 0 on: a side packet, or none if it is missing. Returns `None` if there is no such place.
     pub fn get(&self, i: u32) -> Option<&Option<Arc<Payload>>>
         ensures { option_map (λ p. given p.now) result ≡ slice_get self.now i }
     {

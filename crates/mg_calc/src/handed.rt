@@ -9,7 +9,7 @@ use mg_time::Timestamp;
 use std::alloc::Global;
 use std::marker::{Model, PhantomData};
 
-/// A calculator in the box in which it is handed in, with the law whose rules it has: a law of the table, or one of the program `W`.
+/// A user-supplied calculator in its box, with the law that has its rules: a law of the table, or one of the program `W`.
 #[derive(Drop)]
 pub struct Handed<W: OwnLaws, C: Calculator> {
     calculator: C,
@@ -31,7 +31,8 @@ impl<W: OwnLaws, C: Calculator> Model for Handed<W, C> {
 }
 
 impl<W: OwnLaws, C: Calculator> Handed<W, C> {
-    /// Puts a calculator into a box. Its rules and its shape are those of the law, whose parameters are in their ranges; and it is shown sets.
+    /// Puts a calculator into a box. Its rules and its shape are those of the law. The law is shown sets, and its parameters are in
+    /// their ranges.
     pub fn of_law(calculator: C, law: Law) -> Handed<W, C>
         requires { IsOfLaw W.laws law (C.told calculator) }
         ensures { result ≡ in_box law (C.told calculator) }

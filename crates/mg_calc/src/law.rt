@@ -26,21 +26,21 @@ pub enum Law {
     Pass,
     /// The packets of a set go on if the flag at the last port allows it.
     Gate {
-        /// How many data ports there are, from 1 to 64; the control port is behind them.
+        /// How many data ports there are, from 1 to 64; the control port follows them.
         lanes: u32,
-        /// Whether the control port closes the gate where it has true, and not where it has false.
+        /// Whether true at the control port closes the gate, and false opens it.
         disallow: bool,
-        /// Whether the gate is open where the control port has no packet.
+        /// Whether the gate is open if the control port has no packet.
         empty_as_allow: bool,
     },
-    /// Of the data ports, the one whose number stands at the last port has its packet go on.
+    /// The packet of one data port goes on: of the port whose number stands at the last port.
     Mux {
-        /// How many data ports there are, from 1 to 64; the port that selects is behind them.
+        /// How many data ports there are, from 1 to 64; the port that selects follows them.
         lanes: u32,
     },
     /// At each packet of the last port the newest payloads of the others are emitted again.
     Cloner {
-        /// How many data ports there are, from 1 to 64; the port that asks for copies is behind them.
+        /// How many data ports there are, from 1 to 64; the port that asks for copies follows them.
         lanes: u32,
     },
     /// The packet at the lowest port that has one goes on.
@@ -63,7 +63,7 @@ pub enum Law {
         op: MapOp,
         operand: i64,
     },
-    /// The numbers that `keep` names go on. Where `raise` is set, the output is raised past each number, whether it goes on or not.
+    /// The numbers that `keep` names go on. If `raise` is set, the output is raised past each number, whether it goes on or not.
     Filter {
         keep: Keep,
         raise: bool,
@@ -101,13 +101,15 @@ pub enum Law {
         steps: EmissionList,
         last: Emission,
     },
-    /// The items of a list go on one by one, at inner times of their own, and where `clone` is set a copy of the packet of CLONE with each.
+    /// The items of a list go on one by one, at inner times of their own. If `clone` is set, a copy of the packet of CLONE goes on with
+    /// each item.
     BeginLoop {
         clone: bool,
     },
-    /// Items are gathered into a list, which goes on when a packet of BATCH_END tells the time at which it has to.
+    /// Items are gathered into a list. When BATCH_END has a packet, the list goes on at the time that the packet tells.
     EndLoop,
-    /// Packets go on as they arrive, and are dropped where the output's order doesn't allow it. A free node's law: no set is shown to it.
+    /// Packets go on as they arrive, and are dropped if the output's order doesn't allow them. A free node's law: no set is shown to
+    /// it.
     FirstCome {
         /// How many inputs there are, from 1 to 64.
         lanes: u32,
@@ -117,7 +119,7 @@ pub enum Law {
         /// How many packets may be on their way, from 1 to 2147483647.
         most: u32,
     },
-    /// What an author states of a calculator of the author's own, which is handed in.
+    /// What an author states of a user-supplied calculator of the author's own.
     Stated {
         /// The number of the calculator among those of its program.
         number: u32,

@@ -16,8 +16,8 @@ ghost use Rattle.mg_calc.specs.Equations.{Job, IsJob, stream_of, inputs_of, outc
 ghost use Rattle.mg_calc.specs.Meaning.{faults, stalled, count_of, counts, shown_sets, last_call, log_of, weight};
 ghost use Rattle.mg_calc.specs.Reaching.{MayDepend};
 
-/// The equations are monotone: if streams are extended by others, then what the equations give for them is extended by what they
-/// give for the others.
+/// The equations are monotone. If one list of streams is extended by another, then the equations' results for the one are extended by
+/// their results for the other.
 pub fn equations_are_monotone()
     ensures { (job : Job) (streams more : List (StreamPrefix Plain)) → IsJob job → All IsPrefix streams → All IsPrefix more → AreExtendedBy streams more
         → AreExtendedBy (next_round job streams) (next_round job more) }
@@ -36,7 +36,7 @@ pub fn the_solution_is_least()
     ensures one { (job : Job) (solution other : List (StreamPrefix Plain)) → IsSolution job solution → IsSolution job other → solution ≡ other }
 {}
 
-/// If the streams that are handed in are extended, and the side packets are the same, then the solution is extended.
+/// If the graph inputs are extended, and the side packets are the same, then the solution is extended.
 pub fn the_solution_grows()
     ensures { (plan : Plan) (laws : Laws) (inputs more : Inputs) (solution later : List (StreamPrefix Plain))
         → IsJob (record { plan = plan; inputs = inputs; laws = laws }) → IsJob (record { plan = plan; inputs = more; laws = laws })
@@ -45,8 +45,8 @@ pub fn the_solution_grows()
         → AreExtendedBy solution later }
 {}
 
-/// Each round, and the solution, consists of prefixes by the rule of streams; the next round extends each round; and the solution
-/// has a prefix for each stream.
+/// Each round, and the solution, consists of prefixes by the rule of streams. Each round is extended by the next. The solution has a
+/// prefix for each stream.
 pub fn streams_are_prefixes()
     ensures round { (job : Job) (n : ℕ) → IsJob job → All IsPrefix (round job n) }
     ensures rises { (job : Job) (n : ℕ) → IsJob job → AreExtendedBy (round job n) (next_round job (round job n)) }
@@ -54,7 +54,8 @@ pub fn streams_are_prefixes()
     ensures each { (job : Job) (solution : List (StreamPrefix Plain)) → IsJob job → IsSolution job solution → length solution ≡ length job.plan.streams }
 {}
 
-/// A stream of the solution depends only on the graph inputs from which it can be reached: whatever the others are, it is the same.
+/// A stream of the solution depends only on the graph inputs from which it can be reached. Whatever the other graph inputs are, the
+/// stream is the same.
 pub fn streams_depend_on_what_reaches_them()
     ensures { (plan : Plan) (laws : Laws) (inputs others : Inputs) (solution changed : List (StreamPrefix Plain)) (stream : ℕ)
         → IsJob (record { plan = plan; inputs = inputs; laws = laws }) → IsJob (record { plan = plan; inputs = others; laws = laws }) → inputs.sides ≡ others.sides
@@ -64,8 +65,8 @@ pub fn streams_depend_on_what_reaches_them()
         → stream_of solution stream ≡ stream_of changed stream }
 {}
 
-/// The sets that a node is shown ascend in time, and are settled: the time of each is below the bounds that the node's policy asks
-/// for. A node's count is the number of these sets, and its log has one call for each of them, one for Open, and, unless Open
+/// The sets that a node is shown ascend in time, and are settled. The time of each set is below the bounds that the node's policy asks
+/// for. A node's count is the number of these sets. The node's log has one call for each of these sets, one for Open, and, unless Open
 /// failed, one for Close.
 pub fn shown_sets_are_settled()
     ensures ascend { (job : Job) (streams : List (StreamPrefix Plain)) (node : PlanNode) → All IsPrefix streams
@@ -94,7 +95,7 @@ pub fn free_nodes_alone_keep_a_plan_from_being_valid()
     ensures with_none { (plan : Plan) → IsValid plan → IsValidWithFree plan × HasNoFree plan }
 {}
 
-/// No stream stalls without a cause: where a graph has no back edges, each of its inputs ended and no node failed, every stream has ended.
+/// No stream stalls without a cause. If a graph has no back edges, each of its inputs ended and no node failed, every stream has ended.
 pub fn without_back_edges_every_stream_ends()
     ensures { (job : Job) (solution : List (StreamPrefix Plain)) → IsJob job → IsSolution job solution
         → All (λ e. e.back ≡ false) job.plan.edges → All (λ s. s.bound ≡ done) job.inputs.streams → faults job solution ≡ []

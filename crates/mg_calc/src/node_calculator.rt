@@ -10,11 +10,11 @@ use mg_settled::InputSet;
 use mg_time::Timestamp;
 use std::alloc::Global;
 
-/// A calculator as the engine of a node has it: one that is handed in, in its box, where it has a law.
+/// A calculator as the engine of a node has it: a user-supplied calculator in its box, with a law.
 ///
-/// Each call returns what the rules of the calculator's law give for its state, and the calculator then keeps the new state. A call that
-/// fails leaves the state, and where it opens the calculator it leaves none; one that returns `OutOfMemory` leaves state and log, and may
-/// be made again.
+/// Each call returns what the rules of the calculator's law give for its state, and the calculator then keeps the new state. A call
+/// that fails leaves the state. If it was to open the calculator, it leaves no state. A call that returns `OutOfMemory` leaves state
+/// and log, and may be made again.
 pub trait NodeCalculator: Drop {
     /// The rules of the stated laws.
     ghost laws: { Laws };
@@ -64,7 +64,7 @@ pub trait NodeCalculator: Drop {
         ensures law { (told self.new).law ≡ (told self.old).law }
         ensures shape { (told self.new).shape ≡ (told self.old).shape };
 
-    /// Returns the calls that the calculator has had, in order, or an empty list where it keeps no log.
+    /// Returns the calls that the calculator has had, in order, or an empty list if it keeps no log.
     fn log(&self) -> &CallList
         ensures { result.now ≡ shown_calls (told self.now).log };
 }

@@ -7,7 +7,7 @@ use crate::{CalcFault, Cause};
 use mg_settled::InputSet;
 use mg_value::{Packet, Payload};
 
-/// Returns the number of a packet, or 0 where its payload isn't a number.
+/// Returns the number of a packet, or 0 if its payload isn't a number.
 pub fn number_of_packet(packet: &Packet) -> i64
     ensures { result ≡ number_of packet.now.value }
 {
@@ -17,7 +17,7 @@ pub fn number_of_packet(packet: &Packet) -> i64
     }
 }
 
-/// Returns the number at a port of a set, or 0 where the port has none.
+/// Returns the number at a port of a set, or 0 if the port has none.
 fn number_at_port(set: &InputSet, port: u32) -> i64
     ensures { result ≡ number_at (place_at set.now port) }
 {
@@ -38,7 +38,7 @@ pub fn total(set: &InputSet) -> i128
     sum
 }
 
-/// Returns a number as one of 64 signed bits, or `Overflow` where it doesn't fit.
+/// Returns a number as one of 64 signed bits, or `Overflow` if it doesn't fit.
 pub fn narrowed(number: i128) -> Result<i64, CalcFault>
     ensures ok { IfOk result (λ n. n ≡ number) }
     ensures fits { IfOk result (λ n. fits number ≡ true) }

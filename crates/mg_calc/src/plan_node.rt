@@ -4,7 +4,7 @@ use mg_value::{BlockList, MgText, NumberList, Policy};
 /// A node of a plan.
 #[derive(Debug, Drop)]
 pub struct PlanNode {
-    /// The node's name, or its calculator's where it has none.
+    /// The node's name, or its calculator's if it has none.
     pub label: MgText,
     pub law: Law,
     pub shape: Shape,
@@ -16,7 +16,7 @@ pub struct PlanNode {
     pub sides: NumberList,
     /// How many sets may be worked on at once, from 1 to 64.
     pub in_flight: u32,
-    /// The number of the handed-in calculator that does the work, if one does.
+    /// The number of the user-supplied calculator that does the work, if one does.
     pub box_number: Option<u32>,
     /// Which sets are settled, and what is in one.
     pub policy: Policy,

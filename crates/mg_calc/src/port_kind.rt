@@ -1,6 +1,6 @@
 use mg_value::{BlockList, Kind, MgText};
 
-/// A port of a calculator: its tag, which is empty where it has none, its index, and what it takes or gives.
+/// A port of a calculator: its tag, its index, and what it takes or gives. The tag is empty if the port has none.
 #[derive(Debug, Drop)]
 pub struct PortKind {
     pub tag: MgText,

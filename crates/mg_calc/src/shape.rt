@@ -10,13 +10,13 @@ pub struct Shape {
     pub outputs: PortKindList,
     /// The side packets that the calculator takes.
     pub sides: PortKindList,
-    /// By how much, in units of timestamps, the calculator's packets stand behind its sets at least, where it promises that.
+    /// By how much at least, in units of timestamps, the calculator's packets stand after its sets, if it promises that.
     pub offset: Option<i64>,
     /// Whether the calculator keeps no state, so that several sets may be worked on at once.
     pub stateless: bool,
 }
 
-/// What is known of a calculator that is handed in: its shape and its law.
+/// What is known of a user-supplied calculator: its shape and its law.
 #[derive(Debug, Drop)]
 pub struct OuterShape {
     pub shape: Shape,

@@ -42,7 +42,7 @@ impl<T: Drop> Drop for ShortList<T> {
 }
 
 impl<T> ShortList<T> {
-    /// The list of a single entry.
+    /// Returns the list of a single entry.
     pub fn one(entry: T) -> ShortList<T>
         ensures { result ≡ entry ∷ [] }
     {
@@ -66,7 +66,7 @@ impl<T> ShortList<T> {
         }
     }
 
-    /// Returns the only entry where the list keeps it in itself, and otherwise the vector of all entries as the error.
+    /// Returns the only entry if the list keeps it in itself, and otherwise the vector of all entries as the error.
     pub fn into_one(self) -> Result<T, Vec<T>>
         ensures one { IfOk result (λ entry. self ≡ entry ∷ []) }
         ensures many { IfErr result (λ entries. self ≡ entries.items) }
@@ -78,7 +78,7 @@ impl<T> ShortList<T> {
         }
     }
 
-    /// How many entries there are.
+    /// Returns how many entries there are.
     pub fn len(&self) -> u32
         ensures { result ≡ length self.now }
     {
@@ -88,7 +88,7 @@ impl<T> ShortList<T> {
         }
     }
 
-    // All entries in order.
+    // Returns all entries in order.
     fn entries(&self) -> &[T]
         requires { FitsInMemory T.row }
         ensures { result.now ≡ self.now }
@@ -101,7 +101,7 @@ impl<T> ShortList<T> {
 }
 
 impl ShortList<Packet> {
-    /// All packets in order.
+    /// Returns all packets in order.
     pub fn as_slice(&self) -> &[Packet]
         ensures { result.now ≡ self.now }
     {
@@ -110,7 +110,7 @@ impl ShortList<Packet> {
 }
 
 impl ShortList<Laid> {
-    /// What is laid at each output, in order.
+    /// Returns what is laid at each output, in order.
     pub fn as_slice(&self) -> &[Laid]
         ensures { result.now ≡ self.now }
     {

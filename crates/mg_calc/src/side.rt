@@ -5,7 +5,7 @@ use std::sync::Arc;
 /// Where a side packet comes from.
 #[derive(Debug, Drop)]
 pub enum SideValue {
-    /// From what is handed in: the place there.
+    /// From the caller: the place among the side packets that the caller gives.
     Given(u32),
     /// From the graph itself, with this payload.
     Fixed(Arc<Payload>),

@@ -9,7 +9,7 @@ use mg_value::Payload;
 use std::alloc::{AllocError, Global};
 use std::sync::Arc;
 
-// Returns the payload of a side packet, or none where it has to be handed in and is missing.
+// Returns the payload of a side packet, or none if the caller has to give it and it is missing.
 fn side_packet(handed_in: &GivenList, side: &SideValue) -> Result<Option<Arc<Payload>>, AllocError>
     ensures { IfOk result (λ packet. given packet ≡ the_side_packet handed_in.now (side_value side.now)) }
 {
@@ -22,8 +22,8 @@ fn side_packet(handed_in: &GivenList, side: &SideValue) -> Result<Option<Arc<Pay
     }
 }
 
-/// Returns the side packets of a node, one for each of its side ports: those that stand in the graph, and those that are handed in,
-/// which may be missing (MediaPipe, Packets: side packets). Their payloads are shared.
+/// Returns the side packets of a node, one for each of its side ports (MediaPipe, Packets: side packets). A side packet stands in the
+/// graph, or the caller gives it, and then it may be missing. Their payloads are shared.
 pub fn node_sides(
     alloc: Global,
     plan: &Plan,

@@ -52,7 +52,7 @@ impl Drop for State {
 }
 
 impl State {
-    /// The state that keeps nothing.
+    /// Returns the state that keeps nothing.
     pub fn empty() -> State
         ensures { result ≡ [] }
     {
@@ -61,7 +61,7 @@ impl State {
         }
     }
 
-    /// The state of one number.
+    /// Returns the state of one number.
     pub fn of_number(number: i64) -> State
         ensures { result ≡ state_of number }
     {
@@ -70,7 +70,7 @@ impl State {
         }
     }
 
-    /// The state of places, each of which keeps a payload or none.
+    /// Returns the state of places. Each place keeps a payload or none.
     pub fn of_places(places: Vec<Option<Arc<Payload>>>) -> State
         ensures { result ≡ map (λ place. stored (given place)) places.items }
     {
@@ -79,7 +79,7 @@ impl State {
         }
     }
 
-    /// Returns the number that the state keeps, or 0 where it keeps none.
+    /// Returns the number that the state keeps, or 0 if it keeps none.
     pub fn number(&self) -> i64
         ensures { result ≡ number_in self.now }
     {
@@ -91,7 +91,7 @@ impl State {
         }
     }
 
-    /// Returns the number that the state keeps as a count, or 0 where it keeps none or a negative one.
+    /// Returns the number that the state keeps as a count, or 0 if it keeps none or a negative one.
     pub fn count(&self) -> u64
         ensures { result ≡ count_in self.now }
     {
@@ -104,7 +104,7 @@ impl State {
         }
     }
 
-    /// Returns the timestamp from which on a thinner with this state lets a packet pass: PreStream where it keeps no number.
+    /// Returns the timestamp from which on a thinner with this state lets a packet pass: PreStream if it keeps no number.
     pub fn next_valid(&self) -> Timestamp
         ensures { result ≡ its_next_valid self.now }
     {
@@ -116,7 +116,7 @@ impl State {
         }
     }
 
-    /// Returns the payload at a place, from 0 on, or none where the place is empty or there is no such place.
+    /// Returns the payload at a place, from 0 on, or none if the place is empty or there is no such place.
     pub fn place(&self, i: u32) -> Option<&Arc<Payload>>
         ensures { option_map (λ p. plain (arc_value p.now)) result ≡ kept_at self.now i }
     {
@@ -167,7 +167,7 @@ impl State {
         Ok(())
     }
 
-    /// Keeps only the full places, as `fill` does, and a further one with a payload behind them. On an error the state stays.
+    /// Keeps only the full places, as `fill` does, and then a further place with a payload. On an error the state stays.
     pub fn push(&mut self, alloc: Global, payload: Arc<Payload>) -> Result<(), AllocError>
         ensures more { IfOk result (λ _. self.new ≡ full_places (kept_list self.old ++ plain (arc_value payload) ∷ [])) }
         ensures same { OnErr result (self.new ≡ self.old) }
@@ -242,7 +242,7 @@ fn full_ones(
     Ok(list)
 }
 
-// Appends a payload to a list, which stays as it is where there is no memory.
+// Appends a payload to a list. Out of memory: the list stays as it is.
 fn put(list: &mut Vec<Arc<Payload>>, payload: Arc<Payload>) -> Result<(), AllocError>
     ensures more { IfOk result (λ _. map (λ p. plain (arc_value p)) list.new.items ≡ map (λ p. plain (arc_value p)) list.old.items ++ plain (arc_value payload) ∷ []) }
     ensures same { OnErr result (list.new.items ≡ list.old.items) }

@@ -8,7 +8,7 @@ ghost use Rattle.mg_calc.specs.Law.{opening, step};
 ghost use Rattle.mg_calc.specs.Shape.{IsShapeOf, FitsInputs};
 ghost use Rattle.mg_calc.specs.State.{IsStateOf};
 
-/// Open gives a state of the form that the law asks for, and a set gives one again where the state has that form.
+/// Open gives a state of the form that the law asks for, and a set gives one again if the state has that form.
 pub fn states_keep_their_form()
     ensures opened { (law : Law) (sides : List (Option Plain)) → IfOk (opening law sides) (λ given. IsStateOf law given.0) }
     ensures stepped { (law : Law) (shape : Shape) (state : List Plain) (t : ℕ) (set : List (Option (Stamped Plain))) → IsShapeOf law shape

@@ -4,7 +4,7 @@ use crate::{Laid, PortKind, Shape};
 use mg_value::{BlockList, MgText, Packet};
 use std::alloc::{AllocError, Global};
 
-/// Values that can be copied where there is memory. The payloads of packets are shared.
+/// Values that can be copied if memory suffices. The payloads of packets are shared.
 pub trait TryClone: Drop {
     /// Returns a copy.
     fn try_clone(&self, alloc: Global) -> Result<Self, AllocError>

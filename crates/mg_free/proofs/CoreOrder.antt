@@ -17,7 +17,7 @@ use Rattle.mg_free.proofs.Kept.{all_kept, among_kept, kept_apart, before_from, b
 use Rattle.mg_free.proofs.Walking.{core_within, core_apart, core_among, core_stays}
 use Rattle.mg_free.proofs.CoreStreams.{WrittenAs, Writes, streams_written}
 
--- a node stays, where it isn't free
+-- a node stays if it isn't free
 abbrev stays : Plan → ℕ → Bool
 stays plan n = not (is_free_at plan n)
 

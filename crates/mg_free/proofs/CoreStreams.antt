@@ -82,7 +82,7 @@ pub streams_below : (plan : Plan) → written_streams plan ≡ numbers (length p
 streams_below plan written =
     All-from_recursion (λ s. s < length plan.streams) (core_streams plan) (all_among (λ s. s < length plan.streams) (core_streams plan) (λ s a. stream_below plan s written a))
 
--- The streams that nodes write come behind those that enter.
+-- The streams that nodes write come after the streams that enter.
 outputs_renumbered : (plan : Plan) (nodes : List PlanNode) → outputs_of (map (core_node plan) nodes) ≡ map (stream_number plan) (outputs_of nodes)
 outputs_renumbered plan [] = refl
 outputs_renumbered plan (node ∷ nodes) =

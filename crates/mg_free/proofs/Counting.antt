@@ -73,7 +73,7 @@ length-if false x xs = omega arith
 one_of : (port n : ℕ) → cond {A = ℕ} (nat_le port n) 1 0 ≡ cond {A = ℕ} (n == port) 1 0 + cond {A = ℕ} (nat_le (port + 1) n) 1 0
 one_of port n = grind (arith, nat_tests)
 
--- those at one port, and those behind it
+-- the arrivals from a port on: those at the port, and those at the ports after it
 pub split_one : {X : Type 0} (port : ℕ) (log : List (Arrival X))
     → length (filter (λ a. nat_le port a.port) log) ≡ length (filter (λ a. a.port == port) log) + length (filter (λ a. nat_le (port + 1) a.port) log)
 split_one port [] = refl
@@ -91,7 +91,7 @@ none_past {X} port (a ∷ log) ports =
     let past : nat_le port a.port ≡ false = (let less = ports.0 in grind (arith, nat_tests)) in
     rw past (none_past port log ports.1)
 
--- where at each port no more have arrived than its stream has, no more have arrived than all streams have
+-- if at each port no more packets have arrived than its stream has, no more have arrived than all streams have
 count_from : {X : Type 0} (port : ℕ) (inputs : List (StreamPrefix X)) (log : List (Arrival X)) → AllByRecursion (λ a. a.port < port + length inputs) log
     → ((i : ℕ) → i < length inputs → length (arrived_at (port + i) log) ≤ length (port_of inputs i).packets)
     → length (filter (λ a. nat_le port a.port) log) ≤ sum_by (λ s. length s.packets) inputs

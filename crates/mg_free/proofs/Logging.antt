@@ -17,7 +17,7 @@ use Rattle.mg_free.specs.Free.{Arrival, Flow, begun, ports_of, arrived}
 use Rattle.mg_free.specs.Logs.{flow_of, arrived_at, MayAllArrive, IsLawfulSoFar, has_ended, output_of}
 use Rattle.mg_free.proofs.Arriving.{next_over, limiter_laid, limiter_dropped, limiter_finished, arrived_prefix, arrived_extends}
 
--- packets that come in time behind n others, the first of them at a bound or above
+-- packets that come in time after n others, the first of them at a bound or above
 abbrev pub OnTime : {X : Type 0} → ℕ → ℕ → List (Stamped X) → Type 0
 OnTime b n [] = Unit {0}
 OnTime b n (p ∷ ps) = (b ≤ p.at) × ((p.at ≡ post_stream → n ≡ 0) × OnTime (next p.at) (suc n) ps)

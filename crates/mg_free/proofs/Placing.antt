@@ -13,7 +13,7 @@ abbrev pub Among : ℕ → List ℕ → Type 0
 Among n [] = ⊥
 Among n (x ∷ xs) = (x ≡ n) ⊎ Among n xs
 
--- no number stands among those behind it
+-- no number stands among those after it
 abbrev pub AreApart : List ℕ → Type 0
 AreApart [] = Unit {0}
 AreApart (x ∷ xs) = ¬ (Among x xs) × AreApart xs
@@ -64,7 +64,7 @@ at_its_place n (x ∷ xs) le = elim (eqb_tells x n) [
   | inr (f, other) ↦ (let e = place_later x n xs f in subst (λ (i : ℕ). slice_get (x ∷ xs) i ≡ Some n) (sym e) (at_its_place n xs (omega (arith, le, e))))
 ]
 
--- so what has the place of one that is there is that one
+-- so a number with the place of a number of the list is that number
 pub same_place : (x y : ℕ) (xs : List ℕ) → Among x xs → place_in xs x ≡ place_in xs y → x ≡ y
 same_place x y xs a e =
     let l = found x xs a in
@@ -126,7 +126,7 @@ apart_front y (x ∷ xs) ys a among = λ here. elim here [
   | inr later ↦ apart_front y xs ys a.1 among later
 ]
 
--- the place of what doesn't stand in front
+-- the place of a number that isn't in the first of two lists
 pub place_behind : (n : ℕ) (xs ys : List ℕ) → ¬ (Among n xs) → place_in (xs ++ ys) n ≡ length xs + place_in ys n
 place_behind n [] ys none = (let e : place_in ys n ≡ 0 + place_in ys n = omega arith in e)
 place_behind n (x ∷ xs) ys none = elim (eqb_tells x n) [

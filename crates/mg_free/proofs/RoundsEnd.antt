@@ -1,5 +1,5 @@
--- The rounds end. A stream has no more packets than there are times, so there is only so much to take, and each round takes some of it
--- or is the last.
+-- The rounds end. A stream has no more packets than there are times, so what there is to take is limited. Each round takes some of
+-- that, or is the last.
 use Rattle.std.proofs.Common.{◌≡◌, ℕ, zero, suc, ◌+◌, ◌*◌, ◌<◌, ◌≤◌, List, [], ◌∷◌, map, length, sum_by, refl, sym, ap, ◌∙◌, subst, inl, inr, arith}
 use Rattle.std.specs.List.{AllByRecursion}
 use Rattle.std.proofs.lemmas.List.Elements.{recursion_from_All}

@@ -1,4 +1,4 @@
--- What turns come to: logs stay lawful where streams grow, no more is taken than there is, and at rest all has arrived.
+-- What turns result in: logs stay lawful if streams grow, no more is taken than there is, and at rest all has arrived.
 use Rattle.std.proofs.Common.{◌≡◌, ℕ, zero, suc, ◌+◌, ◌<◌, ◌≤◌, Bool, true, false, cond, List, [], ◌∷◌, ◌++◌, map, take, length, length-append, slice_get, All, Option, None, Some, option_map, refl, sym, ap, ◌∙◌, subst, arith}
 use Rattle.std.specs.List.{cons_option}
 use Rattle.std.proofs.lemmas.List.Sums.{sum_by-cons}

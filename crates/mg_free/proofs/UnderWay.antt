@@ -1,4 +1,4 @@
--- Rounds under way: what comes to the core is a job, and the free nodes have taken what they may.
+-- Rounds under way: the core's inputs make a job, and the free nodes have taken what they may.
 use Rattle.std.proofs.Common.{◌≡◌, ℕ, zero, suc, ◌+◌, ◌<◌, Bool, true, false, cond, List, [], ◌∷◌, ◌++◌, map, length, length-append, zip, None, refl, sym, ap, ◌∙◌, subst, arith}
 use Rattle.std.specs.List.{AllByRecursion, AllZip}
 use Rattle.std.proofs.lemmas.List.{length-map}
@@ -78,7 +78,7 @@ lawfuls streams [] (t ∷ takens) well = absurd well
 lawfuls streams (f ∷ frees) [] well = absurd well
 lawfuls streams (f ∷ frees) (t ∷ takens) well = (well.0.lawful, lawfuls streams frees takens well.1)
 
--- What is handed in fits a core.
+-- The inputs of a graph fit its core.
 pub record FitsCore (split : FreePlan) (inputs : Inputs) : Type 0 where
   pub core : IsValid split.core
   pub count : length inputs.streams + length split.free ≡ length split.core.inputs
@@ -191,7 +191,7 @@ has_come laws split inputs takens u r =
       outputs = outputs_at_rest r.streams split.free takens (sym r.turns) well;
     }
 
--- what rounds come to
+-- what rounds result in
 pub record Come (laws : Laws) (split : FreePlan) (inputs : Inputs) (takens : List Taken) : Type 0 where
   pub goes_on : IsUnderWay laws split inputs takens
   pub come : HasCome laws split inputs takens

@@ -1,4 +1,4 @@
--- A walk over the nodes of a plan, and the numbers in the core of those that are met.
+-- A walk over the nodes of a plan, and the numbers in the core of the nodes that are met.
 use Rattle.std.proofs.Common.{◌≡◌, ℕ, zero, suc, ◌+◌, ◌<◌, ◌≤◌, true, false, not, List, [], ◌∷◌, ◌++◌, map, filter, length, length-append, slice_get, All, Option, None, Some, unwrap_or, option_map, refl, sym, ap, ap₂, ◌∙◌, subst, inl, inr, arith}
 use Rattle.std.specs.List.{AllZip, enumerate_from}
 use Rattle.std.proofs.lemmas.Bool.{cases_Bool}
@@ -48,7 +48,7 @@ core_long n (node ∷ nodes) = elim (cases_Bool (is_core node)) [
   | inr isnt ↦ ap (λ (l : List ℕ). length l) (core_out n node nodes isnt) ∙ (core_long (n + 1) nodes ∙ sym (ap (λ (l : List PlanNode). length l) (filter_out is_core node nodes isnt)))
 ]
 
--- the numbers of some nodes, and of those behind them
+-- the numbers of some nodes, and of the nodes after them
 pub core_parts : (n : ℕ) (front nodes : List PlanNode) → core_from n (front ++ nodes) ≡ core_from n front ++ core_from (n + length front) nodes
 core_parts n [] nodes = ap (λ k. core_from k nodes) (let e : n ≡ n + 0 = omega arith in e)
 core_parts n (node ∷ front) nodes =

@@ -80,7 +80,7 @@ over_later law inputs later log e all over =
           ∙ ap (λ (s : StreamPrefix Plain). s.packets) (sym (ending_port law inputs port here) ∙ (ap (λ (l : List (StreamPrefix Plain)). port_of l port) same ∙ ending_port law later port le));
     }
 
--- Where the streams grow, all stays well.
+-- If the streams grow, all stays well.
 pub well_later : (inputs later : List (StreamPrefix Plain)) (free : FreeNode) (taken : Taken) → AreExtendedBy inputs later → AllByRecursion IsPrefix later → IsWell inputs free taken → IsWell later free taken
 well_later inputs later free taken e all well = record {
   ports = sym (length_all_zip IsExtendedBy inputs later e) ∙ well.ports;
@@ -111,7 +111,7 @@ over_with inputs law log a over next = record {
       ∙ (append-nil (arrived_at port log) ∙ over.arrived port le));
 }
 
--- where nothing is left to take, all has arrived
+-- if nothing is left to take, all has arrived
 all_arrived : (inputs : List (StreamPrefix Plain)) (log : List (Arrival Plain)) → IsLawfulSoFar inputs log
     → ((port : ℕ) → port < length inputs → slice_get (port_of inputs port).packets (length (arrived_at port log)) ≡ None)
     → (port : ℕ) → port < length inputs → arrived_at port log ≡ (port_of inputs port).packets

@@ -1,6 +1,6 @@
--- The core of a plan: the plan without its free nodes, whose outputs are further graph inputs there. Nodes keep their order; of the
--- streams the graph inputs stand first, behind them the outputs of the free nodes, and then those of the other nodes. The number
--- of a stream or a node in the core is its place in that order.
+-- The core of a plan: the plan without its free nodes, whose outputs are further graph inputs there. Nodes keep their order. The graph
+-- inputs are the first streams, then come the outputs of the free nodes, and then the outputs of the other nodes. The number of a
+-- stream or a node in the core is its place in that order.
 use Rattle.std.specs.Prelude.{ℕ, ◌++◌, Bool, false, not, ◌==◌, List, [], map, filter, length, position, Option, Some, None, is_some, option_map, unwrap_or, slice_get, slice_index_or}
 use Rattle.std.specs.List.{enumerate_from, filter_map, flat_map, prefix_len}
 use Rattle.mg_value.specs.declared.kind.Kind.TheVariants.{Any}
@@ -36,7 +36,7 @@ is_core node = not (is_free node)
 abbrev pub core_numbers : Plan → List ℕ
 core_numbers plan = map (λ e. e.0) (filter (λ e. is_core e.1) (enumerate_from 0 plan.nodes))
 
--- the streams that come to the core from outside, by the plan's numbers: the graph inputs and the outputs of the free nodes
+-- the streams that enter the core from outside, by the plan's numbers: the graph inputs and the outputs of the free nodes
 abbrev pub entering : Plan → List ℕ
 entering plan = plan.inputs ++ flat_map (λ node. node.outputs) (filter is_free plan.nodes)
 
@@ -44,7 +44,7 @@ entering plan = plan.inputs ++ flat_map (λ node. node.outputs) (filter is_free 
 abbrev pub core_streams : Plan → List ℕ
 core_streams plan = entering plan ++ flat_map (λ node. node.outputs) (filter is_core plan.nodes)
 
--- the place of a number in a list, or the list's length where it isn't there
+-- the place of a number in a list, or the list's length if it isn't there
 abbrev pub place_in : List ℕ → ℕ → ℕ
 place_in ns n = prefix_len (λ k. not (k == n)) ns
 
@@ -52,7 +52,7 @@ place_in ns n = prefix_len (λ k. not (k == n)) ns
 abbrev pub stream_number : Plan → ℕ → ℕ
 stream_number plan s = place_in (core_streams plan) s
 
--- the number in the core of a node of the plan; the collector comes behind the core's nodes
+-- the number in the core of a node of the plan; the collector's number follows those of the core's nodes
 abbrev pub node_number : Plan → ℕ → ℕ
 node_number plan n = place_in (core_numbers plan) n
 
@@ -76,7 +76,7 @@ written_by plan s producer = record (slice_index_or plan.streams s no_stream) { 
 abbrev pub output_streams : Plan → ℕ → List ℕ → List PlanStream
 output_streams plan node outputs = map (λ e. written_by plan e.1 (Node node e.0)) (enumerate_from 0 outputs)
 
--- the streams of the core: first those that come from outside, and then the outputs of the core's nodes
+-- the streams of the core: first the streams that enter from outside, and then the outputs of the core's nodes
 abbrev pub streams_of : Plan → List PlanStream
 streams_of plan =
     map (λ e. written_by plan e.1 (Input e.0)) (enumerate_from 0 (entering plan))

@@ -9,7 +9,7 @@ use Rattle.mg_free.specs.declared.law.FreeLaw.{FreeLaw}
 use Rattle.mg_free.specs.declared.law.FreeLaw.TheVariants.{FirstCome, Limiter}
 use Rattle.mg_free.specs.Free.{Arrival, Flow, begun, arrived, MayArrive}
 
--- what a free node has come to after the arrivals of a log
+-- the flow of a free node after the arrivals of a log
 abbrev pub flow_of : {X : Type 0} → FreeLaw → List (Arrival X) → Flow X
 flow_of law log = fold (arrived law) begun log
 
@@ -22,7 +22,7 @@ MayAllArrive law flow (arrival ∷ log) = MayArrive law flow arrival × MayAllAr
 abbrev pub arrived_at : {X : Type 0} → ℕ → List (Arrival X) → List (Stamped X)
 arrived_at port log = map (λ a. a.packet) (filter (λ a. a.port == port) log)
 
--- a log is lawful so far at input streams, one for each port: at each port the first packets of its stream have arrived, in order
+-- a log is lawful so far at input streams, one stream per port: at each port the stream's first packets have arrived, in order
 pub record IsLawfulSoFar {X : Type 0} (inputs : List (StreamPrefix X)) (log : List (Arrival X)) : Type 0 where
   pub ports : All (λ a. a.port < length inputs) log
   pub first : (port : ℕ) → port < length inputs → arrived_at port log ≡ take (length (arrived_at port log)) (port_of inputs port).packets

@@ -1,5 +1,5 @@
--- The rounds in which free nodes take what arrives. Nothing here speaks of a net, of queues or of workers: in each round the streams
--- are the solution of the core for what has come by then, and each free node takes one packet at most.
+-- The rounds in which free nodes take what arrives. Nothing here speaks of a net, of queues or of workers. In each round the streams
+-- are the solution of the core for its inputs so far. Each free node takes one packet at most in a round.
 use Rattle.std.specs.Prelude.{◌≡◌, Bool, true, false, List, [], ◌∷◌, ◌++◌, map, length, Option, Some, None, option_map, slice_get}
 use Rattle.std.specs.List.{enumerate_from, filter_map, zip}
 use Rattle.mg_value.specs.Payload.{Plain}
@@ -25,11 +25,11 @@ none_taken split = map (λ free. record { log = []; closed = false }) split.free
 abbrev pub output_so_far : FreeNode → Taken → StreamPrefix Plain
 output_so_far free taken = elim taken.closed [ true ↦ closed (flow_of free.law taken.log).output | false ↦ (flow_of free.law taken.log).output ]
 
--- what comes to the core: the plan's inputs so far, and behind them the outputs of the free nodes so far
+-- the inputs of the core: the plan's inputs so far, and then the outputs of the free nodes so far
 abbrev pub core_inputs : FreePlan → Inputs → List Taken → Inputs
 core_inputs split inputs takens = record inputs { streams = inputs.streams ++ map (λ e. output_so_far e.0 e.1) (zip split.free takens) }
 
--- the job of the core with what has come to it
+-- the job of the core with its inputs so far
 abbrev pub core_job : Laws → FreePlan → Inputs → List Taken → Job
 core_job laws split inputs takens = record { plan = split.core; inputs = core_inputs split inputs takens; laws = laws }
 
@@ -48,12 +48,14 @@ last_of [] = None
 last_of (x ∷ []) = Some x
 last_of (x ∷ y ∷ ys) = last_of (y ∷ ys)
 
--- what a free node has taken after it takes an arrival; without one it closes its output, if the input streams have ended that have to
+-- what a free node has taken after it takes an arrival. Without an arrival it closes its output, if the input streams have ended that
+-- have to end first.
 abbrev pub with_next : List (StreamPrefix Plain) → FreeNode → Taken → Option (Arrival Plain) → Taken
 with_next streams free taken (Some arrival) = record { log = taken.log ++ arrival ∷ []; closed = taken.closed }
 with_next streams free taken None = elim (has_ended free.law (free_inputs streams free)) [ true ↦ record { log = taken.log; closed = true } | false ↦ taken ]
 
--- what a free node has taken after its turn: it takes the next packet of the last port that has one, or may close its output
+-- what a free node has taken after its turn. It takes the next packet of the last port that has a further packet. If no port has one,
+-- it may close its output.
 abbrev pub turn : List (StreamPrefix Plain) → FreeNode → Taken → Taken
 turn streams free taken = with_next streams free taken (last_of (next_arrivals streams free taken))
 
@@ -63,7 +65,7 @@ pub record IsRound (laws : Laws) (split : FreePlan) (inputs : Inputs) (before af
   pub solution : IsSolution (core_job laws split inputs before) streams
   pub turns : after ≡ map (λ e. turn streams e.0 e.1) (zip split.free before)
 
--- rounds over the same inputs, each of which takes something or closes something, up to one that doesn't
+-- rounds over the same inputs: each takes something or closes something, except the last, which does neither
 pub data Rounds (laws : Laws) (split : FreePlan) (inputs : Inputs) : List Taken → List Taken → Type 0 where
   rests : {takens : List Taken} → IsRound laws split inputs takens takens → Rounds laws split inputs takens takens
   round : {before after last : List Taken} → IsRound laws split inputs before after → ¬ (after ≡ before) → Rounds laws split inputs after last → Rounds laws split inputs before last

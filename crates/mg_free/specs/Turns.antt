@@ -30,7 +30,7 @@ taken_by taken = length taken.log + cond {A = ℕ} taken.closed 1 0
 abbrev pub taken_by_all : List Taken → ℕ
 taken_by_all takens = sum_by taken_by takens
 
--- how much there is for a free node to take in the given streams: each packet of each port counts one, and the closing of its output
+-- how much there is for a free node to take in the given streams. Each packet of each port counts one, and so does closing the output.
 abbrev pub room_of : List (StreamPrefix Plain) → FreeNode → ℕ
 room_of streams free = sum_by (λ s. length s.packets) (free_inputs streams free) + 1
 
@@ -51,8 +51,8 @@ abbrev pub last_batch : Inputs → List Inputs → Inputs
 last_batch inputs [] = inputs
 last_batch before (inputs ∷ later) = last_batch inputs later
 
--- a run has come to its end with these logs: in the solution of the core, for all inputs and for the free nodes' outputs, each log is
--- lawful, and the output of each free node is the one that its law gives for its log
+-- a run has ended with these logs. In the solution of the core, for all inputs and for the free nodes' outputs, each log is lawful. The
+-- output of each free node is what its law gives for its log.
 pub record HasCome (laws : Laws) (split : FreePlan) (inputs : Inputs) (takens : List Taken) : Type 0 where
   pub job : IsJob (core_job laws split inputs takens)
   pub streams : List (StreamPrefix Plain)

@@ -37,7 +37,7 @@ fn written_by(
     }
 }
 
-// Returns the graph inputs of the core: the streams that come to it from outside.
+// Returns the graph inputs of the core: the streams that enter it from outside.
 fn entering_streams(alloc: Global, plan: &Plan) -> Result<Vec<PlanStream>, AllocError>
     ensures { IfOk result (λ streams. streams.items ≡ map (λ e. the_written plan.now e.1 (the_input e.0)) (enumerate_from 0 (the_entering plan.now))) }
 {
@@ -69,7 +69,7 @@ fn add_outputs(
     Ok(())
 }
 
-/// Returns the streams of the core: those that come from outside, and behind them the outputs of the core's nodes.
+/// Returns the streams of the core: first the streams that enter it from outside, and then the outputs of the core's nodes.
 pub fn core_streams(alloc: Global, plan: &Plan) -> Result<PlanStreamList, AllocError>
     ensures { IfOk result (λ streams. streams ≡ the_streams plan.now) }
 {

@@ -23,8 +23,8 @@ pub fn an_arrival_extends_the_output()
     ensures extends { (law : FreeLaw) (flow : Flow Plain) (arrival : Arrival Plain) → MayArrive law flow arrival → IsExtendedBy flow.output (arrived law flow arrival).output }
 {}
 
-/// Each arrival of a log that is lawful so far may come. The output that a log gives is a prefix by the rule of streams, also where
-/// it has ended, and the output of a longer log extends it.
+/// Each arrival of a log that is lawful so far may come. The output that a log gives is a prefix by the rule of streams, also if it has
+/// ended. The output of a longer log extends it.
 pub fn a_logs_output_is_a_prefix()
     ensures may { (law : FreeLaw) (inputs : List (StreamPrefix Plain)) (log : List (Arrival Plain)) → length inputs ≡ ports_of law → All IsPrefix inputs
         → IsLawfulSoFar inputs log → MayAllArrive law begun log }
@@ -34,9 +34,9 @@ pub fn a_logs_output_is_a_prefix()
         → IsExtendedBy (flow_of law log).output (flow_of law (log ++ more)).output }
 {}
 
-/// A free node lays at most as many packets as have arrived, and Limiter at most as many as have arrived at its first port. So where
-/// the log is lawful so far, the output has no more packets than the inputs have together, or, for Limiter, than the first input
-/// has. A Limiter never has more packets in flight than it may have.
+/// A free node lays at most as many packets as have arrived, and Limiter at most as many as have arrived at its first port. So if the
+/// log is lawful so far, the output has no more packets than the inputs have together. The output of Limiter then has no more packets
+/// than its first input has. A Limiter never has more packets in flight than it may have.
 pub fn outputs_are_no_longer_than_logs()
     ensures first_come { (lanes : ℕ) (log : List (Arrival Plain)) → length (flow_of (FirstCome lanes) log).output.packets ≤ length log }
     ensures limiter { (most : ℕ) (log : List (Arrival Plain)) → length (flow_of (Limiter most) log).output.packets ≤ length (arrived_at 0 log) }
@@ -46,8 +46,8 @@ pub fn outputs_are_no_longer_than_logs()
 {}
 
 /// In a round something more is taken, or all stays as it was. No more is ever taken than there is: the packets at the ports of the
-/// free nodes, and one closing for each. A log that is lawful so far stays so after a round, and where the streams are extended.
-/// Where a round leaves all as it was, each log is lawful: all packets have arrived.
+/// free nodes, and one closing for each. A log that is lawful so far stays so after a round, and if the streams are extended. If a
+/// round leaves all as it was, each log is lawful: all packets have arrived.
 pub fn rounds_take_what_there_is()
     ensures rises { (laws : Laws) (split : FreePlan) (inputs : Inputs) (before after : List Taken) → length split.free ≡ length before → IsRound laws split inputs before after
         → (after ≡ before) ⊎ (taken_by_all before < taken_by_all after) }
@@ -61,9 +61,9 @@ pub fn rounds_take_what_there_is()
         → AreLawfulSoFar round.streams split.free takens → AreLawful round.streams split.free takens }
 {}
 
-/// The rounds of a run end, whatever its batches are, and they always end with the same logs. What has come to the core is then a job;
-/// in the job's solution the log of each free node is lawful; and the output of each free node is the one that its law gives for its
-/// log, closed where it has ended.
+/// The rounds of a run end, whatever its batches are, and they always end with the same logs. The core's inputs then make a job. In the
+/// job's solution the log of each free node is lawful. The output of each free node is what its law gives for its log, and is closed if
+/// it has ended.
 pub fn rounds_end()
     ensures ends { (laws : Laws) (plan : Plan) (inputs : Inputs) (later : List Inputs) → IsValidWithFree plan → InputsFit plan inputs → AreBatches plan inputs later
         → (last : List Taken) × AllRounds laws (split_of plan) (inputs ∷ later) (none_taken (split_of plan)) last }

@@ -1,4 +1,4 @@
-//! Free nodes: nodes whose output depends on the order in which packets arrive.
+//! Free nodes: the output of such a node depends on the order in which packets arrive.
 //! Answers to the definitions of `specs/Free.antt`, `specs/Logs.antt` and `specs/Core.antt`; `specs/Rounds.antt` and
 //! `specs/Turns.antt` say in what rounds free nodes take what arrives.
 #![tactic(auto)]

@@ -30,7 +30,7 @@ fn is_one(node: &PlanNode, free: bool) -> bool
     if free { is_free(node) } else { !is_free(node) }
 }
 
-// Returns `before`, with the outputs of the free nodes behind it, or, if `free` isn't set, those of the core's nodes.
+// Returns `before`, and after it the outputs of the free nodes if `free` is set, or of the core's nodes if it isn't.
 fn with_outputs(before: Vec<u32>, nodes: &[PlanNode], free: bool) -> Result<Vec<u32>, AllocError>
     ensures { IfOk result (λ all. all.items ≡ before.items ++ flat_map (λ node. node.outputs) (filter (is_one_of free) nodes.now)) }
 {
@@ -43,7 +43,7 @@ fn with_outputs(before: Vec<u32>, nodes: &[PlanNode], free: bool) -> Result<Vec<
     Ok(all)
 }
 
-// Returns the streams that come to the core from outside, by the plan's numbers, as a vector that can grow.
+// Returns the streams that enter the core from outside, by the plan's numbers, as a vector that can grow.
 fn entering_so_far(alloc: Global, plan: &Plan) -> Result<Vec<u32>, AllocError>
     ensures { IfOk result (λ streams. streams.items ≡ the_entering plan.now) }
 {
@@ -52,7 +52,7 @@ fn entering_so_far(alloc: Global, plan: &Plan) -> Result<Vec<u32>, AllocError>
     with_outputs(inputs, plan.nodes.as_slice(), true)
 }
 
-/// Returns the streams that come to the core from outside, by the plan's numbers: the graph inputs and the free nodes' outputs.
+/// Returns the streams that enter the core from outside, by the plan's numbers: the graph inputs and the free nodes' outputs.
 pub fn entering(alloc: Global, plan: &Plan) -> Result<NumberList, AllocError>
     ensures { IfOk result (λ streams. streams ≡ the_entering plan.now) }
 {

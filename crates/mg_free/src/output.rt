@@ -27,7 +27,7 @@ pub fn no_packets(alloc: Global) -> PacketList
     list_of(Vec::new(alloc))
 }
 
-// Returns a list with a further packet. Where there is no memory for it, the error gives the list back as it was.
+// Returns a list with a further packet. Out of memory: the error gives the list back as it was.
 fn with_packet(list: PacketList, packet: Packet) -> Result<PacketList, AllocFailed<PacketList>>
     ensures more { IfOk result (λ now. now ≡ list ++ packet ∷ []) }
     ensures same { IfErr result (λ e. e.value ≡ list) }
@@ -44,7 +44,7 @@ fn with_packet(list: PacketList, packet: Packet) -> Result<PacketList, AllocFail
     }
 }
 
-/// Puts a packet behind an output. On an error the output stays.
+/// Appends a packet to an output. On an error the output stays.
 pub fn lay(alloc: Global, output: &mut Prefix, packet: &Packet) -> Result<(), AllocError>
     ensures laid { IfOk result (λ _. output.new ≡ appended output.old packet.now) }
     ensures unchanged { OnErr result (output.new ≡ output.old) }

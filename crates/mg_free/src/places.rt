@@ -46,7 +46,7 @@ impl Places {
         Ok(Places { table, past })
     }
 
-    /// Returns the place of a number, or the length of the list where the list doesn't have it.
+    /// Returns the place of a number, or the length of the list if the list doesn't have it.
     pub fn at(&self, number: u32) -> u32
         ensures { result ≡ place_at self.now number }
     {

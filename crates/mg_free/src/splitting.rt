@@ -24,7 +24,7 @@ fn numbers(alloc: Global, count: u32) -> Result<NumberList, AllocError>
     Ok(NumberList::from_vec(numbers)?)
 }
 
-// The numbers of the core's graph inputs.
+// Returns the numbers of the core's graph inputs.
 fn core_inputs(alloc: Global, plan: &Plan) -> Result<NumberList, AllocError>
     ensures { IfOk result (λ inputs. inputs ≡ the_numbers (length (the_entering plan.now))) }
 {
@@ -32,7 +32,7 @@ fn core_inputs(alloc: Global, plan: &Plan) -> Result<NumberList, AllocError>
     numbers(alloc, entering.len())
 }
 
-// The core of a plan.
+// Returns the core of a plan.
 fn core(alloc: Global, plan: &Plan, numbering: &Numbering) -> Result<Plan, AllocError>
     requires { IsNumberingOf plan.now numbering.now }
     ensures { IfOk result (λ core. core ≡ the_core plan.now) }
@@ -57,7 +57,7 @@ fn core(alloc: Global, plan: &Plan, numbering: &Numbering) -> Result<Plan, Alloc
     })
 }
 
-// Returns the first number of a list, or 0 where the list is empty.
+// Returns the first number of a list, or 0 if the list is empty.
 fn first_of(numbers: &NumberList) -> u32
     ensures { result ≡ slice_index_or numbers.now 0 0 }
 {
@@ -93,7 +93,7 @@ fn free_node(
     }))
 }
 
-// The free nodes of a plan.
+// Returns the free nodes of a plan.
 fn free_nodes(alloc: Global, plan: &Plan, numbering: &Numbering) -> Result<FreeNodeList, AllocError>
     requires { IsNumberingOf plan.now numbering.now }
     ensures { IfOk result (λ free. free ≡ the_free_nodes plan.now) }

@@ -14,8 +14,8 @@ use std::alloc::{AllocError, Global};
 use std::marker::Model;
 use std::mem;
 
-/// The state of a free node (MediaPipe, Real-time Streams). Contracts see its law, the packets of its output that weren't handed on yet,
-/// the output's bound, how many packets were handed on before, and how many are in flight.
+/// The state of a free node (MediaPipe, Real-time Streams). Contracts see its law, the packets of its output that weren't handed on
+/// yet, and the output's bound. They also see how many packets were handed on before, and how many are in flight.
 #[derive(Drop)]
 pub struct FreeState {
     alloc: Global,
@@ -58,8 +58,8 @@ impl FreeState {
     pub fn arrive(&mut self, port: u32, packet: &Packet) -> Result<bool, AllocError>
         requires { IsAllowed packet.now.at }
 
-        // If what is kept is of some flow, the free law for that flow says whether the packet is laid. What is kept then is of the flow
-        // after the arrival.
+        // If the state keeps the rest of some flow, the free law for that flow says whether the packet is laid. The state then keeps
+        // the rest of the flow after the arrival.
         ensures laid { (flow : Flow Plain) → IsRestOf flow self.old.rest → IfOk result (λ laid. laid ≡ is_laid self.old.law flow (record { port = port; packet = packet.now })) }
         ensures arrived { (flow : Flow Plain) → IsRestOf flow self.old.rest → OnOk result (IsRestOf (arrived self.old.law flow (record { port = port; packet = packet.now })) self.new.rest) }
         ensures law { self.new.law ≡ self.old.law }
@@ -70,8 +70,8 @@ impl FreeState {
         Ok(laid)
     }
 
-    /// Hands out what was laid on the output since the last call, with the bound as it is now, and keeps no packet of it. 2^64 packets
-    /// or more in all count as want of memory; on an error the state stays.
+    /// Returns what was laid on the output since the last call, with the bound as it is now, and keeps no packet of it. If the packets
+    /// in all are 2^64 or more, the call fails as if out of memory. On an error the state stays.
     pub fn hand_on(&mut self) -> Result<Prefix, AllocError>
         ensures piece { IfOk result (λ piece. piece ≡ self.old.rest.piece) }
         ensures rest { IfOk result (λ _. self.new.rest ≡ rest_handed self.old.rest) }
@@ -143,8 +143,8 @@ impl FreeState {
         Ok(())
     }
 
-    // Takes a packet that isn't laid: FirstCome drops it; a Limiter raises its output past one of the first port, and one of FINISHED
-    // leaves it one less in flight.
+    // Takes a packet that isn't laid. FirstCome drops it. Limiter raises its output past a packet of the first port. A packet of
+    // FINISHED leaves Limiter one packet less in flight, if any is.
     fn pass(&mut self, port: u32, at: Timestamp)
         requires { IsAllowed at }
         ensures passed { (value : Plain) → self.new.rest ≡ rest_passed self.old.law self.old.rest (record { port = port; packet = record { at = at; value = value } }) }

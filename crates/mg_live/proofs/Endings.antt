@@ -55,7 +55,7 @@ not_ended free shown streams port ended same less is isnt all =
     sym (sym all ∙ ended_from free streams port ended less (is ∙ ap (λ (l : List ℕ). (stream_of streams (get_or l port 0)).bound == done) same)
     ∙ ap (λ (b : Bool). b && list_all (λ s. s.bound == done) (drop (port + 1) (ending free.law (free_inputs streams free)))) isnt)
 
--- one that has
+-- a port that has ended
 pub ended_more : (free : FreeNode) (shown : List ℕ) (streams : List (StreamPrefix Plain)) (port : ℕ) (ended : Bool) → shown ≡ free.inputs → port < length (ending free.law (free_inputs streams free))
     → ended ≡ ((stream_of streams (get_or shown port 0)).bound == done) → ended ≡ true
     → list_all (λ s. s.bound == done) (drop port (ending free.law (free_inputs streams free))) ≡ has_ended free.law (free_inputs streams free)

@@ -1,4 +1,4 @@
--- Rounds under way: what they come to, and what comes to the core meanwhile.
+-- Rounds under way: what they result in, and what the core's inputs are meanwhile.
 use Rattle.std.proofs.Common.{◌≡◌, ℕ, zero, suc, List, [], ◌∷◌, ◌++◌, map, zip, reverse, slice_get, Some, refl, sym, ap, ◌∙◌, subst, arith}
 use Rattle.std.specs.List.{AllByRecursion}
 use Rattle.std.proofs.lemmas.List.{append_assoc, length-map, reverse-append}
@@ -65,7 +65,7 @@ all_come laws plan inputs earlier takens valid come h r =
 pub is_job : (laws : Laws) (plan : Plan) (inputs : Inputs) (earlier : List Inputs) (takens : List Taken) → IsValidWithFree plan → HaveCome plan (inputs ∷ earlier) → SoFar laws (split_of plan) (inputs ∷ earlier) takens → IsJob (core_job laws (split_of plan) inputs takens)
 is_job laws plan inputs earlier takens valid come h = (under_way laws plan inputs earlier takens valid come h).job
 
--- What comes to the core is extended.
+-- The core's inputs are extended.
 abbrev outs : List FreeNode → List Taken → List (StreamPrefix Plain)
 outs frees takens = map (λ e. output_so_far e.0 e.1) (zip frees takens)
 

@@ -120,7 +120,7 @@ all_handed frees takens before now front pieces count was all h =
       sym (take_all count (handed_of now) (omega (arith, now_long, all))) ∙ h.handed ∙ take_all count (map (λ s. length s.packets) (outputs_so_far frees takens)) (omega (arith, lens, outs, c, all)),
     )
 
--- A piece goes behind.
+-- A piece follows the packets that were handed on before.
 pub drop_front : {X : Type 0} (xs ys : List X) → drop (length xs) (xs ++ ys) ≡ ys
 drop_front [] ys = refl
 drop_front (x ∷ xs) ys = drop_front xs ys

@@ -48,13 +48,13 @@ more_below log k inputs less =
     one_more log 0 k inputs less
     ∙ ap (λ (m : ℕ). waits_below inputs log k ++ of_port m (slice_get (port_of inputs k).packets (length (arrived_at m log)))) (let e : 0 + k ≡ k = omega arith in e)
 
--- none at a port: the last is one below it
+-- no packet waits at a port: the last port with a packet is below it
 pub none_at_it : (inputs : List (StreamPrefix Plain)) (log : List (Arrival Plain)) (k : ℕ) → k < length inputs → slice_get (port_of inputs k).packets (length (arrived_at k log)) ≡ None
     → waits_below inputs log (suc k) ≡ waits_below inputs log k
 none_at_it inputs log k less none =
     more_below log k inputs less ∙ ap (λ (o : Option (Stamped Plain)). waits_below inputs log k ++ of_port k o) none ∙ append-nil (waits_below inputs log k)
 
--- one at a port: it is the last of those up to it
+-- a packet waits at a port: it is the last of the packets up to that port
 pub one_at_it : (inputs : List (StreamPrefix Plain)) (log : List (Arrival Plain)) (k : ℕ) (packet : Stamped Plain) → k < length inputs → slice_get (port_of inputs k).packets (length (arrived_at k log)) ≡ Some packet
     → last_of (waits_below inputs log (suc k)) ≡ Some (record { port = k; packet = packet })
 one_at_it inputs log k packet less is =

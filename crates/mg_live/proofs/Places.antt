@@ -12,7 +12,7 @@ use Rattle.mg_live.specs.Takes.{HasTaken, HasHanded, HaveTaken, Did, turns_of, h
 use Rattle.mg_live.proofs.InTurn.{get_there, get_other, same_all, differs, turn_at, taken_there, early_there}
 use Rattle.mg_live.proofs.HandedOn.{put_taken, out_at, map_at, outs_long, put_there}
 
--- One more behind some numbers.
+-- One more number after some numbers.
 
 pushed_at : (xs : List ℕ) (x i y : ℕ) → slice_get (xs ++ x ∷ []) i ≡ Some y → (slice_get xs i ≡ Some y) ⊎ ((i ≡ length xs) × (y ≡ x))
 pushed_at [] x zero y e = inr (refl, sym (same_Some x y e))
@@ -50,7 +50,7 @@ find (m ∷ ns) n = elim (cases_eq m n) [
 
 -- Rounds.
 
--- of the first nodes, a number of them, those at these places did something
+-- of the first nodes, a number of them, the nodes at these places did something
 pub record DidPlaces (streams : List (StreamPrefix Plain)) (frees : List FreeNode) (takens : List Taken) (upto : ℕ) (places : List ℕ) : Type 0 where
   pub rising : AreRising places
   pub below : (i place : ℕ) → slice_get places i ≡ Some place → place < upto
@@ -154,7 +154,7 @@ turned_at streams (f ∷ frees) [] i free taken at at_taken = absurd (none-some 
 turned_at streams (f ∷ frees) (t ∷ takens) zero free taken at at_taken = ap₂ (λ (x : FreeNode) (y : Taken). Some (turn streams x y)) (same_Some f free at) (same_Some t taken at_taken)
 turned_at streams (f ∷ frees) (t ∷ takens) (suc i) free taken at at_taken = turned_at streams frees takens i free taken at at_taken
 
--- something was done where there is a place, and nothing where there is none
+-- something was done if there is a place, and nothing if there is none
 pub did_where : (streams : List (StreamPrefix Plain)) (frees : List FreeNode) (takens : List Taken) (places : List ℕ) (some : Bool) → length takens ≡ length frees → (some ≡ true → 0 < length places) → (some ≡ false → length places ≡ 0)
     → DidAt places takens (turns_of streams frees takens) → Did some takens (turns_of streams frees takens)
 did_where streams frees takens [] true long more none h = absurd (let less = more refl in omega (arith, less))
@@ -176,7 +176,7 @@ pub record HandedAt (frees : List FreeNode) (takens : List Taken) (places : List
   pub each : (i place n : ℕ) (s : StreamPrefix Plain) → i < upto → slice_get places i ≡ Some place → slice_get (handed_of before) place ≡ Some n → slice_get (outputs_so_far frees takens) place ≡ Some s → slice_get pieces i ≡ Some (piece_behind n s)
   pub handed : (i place n : ℕ) (s : StreamPrefix Plain) → i < upto → slice_get places i ≡ Some place → slice_get (handed_of now) place ≡ Some n → slice_get (outputs_so_far frees takens) place ≡ Some s → n ≡ length s.packets
 
--- those at all other places have what they had
+-- the nodes at all other places have what they had
 abbrev pub IsSameBut : List ℕ → ℕ → List Taker → List Taker → Type 0
 IsSameBut places upto before now = (place : ℕ) → ((i : ℕ) → i < upto → ¬ (slice_get places i ≡ Some place)) → slice_get now place ≡ slice_get before place
 
@@ -188,7 +188,7 @@ none_handed_at frees takens places before pieces none h = record {
   handed = λ i place n s less. absurd (omega (arith, less));
 }
 
--- the place of the next one is none of those before
+-- the place of the next node isn't among the places before
 pub next_apart : (places : List ℕ) (upto place : ℕ) → AreRising places → slice_get places upto ≡ Some place → (i : ℕ) → i < upto → ¬ (slice_get places i ≡ Some place)
 next_apart places upto place rising at i less e = (let low = rising i upto place place less e at in absurd (omega (arith, low)))
 

@@ -70,7 +70,7 @@ handed_all free taken before now h is =
     let long = out_long (flow_of free.law taken.log).output taken.closed in
     ap (λ (r : FreeRest). r.handed) is ∙ (let e : before.state.rest.handed + length before.state.rest.piece.packets ≡ length (out_by (flow_of free.law taken.log).output taken.closed).packets = omega (arith, all, both, count, long) in e)
 
--- and what is kept is of the same
+-- and what is kept then is of the same flow
 rest_on : (flow : Flow Plain) (rest : FreeRest) → IsRestOf flow rest → IsRestOf flow (rest_handed rest)
 rest_on flow rest h = record {
   gone = h.gone ++ rest.piece.packets;

@@ -1,5 +1,5 @@
--- Rounds under way: what free nodes have taken so far. Each entry of a list of inputs is all that had come to the graph by the end of
--- a batch, and the newest entry stands first.
+-- Rounds under way: what free nodes have taken so far. Each entry of a list of inputs has all inputs of the graph by the end of a
+-- batch. The newest entry stands first.
 use Rattle.std.specs.Prelude.{◌≡◌, List, [], ◌∷◌, ⊤}
 use Rattle.mg_settled.specs.Extension.{AreExtendedBy}
 use Rattle.mg_calc.specs.declared.inputs.Inputs.{Inputs}
@@ -26,7 +26,7 @@ HaveCome plan [] = ⊤
 HaveCome plan (inputs ∷ []) = InputsFit plan inputs
 HaveCome plan (inputs ∷ before ∷ earlier) = InputsFit plan inputs × (before.sides ≡ inputs.sides) × AreExtendedBy before.streams inputs.streams × HaveCome plan (before ∷ earlier)
 
--- the core goes on: what has come to it now makes a job, and extends what had come to it before
+-- the core goes on: its inputs now make a job, have the same side packets, and extend its input streams before
 pub record CoreGoesOn (laws : Laws) (split : FreePlan) (inputs more : Inputs) (before after : List Taken) : Type 0 where
   pub is_job : IsJob (core_job laws split more after)
   pub sides : inputs.sides ≡ more.sides

@@ -14,7 +14,7 @@ use Rattle.mg_live.specs.declared.taker.Taker.{Taker}
 abbrev pub told : Arrival Plain → Arrived
 told arrival = record { port = arrival.port; at = arrival.packet.at }
 
--- A taker stands for what its free node has taken. What it keeps is of what the node has come to by the log. It has how many packets
+-- A taker stands for what its free node has taken. What it keeps is of the flow that the node's log gives. It has how many packets
 -- arrived at each port, the log itself, and whether the output is closed.
 pub record HasTaken (free : FreeNode) (taken : Taken) (taker : Taker) : Type 0 where
   pub law : taker.state.law ≡ free.law
@@ -32,8 +32,8 @@ HasHanded free taken taker = taker.state.rest.handed ≡ length (output_so_far f
 abbrev pub piece_behind : ℕ → StreamPrefix Plain → StreamPrefix Plain
 piece_behind count s = record { packets = drop count s.packets; bound = s.bound }
 
--- a free node may have its turn in the given streams: it has as many inputs as its law asks for, which are among the streams; these
--- are prefixes by the rule of streams, and the node's log is lawful so far
+-- a free node may have its turn in the given streams. It has as many inputs as its law asks for, and these are among the streams. The
+-- input streams are prefixes by the rule of streams, and the node's log is lawful so far.
 pub record MayTurn (streams : List (StreamPrefix Plain)) (free : FreeNode) (taken : Taken) : Type 0 where
   pub ports : length free.inputs ≡ ports_of free.law
   pub among : (port : ℕ) (stream : ℕ) → slice_get free.inputs port ≡ Some stream → stream < length streams
@@ -53,7 +53,7 @@ pub record MayTurnIn {S : Type 0} (are : S → List (StreamPrefix Plain) → Typ
   pub may : MayTurn streams free taken
   pub can_read : CanRead has_from read free taken
 
--- whether something was done: true where there is a change, and false where all is as it was
+-- whether something was done: true for a change, and false if all is as it was
 abbrev pub Did : {X : Type 0} → Bool → X → X → Type 0
 Did true before after = ¬ (after ≡ before)
 Did false before after = after ≡ before
@@ -104,7 +104,7 @@ pub record MayRound {S : Type 0} (are : S → List (StreamPrefix Plain) → Type
 
 -- Places.
 
--- numbers each of which is higher than those before it
+-- numbers that rise: each is higher than all before it
 abbrev pub AreRising : List ℕ → Type 0
 AreRising numbers = (i j number other : ℕ) → i < j → slice_get numbers i ≡ Some number → slice_get numbers j ≡ Some other → number < other
 
@@ -112,7 +112,7 @@ AreRising numbers = (i j number other : ℕ) → i < j → slice_get numbers i �
 abbrev pub IsNoneOf : List ℕ → ℕ → Type 0
 IsNoneOf numbers number = (i : ℕ) → ¬ (slice_get numbers i ≡ Some number)
 
--- the places of a list at which something was done: at all others it is as it was
+-- the places of a list at which something was done: at all other places the list is as it was
 pub record DidAt {X : Type 0} (places : List ℕ) (before after : List X) : Type 0 where
   pub rising : AreRising places
   pub within : (i place : ℕ) → slice_get places i ≡ Some place → place < length before
@@ -124,6 +124,6 @@ pub record ArePiecesAt (places : List ℕ) (pieces : List (StreamPrefix Plain)) 
   pub as_many : length pieces ≡ length places
   pub each : (i place count : ℕ) (s : StreamPrefix Plain) → slice_get places i ≡ Some place → slice_get counts place ≡ Some count → slice_get streams place ≡ Some s → slice_get pieces i ≡ Some (piece_behind count s)
 
--- at all places but some all packets of the streams are counted
+-- at all places but the given ones, all packets of the streams are counted
 abbrev pub AreCountedBut : List ℕ → List ℕ → List (StreamPrefix Plain) → Type 0
 AreCountedBut places counts streams = (place count : ℕ) (s : StreamPrefix Plain) → IsNoneOf places place → slice_get counts place ≡ Some count → slice_get streams place ≡ Some s → count ≡ length s.packets

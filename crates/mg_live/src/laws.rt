@@ -16,7 +16,7 @@ ghost use Rattle.mg_live.specs.Takes.{MayAllTurn, piece_behind};
 ghost use Rattle.mg_live.specs.SoFar.{SoFar, HaveCome, CoreGoesOn};
 
 /// If a round does nothing after the last batch, the rounds so far are all rounds of the run. In the solution of the core the log of
-/// each free node is then lawful, and the output of each free node is the one that its law gives for its log.
+/// each free node is then lawful. The output of each free node is then what its law gives for its log.
 pub fn rounds_so_far_are_rounds()
     ensures all { (laws : Laws) (split : FreePlan) (inputs : Inputs) (earlier : List Inputs) (takens : List Taken) → SoFar laws split (inputs ∷ earlier) takens → IsRound laws split inputs takens takens
         → AllRounds laws split (reverse (inputs ∷ earlier)) (none_taken split) takens }
@@ -24,8 +24,8 @@ pub fn rounds_so_far_are_rounds()
         → SoFar laws (split_of plan) (inputs ∷ earlier) takens → IsRound laws (split_of plan) inputs takens takens → HasCome laws (split_of plan) inputs takens }
 {}
 
-/// At each point of a run, what has come to the core makes a job. After a further round, or a further batch, it makes a job whose
-/// inputs extend those before.
+/// At each point of a run, the core's inputs so far make a job. After a further round, or a further batch, they make a job again, and
+/// its inputs extend those before.
 pub fn rounds_go_on()
     ensures job { (laws : Laws) (plan : Plan) (inputs : Inputs) (earlier : List Inputs) (takens : List Taken) → IsValidWithFree plan → HaveCome plan (inputs ∷ earlier) → SoFar laws (split_of plan) (inputs ∷ earlier) takens
         → IsJob (core_job laws (split_of plan) inputs takens) }
@@ -35,14 +35,14 @@ pub fn rounds_go_on()
         → SoFar laws (split_of plan) (inputs ∷ earlier) takens → CoreGoesOn laws (split_of plan) inputs more takens takens }
 {}
 
-/// In the solution for what has come to the core each free node may have its turn.
+/// In the solution for the core's inputs so far, each free node may have its turn.
 pub fn free_nodes_may_have_their_turns()
     ensures { (laws : Laws) (plan : Plan) (inputs : Inputs) (earlier : List Inputs) (takens : List Taken) (streams : List (StreamPrefix Plain)) → IsValidWithFree plan → HaveCome plan (inputs ∷ earlier)
         → SoFar laws (split_of plan) (inputs ∷ earlier) takens → IsSolution (core_job laws (split_of plan) inputs takens) streams → MayAllTurn streams (split_of plan).free takens }
 {}
 
-/// A piece that a free node hands on goes behind what it handed on before: the packets before and those of the piece are the packets of
-/// the output as it is now, and the higher of the two bounds is its bound.
+/// A piece that a free node hands on follows the packets that it handed on before. The packets before, and then those of the piece, are
+/// the packets of the output as it is now. The higher of the two bounds is the output's bound.
 pub fn pieces_go_behind()
     ensures packets { (before after : StreamPrefix Plain) → IsExtendedBy before after → before.packets ++ (piece_behind (length before.packets) after).packets ≡ after.packets }
     ensures bound { (before after : StreamPrefix Plain) → IsExtendedBy before after → max before.bound (piece_behind (length before.packets) after).bound ≡ after.bound }

@@ -31,7 +31,7 @@ fn takers_of(alloc: Global, frees: &[FreeNode]) -> Result<Vec<Taker>, AllocError
     Ok(takers)
 }
 
-// Makes a round: each of the `count` free nodes has its turn, in order. Returns the places of those that did something.
+// Makes a round: each of the `count` free nodes has its turn, in order. Returns the places of the free nodes that did something.
 fn round<S: Streams>(
     alloc: Global,
     frees: &[FreeNode],
@@ -64,7 +64,7 @@ fn log_at(takers: &[Taker], place: usize) -> &[Arrived]
     takers[place].log()
 }
 
-// Returns for each of some free nodes what was laid on its output since it was last handed on.
+// Returns for each of some free nodes what was laid on its output since the node last handed on.
 fn hand_on(alloc: Global, takers: &mut [Taker], places: &[u32]) -> Result<Vec<Prefix>, AllocError>
     requires rising { AreRising places.now }
     requires within { (i place : ℕ) → slice_get places.now i ≡ Some place → place < length takers.old }
@@ -92,9 +92,9 @@ impl LiveNodes {
         Ok(LiveNodes { free, takers })
     }
 
-    /// Makes a round, in streams of a graph that can go no further: each free node has its turn, in order. Returns the places of those that
-    /// did something. The cost grows with the ports of the free nodes and the packets that they take. After an error some free nodes may
-    /// have had their turns.
+    /// Makes a round, in streams of a graph that can go no further: each free node has its turn, in order. Returns the places of the
+    /// free nodes that did something. The cost grows with the ports of the free nodes and the packets that they take. After an error
+    /// some free nodes may have had their turns.
     pub fn round<S: Streams>(
         &mut self,
         alloc: Global,
@@ -119,8 +119,8 @@ impl LiveNodes {
         Ok(NumberList::from_vec(did)?)
     }
 
-    /// Returns what was laid on the outputs of some free nodes since it was last handed on, a piece for each, by their rising places. No
-    /// other free node costs anything.
+    /// Returns a piece for each of some free nodes, which the caller names by their rising places. The piece is what was laid on the
+    /// node's output since the node last handed on. No other free node costs anything.
     pub fn hand_on(&mut self, alloc: Global, places: &[u32]) -> Result<PrefixList, AllocError>
         requires rising { AreRising places.now }
         requires within { (i place : ℕ) → slice_get places.now i ≡ Some place → place < length self.old.takers.items }
@@ -135,7 +135,7 @@ impl LiveNodes {
         Ok(PrefixList::from_vec(pieces)?)
     }
 
-    /// How many free nodes there are.
+    /// Returns how many free nodes there are.
     pub fn len(&self) -> usize
         ensures { result ≡ length self.now.takers.items }
     {

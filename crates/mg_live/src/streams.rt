@@ -14,7 +14,7 @@ pub trait Streams {
     /// The packets of a stream can be read from a number on: only earlier ones may be given up.
     ghost has_from: { Self → ℕ → ℕ → Type 0 };
 
-    /// Returns a stream's packet by its number, from 0 on, or none where the stream has no such packet.
+    /// Returns a stream's packet by its number, from 0 on, or none if the stream has no such packet.
     fn packet(&self, stream: u32, number: u64) -> Option<&Packet>
         requires there { has_from self.now stream number }
         requires streams { (streams : List (StreamPrefix Plain)) × are self.now streams }

@@ -19,8 +19,8 @@ use mg_time::Timestamp;
 use mg_value::Packet;
 use std::alloc::{AllocError, Global};
 
-/// What is kept of a free node while a graph runs: its state, how many packets have arrived at each port, its log, and whether its output
-/// is closed. The state has the packets that weren't handed on yet.
+/// What is kept of a free node while a graph runs. It is the node's state, how many packets have arrived at each port, its log, and
+/// whether its output is closed. The state has the packets that weren't handed on yet.
 #[derive(Drop)]
 pub struct Taker {
     state: FreeState,
@@ -93,8 +93,9 @@ impl Taker {
         })
     }
 
-    /// Gives the node its turn: it takes the next packet of the last port that has one; without one it closes its output, once the streams
-    /// have ended that have to. Returns whether it did something. The cost grows with the node's ports.
+    /// Gives the node its turn. The node takes the next packet of the last port that has a further packet. If no port has one, it
+    /// closes its output, once the streams have ended that have to end first. Returns whether the node did something. The cost grows
+    /// with the node's ports.
     pub fn turn<S: Streams>(&mut self, free: &FreeNode, streams: &S) -> Result<bool, AllocError>
         requires { MayTurnIn S.are S.has_from streams.now free.now self.old }
         ensures taken { (ss : List (StreamPrefix Plain)) (taken : Taken) → S.are streams.now ss → HasTaken free.now taken self.old
@@ -179,7 +180,7 @@ impl Taker {
         Ok(())
     }
 
-    // Closes the output, if it is open and the streams have ended that have to. Returns whether it did.
+    // Closes the output, if it is open and the streams have ended that have to end first. Returns whether it closed the output.
     fn close_at_end<S: Streams>(&mut self, free: &FreeNode, streams: &S) -> bool
         requires { MayTurnIn S.are S.has_from streams.now free.now self.old }
         ensures taken { (ss : List (StreamPrefix Plain)) (taken : Taken) → S.are streams.now ss → HasTaken free.now taken self.old

@@ -14,7 +14,7 @@ use Rattle.mg_calc.specs.Answer.{emission_of}
 use Rattle.mg_calc.specs.Routing.{renewed, renewed_places, copy_at, cloner}
 use Rattle.mg_route.specs.Places.{first_places}
 
--- what is stored is kept
+-- a place that is stored as a payload keeps what it kept
 kept_in-stored : (o : Option Plain) → kept_in (stored o) ≡ o
 kept_in-stored None = refl
 kept_in-stored (Some p) = refl
@@ -32,7 +32,7 @@ get_or-none zero i = refl
 get_or-none (suc lanes) zero = refl
 get_or-none (suc lanes) (suc i) = get_or-none lanes i
 
--- the places of a state, with empty ones behind them
+-- the places of a state, and empty places after them
 pub get_or-kept : (state : List Plain) (lanes i : ℕ) → get_or (map kept_in state ++ replicate lanes nothing) i nothing ≡ kept_at state i
 get_or-kept [] lanes i = get_or-none lanes i
 get_or-kept (p ∷ state) lanes zero = refl

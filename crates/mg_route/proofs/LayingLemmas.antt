@@ -1,4 +1,4 @@
--- Laying by a loop: what is left of a list decides, and what was laid is what may be laid.
+-- Laying by a loop: the rest of a list decides, and the loop has laid what may be laid.
 use Rattle.std.proofs.Common.{◌≡◌, ℕ, zero, suc, ◌+◌, ◌<◌, ◌≤◌, ℤ, Bool, true, false, nat_lt, is_some, List, [], ◌∷◌, ◌++◌, length, take, drop, get_or, set, map, Option, Some, None, Result, Ok, Err, refl, sym, ap, ap₂, ◌∙◌, arith, add-one, drop-cons}
 use Rattle.mg_value.specs.Payload.{Plain}
 use Rattle.mg_value.specs.Packet.{Stamped}

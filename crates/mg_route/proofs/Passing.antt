@@ -17,7 +17,7 @@ passes set emission count all gives state at =
     ap (λ (wrong : Bool). (let answer : Answer = if wrong then Err WrongKind else pass state set in answer)) (takes_any Pass (λ i. refl) set)
     ∙ ap (λ (es : List Laid). (let answer : Answer = Ok (state, es) in answer)) (sym (gives ∙ ap emission_of (take_all count set (omega (arith, all)))))
 
--- so does one that is stated, of which the table has that it does nothing
+-- a stated law takes packets of any kind too; the table has that it does nothing
 pub stated_stays : (number : ℕ) (parameters : List Plain) (offset : Option ℤ) (state : List Plain) (at : ℕ) (set : List (Option (Stamped Plain))) → step (Stated number parameters offset) state at set ≡ Ok (state, [])
 stated_stays number parameters offset state at set =
     ap (λ (wrong : Bool). (let answer : Answer = if wrong then Err WrongKind else Ok (state, []) in answer)) (takes_any (Stated number parameters offset) (λ i. refl) set)

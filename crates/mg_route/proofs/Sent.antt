@@ -1,5 +1,5 @@
--- What holds a law may cross threads, and so may a holder of a calculator that may. A struct asks it of a field, which is another term
--- than the row of the field's type; and a type with a model asks it of its inside.
+-- What holds a law may cross threads, and so may a holder of a calculator that may. A struct needs the same of a field, which is
+-- another term than the row of the field's type. A type with a model needs the same of its inside.
 use denote.RattleType.{RattleType}
 use denote.Param.Send.{IsSend, sendable}
 use Rattle.mg_calc.specs.declared.node_calculator.NodeCalculator.{Ghosts}

@@ -1,4 +1,4 @@
--- What contracts see of a holder, by what it has: a built-in calculator, or one that was handed in.
+-- What contracts see of a holder, by what it has: a built-in or a user-supplied calculator.
 use Rattle.std.specs.Prelude.{true, false}
 use Rattle.mg_calc.specs.Told.{BoxTold}
 use Rattle.mg_route.specs.declared.holder.Held.{Held}

@@ -1,4 +1,4 @@
--- What contracts see of a holder: what its calculator tells of itself, and whether it was handed in.
+-- What contracts see of a holder: what its calculator tells of itself, and whether it is user-supplied.
 use Rattle.std.specs.Prelude.{◌≡◌, Bool, List, Option, is_some, if◌then◌else◌}
 use Rattle.mg_value.specs.Plain.{Plain}
 use Rattle.mg_calc.specs.declared.law.Law.{Law}
@@ -16,7 +16,7 @@ pub record HolderView : Type 0 where
   pub log : Option (List Call)
   pub handed : Bool
 
--- the view of a holder, from whether its calculator was handed in, and what the calculator tells of itself
+-- the view of a holder, from whether its calculator is user-supplied, and what the calculator tells of itself
 abbrev pub holder_view : Bool → BoxTold → HolderView
 holder_view handed told = record { law = told.law; shape = told.shape; state = told.state; log = told.log; handed = handed }
 
@@ -24,11 +24,11 @@ holder_view handed told = record { law = told.law; shape = told.shape; state = t
 abbrev pub told_by : HolderView → BoxTold
 told_by held = record { law = held.law; shape = held.shape; state = held.state; log = held.log }
 
--- the rules by which a holder's calculator computes: those of its law where it was handed in, and those of the table where it is built in
+-- the rules of a holder's calculator: those of its law if it is user-supplied, and those of the table if it is built in
 abbrev pub held_rules : Laws → HolderView → Rules
 held_rules laws held = if held.handed then rules_of laws held.law else table_rules held.law
 
--- a holder has a node's law and shape, and a calculator that was handed in exactly where the node is given one
+-- a holder has a node's law and shape; its calculator is user-supplied exactly if the node is given one
 pub record FitsHolder (node : PlanNode) (held : HolderView) : Type 0 where
   pub same_law : held.law ≡ node.law
   pub same_shape : held.shape ≡ node.shape

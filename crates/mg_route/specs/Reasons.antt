@@ -1,4 +1,4 @@
--- Why an emission can't be laid, and what the outputs are once it is laid where there is no cause against it.
+-- Why an emission can't be laid, and what the outputs are once it is laid, if there is no cause against it.
 use Rattle.std.specs.Prelude.{Option, Some, None, Result, Ok, Err, List, [], ◌∷◌}
 use Rattle.mg_value.specs.Payload.{Plain}
 use Rattle.mg_settled.specs.Prefix.{StreamPrefix, all_appended}
@@ -17,10 +17,10 @@ laid_each f outputs [] = outputs
 laid_each f [] (laid ∷ emission) = []
 laid_each f (output ∷ outputs) (laid ∷ emission) = f output laid ∷ laid_each f outputs emission
 
--- an output with what is emitted there put behind it, where there is no cause against it
+-- an output once what is emitted there is laid on it, if there is no cause against that
 abbrev pub laid_on : StreamPrefix Plain → Laid → StreamPrefix Plain
 laid_on output laid = raised_to laid.bound (all_appended output laid.packets)
 
--- the outputs with an emission put behind them, to each its own entry
+-- the outputs once an emission is laid on them, on each its own entry
 abbrev pub all_laid_on : List (StreamPrefix Plain) → List Laid → List (StreamPrefix Plain)
 all_laid_on outputs emission = laid_each laid_on outputs emission

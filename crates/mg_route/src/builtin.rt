@@ -13,8 +13,9 @@ use mg_time::Timestamp;
 use std::alloc::{AllocError, Global};
 use std::marker::Model;
 
-/// A built-in calculator: its law, its shape and its state. Contracts see what it tells of itself; it keeps no log. It computes what the
-/// table of laws gives, which for a stated law is nothing: such a one only keeps the place of a calculator that is handed in.
+/// A built-in calculator: its law, its shape and its state. Contracts see what it tells of itself; it keeps no log. It computes what
+/// the table of laws gives. For a stated law that is nothing: a built-in calculator of such a law only keeps the place of a
+/// user-supplied one.
 #[derive(Drop)]
 pub struct Builtin {
     law: Law,
@@ -69,7 +70,7 @@ impl Builtin {
         &self.shape
     }
 
-    // Opens the calculator with its side packets, and returns what it emits. Where it fails, it keeps nothing.
+    // Opens the calculator with its side packets, and returns what it emits. If it fails, it keeps nothing.
     pub(crate) fn begin(&mut self, alloc: Global, sides: &GivenList) -> Result<Emission, CalcFault>
         ensures answer { GivesEmission result self.new.state (opening self.old.law sides.now) }
         ensures kept { KeepsAtOpen result self.old.state self.new.state }

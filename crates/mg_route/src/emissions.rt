@@ -10,13 +10,13 @@ use mg_value::Packet;
 use std::alloc::{AllocError, Global};
 use std::sync::Arc;
 
-/// Something that packets are taken from by number: a set, or a state, whose payloads become packets at the time that is asked for.
+/// Places whose packets can be taken by number: a set or a state. A state's payloads become packets at the time that is asked for.
 pub trait Places {
     ghost use Rattle.std.specs.Prelude.{ℕ, Option};
     ghost use Rattle.mg_value.specs.Plain.{Plain};
     ghost use Rattle.mg_value.specs.Packet.{Stamped};
 
-    /// The packet at a number, if there is one, where it is taken at a time.
+    /// The packet at a number, if there is one, as it is taken at a time.
     ghost place: { Self → ℕ → ℕ → Option (Stamped Plain) };
 
     /// Whether there is a packet at a number.

@@ -12,12 +12,11 @@ use mg_time::Timestamp;
 use std::alloc::Global;
 use std::marker::Model;
 
-/// The calculator of a node: a built-in one, or one that was handed in. Contracts see what it tells of itself, and which of the
-/// two it is.
+/// The calculator of a node: a built-in or a user-supplied one. Contracts see what it tells of itself, and which of the two it is.
 ///
-/// Each call returns what the rules of the calculator's law give for its state, and the calculator then keeps the new state. A call that
-/// fails leaves the state, and where it opens the calculator it leaves none; one that returns `OutOfMemory` leaves state and log, and may
-/// be made again.
+/// Each call returns what the rules of the calculator's law give for its state, and the calculator then keeps the new state. A call
+/// that fails leaves the state. If it was to open the calculator, it leaves no state. A call that returns `OutOfMemory` leaves state
+/// and log, and may be made again.
 #[derive(Drop)]
 pub struct Holder<C: NodeCalculator> {
     held: Held<C>,
@@ -51,7 +50,7 @@ impl<C: NodeCalculator> Holder<C> {
         }
     }
 
-    /// Returns the holder of a calculator that was handed in.
+    /// Returns the holder of a user-supplied calculator.
     pub fn outer(calculator: C) -> Holder<C>
         ensures { result ≡ holder_view true (C.told calculator) }
     {
@@ -151,7 +150,7 @@ impl<C: NodeCalculator> Holder<C> {
         }
     }
 
-    /// Returns the calculator, if it was handed in, and none if it is built in.
+    /// Returns the calculator if it is user-supplied, and none if it is built in.
     pub fn into_outer(self) -> Option<C>
         ensures there { is_some result ≡ self.handed }
         ensures told { IfSome result (λ c. C.told c ≡ told_by self) }

@@ -15,8 +15,8 @@ use mg_time::Timestamp;
 use std::alloc::{AllocError, Global};
 use std::marker::Model;
 
-/// A calculator that can be handed in, of any law of the table that is shown sets, also without a further box. If it is telling, it keeps a
-/// log of its calls, whose sets share the payloads of the sets that it was shown.
+/// A calculator that a caller can supply, of any law of the table that is shown sets. The caller can supply it without a further box
+/// too. If it is telling, it keeps a log of its calls, whose sets share the payloads of the sets that it was shown.
 #[derive(Drop)]
 pub struct LawBox {
     inner: Builtin,

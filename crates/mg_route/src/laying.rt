@@ -1,4 +1,4 @@
-//! Why what a call emits can't be put behind an output (MediaPipe, Calculators and Synchronization).
+//! Why what a call emits can't be appended to an output (MediaPipe, Calculators and Synchronization).
 ghost use Rattle.std.specs.Prelude.{◌≡◌, nat_lt, length};
 ghost use Rattle.mg_value.specs.Payload.{Plain};
 ghost use Rattle.mg_value.specs.Packet.{Stamped};
@@ -30,7 +30,7 @@ fn is_silent(offset: Option<i64>, phase: &Phase) -> bool
     }
 }
 
-// Returns the first cause why a packet at a time can't be put behind an output with this bound, if there is one.
+// Returns the first cause why a packet at a time can't be appended to an output with this bound, if there is one.
 #[inline(always)]
 fn laying_fault(
     offset: Option<i64>,
@@ -57,7 +57,7 @@ fn laying_fault(
     }
 }
 
-/// Returns the first cause why packets can't be put behind an output one after the other, if there is one. It depends on the output's
+/// Returns the first cause why packets can't be appended to an output one after the other, if there is one. It depends on the output's
 /// bound and on whether the output has packets, and on nothing else of it (MediaPipe, Calculators and Synchronization).
 #[inline(always)]
 pub fn packets_fault(
@@ -77,7 +77,7 @@ pub fn packets_fault(
     each_fault(offset, phase, bound, has_packets, packets)
 }
 
-// Returns the first cause why a packet can't be put behind an output, if there is one.
+// Returns the first cause why a packet can't be appended to an output, if there is one.
 #[inline(always)]
 fn packet_fault(
     offset: Option<i64>,
@@ -92,7 +92,7 @@ fn packet_fault(
     laying_fault(offset, phase, bound, has_packets, packet.at)
 }
 
-// Returns the first cause against one of some packets, which it goes through.
+// Goes through some packets, and returns the first cause against one of them.
 #[inline(never)]
 fn each_fault(
     offset: Option<i64>,

@@ -94,7 +94,7 @@ fn pass(alloc: Global, set: &InputSet) -> Result<Emission, CalcFault>
     Ok(emission)
 }
 
-// Returns the truth value of a packet, or false where its payload is of another kind.
+// Returns the truth value of a packet, or false if its payload is of another kind.
 fn truth_of(packet: &Packet) -> bool
     ensures { result ≡ the_truth_of packet.now.value }
 {

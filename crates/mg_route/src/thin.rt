@@ -9,7 +9,7 @@ use mg_time::Timestamp;
 use mg_value::Packet;
 use std::alloc::Global;
 
-// Returns the timestamp a period after another, or none where one of the two isn't in the range.
+// Returns the timestamp a period after another, or none if one of the two isn't in the range.
 fn period_after(period: i64, at: Timestamp) -> Option<Timestamp>
     ensures { unwrap_or result one_over_post_stream ≡ is_valid_after period at }
 {
@@ -20,7 +20,7 @@ fn period_after(period: i64, at: Timestamp) -> Option<Timestamp>
     }
 }
 
-// Returns the timestamp from which on a packet may pass after one that passed: a period later, or OneOverPostStream.
+// Returns the timestamp from which on a packet may pass after a packet that passed: a period later, or OneOverPostStream.
 fn valid_after(period: i64, at: Timestamp) -> Timestamp
     ensures { result ≡ is_valid_after period at }
 {
@@ -30,7 +30,7 @@ fn valid_after(period: i64, at: Timestamp) -> Timestamp
     }
 }
 
-// Returns what a thinner emits at a packet, and keeps the next valid timestamp where the packet passes.
+// Returns what a thinner emits at a packet, and keeps the next valid timestamp if the packet passes.
 fn thinned(
     alloc: Global,
     period: i64,

@@ -13,7 +13,8 @@ abbrev pub HasRoom : FreeLaw → ℕ → Type 0
 HasRoom (FirstCome lanes) count = Unit {0}
 HasRoom (Limiter most) count = count < most
 
--- whether a packet at a time can still be laid on the output: behind what is kept, and at PostStream where nothing was handed on
+-- whether a packet at a time can still be laid on the output, after what is kept. At PostStream it can be laid only if nothing was
+-- handed on.
 abbrev pub can_go_behind : FreeRest → ℕ → Bool
 can_go_behind rest at = can_follow rest.piece at && not ((at == post_stream) && nat_lt 0 rest.handed)
 

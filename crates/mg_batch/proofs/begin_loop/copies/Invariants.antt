@@ -1,4 +1,4 @@
--- So many copies are made.
+-- The first `i` copies are made.
 use Rattle.std.proofs.Common.{◌≡◌, Some}
 use Rattle.mg_calc.specs.Batch.{copies}
 use Rattle.mg_batch.proofs.begin_loop.copies.Given as goal

@@ -1,4 +1,4 @@
--- The first items are stamped.
+-- The items so far are packets at their inner times.
 use Rattle.std.proofs.Common.{◌≡◌, ◌+◌, map, take}
 use Rattle.mg_value.specs.Payload.{plain}
 use Rattle.mg_calc.specs.Batch.{at_inner_times}

@@ -12,7 +12,7 @@ decreases-copied_items l = 2 * items_depth (items_of l.payloads.now) + 1
 abbrev pub decreases-copied_entries : goal.decreases-copied_entries
 decreases-copied_entries l = 2 * entries_depth (entries_of l.entries.now) + 1
 
--- Those copied so far are the first.
+-- The payloads or entries copied so far are the first of the list.
 abbrev pub invariant-copied_items-loop-payload : goal.invariant-copied_items-loop-payload
 invariant-copied_items-loop-payload l = map plain l.copies.items ≡ map plain (take l.payload-index l.payload-items)
 

@@ -1,4 +1,4 @@
--- Those copied so far are the first.
+-- The payloads copied so far are the first of the list.
 use Rattle.std.proofs.Common.{◌≡◌, map, take}
 use Rattle.std.specs.Arc.{arc_value}
 use Rattle.mg_value.specs.Payload.{plain}

@@ -12,7 +12,7 @@ decreases-items_nest l = 2 * l.levels + 1
 abbrev pub decreases-entries_nest : goal.decreases-entries_nest
 decreases-entries_nest l = 2 * l.levels + 1
 
--- The first don't nest so deep.
+-- The first payloads or entries nest less than `levels` deep.
 abbrev pub invariant-items_nest-loop-payload : goal.invariant-items_nest-loop-payload
 invariant-items_nest-loop-payload l = items_depth (items_of (map plain (take l.payload-index l.payloads))) < l.levels
 

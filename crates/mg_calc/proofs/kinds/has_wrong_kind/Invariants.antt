@@ -1,4 +1,4 @@
--- What is left decides.
+-- The ports from this one on decide.
 use Rattle.std.proofs.Common.{◌≡◌}
 use Rattle.mg_calc.specs.Kinds.{has_wrong_kind}
 use Rattle.mg_calc.proofs.KindLemmas.{wrong_from}

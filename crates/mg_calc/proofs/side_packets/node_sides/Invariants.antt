@@ -1,4 +1,4 @@
--- Those so far are of the first ports.
+-- The side packets so far, and then those of the ports that are left, are all side packets of the node.
 use Rattle.std.proofs.Common.{◌≡◌, ◌++◌, map, drop, slice_get}
 use Rattle.std.specs.Option.{option_and_then}
 use Rattle.mg_calc.specs.Given.{given}

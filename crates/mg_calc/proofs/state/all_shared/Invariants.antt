@@ -1,4 +1,4 @@
--- Those shared so far are the first.
+-- The payloads shared so far are the first of the list.
 use Rattle.std.proofs.Common.{◌≡◌, map, take}
 use Rattle.mg_calc.specs.Code.StateView.{shared_plain}
 use Rattle.mg_calc.proofs.state.all_shared.Given as goal

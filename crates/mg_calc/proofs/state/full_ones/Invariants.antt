@@ -1,4 +1,4 @@
--- Those found so far are the full ones of the first.
+-- The payloads found so far are those of the full places among the first.
 use Rattle.std.proofs.Common.{◌≡◌, map, take}
 use Rattle.mg_calc.specs.Given.{given}
 use Rattle.mg_calc.specs.Values.{stored}

@@ -1,4 +1,4 @@
--- Those shared so far are the first.
+-- The places shared so far are the first.
 use Rattle.std.proofs.Common.{◌≡◌, map, take}
 use Rattle.mg_calc.specs.Given.{given}
 use Rattle.mg_calc.proofs.state.shared.Given as goal

@@ -1,4 +1,4 @@
--- Those copied so far are the first of the list.
+-- The entries copied so far are the first of the list.
 use Rattle.std.proofs.Common.{◌≡◌, take}
 use Rattle.mg_calc.proofs.try_clone.copies.Given as goal
 

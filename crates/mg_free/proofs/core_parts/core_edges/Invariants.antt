@@ -1,4 +1,4 @@
--- With those that are left it comes to the same.
+-- The edges so far, and then the core's edges among those that are left, are all edges of the core.
 use Rattle.std.proofs.Common.{◌≡◌, ◌++◌, map, filter, not, drop}
 use Rattle.mg_free.specs.Core.{is_free_at, core_edge, edges_of}
 use Rattle.mg_free.proofs.core_parts.core_edges.Given as goal

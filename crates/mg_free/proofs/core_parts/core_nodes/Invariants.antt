@@ -1,4 +1,4 @@
--- With those that are left it comes to the same.
+-- The nodes so far, and then the core's nodes among those that are left, are all nodes of the core.
 use Rattle.std.proofs.Common.{◌≡◌, ◌++◌, map, filter, drop}
 use Rattle.mg_free.specs.Core.{is_core, core_node}
 use Rattle.mg_free.proofs.core_parts.core_nodes.Given as goal

@@ -1,4 +1,4 @@
--- With those that are left it comes to the same.
+-- The order so far, and then the core's nodes among those that are left, are the whole order of the core.
 use Rattle.std.proofs.Common.{◌≡◌, ◌++◌, map, filter, not, drop}
 use Rattle.mg_free.specs.Core.{is_free_at, node_number, order_of}
 use Rattle.mg_free.proofs.core_parts.core_order.Given as goal

@@ -1,4 +1,4 @@
--- With those that are left it comes to the same.
+-- The streams so far, and then the node's outputs from this port on, are the given streams and all outputs of the node.
 use Rattle.std.proofs.Common.{◌≡◌, ◌++◌, map, drop}
 use Rattle.std.specs.List.{enumerate_from}
 use Rattle.mg_calc.specs.declared.plan_stream.Producer.TheVariants.{Node}

@@ -1,4 +1,4 @@
--- With those that are left it comes to the same.
+-- The streams so far, and then the outputs of the core's nodes that are left, are all streams of the core.
 use Rattle.std.proofs.Common.{◌≡◌, ◌≤◌, ◌++◌, filter, drop}
 use Rattle.std.specs.List.{enumerate_from, flat_map}
 use Rattle.mg_free.specs.Core.{is_core, output_streams, streams_of}

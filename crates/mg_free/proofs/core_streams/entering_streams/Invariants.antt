@@ -1,4 +1,4 @@
--- With those that are left it comes to the same.
+-- The streams so far, and then those from this place on, are all streams that enter the core.
 use Rattle.std.proofs.Common.{◌≡◌, ◌++◌, map, drop}
 use Rattle.std.specs.List.{enumerate_from}
 use Rattle.mg_calc.specs.declared.plan_stream.Producer.TheVariants.{Input}

@@ -12,13 +12,13 @@ use Rattle.mg_calc.proofs.FreeNodes.{without_free}
 use Rattle.mg_free.specs.Core.{free_law_of, is_free}
 use Rattle.mg_free.proofs.kinds.first_free.Goals as goal
 
--- a law that is none of free nodes is served
+-- a law that isn't a law of free nodes is served
 served : (law : Law) → is_some (free_law_of law) ≡ false → IsServed law
 served (FirstCome lanes) fails = absurd (false≢true (sym fails))
 served (Limiter most) fails = absurd (false≢true (sym fails))
 served law fails = tt
 
--- where no node is free, all have laws that are served
+-- if no node is free, all have laws that are served
 all_served : (i : ℕ) (nodes : List PlanNode) → position_from is_free i nodes ≡ None → AllByRecursion (λ node. IsServed node.law) nodes
 all_served i [] none = tt
 all_served i (n ∷ ns) none = by_test (is_free n) refl (λ fails. all_served (i + 1) ns (sym (ap (λ t. cond t (Some i) (position_from is_free (i + 1) ns)) fails) ∙ none))

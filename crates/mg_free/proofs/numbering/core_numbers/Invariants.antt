@@ -1,4 +1,4 @@
--- With those that are left it comes to the same.
+-- The numbers so far, and then those of the core's nodes that are left, are all numbers of the core's nodes.
 use Rattle.std.proofs.Common.{◌≡◌, ◌++◌, drop}
 use Rattle.mg_free.specs.Core.{core_numbers}
 use Rattle.mg_free.proofs.Walking.{core_from}

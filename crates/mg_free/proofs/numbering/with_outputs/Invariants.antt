@@ -1,4 +1,4 @@
--- With the outputs of the nodes that are left it comes to the same.
+-- The streams so far, and then the outputs of the chosen nodes that are left, are `before` and the outputs of all chosen nodes.
 use Rattle.std.proofs.Common.{◌≡◌, ◌++◌, filter, drop, flat_map}
 use Rattle.mg_free.specs.Code.Places.{is_one_of}
 use Rattle.mg_free.proofs.numbering.with_outputs.Given as goal

@@ -1,4 +1,4 @@
--- With those that are left it comes to the same.
+-- The free nodes so far, and then those among the nodes that are left, are all free nodes.
 use Rattle.std.proofs.Common.{◌≡◌, ◌++◌, drop}
 use Rattle.std.specs.List.{enumerate_from, filter_map}
 use Rattle.mg_free.specs.Core.{free_node, free_nodes}

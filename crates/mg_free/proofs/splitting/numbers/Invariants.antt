@@ -1,4 +1,4 @@
--- With those that are left it comes to the same.
+-- The numbers so far, and then those from this one on, are all numbers below the count.
 use Rattle.std.proofs.Common.{◌≡◌, ◌++◌, ◌-◌}
 use Rattle.std.specs.List.{range_with_len}
 use Rattle.mg_calc.specs.Plan.{numbers}

@@ -1,4 +1,4 @@
--- The ports before this one have ended.
+-- The ports from this one on decide.
 use Rattle.std.proofs.Common.{◌≡◌, List, drop, ◌==◌}
 use Rattle.std.specs.List.{list_all}
 use Rattle.mg_time.specs.Time.{done}

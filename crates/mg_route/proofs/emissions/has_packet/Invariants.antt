@@ -1,4 +1,4 @@
--- What is left decides.
+-- The places from this one on decide.
 use Rattle.std.proofs.Common.{◌≡◌, is_some}
 use Rattle.std.specs.List.{list_any}
 use Rattle.mg_route.specs.Places.{first_places}

@@ -1,4 +1,4 @@
--- An entry for each place so far.
+-- The entries so far are those of the first places.
 use Rattle.std.proofs.Common.{◌≡◌, map}
 use Rattle.mg_calc.specs.Answer.{laid}
 use Rattle.mg_route.specs.Places.{first_places}

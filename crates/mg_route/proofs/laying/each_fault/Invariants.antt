@@ -1,4 +1,4 @@
--- What is left decides.
+-- The packets that are left decide.
 use Rattle.std.proofs.Common.{◌≡◌, nat_lt, length, drop}
 use Rattle.mg_value.specs.Payload.{Plain}
 use Rattle.mg_settled.specs.Prefix.{StreamPrefix}

@@ -1,4 +1,4 @@
--- What is left has the same first packet.
+-- The ports from this one on have the same first packet as the whole set.
 use Rattle.std.proofs.Common.{◌≡◌, drop}
 use Rattle.mg_calc.specs.Routing.{first_packet}
 use Rattle.mg_route.proofs.route.first_packet.Given as goal

@@ -1,4 +1,4 @@
--- Those so far are the first places again.
+-- The copies so far, and then the places that are left, are all places.
 use Rattle.std.proofs.Common.{◌≡◌, ◌++◌, map, drop}
 use Rattle.mg_calc.specs.Given.{given}
 use Rattle.mg_calc.proofs.given.GivenList.try_clone.Given as goal

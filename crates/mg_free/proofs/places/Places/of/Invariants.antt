@@ -1,4 +1,4 @@
--- The places of the numbers from here on.
+-- The table has the places of the list's numbers from this place on.
 use Rattle.std.proofs.Common.{◌≡◌, ℕ, ◌+◌, drop, length, slice_index_or}
 use Rattle.mg_free.specs.Core.{place_in}
 use Rattle.mg_free.proofs.places.Places.of.Given as goal
