@@ -1,4 +1,4 @@
--- No two drafts have the same calculator that is handed in: each node takes another one of those of its name.
+-- No two drafts have the same user-supplied calculator: each node takes another calculator of its name.
 use Rattle.std.proofs.Common.{◌≡◌, ◌≢◌, ℕ, zero, suc, ◌+◌, ◌<◌, ◌≤◌, List, [], ◌∷◌, ◌++◌, map, filter, Bool, true, false, Option, None, Some, cond, slice_get, All, AllPairs, filter_map, bytes_eq, refl, sym, ap, subst, ◌∙◌, arith, le_of_eq, le_trans}
 use Rattle.std.specs.List.{enumerate_from, cons_option}
 use Rattle.std.proofs.lemmas.Bool.{true≢false}
@@ -18,7 +18,7 @@ use Rattle.mg_check.specs.declared.node_kind.NodeKind.{NodeKind}
 use Rattle.mg_check.specs.declared.node_kind.NodeKind.TheVariants.{BuiltIn, Outer}
 use Rattle.mg_check.proofs.SoundDrafts.{is-made}
 
--- The numbers of the calculators of a name, of which the first has the number k.
+-- The numbers of the calculators of a name, if the first calculator of the list has the number k.
 abbrev named_from : ℕ → List OuterShape → List ℕ → List ℕ
 named_from k outers name = map (λ e. e.0) (filter (λ e. bytes_eq name e.1.shape.name) (enumerate_from k outers))
 
@@ -95,7 +95,7 @@ not_outer kind n e = cc
 same_outer : (m n : ℕ) → Outer m ≡ Outer n → m ≡ n
 same_outer m n e = cc
 
--- the one that a node takes
+-- the number that a node takes
 taken_place : (outers : List OuterShape) (before : List NodeView) (node : NodeView) (n : ℕ) → kind_of outers before node ≡ Some (Outer n)
     → slice_get (outers_named outers node.calculator) (wanted before node.calculator) ≡ Some n
 taken_place outers before node n e = by (kind_named node.calculator) e
@@ -119,7 +119,7 @@ taken_apart outers before node n m e fresh same =
     let least = wanted_own before node in
     omega arith
 
--- The calculators of nodes that stand after others are fresh, and each is another.
+-- The calculators of nodes that stand after others are fresh, and no two are the same.
 abbrev boxes : List DraftView → List ℕ
 boxes ds = filter_map (λ d. d.box_number) ds
 

@@ -24,7 +24,7 @@ has-plan outers graph ds plan nodes same joins made =
     ap (λ o. check_by (option_or o (join_refusal graph (drafts outers graph.nodes))) (plan_of graph (drafts outers graph.nodes))) nodes
     ∙ (ap (λ d. check_by (join_refusal graph d) (plan_of graph d)) (sym same) ∙ (ap (λ o. check_by o (plan_of graph ds)) joins ∙ ap planned (sym made)))
 
--- none is, but how they are joined
+-- no node by itself is refused, but how nodes are joined
 pub refused-then : (outers : List OuterShape) (graph : GraphView) (ds : List DraftView) (fault : CheckFault) → node_refusal outers graph.nodes ≡ None → ds ≡ drafts outers graph.nodes
     → join_refusal graph ds ≡ Some fault → check_of outers graph ≡ Err fault
 refused-then outers graph ds fault nodes same joins =

@@ -19,7 +19,7 @@ kind_is : (stock groups : Groups) (outers : List OuterShape) (before : List Node
 kind_is stock groups outers before name numbers count is_stock is_wanted found counted =
     ap (λ l. kind_by (kind_named name) l count) (found ∙ is_stock name) ∙ ap (λ n. kind_by (kind_named name) (outers_named outers name) n) (counted ∙ is_wanted name)
 
--- the rest of the nodes, after one of a kind, and after one of none
+-- the rest of the nodes, after a node with a calculator or without
 chosen_step : (outers : List OuterShape) (nodes : List NodeConfig) (i : ℕ) (node : NodeConfig) (kind : Option NodeKind) → i < length nodes → node ≡ get_or nodes i node
     → kind ≡ kind_of outers (map node_view (take i nodes)) (node_view node)
     → chosen_after outers (map node_view (take i nodes)) (map node_view (drop i nodes))

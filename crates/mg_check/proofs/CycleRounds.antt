@@ -1,4 +1,4 @@
--- Where again and again the nodes go that read what none of the others writes, the largest set of nodes is left that feeds itself.
+-- If again and again the nodes go that read nothing from the nodes left, the largest set of nodes that feeds itself is left.
 use Rattle.std.proofs.Common.{◌≡◌, ℕ, ◌<◌, ◌≤◌, zero, suc, Bool, true, not, ◌&&◌, cond, eqb, List, [], ◌∷◌, length, filter, get_or, All, Contains, inl, inr, ◌∙◌, sym, ap, subst, refl, arith}
 use Rattle.std.specs.List.Sorted.{IsStrictlyIncreasing}
 use Rattle.std.proofs.lemmas.Bool.{cases_Bool, cases_lt, false≢true, eqb-true, eq-eqb, and_parts, or_cases}
@@ -32,7 +32,7 @@ passing p (n ∷ ns) = elim (cases_Bool (p n)) [
 shorter : (p : ℕ → Bool) (ns : List ℕ) → length (filter p ns) ≤ length ns
 shorter p ns = omega (arith, length-filter_both p (λ n. not (p n)) (λ _. refl) ns)
 
--- where none goes all stay
+-- if none goes, all stay
 none_goes : (p : ℕ → Bool) (ns : List ℕ) → length ns ≤ length (filter p ns) → filter p ns ≡ ns
 none_goes p [] full = refl
 none_goes p (n ∷ ns) full = elim (cases_Bool (p n)) [

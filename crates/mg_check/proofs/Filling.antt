@@ -1,4 +1,4 @@
--- Lists that are filled one by one: with what is left it comes to the same.
+-- Lists that are filled one by one: the list so far, with the elements that are left, gives the same whole.
 use Rattle.std.proofs.Common.{ℕ, suc, zero, ◌+◌, ◌<◌, ◌≤◌, ◌≡◌, List, [], ◌∷◌, ◌++◌, Some, length, drop, get_or, map, refl, sym, ap, ◌∙◌, arith, append_assoc, zip, ◌⊎◌, inl, inr, min, true, false, nat_le}
 use Rattle.std.proofs.lemmas.Bool.{cases_Bool}
 use Rattle.std.proofs.lemmas.Bool.Decides.{nat_tests}

@@ -25,7 +25,7 @@ added : {B : Type 0} (test : Bool) (w : Vec ℕ B) (old : Option (Vec ℕ B)) (p
 added true w old place known = known refl
 added false w old place known = refl
 
--- a map with one place more at the bytes of a name
+-- a map with one more place at the bytes of a name
 pub place_added : {A B : Type 0} (bs name : List ℕ) (m before n : BTreeMap (Vec ℕ A) (Vec ℕ B)) (w : Vec ℕ B) (place : ℕ) → bs ≡ name → m ≡ before
     → tree.UpdatesBy (λ x y. slice_cmp nat_cmp x.items y.items) (λ k. slice_cmp nat_cmp bs k.items) m n (Some w)
     → w.items ≡ places_in (at_bytes before name) ++ place ∷ []
@@ -75,7 +75,7 @@ length-take [] i inside = absurd (omega arith)
 length-take (x ∷ xs) zero inside = refl
 length-take (x ∷ xs) (suc i) inside = ap suc (length-take xs i (omega arith))
 
--- one calculator more that is handed in
+-- one more user-supplied calculator
 named_more : (os : List OuterShape) (i : ℕ) (o : OuterShape) (name : List ℕ) → i < length os → o ≡ get_or os i o
     → outers_named (take (i + 1) os) name ≡ (if bytes_eq name o.shape.name then outers_named (take i os) name ++ i ∷ [] else outers_named (take i os) name)
 named_more os i o name inside here =
@@ -94,7 +94,7 @@ stock_more old new os i o bytes number inside here is count put known = λ name.
     ∙ (ap (λ n. if bytes_eq name o.shape.name then kept old name ++ n ∷ [] else kept old name) count
     ∙ (ap (λ l. if bytes_eq name o.shape.name then l ++ i ∷ [] else l) (known name) ∙ sym (named_more os i o name inside here))))
 
--- one node more that names a calculator
+-- one more node that names a calculator
 counted : (test : Bool) (old new : List ℕ) (place before after : ℕ) → new ≡ (if test then old ++ place ∷ [] else old) → length old ≡ before → after ≡ before + cond test 1 0 → length new ≡ after
 counted true old new place before after put known count = ap length put ∙ (length-append old (place ∷ []) ∙ (ap (λ n. n + 1) known ∙ sym count))
 counted false old new place before after put known count = ap length put ∙ (known ∙ (let same : before ≡ before + 0 = omega arith in same ∙ sym count))

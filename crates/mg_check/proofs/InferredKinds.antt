@@ -1,4 +1,4 @@
--- The kinds that meet at streams, reading by reading: it comes to the kinds of each stream.
+-- The kinds that meet at streams: taken reading by reading, they give the kinds of each stream.
 use Rattle.std.proofs.Common.{ℕ, zero, suc, ◌+◌, ◌<◌, ◌≤◌, ◌≡◌, List, [], ◌∷◌, Bool, true, false, not, ◌&&◌, ◌||◌, ◌==◌, cond, Option, None, Some, length, drop, get_or, map, filter, min, refl, sym, ap, ◌∙◌, arith}
 use Rattle.std.specs.Prelude.{slice_get}
 use Rattle.std.specs.List.{enumerate_from}
@@ -58,7 +58,7 @@ read_by : (r : PortReading) (rs : List PortReading) (n : ℕ) (test : Bool) → 
 read_by r rs n true known = ap (λ b. map (λ q. q.kind) (cond b (r ∷ filter (λ q. q.stream == n) rs) (filter (λ q. q.stream == n) rs))) known
 read_by r rs n false known = ap (λ b. map (λ q. q.kind) (cond b (r ∷ filter (λ q. q.stream == n) rs) (filter (λ q. q.stream == n) rs))) known
 
--- all streams, counted from one on, with the kinds of the ports that read them
+-- all streams, counted from a number on, with the kinds of the ports that read them
 abbrev pub inferred_from : List PortReading → ℕ → List Inferred → List Inferred
 inferred_from rs from mets = map (λ e. meet_on e.1 (kinds_read rs e.0)) (enumerate_from from mets)
 
@@ -105,7 +105,7 @@ all_meetings new mets written read edges edges' read' is begin same_read same_ed
     ∙ (ap (λ l. meet_all (map begun written) (readings_of edges l)) same_read
     ∙ (read_all (readings_of edges read) (map begun written) ∙ begun_all (readings_of edges read) 0 written))))
 
--- one reading more, and the last
+-- one more reading, and the last
 within_both : (a b i end : ℕ) → i < end → end ≡ min a b → (i < a) × (i < b)
 within_both a b i end inside is = (omega (arith, inside, is), omega (arith, inside, is))
 

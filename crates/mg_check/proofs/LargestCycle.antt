@@ -1,4 +1,4 @@
--- The nodes that the order leaves out are the largest set of nodes of which each reads what another writes.
+-- The nodes that the order leaves out are the largest set that feeds itself. Each node of such a set reads what a node of the set writes.
 use Rattle.std.proofs.Common.{◌≡◌, ◌≢◌, ℕ, ◌+◌, ◌<◌, ◌≤◌, zero, suc, Bool, true, false, not, ◌||◌, ◌&&◌, cond, eqb, List, [], ◌∷◌, ◌++◌, length, filter, get_or, find, All, AllPairs, Contains, Some, None, inl, inr, ◌⊎◌, ◌∙◌, sym, ap, subst, refl, arith}
 use Rattle.std.specs.List.{list_all, range_with_len}
 use Rattle.std.specs.List.Sorted.{IsStrictlyIncreasing}
@@ -71,7 +71,7 @@ find-all p low (suc len) none n above below = elim (cases_Bool (p low)) [
     some_none : (x : ℕ) → Some x ≡ None → ⊥
     some_none x same = absurd (none-some x (sym same))
 
--- as many different numbers below a count as it says are all of them
+-- as many different numbers below a count as the count says are all numbers below it
 all_there : (count : ℕ) (taken : List ℕ) → AllPairs ◌≢◌ taken → All (λ n. n < count) taken → count ≤ length taken → (n : ℕ) → n < count → is_among taken n ≡ true
 all_there count taken once below full n within = elim (cases_Bool (is_among taken n)) [
   | inl is ↦ is

@@ -22,7 +22,7 @@ use Rattle.mg_check.specs.declared.node_draft.Wrong.TheVariants as wrong
 use Rattle.mg_check.specs.declared.fault.CheckFault.TheVariants.{BadPorts, BadOptions, Unsupported}
 use Rattle.mg_check.proofs.Firsts.{place_begins}
 
--- one node more
+-- one more node
 judged_one : (outers : List OuterShape) (c : Chosen) (answer : Result Draft Wrong) → Judges outers c answer → (filter_map (draft_of outers) (c ∷ []) ≡ draft_in answer) × (wrong_of outers c ≡ wrong_in answer)
 judged_one outers c (Ok draft) known = (ap (λ o. cons_option o []) known.0, known.1)
 judged_one outers c (Err fault) known = (ap (λ o. cons_option o []) known.0, known.1)
@@ -89,7 +89,7 @@ third_at outers n (c ∷ cs) none none' =
 at_zero : {X Y : Type 0} (p : X → Bool) (q : Y → Bool) (xs : List X) (ys : List Y) → position_from p 0 xs ≡ position_from q 0 ys → position p xs ≡ position q ys
 at_zero p q xs ys known = place_begins p xs ∙ (known ∙ sym (place_begins q ys))
 
--- the first of three, where the later ones are known only if the earlier are none
+-- the first of three options; the later ones are known only if the earlier ones are none
 three : {F : Type 0} (f g h : ℕ → F) (a a' b b' c c' : Option ℕ) → a ≡ a' → (a' ≡ None → b ≡ b') → (a' ≡ None → b' ≡ None → c ≡ c')
     → option_or (option_map f a) (option_or (option_map g b) (option_map h c)) ≡ option_or (option_map f a') (option_or (option_map g b') (option_map h c'))
 three f g h a None b None c c' first second third =
@@ -110,7 +110,7 @@ faults outers cs =
     (λ none none'. at_zero (is_wrong wrong.Policy) (is_unsupported outers) ws cs
     (third_at outers 0 cs (sym (place_begins (has_bad_ports outers) cs) ∙ none) (sym (place_begins (has_bad_options outers) cs) ∙ none')))
 
--- the refusal of nodes whose calculators are all known, and of which there are enough
+-- the refusal of nodes if all their calculators are known and there are enough of each
 pub refusal_is : (outers : List OuterShape) (nodes : List NodeView) (stock : Groups) (choices : Choices) (node_drafts : NodeDrafts) → unknown_calculator outers nodes ≡ None → short_in outers nodes nodes ≡ None
     → IsStock stock outers → AreChosen choices stock nodes → AreJudged node_drafts outers (choices_view choices.list.items) → fault_by node_drafts.wrongs.items ≡ node_refusal outers nodes
 refusal_is outers nodes stock choices node_drafts known enough is_stock chose judge =

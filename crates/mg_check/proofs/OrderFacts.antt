@@ -110,7 +110,7 @@ pub order_below : (count : ℕ) (sources : List ℕ) (links : List Link) → All
 order_below count sources links below =
     order_keeps (λ taken. All (λ n. n < count) taken) count links (λ taken n old within next. All-push (λ m. m < count) taken n old within) count sources below
 
--- it isn't there twice
+-- a next node isn't taken yet, so no node stands twice
 next_new : (links : List Link) (taken : List ℕ) (n : ℕ) → is_next links taken n ≡ true → is_among taken n ≡ false
 next_new links taken n next = not-true (is_among taken n) (and_parts (not (is_among taken n)) (list_all (λ link. not (eqb link.to n) || is_among taken link.from) links) next).0
 
@@ -141,7 +141,7 @@ left_out_none count order none n within = among-Contains order n (kept 0 count n
         cons-nil x xs same = (let e = ap length same in omega arith)
 
 -- ---- links lead forward
--- the node that reads is there only behind the one that writes
+-- the node that reads is there only after the node that writes
 record IsBehind (taken : List ℕ) (link : Link) : Type 0 where
   there : is_among taken link.to ≡ true → is_among taken link.from ≡ true
   before : StandsBefore taken link.from link.to
@@ -187,7 +187,7 @@ behind_more links taken n link of old next =
     slice_get-last [] x = refl
     slice_get-last (y ∷ ys) x = slice_get-last ys x
 
--- in the order a node that writes stands before the one that reads, if that has inputs
+-- in the order, a node that writes stands before the node that reads, if that node has inputs
 pub order_forward : (count : ℕ) (sources : List ℕ) (links : List Link) (link : Link) → Contains links link → is_among sources link.to ≡ false
     → StandsBefore (order_of count sources links) link.from link.to
 order_forward count sources links link of fed =

@@ -12,7 +12,7 @@ pub or_false : (b : Bool) → (b || false) ≡ b
 or_false true = refl
 or_false false = refl
 
--- the marks of one number more
+-- the marks of one more number
 pub HasMarks-push : (count : ℕ) (ns : List ℕ) (m : ℕ) (marks : List Bool) → m < count → HasMarks count ns marks → HasMarks count (ns ++ m ∷ []) (slice_set marks m true)
 HasMarks-push count ns m marks within old = record {
   len = length-set marks m true ∙ old.len;
@@ -24,7 +24,7 @@ HasMarks-push count ns m marks within old = record {
   ];
 }
 
--- what is left out of one number more
+-- what is left out of one more number
 pub left_out-more : (order : List ℕ) (n : ℕ) → left_out (n + 1) order ≡ left_out n order ++ cond (not (is_among order n)) (n ∷ []) []
 left_out-more order n =
     let out : ℕ → Bool = λ m. not (is_among order m) in

@@ -66,7 +66,7 @@ pub empty_list : (keys : List ℕ) → (0 < length keys → false ≡ true) → 
 empty_list [] none = refl
 empty_list (k ∷ keys) none = absurd (false≢true (none (omega arith)))
 
--- where the set is empty, none does
+-- if the set is empty, no node is next
 pub next_is_none : (count : ℕ) (links : List Link) (order : List ℕ) (taken : List Bool) (waiting : List ℕ) (ready : BTreeSet ℕ)
     → IsAfter count links order taken waiting ready → ready.keys ≡ [] → find (is_next links order) (numbers count) ≡ None
 next_is_none count links order taken waiting ready after none =

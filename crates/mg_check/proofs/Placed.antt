@@ -69,7 +69,7 @@ pub again_refused : (table : NameTable) (texts : List (Bor (List ℕ))) (place :
 again_refused table texts place d name inside known some is =
     ap (option_map TwoProducers) (again_some table (names_of texts) place known some ∙ name_at texts place d inside) ∙ ap (λ n. Some (TwoProducers n)) (sym is)
 
--- the names in the table's order are the texts, where none stands again
+-- the names in the table's order are the texts, if none stands again
 all_texts : (names : List (List ℕ)) → filter is_text names ≡ names
 all_texts [] = refl
 all_texts (name ∷ names) = ap (λ l. name ∷ l) (all_texts names)

@@ -53,7 +53,7 @@ pub all_named : (names : List (List ℕ)) (mets : List Inferred) (writers : List
     → Some (record { name = text; kind = inferred.kind; producer = writer }) ≡ slice_get (streams_of names mets writers) i
 all_named names mets writers i text name inferred writer same a b c = ap (λ t. Some (record { name = t; kind = inferred.kind; producer = writer })) same ∙ all_there names mets writers i name inferred writer a b c
 
--- one stream more
+-- one more stream
 take_suc : {X : Type 0} (xs : List X) (i : ℕ) (x : X) → Some x ≡ slice_get xs i → take (suc i) xs ≡ take i xs ++ x ∷ []
 take_suc [] i x known = cc
 take_suc (y ∷ xs) zero x known = let same : x ≡ y = cc in ap (λ z. z ∷ []) (sym same)
@@ -74,7 +74,7 @@ take_none (x ∷ xs) (suc i) none = ap (λ l. x ∷ l) (take_none xs i none)
 pub streams_ended : (out all : List PlanStream) (i : ℕ) → None ≡ slice_get all i → out ≡ take i all → out ≡ all
 streams_ended out all i none known = known ∙ take_none all i none
 
--- a side packet that is handed in
+-- an input side packet of the graph
 pub given_moved : (new out all : List PlainSide) (text : List ℕ) (ports : List Port) (i : ℕ) (port : Port) → new ≡ out ++ record { name = text; value = given_at i } ∷ [] → text ≡ port.name → Some port ≡ slice_get ports i
     → out ++ given_from i (port_names (drop i ports)) ≡ all → new ++ given_from (i + 1) (port_names (drop (i + 1) ports)) ≡ all
 given_moved new out all text ports i port put same at known =

@@ -1,4 +1,4 @@
--- Each draft is sound, and a draft of a calculator that is handed in has its law and shape.
+-- Each draft is sound, and a draft with a user-supplied calculator has that calculator's law and shape.
 use Rattle.std.proofs.Common.{◌≡◌, ℕ, ℤ, pos, negsuc, ◌≤◌, List, [], ◌∷◌, length, Bool, true, false, ◌==◌, nat_lt, Option, None, Some, if◌then◌else◌, slice_get, All, IfSome, IsSome, IsSomeAnd, filter_map, bytes_eq, codes, refl, sym, ap, subst, ◌∙◌, arith, inl, inr}
 use Rattle.std.specs.Prelude.{option_and_then, option_map}
 use Rattle.std.specs.List.{list_any, cons_option}

@@ -21,7 +21,7 @@ use Rattle.mg_check.specs.Fitting.{may_be_outer, fits_outer, outer_ports, outer_
 use Rattle.mg_check.specs.declared.node_kind.NodeKind.{NodeKind}
 use Rattle.mg_check.specs.declared.node_kind.NodeKind.TheVariants.{BuiltIn, Outer}
 
--- a calculator that is handed in has this law and shape
+-- a user-supplied calculator has this law and shape
 pub record LooksSo (law : Law) (shape : Shape) (outer : OuterShape) : Type 0 where
   pub same_law : outer.law ≡ law
   pub same_shape : outer.shape ≡ shape

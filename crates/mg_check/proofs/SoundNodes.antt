@@ -1,4 +1,4 @@
--- The drafts of the nodes of a graph are sound, where each calculator that is handed in has its law's shape.
+-- The drafts of the nodes of a graph are sound if each user-supplied calculator has its law's shape.
 use Rattle.std.proofs.Common.{List, All}
 use Rattle.mg_config.specs.Config.{NodeView}
 use Rattle.mg_calc.specs.declared.shape.OuterShape.{OuterShape}

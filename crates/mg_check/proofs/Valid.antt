@@ -52,11 +52,11 @@ joined_is_valid outers graph ds known short none =
       laws = All-from_recursion (λ (node : PlanNode). ⊤) (plan_of graph ds).nodes (any_laws (plan_of graph ds).nodes);
     }
 
--- the calculators that are handed in fit it
+-- the user-supplied calculators fit it
 pub joined_fits : (outers : List OuterShape) (graph : GraphView) (ds : List DraftView) → AreSound outers ds → OutersFit (plan_of graph ds) outers
 joined_fits outers graph ds known = outers_fit outers graph ds (recursion_from_All (HasOuter outers) ds known.fit)
 
--- A graph that isn't refused has a valid plan, and the calculators that are handed in fit it.
+-- A graph that isn't refused has a valid plan, and the user-supplied calculators fit it.
 
 pub plan_is_valid : (outers : List OuterShape) (graph : GraphView) → All IsOuterShape outers → length graph.nodes ≤ 4096 → refusal outers graph ≡ None
     → IsValidWithFree (plan_of graph (drafts outers graph.nodes)) × OutersFit (plan_of graph (drafts outers graph.nodes)) outers

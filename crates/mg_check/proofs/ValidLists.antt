@@ -24,7 +24,7 @@ pub joined : {X : Type 0} (P : X → Type 0) (xs ys : List X) → AllByRecursion
 joined P [] ys first second = second
 joined P (x ∷ xs) ys first second = (first.0, joined P xs ys first.1 second)
 
--- that of all pieces, each of which comes from an element and its number
+-- what holds of all pieces, if each piece comes from an element and its number
 pieces_from : {X Y : Type 0} (P : Y → Type 0) (f : ℕ × X → List Y) (a : ℕ) (xs : List X) → ((k : ℕ) (x : X) → slice_get xs k ≡ Some x → AllByRecursion P (f (a + k, x))) → AllByRecursion P (flat_map f (enumerate_from a xs))
 pieces_from P f a [] each = tt
 pieces_from P f a (x ∷ xs) each =
@@ -40,7 +40,7 @@ pieces P f xs each =
     let start : 0 + k ≡ k = omega arith in
     subst (λ n. AllByRecursion P (f (n, x))) (sym start) (each k x here))
 
--- that of one that may be there
+-- what holds of the element at a place, if there is one
 pub place_if : {X : Type 0} (P : X → Type 0) (xs : List X) (k : ℕ) → AllByRecursion P xs → IfSome (slice_get xs k) P
 place_if P [] k all = tt
 place_if P (x ∷ xs) zero all = all.0

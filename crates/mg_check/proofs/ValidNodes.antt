@@ -58,7 +58,7 @@ valid_policies graph ds sound = nodes_all (λ node. MayHavePolicy node.law node.
 pub valid_stated : (graph : GraphView) (ds : List DraftView) → AllByRecursion IsSound ds → All (λ node. IsStated node.law → IsSome node.box_number) (plan_of graph ds).nodes
 valid_stated graph ds sound = nodes_all (λ node. IsStated node.law → IsSome node.box_number) IsSound graph ds (λ from d known. known.stated) sound
 
--- the calculators that are handed in are those of the drafts
+-- the user-supplied calculators are those of the drafts
 boxes_same : (streams sides : List (List ℕ)) (first : ℕ) (ds : List DraftView) → filter_map (λ node. node.box_number) (plan_nodes streams sides first ds) ≡ filter_map (λ d. d.box_number) ds
 boxes_same streams sides first [] = refl
 boxes_same streams sides first (d ∷ ds) = ap (cons_option d.box_number) (boxes_same streams sides (first + length d.outputs) ds)

@@ -1,5 +1,5 @@
--- The order of a plan: the nodes that take no stream and the links between nodes are of its nodes, each node stands once in it, and
--- edges lead forward.
+-- The order of a plan. The nodes that take no stream and the links between nodes are of its nodes. Each node stands
+-- once in the order, and edges lead forward.
 use Rattle.std.proofs.Common.{ℕ, zero, suc, ◌+◌, ◌<◌, ◌≤◌, ◌≡◌, ◌≢◌, List, [], ◌∷◌, All, AllPairs, Contains, Bool, true, false, ◌||◌, cond, ◌==◌, Option, None, Some, length, map, refl, sym, ap, ◌∙◌, subst, arith, if◌then◌else◌, option_map}
 use Rattle.std.specs.Prelude.{slice_get, filter, IfSome}
 use Rattle.std.specs.List.{AllByRecursion, enumerate_from, flat_map}
@@ -76,7 +76,7 @@ sources_below ds =
 pub sources_once : (ds : List DraftView) → AllPairs ◌≢◌ (sources ds)
 sources_once ds = sources_apart 0 ds
 
--- a number below all of them is none of them
+-- a number below all numbers of a list is none of them
 not_among : (n : ℕ) (ns : List ℕ) → AllByRecursion (λ m. n < m) ns → is_among ns n ≡ false
 not_among n [] all = refl
 not_among n (m ∷ ns) all =

@@ -67,7 +67,7 @@ number_below (x ∷ xs) name among = by (position (bytes_eq name) (x ∷ xs)) re
     by None found = omega arith
     by (Some i) found = (position-Some (bytes_eq name) (x ∷ xs) i [] found).0
 
--- each name is there where none is missing
+-- each name is there if none is missing
 none_missing : (there names : List (List ℕ)) → first_missing there names ≡ None → AllByRecursion (λ name. number_among there name < length there) names
 none_missing there [] none = tt
 none_missing there (x ∷ xs) none = (

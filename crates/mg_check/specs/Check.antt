@@ -1,4 +1,4 @@
--- The plan of an expanded graph, with the calculators that are handed in, or its first refusal.
+-- The plan of an expanded graph, with the user-supplied calculators, or its first refusal.
 use Rattle.std.specs.Prelude.{List, Option, None, Some, Result, Ok, Err, IsTrue}
 use Rattle.std.specs.Option.{option_or}
 use Rattle.mg_config.specs.Config.{GraphView}
@@ -23,6 +23,6 @@ check_by (Some fault) plan = Err fault
 abbrev pub check_of : List OuterShape → GraphView → Result Plan CheckFault
 check_of outers graph = check_by (refusal outers graph) (plan_of graph (drafts outers graph.nodes))
 
--- A calculator that is handed in, where it may have its law, has that law's shape, and the law has parameters in their ranges.
+-- A user-supplied calculator that may have its law has that law's shape, and the law has parameters in their ranges.
 abbrev pub IsOuterShape : OuterShape → Type 0
 IsOuterShape outer = IsTrue (may_be_outer outer.law) → ParametersFit outer.law × IsShapeOf outer.law outer.shape

@@ -1,5 +1,5 @@
--- The choice of a calculator for each node. Names of built-in calculators go before those of calculators that are
--- handed in; of the latter each node takes the next of its name, in the order of both lists.
+-- The choice of a calculator for each node. Names of built-in calculators go before those of user-supplied calculators.
+-- Otherwise each node takes the next user-supplied calculator of its name, in the order of both lists.
 use Rattle.std.specs.Prelude.{ℕ, List, [], ◌∷◌, ◌++◌, Bool, ◌&&◌, ◌==◌, nat_lt, Option, None, Some, option_map, is_none, map, filter, length, count_by, position, find, slice_get}
 use Rattle.std.specs.List.{enumerate_from}
 use Rattle.std.specs.Str.{bytes_eq}
@@ -12,7 +12,7 @@ use Rattle.mg_check.specs.declared.node_kind.NodeKind.TheVariants.{BuiltIn, Oute
 use Rattle.mg_check.specs.declared.fault.CheckFault.{CheckFault}
 use Rattle.mg_check.specs.declared.fault.CheckFault.TheVariants.{UnknownCalculator, NoMoreBoxes}
 
--- the numbers of the calculators that are handed in under a name
+-- the numbers of the user-supplied calculators of a name
 abbrev pub outers_named : List OuterShape → List ℕ → List ℕ
 outers_named outers name = map (λ e. e.0) (filter (λ e. bytes_eq name e.1.shape.name) (enumerate_from 0 outers))
 
@@ -20,7 +20,7 @@ outers_named outers name = map (λ e. e.0) (filter (λ e. bytes_eq name e.1.shap
 abbrev pub wanted : List NodeView → List ℕ → ℕ
 wanted nodes name = count_by (λ node. bytes_eq name node.calculator) nodes
 
--- the calculator of a node: a built-in one, or the next of those that are handed in, after so many were taken
+-- the calculator of a node: a built-in one, or else the next user-supplied calculator after so many were taken
 abbrev pub kind_by : Option CalculatorKind → List ℕ → ℕ → Option NodeKind
 kind_by (Some kind) numbers taken = Some (BuiltIn kind)
 kind_by None numbers taken = option_map Outer (slice_get numbers taken)
@@ -39,25 +39,25 @@ abbrev pub with_kind : Option NodeKind → NodeView → List Chosen → List Cho
 with_kind None node more = more
 with_kind (Some kind) node more = record { node = node; kind = kind } ∷ more
 
--- the nodes that stand after others and for which there is a calculator, each with it
+-- the nodes that stand after others and for which there is a calculator, each with its calculator
 abbrev pub chosen_after : List OuterShape → List NodeView → List NodeView → List Chosen
 chosen_after outers before [] = []
 chosen_after outers before (node ∷ nodes) = with_kind (kind_of outers before node) node (chosen_after outers (before ++ node ∷ []) nodes)
 
--- the nodes for which there is a calculator, each with it; all nodes where none is refused for want of one
+-- the nodes for which there is a calculator, each with its calculator; these are all nodes if none is refused for lack of a calculator
 abbrev pub chosen_nodes : List OuterShape → List NodeView → List Chosen
 chosen_nodes outers nodes = chosen_after outers [] nodes
 
 -- Refusals.
 
--- whether the calculator of a node is neither built in nor one of those that are handed in
+-- whether the calculator of a node is neither built in nor user-supplied
 abbrev pub is_unknown : List OuterShape → NodeView → Bool
 is_unknown outers node = is_none (kind_named node.calculator) && (length (outers_named outers node.calculator) == 0)
 
 abbrev pub unknown_calculator : List OuterShape → List NodeView → Option CheckFault
 unknown_calculator outers nodes = option_map UnknownCalculator (position (is_unknown outers) nodes)
 
--- whether more nodes want the calculator of a node than are handed in under its name
+-- whether a node's calculator isn't built in, and more nodes want it than there are user-supplied calculators of its name
 abbrev pub is_short : List OuterShape → List NodeView → NodeView → Bool
 is_short outers nodes node =
     is_none (kind_named node.calculator) && nat_lt (length (outers_named outers node.calculator)) (wanted nodes node.calculator)

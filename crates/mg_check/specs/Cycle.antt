@@ -1,4 +1,4 @@
--- Cycles: nodes that can come in no order, since each of them reads what another one of them writes.
+-- Cycles: nodes that can come in no order, since each of them reads what one of them writes.
 use Rattle.std.specs.Prelude.{ℕ, zero, suc, ◌≡◌, ◌==◌, ◌&&◌, Bool, List, filter, All, Contains}
 use Rattle.std.specs.List.{list_any}
 use Rattle.std.specs.List.Sorted.{IsStrictlyIncreasing}
@@ -27,12 +27,12 @@ pub record IsLargestCycle (links : List Link) (ns : List ℕ) : Type 0 where
 abbrev pub is_fed_by : List Link → List ℕ → ℕ → Bool
 is_fed_by links ns n = list_any (λ link. link.to == n && is_among ns link.from) links
 
--- what is left of a set after so many rounds, in each of which those nodes go that read nothing from a node that is left
+-- What is left of a set after so many rounds. Each round drops the nodes that read nothing from a node that is left.
 abbrev pub left_after : ℕ → List Link → List ℕ → List ℕ
 left_after zero links ns = ns
 left_after (suc more) links ns = left_after more links (filter (is_fed_by links ns) ns)
 
--- The largest set of so many nodes that feeds itself. It is what is left of all of them when none goes any more, which
--- is so at the latest after as many rounds as there are nodes.
+-- The largest set of so many nodes that feeds itself. It is what is left of all nodes when a round drops none. That is
+-- so at the latest after as many rounds as there are nodes.
 abbrev pub largest_cycle : ℕ → List Link → List ℕ
 largest_cycle count links = left_after count links (numbers count)

@@ -63,11 +63,11 @@ abbrev pub up_to_64 : ℤ → ℕ
 up_to_64 (pos n) = if n == 0 then 1 else (if nat_lt 64 n then 64 else n)
 up_to_64 (negsuc n) = 1
 
--- how many sets may be in flight: what the node asks for, but 1 where a calculator is handed in or keeps a state
+-- how many sets may be in flight: what the node asks for, but 1 if its calculator is user-supplied or keeps a state
 abbrev pub flight_of : Option ℕ → Bool → ℤ → ℕ
 flight_of box_number stateless most = if is_none box_number && stateless then up_to_64 most else 1
 
--- the number of a node's calculator among those that are handed in, if it is one of these
+-- the number of a node's calculator among the user-supplied calculators, if it is one of these
 abbrev pub box_of : NodeKind → Option ℕ
 box_of (BuiltIn kind) = None
 box_of (Outer number) = Some number
@@ -76,7 +76,7 @@ box_of (Outer number) = Some number
 abbrev pub is_at_tag : Tag → Mark → Bool
 is_at_tag tag mark = bytes_eq mark.tag (tag_text tag) && (mark.index == 0)
 
--- whether a mark stands where a back edge may be: at LOOP of a loopback, its first port, or at FINISHED of a limiter, its second
+-- Whether a mark stands where a back edge may be. That is LOOP of a loopback, its first port, or FINISHED of a limiter, its second port.
 abbrev pub may_be_back : Law → Mark → Bool
 may_be_back Loopback mark = is_at_tag Loop mark
 may_be_back (Limiter most) mark = is_at_tag Finished mark
@@ -118,7 +118,7 @@ draft_of outers c =
     (node_settings outers c.node c.kind))
     (node_ports outers c.node c.kind)
 
--- the drafts of the nodes with which nothing is wrong, which are all where no node is refused
+-- the drafts of the nodes with which nothing is wrong; these are all nodes if no node is refused
 abbrev pub drafts : List OuterShape → List NodeView → List DraftView
 drafts outers nodes = filter_map (draft_of outers) (chosen_nodes outers nodes)
 

@@ -1,4 +1,4 @@
--- What a node gets from its calculator: its ports, its law, its input policy, its shape. Each is there only where the
+-- What a node gets from its calculator: its ports, its law, its input policy, its shape. Each is there only if the
 -- node's own fields fit it.
 use Rattle.std.specs.Prelude.{ℕ, List, [], Bool, true, false, ◌&&◌, Option, None, Some, option_map, if◌then◌else◌, codes, slice_get}
 use Rattle.std.specs.Option.{option_and_then}
@@ -16,7 +16,7 @@ use Rattle.mg_kinds.specs.declared.ports.Ports.{Ports}
 use Rattle.mg_check.specs.declared.node_kind.NodeKind.{NodeKind}
 use Rattle.mg_check.specs.declared.node_kind.NodeKind.TheVariants.{BuiltIn, Outer}
 
--- whether a calculator that is handed in may have a law: any but those of sources, Constants, Loopback and free nodes
+-- whether a user-supplied calculator may have a law: any but those of sources, Constants, Loopback and free nodes
 abbrev pub may_be_outer : Law → Bool
 may_be_outer (law.Count count start apart) = false
 may_be_outer (law.SideOnce at) = false
@@ -26,8 +26,8 @@ may_be_outer (law.FirstCome lanes) = false
 may_be_outer (law.Limiter most) = false
 may_be_outer rule = true
 
--- whether a node fits a calculator that is handed in: the calculator may have its law, the node has just its ports, and
--- writes no side packet
+-- Whether a node fits a user-supplied calculator. The calculator may have its law. The node has just the calculator's
+-- ports, and writes no side packet.
 abbrev pub fits_outer : NodeView → OuterShape → Bool
 fits_outer node outer =
     may_be_outer outer.law && has_just node.inputs outer.shape.inputs && has_just node.outputs outer.shape.outputs
@@ -44,7 +44,7 @@ abbrev pub node_ports : List OuterShape → NodeView → NodeKind → Option Por
 node_ports outers node (BuiltIn kind) = kind_ports kind node
 node_ports outers node (Outer number) = option_and_then (outer_ports node) (slice_get outers number)
 
--- the law of a node whose calculator is handed in, if the node has no options; such a node writes no side packet
+-- the law of a node with a user-supplied calculator, if the node has no options; such a node writes no side packet
 abbrev pub outer_settings : NodeView → OuterShape → Option SettingsView
 outer_settings node outer = if has_no_options node then Some (record { law = outer.law; constants = [] }) else None
 
@@ -53,7 +53,7 @@ abbrev pub node_settings : List OuterShape → NodeView → NodeKind → Option 
 node_settings outers node (BuiltIn kind) = kind_settings kind node
 node_settings outers node (Outer number) = option_and_then (outer_settings node) (slice_get outers number)
 
--- the input policy that a node has by its law where it asks for none (MediaPipe, Synchronization: input policies)
+-- the input policy that a node has by its law if it asks for none (MediaPipe, Synchronization: input policies)
 abbrev pub own_policy : Law → Policy
 own_policy (law.Mux lanes) = Mux
 own_policy rule = Default
@@ -74,7 +74,7 @@ immediate_policy (law.FirstCome lanes) = Some Default
 immediate_policy (law.Limiter most) = Some Default
 immediate_policy rule = None
 
--- the input policy that a node of a law has by the name of its handler, if it may have that one
+-- the input policy that a node of a law has by the name of its handler, if it may have that policy
 abbrev pub policy_of : Law → List ℕ → Option Policy
 policy_of rule handler =
     if bytes_eq handler [] then Some (own_policy rule)

@@ -31,7 +31,7 @@ stream_names graph ds = port_names graph.inputs ++ flat_map (λ d. d.outputs) ds
 abbrev pub read_names : GraphView → List DraftView → List (List ℕ)
 read_names graph ds = flat_map (λ d. d.inputs) ds ++ port_names graph.outputs
 
--- the side packets: those that are handed in, and then those that nodes write
+-- the side packets: the graph's input side packets, and then those that nodes write
 abbrev pub side_names : GraphView → List DraftView → List (List ℕ)
 side_names graph ds = port_names graph.input_sides ++ flat_map (λ d. d.side_outputs) ds
 
@@ -53,12 +53,12 @@ side_missing graph ds = option_map SideMissing (first_missing (side_names graph 
 
 -- Edges.
 
--- whether the edge into a port is a back edge, given the port that is marked as one, if any is
+-- whether the edge into a port is a back edge, given the port that is marked as a back edge, if there is one
 abbrev pub is_back_at : Option ℕ → ℕ → Bool
 is_back_at None port = false
 is_back_at (Some back) port = back == port
 
--- the edges into a consumer, at whose ports these names stand; that into one port may be a back edge
+-- the edges into a consumer with these names at its ports; the edge into one port may be a back edge
 abbrev pub edges_into : List (List ℕ) → ℕ → Option ℕ → List (List ℕ) → List Edge
 edges_into names node back inputs =
     map (λ e. record { stream = number_among names e.1; node = node; port = e.0; back = is_back_at back e.0 }) (enumerate_from 0 inputs)
@@ -111,7 +111,8 @@ writers graph ds =
     map Input (numbers (length graph.inputs))
     ++ flat_map (λ e. map (λ port. Node e.0 port) (numbers (length e.1.outputs))) (enumerate_from 0 ds)
 
--- the link that an edge makes: from the node that writes its stream to the one that reads, if the edge isn't back and a node writes
+-- The link that an edge makes: from the node that writes its stream to the node that reads. There is a link exactly if
+-- the edge isn't back and a node writes.
 abbrev pub link_of : List Producer → Edge → Option Link
 link_of producers e =
     if e.back then None
@@ -132,7 +133,7 @@ abbrev pub cycle_of : List ℕ → Option CheckFault
 cycle_of [] = None
 cycle_of (n ∷ ns) = Some (Cycle (n ∷ ns))
 
--- the refusal of the largest set of nodes each of which reads, by an edge that isn't back, what one of them writes
+-- the refusal of the largest set of nodes that feeds itself: each reads, by an edge that isn't back, what one of them writes
 abbrev pub cycle : GraphView → List DraftView → Option CheckFault
 cycle graph ds = cycle_of (largest_cycle (length ds) (links graph ds))
 

@@ -16,6 +16,6 @@ first_again (name ∷ names) = if is_name_among names name then Some name else f
 abbrev pub first_missing : List (List ℕ) → List (List ℕ) → Option (List ℕ)
 first_missing there names = find (λ name. not (is_name_among there name)) names
 
--- the number of a name among names: its place, or 0 where it isn't there
+-- the number of a name among names: its place, or 0 if it isn't there
 abbrev pub number_among : List (List ℕ) → List ℕ → ℕ
 number_among names name = unwrap_or (position (bytes_eq name) names) 0

@@ -13,7 +13,7 @@ use Rattle.mg_check.specs.Names.{number_among}
 use Rattle.mg_check.specs.Meeting.{inferred_kind}
 use Rattle.mg_check.specs.Joining.{stream_names, side_names, edges, stream_meetings, writers, order}
 
--- the plan's node of a draft, where its first output is the stream of this number
+-- the plan's node of a draft, if its first output is the stream of this number
 abbrev pub plan_node : List (List ℕ) → List (List ℕ) → ℕ → DraftView → PlanNode
 plan_node streams sides first d = record {
   label = d.label;
@@ -27,7 +27,7 @@ plan_node streams sides first d = record {
   policy = d.policy;
 }
 
--- the plan's nodes of drafts, where their outputs are the streams from this number on
+-- the plan's nodes of drafts, if their outputs are the streams from this number on
 abbrev pub plan_nodes : List (List ℕ) → List (List ℕ) → ℕ → List DraftView → List PlanNode
 plan_nodes streams sides first [] = []
 plan_nodes streams sides first (d ∷ ds) = plan_node streams sides first d ∷ plan_nodes streams sides (first + length d.outputs) ds
@@ -37,7 +37,7 @@ abbrev pub plan_streams : GraphView → List DraftView → List PlanStream
 plan_streams graph ds =
     map (λ e. record { name = e.0; kind = inferred_kind e.1.0; producer = e.1.1 }) (zip (stream_names graph ds) (zip (stream_meetings graph ds) (writers graph ds)))
 
--- the side packets that are handed in, with their places in order
+-- the graph's input side packets, with their places in order
 abbrev pub given_sides : GraphView → List PlainSide
 given_sides graph = map (λ e. record { name = e.1; value = given_at e.0 }) (enumerate_from 0 (port_names graph.input_sides))
 
@@ -45,11 +45,11 @@ given_sides graph = map (λ e. record { name = e.1; value = given_at e.0 }) (enu
 abbrev pub fixed_sides : DraftView → List PlainSide
 fixed_sides d = map (λ e. record { name = e.0; value = fixed e.1 }) (zip d.side_outputs d.constants)
 
--- all side packets: those that are handed in, and then those that nodes write
+-- all side packets: the graph's input side packets, and then those that nodes write
 abbrev pub plan_sides : GraphView → List DraftView → List PlainSide
 plan_sides graph ds = given_sides graph ++ flat_map fixed_sides ds
 
--- a queue's limit is 100 where none is told (MediaPipe, calculator.proto: max_queue_size)
+-- a queue's limit is 100 if none is given (MediaPipe, calculator.proto: max_queue_size)
 abbrev pub limit_of : ℤ → ℤ
 limit_of (pos n) = if n == 0 then pos 100 else pos n
 limit_of (negsuc n) = negsuc n

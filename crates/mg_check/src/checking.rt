@@ -10,11 +10,12 @@ use mg_calc::{OuterShape, Plan};
 use mg_config::GraphConfig;
 use std::alloc::Global;
 
-/// Returns the plan of an expanded graph with the calculators that are handed in, or its first refusal (MediaPipe,
-/// Graphs). The causes are looked for in the order of `CheckFault`, and of one cause the first node, stream or side
-/// packet is told: in the order of their numbers, but of their readers where they have no producer.
+/// Returns the plan of an expanded graph with the user-supplied calculators, or its first refusal (MediaPipe,
+/// Graphs). The check looks for causes in the order of `CheckFault`. Of one cause it names the first node, stream or
+/// side packet, in the order of their numbers. Streams and side packets without a producer come in the order of their
+/// readers.
 pub fn check(alloc: Global, config: &GraphConfig, outers: &[OuterShape]) -> Result<Plan, CheckFault>
-    // An expanded graph has at most 4,096 nodes. Each calculator that is handed in and may have its law has that law's
+    // An expanded graph has at most 4,096 nodes. Each user-supplied calculator that may have its law has that law's
     // shape, and parameters in their ranges.
     requires few { length config.now.nodes ≤ 4096 }
     requires outers { All IsOuterShape outers.now }
@@ -22,7 +23,7 @@ pub fn check(alloc: Global, config: &GraphConfig, outers: &[OuterShape]) -> Resu
     ensures ok { IfOk result (λ plan. check_of outers.now (graph_view config.now) ≡ Ok plan) }
     ensures err { IfErr result (λ fault. fault ≢ CheckFault.OutOfMemory → check_of outers.now (graph_view config.now) ≡ Err fault) }
 
-    // A plan is valid, but may have free nodes, and the calculators that were handed in fit it.
+    // A plan is valid, but may have free nodes, and the user-supplied calculators fit it.
     ensures valid { IfOk result IsValidWithFree }
     ensures fit { IfOk result (λ plan. OutersFit plan outers.now) }
 {

@@ -1,4 +1,4 @@
-//! The choice of a calculator for each node: one that is built in, or one that is handed in.
+//! The choice of a calculator for each node: a built-in one or a user-supplied one.
 ghost use Rattle.std.specs.Prelude.{◌≡◌, ◌≢◌, ◌++◌, [], None, Some, IfOk, IfErr, OnOk, List, map};
 ghost use Rattle.mg_config.specs.Config.{node_view, NodeView};
 ghost use Rattle.mg_kinds.specs.Kinds.{kind_named as its_kind};
@@ -21,14 +21,14 @@ pub struct Choice<'a> {
     pub kind: NodeKind,
 }
 
-/// The nodes for which there is a calculator, each with it, and the places of the nodes that name each calculator.
+/// The nodes for which there is a calculator, each with its calculator, and the places of the nodes that name each calculator.
 #[derive(Drop)]
 pub struct Choices<'a> {
     pub list: Vec<Choice<'a>>,
     pub wanted: Groups,
 }
 
-/// Returns a place as a number of 32 bits, or want of memory where the place is too large, since there is no memory for such a list.
+/// Returns a place as a number of 32 bits, or out of memory if the place is too large. There is no memory for a list with such a place.
 pub fn number_of(place: usize) -> Result<u32, AllocError>
     ensures { IfOk result (λ number. number ≡ place) }
 {
@@ -39,7 +39,7 @@ pub fn number_of(place: usize) -> Result<u32, AllocError>
     }
 }
 
-/// Returns the numbers of the calculators that are handed in, by their names.
+/// Returns the numbers of the user-supplied calculators, by their names.
 pub fn stock_of(alloc: Global, outers: &[OuterShape]) -> Result<Groups, AllocError>
     ensures { IfOk result (λ stock. IsStock stock outers.now) }
 {
@@ -75,7 +75,8 @@ fn push_choice<'a>(
     Ok(())
 }
 
-/// Chooses for each node the built-in calculator of the name that it asks for, or else the next of those that are handed in under it.
+/// Chooses a calculator for each node: the built-in calculator of the name that it asks for, or else the next
+/// user-supplied calculator of that name.
 pub fn choices_of<'a>(
     alloc: Global,
     nodes: &'a [NodeConfig],
@@ -101,7 +102,7 @@ fn is_unknown(node: &NodeConfig, stock: &Groups) -> bool
     kind_named(name).is_none() && stock.get(name).is_empty()
 }
 
-/// Refuses the first node whose calculator is neither built in nor handed in.
+/// Refuses the first node whose calculator is neither built in nor user-supplied.
 pub fn check_known(nodes: &[NodeConfig], stock: &Groups) -> Result<(), CheckFault>
     ensures ok { OnOk result ((outers : List Outers) → IsStock stock.now outers → rules.unknown_calculator outers (map node_view nodes.now) ≡ None) }
     ensures err { IfErr result (λ fault. fault ≢ CheckFault.OutOfMemory → (outers : List Outers) → IsStock stock.now outers → rules.unknown_calculator outers (map node_view nodes.now) ≡ Some fault) }
@@ -141,7 +142,7 @@ fn too_few(
     })
 }
 
-/// Refuses the first node whose calculator more nodes want than are handed in.
+/// Refuses the first node whose calculator more nodes want than there are user-supplied calculators of its name.
 pub fn check_boxes(
     alloc: Global,
     nodes: &[NodeConfig],

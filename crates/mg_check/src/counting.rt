@@ -4,7 +4,7 @@ ghost use Rattle.std.specs.List.{range_with_len};
 use mg_value::{BlockList, NumberList};
 use std::alloc::{AllocError, Global};
 
-/// Returns how many names there are, or want of memory where they are 2^32 or more, for which there is no memory.
+/// Returns how many names there are, or out of memory if they are 2^32 or more: there is no memory for so many.
 pub(crate) fn count_of(names: &[&str]) -> Result<u32, AllocError>
     ensures { IfOk result (λ count. count ≡ length names.now) }
 {
@@ -15,7 +15,7 @@ pub(crate) fn count_of(names: &[&str]) -> Result<u32, AllocError>
     }
 }
 
-/// Returns `count` numbers from `first` on, or want of memory where they reach 2^32, for which there is no memory.
+/// Returns `count` numbers from `first` on, or out of memory if they reach 2^32: there is no memory for so many.
 pub(crate) fn range_of(alloc: Global, first: u32, count: u32) -> Result<NumberList, AllocError>
     ensures { IfOk result (λ numbers. numbers ≡ range_with_len first count) }
 {

@@ -18,11 +18,11 @@ pub struct Draft<'a> {
     pub constants: Vec<Arc<Payload>>,
     /// How many input sets the node may work on at once, 1 to 64.
     pub in_flight: u32,
-    /// The number of the node's calculator among those that are handed in, if it is one of these.
+    /// The number of the node's calculator among the user-supplied calculators, if it is one of these.
     pub box_number: Option<u32>,
     pub policy: Policy,
     /// The number of the input that is marked as a back edge, if a mark stands where a back edge may be.
     pub back: Option<u32>,
-    /// Whether a mark stands at an input that can't be a back edge, or at one that the node hasn't.
+    /// Whether a mark stands at an input that can't be a back edge, or at an input that the node hasn't.
     pub misplaced: bool,
 }

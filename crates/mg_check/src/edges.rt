@@ -13,7 +13,7 @@ use mg_calc::Edge;
 use mg_names::PortMap;
 use std::alloc::{AllocError, Global};
 
-// Whether the edge into a port is a back edge, where `back` is the port that is marked as one, if any is.
+// Whether the edge into a port is a back edge. `back` is the port that is marked as a back edge, if there is one.
 fn is_back_at(back: Option<u32>, port: u32) -> bool
     ensures { result ≡ joining.is_back_at back port }
 {
@@ -72,7 +72,7 @@ pub(crate) fn node_edges(
     Ok(edges)
 }
 
-/// Appends the edges into the collector, whose ports are the graph outputs and whose number as a consumer is `node`.
+/// Appends the edges into the collector. The collector's ports are the graph outputs, and its number as a consumer is `node`.
 pub(crate) fn add_collector(
     alloc: Global,
     edges: &mut Vec<Edge>,

@@ -18,10 +18,10 @@ pub enum Many {
 /// graph stays as it is.
 #[derive(Debug, Drop, Error)]
 pub enum CheckFault {
-    /// The calculator is neither built in nor one of those that are handed in.
+    /// The calculator is neither built in nor user-supplied.
     #[error("node {node} has an unknown calculator")]
     UnknownCalculator { node: u32 },
-    /// `needs` nodes want a calculator of this name, and only `has` are handed in under it.
+    /// `needs` nodes want a calculator of this name, and only `has` user-supplied calculators have this name.
     #[error("{needs} nodes want one of {has} calculators {}", .name.as_str())]
     NoMoreBoxes { name: MgText, has: u32, needs: u32 },
     /// The streams or side packets of a node don't fit its calculator.
@@ -39,7 +39,7 @@ pub enum CheckFault {
     /// A stream is read that is no graph input and no output of a node.
     #[error("the stream {} has no producer", .name.as_str())]
     NoProducer { name: MgText },
-    /// A side packet is taken that isn't handed in and that no node writes.
+    /// A side packet is taken that is no input side packet of the graph and that no node writes.
     #[error("the side packet {} has no producer", .name.as_str())]
     SideMissing { name: MgText },
     /// Two ports of different kinds other than `Any` meet at a stream.
@@ -48,7 +48,7 @@ pub enum CheckFault {
     /// A back edge stands elsewhere than at LOOP of a loopback or FINISHED of a limiter.
     #[error("node {node} has a back edge that isn't a loopback's")]
     BackEdgeMisplaced { node: u32 },
-    /// These nodes wait for each other, or for one that does: each reads, by an edge that isn't back, what one of them
+    /// These nodes wait for each other, or for a node that does: each reads, by an edge that isn't back, what one of them
     /// writes. No larger set of nodes does; the numbers ascend.
     #[error("nodes wait for each other")]
     Cycle { nodes: NumberList },

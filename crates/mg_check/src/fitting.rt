@@ -55,7 +55,7 @@ fn outer_ports(
     }))
 }
 
-/// Returns the ports that a calculator has at a node, or none where the node's streams and side packets don't fit the calculator.
+/// Returns the ports that a calculator has at a node, or none if the node's streams and side packets don't fit the calculator.
 pub fn node_ports(
     alloc: Global,
     outers: &[OuterShape],
@@ -90,7 +90,7 @@ fn outer_settings(
     }))
 }
 
-/// Returns the law and the side packets that the options of a node set, or none where they aren't options of its calculator.
+/// Returns the law and the side packets that the options of a node set, or none if they aren't options of its calculator.
 pub fn node_settings(
     alloc: Global,
     outers: &[OuterShape],
@@ -145,8 +145,8 @@ fn immediate_policy(law: &Law) -> Option<Policy>
     }
 }
 
-/// Returns the input policy that a node with this law has by the name of its handler, or none where it can't have that
-/// one. Without a name it has the policy of its law.
+/// Returns the input policy that a node with this law has by the name of its handler, or none if it can't have that
+/// policy. Without a name it has the policy of its law.
 pub fn policy_of(law: &Law, handler: &[u8]) -> Option<Policy>
     ensures { result ≡ rules.policy_of law.now handler.now }
 {
@@ -163,7 +163,7 @@ pub fn policy_of(law: &Law, handler: &[u8]) -> Option<Policy>
     }
 }
 
-/// Returns the shape of a node's calculator, or none where no such calculator is handed in.
+/// Returns the shape of a node's calculator, or none if there is no such user-supplied calculator.
 pub fn node_shape(
     alloc: Global,
     outers: &[OuterShape],

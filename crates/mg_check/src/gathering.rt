@@ -115,7 +115,7 @@ pub(crate) fn read_texts<'a>(
     texts_before(alloc, &graph.outputs, drafts, Part::Inputs)
 }
 
-/// Returns the names of all side packets: of those that are handed in, and then of those that each node writes.
+/// Returns the names of all side packets: of the graph's input side packets, and then of those that each node writes.
 pub(crate) fn side_texts<'a>(
     alloc: Global,
     graph: &'a GraphConfig,

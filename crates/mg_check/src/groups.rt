@@ -29,7 +29,7 @@ impl Groups {
         }
     }
 
-    /// Returns the places of a name, of which there are none where none was added.
+    /// Returns the places of a name, or none if none was added.
     pub fn get(&self, name: &[u8]) -> &[u32]
         ensures { result.now ≡ kept self.now name.now }
     {
@@ -39,7 +39,7 @@ impl Groups {
         }
     }
 
-    /// Adds a place of a name, behind those that it has.
+    /// Adds a place of a name, after those that it has.
     pub fn add(&mut self, alloc: Global, name: &[u8], place: u32) -> Result<(), AllocError>
         ensures { OnOk result ((other : List ℕ) → kept self.new other ≡ (if bytes_eq other name.now then kept self.old other ++ place ∷ [] else kept self.old other)) }
     {

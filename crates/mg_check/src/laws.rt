@@ -8,8 +8,8 @@ ghost use Rattle.mg_check.specs.Joining.{links, order, cycle, cycle_of};
 ghost use Rattle.mg_check.specs.Order.{left_out};
 ghost use Rattle.mg_check.specs.declared.fault.CheckFault.TheVariants.{Cycle};
 
-/// A graph has a cycle exactly where there are some nodes each of which reads, by an edge that isn't back, what one of
-/// them writes. A refused cycle names the largest set of such nodes, in the order of their numbers (MediaPipe, Graphs:
+/// A graph has a cycle exactly if a set of some nodes feeds itself. Each of these nodes reads, by an edge that isn't
+/// back, what one of them writes. A refused cycle names the largest such set, by ascending numbers (MediaPipe, Graphs:
 /// a graph is acyclic but for its back edges).
 pub fn a_cycle_is_the_largest_set()
     ensures named { (graph : GraphView) (ds : List DraftView) (ns : List ℕ) → cycle graph ds ≡ Some (Cycle ns) → IsLargestCycle (links graph ds) ns }
@@ -19,8 +19,9 @@ pub fn a_cycle_is_the_largest_set()
     ensures only { (graph : GraphView) (ds : List DraftView) (ns : List ℕ) → IsLargestCycle (links graph ds) ns → cycle graph ds ≡ cycle_of ns }
 {}
 
-/// The order of a graph's nodes, which is that of its plan, leads forward along each edge that isn't back: the node that writes stands
-/// before the one that reads. It leaves out exactly the nodes of the largest cycle, so where there is none it has each node once.
+/// The order of a graph's nodes is that of its plan. It leads forward along each edge that isn't back: the node that
+/// writes stands before the node that reads. It leaves out exactly the nodes of the largest cycle, so if there is no
+/// cycle it has each node once.
 pub fn the_order_leads_forward()
     ensures forward { (graph : GraphView) (ds : List DraftView) → All (λ link. StandsBefore (order graph ds) link.from link.to) (links graph ds) }
     ensures left { (graph : GraphView) (ds : List DraftView) → left_out (length ds) (order graph ds) ≡ largest_cycle (length ds) (links graph ds) }

@@ -12,7 +12,7 @@ fn no_marks(alloc: Global, count: usize) -> Result<Vec<bool>, AllocError>
     vec![in alloc; false; count]
 }
 
-/// Returns `count` places, of which exactly those at the numbers are marked.
+/// Returns `count` places, marked exactly at the numbers.
 pub(crate) fn marks_of(alloc: Global, count: u32, numbers: &[u32]) -> Result<Vec<bool>, AllocError>
     requires { All (λ n. n < count) numbers.now }
     ensures { IfOk result (λ v. HasMarks count numbers.now v.items) }

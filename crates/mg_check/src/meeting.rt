@@ -148,7 +148,7 @@ pub(crate) fn meetings_of(
     Ok(mets)
 }
 
-/// Returns the number of the first stream at which two kinds clash, or none where there is no such stream.
+/// Returns the number of the first stream at which two kinds clash, or none if there is no such stream.
 pub(crate) fn clash_in(mets: &[Inferred]) -> Option<usize>
     ensures { result ≡ position (λ inferred. inferred.clash) mets.now }
 {

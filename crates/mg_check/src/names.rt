@@ -12,10 +12,10 @@ use std::alloc::{AllocError, Global};
 use std::borrow::CowStr;
 use std::marker::Model;
 
-/// The most names that a list may have: fewer than 2^32, for which there is no memory.
+/// The most names that a list may have: fewer than 2^32, since there is no memory for so many.
 const MOST_NAMES: usize = (1 << 32) - 1;
 
-/// Names in order, of which no two are the same. Contracts see them as the list of the texts.
+/// Names in order, no two the same. Contracts see them as the list of the texts.
 #[derive(Drop)]
 pub(crate) struct Names<'a> {
     table: NameTable<'a>,
@@ -33,7 +33,7 @@ impl<'a> Model for Names<'a> {
     ghost invariant = { λ n. (length (kept_names n.table) < 2 ^ 32) × IsTable is_text n.table (kept_names n.table) };
 }
 
-// Returns the table of texts, each of which counts as a name, also the empty one.
+// Returns the table of texts. Each text counts as a name, also the empty text.
 fn table_of<'a>(alloc: Global, texts: &[&'a str]) -> Result<NameTable<'a>, AllocError>
     ensures { IfOk result (λ table. IsTable is_text table (names_of texts.now)) }
 {
@@ -87,7 +87,7 @@ impl<'a> Names<'a> {
         self.table.get(name).is_some()
     }
 
-    /// Returns the number of a name, which is its place in the list, or 0 where it isn't there.
+    /// Returns the number of a name: its place in the list, or 0 if it isn't there.
     #[tactic(auto, using(crate::proofs::Placed::place_within, crate::proofs::Placed::number_found, crate::proofs::Placed::number_missing))]
     pub(crate) fn number(&self, name: &str) -> u32
         ensures { result ≡ number_among self.now name.now }
@@ -99,7 +99,7 @@ impl<'a> Names<'a> {
     }
 }
 
-/// Returns the first text that isn't among the names, or none where all are.
+/// Returns the first text that isn't among the names, or none if all are.
 pub(crate) fn missing_in<'a>(names: &Names, texts: &[&'a str]) -> Option<&'a str>
     ensures { option_map (λ name. name.now) result ≡ first_missing names.now (names_of texts.now) }
 {

@@ -167,7 +167,7 @@ fn drafted<'a>(
     }))
 }
 
-/// Returns the draft of a node, or what is wrong with it; the outer error is want of memory.
+/// Returns the draft of a node, or what is wrong with it; the outer error is out of memory.
 pub fn judged<'a>(
     alloc: Global,
     outers: &[OuterShape],

@@ -5,6 +5,6 @@ use mg_kinds::CalculatorKind;
 pub enum NodeKind {
     /// A calculator that is built in.
     BuiltIn(CalculatorKind),
-    /// The calculator of this number among those that are handed in.
+    /// The user-supplied calculator of this number.
     Outer(u32),
 }

@@ -9,7 +9,7 @@ use crate::taking::taken_first;
 use crate::waiting::release;
 use std::alloc::{AllocError, Global};
 
-/// Two nodes, of which one reads, by an edge that isn't back, what the other writes.
+/// Two nodes: one reads, by an edge that isn't back, what the other writes.
 #[derive(Clone, Copy, Debug, PartialEq, Eq)]
 pub struct Link {
     /// The number of the node that writes.
@@ -18,8 +18,8 @@ pub struct Link {
     pub to: u32,
 }
 
-/// Returns the order of `count` nodes, of which the sources have no inputs. Each next node is the least of a tree of
-/// those that wait for none, and each link is looked at once.
+/// Returns the order of `count` nodes; the sources are the nodes without inputs. Each next node is the least of a tree
+/// of those that wait for none. The function looks at each link once.
 pub(crate) fn order_of(
     alloc: Global,
     count: u32,

@@ -73,7 +73,7 @@ fn check_sides(
     }
 }
 
-/// Refuses a graph where a stream that is read, or else a side packet that is taken, has no producer.
+/// Refuses a graph if a stream that is read, or else a side packet that is taken, has no producer.
 pub(crate) fn check_names(
     alloc: Global,
     graph: &GraphConfig,

@@ -51,7 +51,7 @@ fn add_fixed(alloc: Global, out: &mut Vec<Side>, draft: &Draft) -> Result<(), Al
     Ok(())
 }
 
-/// Returns the side packets of a plan: those that are handed in, and then those that nodes write.
+/// Returns the side packets of a plan: the graph's input side packets, and then those that nodes write.
 pub(crate) fn sides_of(
     alloc: Global,
     graph: &GraphConfig,

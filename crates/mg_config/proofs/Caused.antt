@@ -1,4 +1,4 @@
--- What a fault says of ports is never want of memory.
+-- What a fault says of ports is never out of memory.
 use Rattle.std.proofs.Common.{ℕ, suc, ◌≢◌, List, [], ◌∷◌, ◌++◌, Bool, true, false, Option, None, Some, Result, Ok, Err, if◌then◌else◌, not, ◌&&◌, subst, refl, codes}
 use Rattle.std.specs.List.{list_any}
 use Rattle.std.specs.Str.{bytes_eq}

@@ -102,7 +102,7 @@ chain_more kind names fields n more chain clear called = record {
 pub chain_clear : (kind : Message) (names : List (List ℕ)) (fields : List Entry) → IsChain kind names fields → field_fault kind (fields_of fields) ≡ None
 chain_clear kind names fields chain = ap (λ es. field_fault kind (fields_of es)) (sym (append-nil fields)) ∙ chain.clear.passed []
 
--- a text that is written where it isn't empty
+-- a text that is written if it isn't empty
 text_clear : (kind : Message) (before : List Entry) (n text : List ℕ) → rule_of kind n ≡ Some (once Text) → list_any (has_name n) before ≡ false → AreClear kind before (text_field n text)
 text_clear kind before n text ruled fresh = by (bytes_eq text [])
   where
@@ -122,7 +122,7 @@ pub chain_text : (kind : Message) (names : List (List ℕ)) (fields : List Entry
 chain_text kind names fields n text ruled apart chain =
     chain_more kind names fields n (text_field n text) chain (text_clear kind fields n text ruled (chain.fresh n apart)) (text_called n text)
 
--- a number that is written where it isn't 0
+-- a number that is written if it isn't 0
 number_clear : (kind : Message) (before : List Entry) (n : List ℕ) (value : ℤ) → FitsI32 value → rule_of kind n ≡ Some (once Number) → list_any (has_name n) before ≡ false
     → AreClear kind before (number_field n value)
 number_clear kind before n value fits ruled fresh = by value one

@@ -39,7 +39,7 @@ pair_back input output fields inputs outputs ins outs =
     ap (λ r. then_do r (λ inputs. then_do (ports_in output fields) (λ outputs. Ok (record { inputs = inputs; outputs = outputs })))) ins
     ∙ ap (λ r. then_do r (λ outputs. Ok (record { inputs = inputs; outputs = outputs }))) outs
 
--- what fields say under a name where they have what is written
+-- what fields say under a name if they have what is written
 text_found : (name text : List ℕ) (fields : List Entry) → values_of name fields ≡ values (text_field name text) → text_in name fields ≡ text
 text_found name text fields have = ap (λ vs. text_of_first (first vs)) have ∙ text_back name text
 

@@ -54,7 +54,7 @@ none_of (f ∷ fs) absent =
     let apart = or_parts (is_option (field_view f)) (list_any (λ f. is_option (field_view f)) fs) absent in
     options_cons (field_view f) (map field_view fs) false apart.0 ∙ none_of fs apart.1
 
--- where one field has all options, its message is them
+-- if one field has all options, its message is them
 pub joined_only : (fs : List Field) (i : ℕ) (d : Field) (tree : Tree) → i < length fs → d ≡ get_or fs i d → is_option (field_view d) ≡ true → AreJoined fs i none
     → d.value ≡ values.Message tree → list_any (λ f. is_option (field_view f)) (drop (i + 1) fs) ≡ false → view tree ≡ options_in (map field_view fs)
 joined_only fs i d tree inside same here at value alone =

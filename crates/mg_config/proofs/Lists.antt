@@ -7,18 +7,18 @@ use Rattle.mg_text.specs.View.{Value, Entry, field_view, value_view}
 use Rattle.mg_text.proofs.Views.{field-record}
 use Rattle.mg_config.specs.Values.{has_name, values_of}
 
--- the fields from one on
+-- the fields from a place on
 pub rest_of : (fs : List Field) (i : ℕ) (d : Field) → i < length fs → map field_view (drop i fs) ≡ field_view (get_or fs i d) ∷ map field_view (drop (i + 1) fs)
 rest_of fs i d inside = let rest : drop i fs ≡ get_or fs i d ∷ drop (i + 1) fs = rw (add-one, drop-cons fs i d) refl in ap (map field_view) rest
 
--- the fields up to one
+-- the fields up to a place, with the field there
 pub front_of : (fs : List Field) (i : ℕ) (d : Field) → i < length fs → map field_view (take (i + 1) fs) ≡ map field_view (take i fs) ++ field_view (get_or fs i d) ∷ []
 front_of fs i d inside = ap (map field_view) (take_more fs i d inside) ∙ map-append field_view (take i fs) (get_or fs i d ∷ [])
 
 pub none_after : (fs : List Field) (i : ℕ) → length fs ≤ i → map field_view (drop i fs) ≡ []
 none_after fs i past = ap (map field_view) (drop_of_length-le fs past)
 
--- the values of a name, from a field on that has it, and from one that has not
+-- the values of a name, from a field on that has the name, and from a field on that has another name
 values_cons : (name : List ℕ) (e : Entry) (es : List Entry) (t : Bool) → has_name name e ≡ t → values_of name (e ∷ es) ≡ (elim t as (λ _. List Value) [ true ↦ e.value ∷ values_of name es | false ↦ values_of name es ])
 values_cons name e es true h = rw h refl
 values_cons name e es false h = rw h refl

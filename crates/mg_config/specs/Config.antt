@@ -75,7 +75,7 @@ graph_view graph = record {
   num_threads = graph.num_threads;
 }
 
--- The fault of ports that the fields of a name spell. The refusal of one text has the path of that field; a tag and
+-- The fault of ports that the fields of a name spell. The refusal of one text has the path of that field. A tag and
 -- index that stand twice, and a gap, have the path of the list.
 abbrev pub port_fault : List ℕ → PlacedFault → ConfigFault
 port_fault name (At place cause) = BadPort (numbered name place) cause
@@ -109,7 +109,7 @@ mark_by (Err cause) = Err (BadPort (codes "tag_index") cause)
 abbrev pub mark_in : List Entry → Result Mark ConfigFault
 mark_in fields = mark_by (tag_index_of (text_in (codes "tag_index") fields))
 
--- back edges with an input before them, where that is a back edge too
+-- back edges, with the input before them if that input is a back edge too
 abbrev pub kept : Bool → Mark → List Mark → List Mark
 kept true mark marks = mark ∷ marks
 kept false mark marks = marks
@@ -129,7 +129,7 @@ is_option field = bytes_eq field.name (codes "options") || bytes_eq field.name (
 abbrev pub options_in : List Entry → Fields
 options_in fields = joined (map (λ field. fields_of_value field.value) (filter is_option fields))
 
--- the name of the input stream handler, which is empty where none is given
+-- the name of the input stream handler, or the empty text if none is given
 abbrev pub handler_in : List Entry → List ℕ
 handler_in fields = text_in (codes "input_stream_handler") (entries (message_in (codes "input_stream_handler") fields))
 
@@ -149,7 +149,8 @@ node_with fields streams sides back_marks = record {
   buffer_size_hint = number_in (codes "buffer_size_hint") fields;
 }
 
--- the node of fields in which no fault was found, or the first fault of its ports and back edges, in the order in which they are written
+-- The node of fields in which no fault was found, or the first fault of its ports and back edges. They are judged in
+-- the order in which they are written.
 abbrev pub node_of : List Entry → Result NodeView ConfigFault
 node_of fields =
     then_do (streams_in fields) (λ streams. then_do (sides_in fields) (λ sides.
@@ -186,8 +187,8 @@ abbrev pub unless : {A : Type 0} → Option ConfigFault → Result A ConfigFault
 unless (Some fault) result = Err fault
 unless None result = result
 
--- The configuration of a file's fields, or the first fault: those of fields come first, then absent or empty
--- calculators, then what spells no port.
+-- The configuration of a file's fields, or the first fault. Faults of fields come first, then absent or empty
+-- calculators, then texts and lists that spell no port or back edge.
 abbrev pub config_of : Fields → Result GraphView ConfigFault
 config_of fields =
     unless (field_fault Graph fields)

@@ -39,13 +39,13 @@ abbrev pub shaped_by : Bool → FieldRule → List Entry → List ℕ → Option
 shaped_by true rule before name = repeated_by (not rule.many && list_any (has_name name) before) name
 shaped_by false rule before name = Some (WrongShape (step rule.many name before))
 
--- The fault of a field itself, by the rule of its name and the fields before it: it is unknown, its value has another
--- shape, or it stands a second time and may stand once.
+-- The fault of a field itself, by the rule of its name and the fields before it. The field is unknown, its value has
+-- another shape, or it stands a second time and may stand once.
 abbrev pub own_fault : Option FieldRule → List Entry → List ℕ → Value → Option ConfigFault
 own_fault None before name value = Some (UnknownField name)
 own_fault (Some rule) before name value = shaped_by (has_shape rule.shape value) rule before name
 
--- the first fault, if there is one, or else the other
+-- the first fault, if there is one, or else the second
 abbrev pub or_else : Option ConfigFault → Option ConfigFault → Option ConfigFault
 or_else (Some fault) other = Some fault
 or_else None other = other

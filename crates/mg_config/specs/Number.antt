@@ -18,7 +18,8 @@ is_numeral base (first ∷ rest) = list_all (λ byte. is_digit byte base) (first
 abbrev pub value_in : ℕ → ℕ → List ℕ → Option ℕ
 value_in base most digits = if is_numeral base digits && nat_le (digits_value base digits) most then Some (digits_value base digits) else None
 
--- the number that a text spells behind a leading 0, if it is at most a bound: nothing, `x` or `X` and hexadecimal digits, or octal digits
+-- The number that a text spells after a leading 0, if it is at most a bound. The text is empty, `x` or `X` and
+-- hexadecimal digits, or octal digits.
 abbrev pub after_zero : ℕ → List ℕ → Option ℕ
 after_zero most [] = Some 0
 after_zero most (first ∷ rest) = if (first == 120) || (first == 88) then value_in 16 most rest else value_in 8 most (first ∷ rest)

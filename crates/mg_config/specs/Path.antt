@@ -1,5 +1,5 @@
--- Where a fault is: the names of the fields from the top, joined by `.`, with `[k]` behind the name of a field that may
--- stand more than once.
+-- Where a fault is: the names of the fields from the top, joined by `.`. After the name of a field that may stand more
+-- than once comes `[k]`.
 use Rattle.std.specs.Prelude.{ℕ, List, [], ◌∷◌, ◌++◌, Bool, if◌then◌else◌, count_by, Result, Ok, Err}
 use Rattle.std.specs.Fmt.{decimal}
 use Rattle.mg_text.specs.View.{Entry}

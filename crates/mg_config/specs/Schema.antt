@@ -61,7 +61,7 @@ rule_in (r ∷ rows) name = if bytes_eq name r.name then Some r.rule else rule_i
 abbrev pub rule_of : Message → List ℕ → Option FieldRule
 rule_of message name = rule_in (rows_of message) name
 
--- where the fields inside a field are judged: whether the field may stand more than once, and what message it is
+-- whether a field may stand more than once, and what message it is, if the fields inside it are judged
 abbrev pub judged_as : Bool → Shape → Option (Bool × Message)
 judged_as starred (Inside message) = Some (starred, message)
 judged_as starred shape = None

@@ -1,5 +1,6 @@
--- Two properties of configurations. A sound one can be written and read back, as every one that was read can, and the
--- fields of a printable one can be printed. Whoever makes a configuration of others keeps both.
+-- Two properties of configurations. A sound configuration can be written and read back, and every configuration that
+-- was read is sound. The fields of a printable configuration can be printed. Whoever makes a configuration of other
+-- configurations keeps both properties.
 use Rattle.std.specs.Prelude.{◌+◌, ◌^◌, ◌<◌, ◌≤◌, ◌≡◌, ◌≢◌, ℤ, pos, negsuc, List, [], map, Ok, All}
 use Rattle.mg_text.specs.Tree.{depth}
 use Rattle.mg_text.specs.Answer.{max_depth}
@@ -33,7 +34,7 @@ pub record IsSoundNode (node : NodeView) : Type 0 where
   pub max_in_flight : FitsI32 node.max_in_flight
   pub buffer_size_hint : FitsI32 node.buffer_size_hint
 
--- Each node has a calculator, its ports and back edges can be spelled, and its numbers fit; the graph's own ports can
+-- Each node has a calculator, its ports and back edges can be spelled, and its numbers fit. The graph's own ports can
 -- be spelled, and its numbers fit.
 pub record IsSound (graph : GraphView) : Type 0 where
   pub nodes : All IsSoundNode graph.nodes
@@ -44,7 +45,7 @@ pub record IsSound (graph : GraphView) : Type 0 where
   pub max_queue_size : FitsI32 graph.max_queue_size
   pub num_threads : FitsI32 graph.num_threads
 
--- A node's texts are characters, and its options can be spelled and, inside two further messages, nest no deeper than a text may.
+-- A node's texts are characters. Its options can be spelled, and inside two further messages they nest no deeper than a text may.
 pub record IsPrintableNode (node : NodeView) : Type 0 where
   pub name : AreCharacters node.name
   pub calculator : AreCharacters node.calculator

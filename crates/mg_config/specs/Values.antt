@@ -26,7 +26,7 @@ abbrev pub first : List Value → Option Value
 first [] = None
 first (value ∷ more) = Some value
 
--- the text of a value, which is empty where it is no quoted text
+-- the text of a value, or the empty text if it is no quoted text
 abbrev pub text_of_value : Value → List ℕ
 text_of_value (simple quoted bytes) = bytes
 text_of_value value = []
@@ -35,7 +35,7 @@ abbrev pub text_of_first : Option Value → List ℕ
 text_of_first None = []
 text_of_first (Some value) = text_of_value value
 
--- the text of the first field of a name, which is empty where there is none
+-- the text of the first field of a name, or the empty text if there is none
 abbrev pub text_in : List ℕ → List Entry → List ℕ
 text_in name fields = text_of_first (first (values_of name fields))
 
@@ -57,7 +57,7 @@ abbrev pub number_of_first : Option Value → ℤ
 number_of_first None = pos 0
 number_of_first (Some value) = unwrap_or (number_in_value value) (pos 0)
 
--- the number of the first field of a name, which is 0 where there is none
+-- the number of the first field of a name, or 0 if there is no such field or it spells none
 abbrev pub number_in : List ℕ → List Entry → ℤ
 number_in name fields = number_of_first (first (values_of name fields))
 
@@ -71,11 +71,11 @@ abbrev pub truth_of_first : Option Value → Bool
 truth_of_first None = false
 truth_of_first (Some value) = unwrap_or (truth_in_value value) false
 
--- the truth value of the first field of a name, which is false where there is none
+-- the truth value of the first field of a name, or false if there is no such field or it spells none
 abbrev pub truth_in : List ℕ → List Entry → Bool
 truth_in name fields = truth_of_first (first (values_of name fields))
 
--- the fields of a value, of which there are none where it is no message
+-- the fields of a value, or no fields if it is no message
 abbrev pub fields_of_value : Value → Fields
 fields_of_value (inner fields) = fields
 fields_of_value value = none
@@ -84,7 +84,7 @@ abbrev pub message_of_first : Option Value → Fields
 message_of_first None = none
 message_of_first (Some value) = fields_of_value value
 
--- the fields inside the first field of a name, of which there are none where there is no such field or it is no message
+-- the fields inside the first field of a name, or no fields if there is no such field or it is no message
 abbrev pub message_in : List ℕ → List Entry → Fields
 message_in name fields = message_of_first (first (values_of name fields))
 

@@ -56,7 +56,7 @@ fn check_own(
     Ok(())
 }
 
-/// Returns a fault of the fields inside a field with the field in front of its path, or want of memory.
+/// Returns a fault of the fields inside a field with the field in front of its path, or out of memory.
 fn inside(
     alloc: Global,
     many: bool,
@@ -72,7 +72,7 @@ fn inside(
     }
 }
 
-/// Returns, where a rule has the fields inside a field judged, whether the field may stand more than once, and what it is.
+/// Returns whether a field may stand more than once, and what message it is, if its rule has the fields inside it judged.
 fn judged(rule: Option<FieldRule>) -> Option<(bool, Message)>
     ensures { result ≡ judged_by rule }
 {

@@ -19,7 +19,7 @@ pub enum ConfigFault {
     /// A field that may stand once stands a second time.
     #[error("{} stands twice", .path.as_str())]
     Repeated { path: MgText },
-    /// A text spells no port, or no tag and index; or a list of texts, each of which spells a port, spells no ports together.
+    /// A text spells no port, or no tag and index. Or each text of a list spells a port, but the texts spell no ports together.
     #[error("{} is refused: {cause}", .path.as_str())]
     BadPort { path: MgText, cause: NameFault },
     /// There was no memory.

@@ -27,7 +27,7 @@ pub type NodeList = BlockList<NodeConfig>;
 /// absent is 0.
 #[derive(Debug, Drop)]
 pub struct GraphConfig {
-    /// The name by which other graphs use this one as a subgraph.
+    /// The name by which other graphs use this graph as a subgraph.
     pub type_name: MgText,
     pub nodes: NodeList,
     /// The streams that come in.
@@ -66,8 +66,8 @@ fn graph_with(
     })
 }
 
-/// Returns the graph of fields in which `check` and `check_calculators` found no fault, or the fault of the first text
-/// or list that spells no port.
+/// Returns the graph of fields in which `check` and `check_calculators` found no fault. An error is the fault of the
+/// first text or list that spells no port or back edge.
 fn graph_of(alloc: Global, fields: &[Field]) -> Result<GraphConfig, ConfigFault>
     ensures ok { IfOk result (λ graph. config.graph_of (map field_view fields.now) ≡ Ok (config.graph_view graph)) }
     ensures err { IfErr result (λ fault. fault ≢ ConfigFault.OutOfMemory → config.graph_of (map field_view fields.now) ≡ Err fault) }
@@ -88,17 +88,17 @@ fn read_fields(alloc: Global, fields: &[Field]) -> Result<GraphConfig, ConfigFau
 }
 
 /// Returns the configuration of a file's fields, or its first fault (MediaPipe, calculator.proto:
-/// CalculatorGraphConfig). Faults of fields come first, in the order of the text; then nodes whose calculator is absent
-/// or empty; then what spells no port, first among the graph's lists and then among each node's, in the order in which
-/// `write` writes them.
+/// CalculatorGraphConfig). Faults of fields come first, in the order of the text. Then come nodes whose calculator is
+/// absent or empty. Last come texts and lists that spell no port or back edge, first among the graph's lists and then
+/// among each node's. Their order is that in which `write` writes them.
 pub fn read(alloc: Global, tree: &Tree) -> Result<GraphConfig, ConfigFault>
     ensures ok { IfOk result (λ graph. config.config_of (view tree.now) ≡ Ok (config.graph_view graph)) }
     ensures err { IfErr result (λ fault. fault ≢ ConfigFault.OutOfMemory → config.config_of (view tree.now) ≡ Err fault) }
 
-    // Want of memory is a fault of its own, and never what ports are refused for.
+    // Out of memory is a fault of its own, and never the cause of a refusal of ports.
     ensures cause { (path : List ℕ) → result ≢ Err (ConfigFault.BadPort path NameFault.OutOfMemory) }
 
-    // A configuration that was read can be written and read back, and printed where the fields can be printed.
+    // A configuration that was read can be written and read back, and printed if the fields can be printed.
     ensures sound { IfOk result (λ graph. IsSound (config.graph_view graph)) }
     ensures printable { IfOk result (λ graph. AreSpelled (view tree.now) → depth (view tree.now) ≤ max_depth → IsPrintable (config.graph_view graph)) }
 {

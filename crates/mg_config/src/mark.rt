@@ -9,8 +9,8 @@ use mg_text::Field;
 use mg_value::MgText;
 use std::alloc::Global;
 
-/// An input stream of a node that is a back edge (MediaPipe, calculator.proto: InputStreamInfo), by the tag of its
-/// port, which is empty where it is untagged, and the index, 0 to 63.
+/// An input stream of a node that is a back edge (MediaPipe, calculator.proto: InputStreamInfo). The mark has the tag
+/// of its port, empty if the port is untagged, and the index, 0 to 63.
 #[derive(Debug, Drop)]
 pub struct Mark {
     pub tag: MgText,

@@ -34,7 +34,7 @@ fn keep(marks: &mut Vec<Mark>, back: bool, mark: Mark) -> Result<(), AllocError>
     Ok(())
 }
 
-/// Returns the back edges that the fields of a node tell of. Each `input_stream_info` is judged, and kept where it is a back edge.
+/// Returns the back edges that the fields of a node tell of. Each `input_stream_info` is judged, and kept if it is a back edge.
 pub fn marks_named(alloc: Global, fields: &[Field]) -> Result<MarkList, ConfigFault>
     ensures ok { IfOk result (λ marks. config.marks_from 0 (messages_in (codes "input_stream_info") (map field_view fields.now)) ≡ Ok marks) }
     ensures err { IfErr result (λ fault. fault ≢ ConfigFault.OutOfMemory → config.marks_from 0 (messages_in (codes "input_stream_info") (map field_view fields.now)) ≡ Err fault) }

@@ -23,7 +23,7 @@ pub type MarkList = BlockList<Mark>;
 pub struct NodeConfig {
     /// The node's name, which may be empty.
     pub name: MgText,
-    /// The calculator that works at the node, or the type of the subgraph that the node uses. It is never empty where a
+    /// The calculator that works at the node, or the type of the subgraph that the node uses. It is never empty if the
     /// configuration was read.
     pub calculator: MgText,
     /// The streams that the node reads.
@@ -38,7 +38,7 @@ pub struct NodeConfig {
     pub options: Tree,
     /// The inputs that are back edges.
     pub back_marks: MarkList,
-    /// The name of the input stream handler, which asks for an input policy; empty where none is given.
+    /// The name of the input stream handler, which asks for an input policy. The name is empty if none is given.
     pub handler: MgText,
     /// How many input sets the node may work on at once.
     pub max_in_flight: i32,
@@ -99,7 +99,8 @@ fn node_with(
     })
 }
 
-/// Returns the node of fields in which no fault was found, or the fault of the first text or list that spells no port or back edge.
+/// Returns the node of fields in which no fault was found. An error is the fault of the first text or list that spells
+/// no port or back edge.
 pub(crate) fn node_of(alloc: Global, fields: &[Field]) -> Result<NodeConfig, ConfigFault>
     ensures ok { IfOk result (λ node. config.node_of (map field_view fields.now) ≡ Ok (config.node_view node)) }
     ensures err { IfErr result (λ fault. fault ≢ ConfigFault.OutOfMemory → config.node_of (map field_view fields.now) ≡ Err fault) }

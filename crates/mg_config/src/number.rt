@@ -5,7 +5,7 @@ ghost use Rattle.mg_config.specs.Number as number;
 
 use crate::word::is;
 
-/// Returns the value of a digit in a base of at most 16, or none where the byte is no such digit.
+/// Returns the value of a digit in a base of at most 16, or none if the byte is no such digit.
 fn digit_of(byte: u8, base: u32) -> Option<u32>
     requires { base ≤ 16 }
     ensures value { result ≡ number.digit_of base byte }
@@ -21,7 +21,7 @@ fn digit_of(byte: u8, base: u32) -> Option<u32>
     if value < base { Some(value) } else { None }
 }
 
-/// Returns the number that `value` is with one more digit behind it.
+/// Returns the number that `value` is with one more digit after it.
 fn appended(base: u32, value: u64, digit: u32) -> u128
     requires base { base ≤ 16 }
     requires digit { digit < 16 }
@@ -30,7 +30,8 @@ fn appended(base: u32, value: u64, digit: u32) -> u128
     u128::from(value) * u128::from(base) + u128::from(digit)
 }
 
-/// Returns the number that digits spell in a base, or none where there are none, one isn't of the base, or the number is above `most`.
+/// Returns the number that digits spell in a base. Returns none if there are no digits, a digit isn't of the base, or
+/// the number is above `most`.
 fn value_in(base: u32, most: u64, digits: &[u8]) -> Option<u64>
     requires base { base ≤ 16 }
     requires some { 1 ≤ base }
@@ -52,8 +53,8 @@ fn value_in(base: u32, most: u64, digits: &[u8]) -> Option<u64>
     Some(value)
 }
 
-/// Returns the number that a text without a sign spells, or none where it is above `most`: in decimal, in hexadecimal
-/// after `0x` or `0X`, or in octal after `0`.
+/// Returns the number that a text without a sign spells, or none if it spells no number up to `most`. The number is
+/// decimal, hexadecimal after `0x` or `0X`, or octal after `0`.
 fn magnitude(most: u64, text: &[u8]) -> Option<u64>
     ensures value { result ≡ number.magnitude most text.now }
     ensures bound { IfSome result (λ value. value ≤ most) }
@@ -66,7 +67,7 @@ fn magnitude(most: u64, text: &[u8]) -> Option<u64>
     }
 }
 
-/// Returns the number that a text spells, or none where it spells none in the range of 32 signed bits.
+/// Returns the number that a text spells, or none if it spells none in the range of 32 signed bits.
 pub fn number_of(text: &[u8]) -> Option<i32>
     ensures { result ≡ number.number_of text.now }
 {
@@ -82,7 +83,7 @@ pub fn number_of(text: &[u8]) -> Option<i32>
     }
 }
 
-/// Returns the number that a text spells, or none where it spells none in the range of 64 signed bits.
+/// Returns the number that a text spells, or none if it spells none in the range of 64 signed bits.
 pub fn long_number_of(text: &[u8]) -> Option<i64>
     ensures { result ≡ number.long_number_of text.now }
 {

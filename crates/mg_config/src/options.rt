@@ -44,7 +44,7 @@ fn joined_options(alloc: Global, fields: &[Field]) -> Result<Vec<Field>, AllocEr
     Ok(options)
 }
 
-/// Returns the only options message of a node, or none where the node hasn't exactly one.
+/// Returns the only options message of a node, or none if the node hasn't exactly one.
 fn only_options(fields: &[Field]) -> Option<&Tree>
     ensures { IfSome result (λ tree. view tree.now ≡ config.options_in (map field_view fields.now)) }
 {
@@ -63,7 +63,7 @@ fn only_options(fields: &[Field]) -> Option<&Tree>
     None
 }
 
-/// Returns the options of a node. They are shared with its only options message, and copied where it has several.
+/// Returns the options of a node. They are shared with its only options message, and copied if it has several.
 pub fn options_of(alloc: Global, fields: &[Field]) -> Result<Tree, AllocError>
     ensures { IfOk result (λ options. view options ≡ config.options_in (map field_view fields.now)) }
 {

@@ -23,8 +23,8 @@ pub fn numbered(alloc: Global, name: &str, k: usize) -> Result<MgText, AllocErro
     Ok(MgText::from_string(format!(in alloc; "{name}[{k}]")?))
 }
 
-/// Returns the part of a path that names a field: `name[k]` where it may stand more than once, `k` being how many
-/// fields before it have the name, and otherwise `name`.
+/// Returns the part of a path that names a field: `name[k]` if it may stand more than once, and otherwise `name`. `k`
+/// is how many fields before it have the name.
 pub fn step(
     alloc: Global,
     many: bool,
@@ -69,7 +69,7 @@ fn moved(alloc: Global, place: &str, fault: ConfigFault) -> Result<ConfigFault, 
     Ok(moved)
 }
 
-/// Returns a fault with `place` in front of its path, or want of memory.
+/// Returns a fault with `place` in front of its path, or out of memory.
 pub fn within(alloc: Global, place: &str, fault: ConfigFault) -> ConfigFault
     ensures { result ≢ ConfigFault.OutOfMemory → (fault ≢ ConfigFault.OutOfMemory) × (result ≡ paths.within place.now fault) }
 {
@@ -79,7 +79,7 @@ pub fn within(alloc: Global, place: &str, fault: ConfigFault) -> ConfigFault
     }
 }
 
-/// Returns a fault with `name[k]` in front of its path, or want of memory.
+/// Returns a fault with `name[k]` in front of its path, or out of memory.
 pub fn within_numbered(alloc: Global, name: &str, k: usize, fault: ConfigFault) -> ConfigFault
     ensures { result ≢ ConfigFault.OutOfMemory → (fault ≢ ConfigFault.OutOfMemory) × (result ≡ paths.within (paths.numbered name.now k) fault) }
 {

@@ -11,8 +11,8 @@ use mg_text::Field;
 use mg_value::MgText;
 use std::alloc::{AllocError, Global};
 
-/// Returns the fault of the texts that the fields of a name have. The path of one text's fault has the field's number,
-/// and that of the whole list's has none.
+/// Returns the fault of the texts that the fields of a name have. The path of one text's fault has the field's number.
+/// The path of the whole list's fault has no number.
 fn port_fault(alloc: Global, name: &str, fault: PlacedFault) -> Result<ConfigFault, AllocError>
     ensures { IfOk result (λ made. made ≡ config.port_fault name.now fault) }
 {

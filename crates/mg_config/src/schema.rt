@@ -42,7 +42,7 @@ fn many(shape: Shape) -> Option<FieldRule>
     Some(FieldRule { many: true, shape })
 }
 
-/// Returns the rule of a name, where it is that of one of the four lists of ports that graphs and nodes have.
+/// Returns the rule of a name, if it is that of one of the four lists of ports that graphs and nodes have.
 fn port_rule(name: &[u8]) -> Option<FieldRule>
     ensures { result ≡ schema.rule_in schema.port_rows name.now }
 {
@@ -129,7 +129,7 @@ fn handler_rule(name: &[u8]) -> Option<FieldRule>
     }
 }
 
-/// Returns the rule of the field with this name in a message, or none where the message has no such field.
+/// Returns the rule of the field with this name in a message, or none if the message has no such field.
 pub fn rule_of(message: Message, name: &[u8]) -> Option<FieldRule>
     ensures { result ≡ schema.rule_of message name.now }
 {

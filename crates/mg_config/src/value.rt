@@ -31,7 +31,7 @@ fn number_in_value(value: &TreeValue) -> Option<i32>
     }
 }
 
-/// Returns the number that a value spells, or none where it spells none in the range of 64 signed bits (Protocol
+/// Returns the number of 64 signed bits that a value spells, or none if it spells none (Protocol
 /// Buffers text format: numeric literals).
 pub fn long_number_in_value(value: &TreeValue) -> Option<i64>
     ensures { result ≡ values.long_number_in_value (value_view value.now) }
@@ -42,7 +42,7 @@ pub fn long_number_in_value(value: &TreeValue) -> Option<i64>
     }
 }
 
-/// Returns the truth value that a value spells, or none where it spells none (Protocol Buffers text format: the values of Boolean fields).
+/// Returns the truth value that a value spells, or none if it spells none (Protocol Buffers text format: the values of Boolean fields).
 pub fn truth_in_value(value: &TreeValue) -> Option<bool>
     ensures { result ≡ values.truth_in_value (value_view value.now) }
 {
@@ -53,7 +53,7 @@ pub fn truth_in_value(value: &TreeValue) -> Option<bool>
     }
 }
 
-// Returns the text of a value, or the empty text where the value is no quoted text.
+// Returns the text of a value, or the empty text if the value is no quoted text.
 fn lent_text(value: &TreeValue) -> &str
     ensures { result.now ≡ values.text_of_value (value_view value.now) }
 {
@@ -63,14 +63,14 @@ fn lent_text(value: &TreeValue) -> &str
     }
 }
 
-/// Returns a copy of the text of a value, or the empty text where the value is no quoted text.
+/// Returns a copy of the text of a value, or the empty text if the value is no quoted text.
 pub fn text_of_value(alloc: Global, value: &TreeValue) -> Result<MgText, AllocError>
     ensures { IfOk result (λ text. text ≡ values.text_of_value (value_view value.now)) }
 {
     MgText::new(alloc, lent_text(value))
 }
 
-/// Returns the fields of a value that is a message, and no fields of one that isn't.
+/// Returns the fields of a value that is a message, or no fields if the value is no message.
 pub fn fields_of_value(value: &TreeValue) -> &[Field]
     ensures { fields_view result.now ≡ values.fields_of_value (value_view value.now) }
 {
@@ -87,7 +87,7 @@ pub fn has_name(field: &Field, name: &[u8]) -> bool
     field.name.is(name)
 }
 
-/// Returns the value of the first field of a name, or none where no field has the name.
+/// Returns the value of the first field of a name, or none if no field has the name.
 #[tactic(auto, using(crate::proofs::Lists::values_here, crate::proofs::Lists::values_skip, crate::proofs::Lists::no_values))]
 pub fn first_of<'a>(fields: &'a [Field], name: &[u8]) -> Option<&'a TreeValue>
     ensures { option_map value_view (option_copied result) ≡ values.first (values.values_of name.now (map field_view fields.now)) }
@@ -100,7 +100,7 @@ pub fn first_of<'a>(fields: &'a [Field], name: &[u8]) -> Option<&'a TreeValue>
     None
 }
 
-/// Returns the text of the first field of a name, or the empty text where there is none.
+/// Returns the text of the first field of a name, or the empty text if there is none.
 pub fn lent_text_named<'a>(fields: &'a [Field], name: &[u8]) -> &'a str
     ensures { result.now ≡ values.text_in name.now (map field_view fields.now) }
 {
@@ -110,14 +110,14 @@ pub fn lent_text_named<'a>(fields: &'a [Field], name: &[u8]) -> &'a str
     }
 }
 
-/// Returns a copy of the text of the first field of a name, or the empty text where there is none.
+/// Returns a copy of the text of the first field of a name, or the empty text if there is none.
 pub fn text_named(alloc: Global, fields: &[Field], name: &[u8]) -> Result<MgText, AllocError>
     ensures { IfOk result (λ text. text ≡ values.text_in name.now (map field_view fields.now)) }
 {
     MgText::new(alloc, lent_text_named(fields, name))
 }
 
-/// Returns the number of the first field of a name, or 0 where there is none.
+/// Returns the number of the first field of a name, or 0 if there is no such field or it spells none.
 pub fn number_named(fields: &[Field], name: &[u8]) -> i32
     ensures { result ≡ values.number_in name.now (map field_view fields.now) }
 {
@@ -127,7 +127,7 @@ pub fn number_named(fields: &[Field], name: &[u8]) -> i32
     }
 }
 
-/// Returns the truth value of the first field of a name, or false where there is none.
+/// Returns the truth value of the first field of a name, or false if there is no such field or it spells none.
 pub fn truth_named(fields: &[Field], name: &[u8]) -> bool
     ensures { result ≡ values.truth_in name.now (map field_view fields.now) }
 {
@@ -137,7 +137,7 @@ pub fn truth_named(fields: &[Field], name: &[u8]) -> bool
     }
 }
 
-/// Returns the fields inside the first field of a name, and no fields where there is none or it is no message.
+/// Returns the fields inside the first field of a name, or no fields if there is no such field or it is no message.
 pub fn message_named<'a>(fields: &'a [Field], name: &[u8]) -> &'a [Field]
     ensures { fields_view result.now ≡ values.message_in name.now (map field_view fields.now) }
 {

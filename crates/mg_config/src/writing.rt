@@ -127,12 +127,12 @@ fn graph_fields(alloc: Global, graph: &GraphConfig) -> Result<Vec<Field>, AllocE
     Ok(fields)
 }
 
-/// Returns the fields of a configuration: a graph's type, its lists of ports, its numbers, its nodes; and a node's
-/// name, its calculator, its lists of ports, its back edges, its handler, its numbers, its options. Empty texts, empty
-/// options and numbers that are 0 aren't written.
+/// Returns the fields of a configuration: a graph's type, its lists of ports, its numbers and its nodes. The fields of
+/// a node are its name, its calculator, its lists of ports, its back edges, its handler, its numbers and its options.
+/// Empty texts, empty options and numbers that are 0 aren't written.
 pub fn write(alloc: Global, config: &GraphConfig) -> Result<Tree, AllocError>
     ensures tree { IfOk result (λ tree. view tree ≡ written.tree_of (graph_view config.now)) }
-    // Where the configuration is sound, it is read back from the fields; where it can be printed too, so can they.
+    // If the configuration is sound, it is read back from the fields. If it can be printed too, so can they.
     ensures read_back { IfOk result (λ tree. IsSound (graph_view config.now) → config_of (view tree) ≡ Ok (graph_view config.now)) }
     ensures spelled { IfOk result (λ tree. IsSound (graph_view config.now) → IsPrintable (graph_view config.now) → AreSpelled (view tree)) }
     ensures shallow { IfOk result (λ tree. IsPrintable (graph_view config.now) → depth (view tree) ≤ max_depth) }

@@ -14,7 +14,7 @@ gives-loaded None content gives = tt
 gives-loaded (Some None) content gives = elim gives [ ]
 gives-loaded (Some (Some bytes)) content gives = gives
 
--- one load more
+-- one more load
 pub loaded-more : (told : FilesTold) (names contents : List (List ℕ)) (name content : List ℕ)
     → AreLoaded told names contents → IsLoaded (told name) content → AreLoaded told (names ++ name ∷ []) (contents ++ content ∷ [])
 loaded-more told [] [] name content given one = (one, tt)
@@ -41,7 +41,7 @@ split-at [] i x inside here = absurd (omega arith)
 split-at (y ∷ xs) zero x inside here = ap (λ z. z ∷ xs) (sym here)
 split-at (y ∷ xs) (suc i) x inside here = ap (λ l. y ∷ l) (split-at xs i x (omega arith) here)
 
--- Where the store tells what the names have, loads gave just that.
+-- If the store tells what the names have, loads gave just that.
 one-known : (o : Option (Option (List ℕ))) (rest : Option (List (List ℕ))) (content : List ℕ) (contents : List (List ℕ)) → IsLoaded o content → IfSome rest (λ known. known ≡ contents)
     → IfSome (option_and_then (λ bytes. option_map (λ known. take most_loaded bytes ∷ known) rest) (there o)) (λ known. known ≡ content ∷ contents)
 one-known None rest content contents is same = tt

@@ -62,7 +62,7 @@ one_file content (no_text a) (no_graph fault) one (u, text, read) = absurd (text
 one_file content (graph g) (no_text b) (t, text, made) other = absurd (text_or_fault content t b text other)
 one_file content (no_graph fault) (no_text b) (t, text, made) other = absurd (text_or_fault content t b text other)
 
--- A fault that is answered, and that isn't want of memory, is the reason that a content is no text.
+-- A fault that is answered, and that isn't out of memory, is the reason that a content is no text.
 pub no_text_of : (content : List ℕ) (fault : TextFault) → fault ≢ OutOfMemory → IsFault content fault → (fault ≢ TooLong → length content ≤ max_len) → IsNoText content fault
 no_text_of content (Syntax place) some is short = (short (λ e. cc), is)
 no_text_of content (TooDeep place) some is short = (short (λ e. cc), is)

@@ -1,16 +1,16 @@
--- What the files of a command are: all graphs, in order, or refused at the first file that is none.
+-- What the files of a command are: all graphs, in order, or refused at the first file that is no graph.
 use Rattle.std.specs.Prelude.{◌≡◌, ℕ, ◌⊎◌, List, [], ◌∷◌, Option, None, Some, codes}
 use Rattle.mg_config.specs.Config.{GraphView}
 use Rattle.mg_files.specs.File.{File, graph, no_text, no_graph, IsFile}
 use Rattle.mg_files.specs.Notes.{file_note, text_refusal, config_refusal}
 
--- the note that refuses a file of this name, where it is no graph
+-- the note that refuses a file of this name, if it is no graph
 abbrev pub refusal_of : List ℕ → File → Option (List ℕ)
 refusal_of name (graph g) = None
 refusal_of name (no_text fault) = Some (file_note name (codes "text") (text_refusal fault))
 refusal_of name (no_graph fault) = Some (file_note name (codes "config") (config_refusal fault))
 
--- All files are graphs, which are these; or the first that is none is refused with this note.
+-- All files are graphs, and these are the graphs. Or the first file that is no graph is refused with this note.
 pub data Files : Type 0 where
   graphs : List GraphView → Files
   no_graphs : List ℕ → Files
@@ -26,7 +26,7 @@ AreGraphs (content ∷ contents) (g ∷ gs) = IsFile content (graph g) × AreGra
 abbrev pub IsRefused : List ℕ → List ℕ → List ℕ → Type 0
 IsRefused name content note = (file : File) × IsFile content file × (refusal_of name file ≡ Some note)
 
--- The first file that is no graph is refused with this note. What stands behind it doesn't matter.
+-- The first file that is no graph is refused with this note. The files after it don't matter.
 abbrev pub FirstRefused : List (List ℕ) → List (List ℕ) → List ℕ → Type 0
 FirstRefused [] contents note = ⊥
 FirstRefused (name ∷ names) [] note = ⊥

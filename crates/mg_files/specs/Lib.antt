@@ -1,5 +1,5 @@
--- The files of a command: what their contents are, what their loads did, the notes of what is refused, and the texts that `check` and
--- `expand` write.
+-- The files of a command: what their contents are, and what their loads did. Also the notes of what is refused, and the
+-- texts that `check` and `expand` write.
 pub mod File
 pub mod Notes
 pub mod CheckNotes

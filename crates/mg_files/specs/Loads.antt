@@ -8,8 +8,9 @@ use Rattle.mg_answer.specs.Devices.{Device}
 abbrev pub FilesTold : Type 0
 FilesTold = List ℕ → Option (Option (List ℕ))
 
--- A load of a name gives this content, by what the store tells of the name: its first bytes, as many as a load gives at most; nothing where
--- there is no such file; and anything where the store doesn't tell.
+-- A load of a name gives this content, by what the store tells of the name. If the store tells its bytes, the content
+-- is their prefix, as many of them as a load gives at most. If there is no such file, no load gives a content. If the
+-- store doesn't tell, the content may be anything.
 abbrev pub IsLoaded : Option (Option (List ℕ)) → List ℕ → Type 0
 IsLoaded None content = Unit {0}
 IsLoaded (Some None) content = ⊥
@@ -33,7 +34,7 @@ pub record LoadedAll (names contents : List (List ℕ)) (store : Device StoreTol
   pub steady : store.now.faults ≡ store.before.faults
   pub last : store.now.failed_name ≡ store.before.failed_name
 
--- This one of the files couldn't be loaded. Those before it were, and no other load failed.
+-- This file couldn't be loaded. The files before it were loaded, and no other load failed.
 pub record FailedAt (names : List (List ℕ)) (file : List ℕ) (store : Device StoreTold) : Type 0 where
   pub kept : StoreIsKept store
   pub before : List (List ℕ)
@@ -44,12 +45,12 @@ pub record FailedAt (names : List (List ℕ)) (file : List ℕ) (store : Device 
   pub once : store.now.faults ≡ one_more store.before.faults
   pub last : store.now.failed_name ≡ Some file
 
--- the bytes of a name, where the store tells them
+-- the bytes of a name, if the store tells them
 abbrev pub there : Option (Option (List ℕ)) → Option (List ℕ)
 there None = None
 there (Some bytes) = bytes
 
--- the contents that loads of these names give, where the store tells the bytes of each
+-- the contents that loads of these names give, if the store tells the bytes of each
 abbrev pub loads_of : FilesTold → List (List ℕ) → Option (List (List ℕ))
 loads_of told [] = Some []
 loads_of told (name ∷ names) =

@@ -68,6 +68,6 @@ expand_note fault = codes "refused: expand " ++ expand_refusal fault ++ codes "\
 abbrev pub free_note : List ℕ → ℕ → List ℕ
 free_note verb node = codes "refused: " ++ verb ++ codes " FreeNode " ++ decimal node ++ codes "\n"
 
--- The note that a graph is refused to be solved, as the law of a node of it is one of an author's own; `node` is the first such node.
+-- The note that a graph can't be solved, since the law of one of its nodes is an author's own; `node` is the first such node.
 abbrev pub own_law_note : ℕ → List ℕ
 own_law_note node = codes "refused: solve OwnLaw " ++ decimal node ++ codes "\n"

@@ -12,17 +12,17 @@ use Rattle.mg_files.specs.declared.fault.Fault.TheVariants.{Noted, OutOfMemory}
 abbrev pub contents_of : List (Vec ℕ) → List (List ℕ)
 contents_of contents = map (λ content. content.items) contents
 
--- A file couldn't be loaded, and the note names it. Nothing is said where memory ran out.
+-- A file couldn't be loaded, and the note names it. Nothing is said if memory ran out.
 abbrev pub HasFailed : Fault → List (List ℕ) → Device StoreTold → Type 0
 HasFailed (Noted note) names store = (file : List ℕ) × FailedAt names file store × (note.items ≡ store_note file)
 HasFailed OutOfMemory names store = Unit {0}
 
--- A file is refused with the note of this fault. Nothing is said where memory ran out.
+-- A file is refused with the note of this fault. Nothing is said if memory ran out.
 abbrev pub IsNotedOf : Fault → List ℕ → List ℕ → Type 0
 IsNotedOf (Noted note) name content = IsRefused name content note.items
 IsNotedOf OutOfMemory name content = Unit {0}
 
--- The first file that is no graph is refused with the note of this fault. Nothing is said where memory ran out.
+-- The first file that is no graph is refused with the note of this fault. Nothing is said if memory ran out.
 abbrev pub AreNotedOf : Fault → List (List ℕ) → List (List ℕ) → Type 0
 AreNotedOf (Noted note) names contents = FirstRefused names contents note.items
 AreNotedOf OutOfMemory names contents = Unit {0}

@@ -10,7 +10,7 @@ use mg_check::{CheckFault, Many};
 use mg_value::MgText;
 use std::alloc::{AllocError, Global};
 
-/// Returns the note that the check refuses a graph, or an error where memory ran out, which isn't noted.
+/// Returns the note that the check refuses a graph, or an error if memory ran out. Running out of memory isn't noted.
 pub fn check_note(alloc: Global, fault: &CheckFault) -> Result<Vec<u8>, AllocError>
     ensures some { OnOk result (fault.now ≢ CheckFault.OutOfMemory) }
     ensures note { IfOk result (λ v. v.items ≡ notes.check_note fault.now) }

@@ -9,7 +9,7 @@ use mg_subgraph::ExpandFault;
 use mg_value::MgText;
 use std::alloc::{AllocError, Global};
 
-/// Returns the note that the expansion of a graph is refused, or an error where memory ran out, which isn't noted.
+/// Returns the note that the expansion of a graph is refused, or an error if memory ran out. Running out of memory isn't noted.
 pub fn expand_note(alloc: Global, fault: &ExpandFault) -> Result<Vec<u8>, AllocError>
     ensures some { OnOk result (fault.now ≢ ExpandFault.OutOfMemory) }
     ensures note { IfOk result (λ v. v.items ≡ notes.expand_note fault.now) }
@@ -48,7 +48,7 @@ fn shared_refusal(alloc: Global, owner: &MgText, name: &MgText) -> Result<Vec<u8
     Ok(text)
 }
 
-// Returns the words of a refusal of a node: what is wrong, the node's owner and its number, and the part of it that is wrong.
+// Returns the words of a refusal of a node: what is wrong, the node's owner and number, and the wrong part of the node.
 fn node_refusal(
     alloc: Global,
     refusal: &[u8],

@@ -20,7 +20,7 @@ pub fn store_note(alloc: Global, file: &str) -> Result<Vec<u8>, AllocError>
     Ok(note)
 }
 
-/// Returns the note that a file isn't text of the grammar, or an error where memory ran out, which isn't noted.
+/// Returns the note that a file isn't text of the grammar, or an error if memory ran out. Running out of memory isn't noted.
 pub fn text_note(alloc: Global, file: &str, fault: &TextFault) -> Result<Vec<u8>, AllocError>
     ensures some { OnOk result (fault.now ≢ TextFault.OutOfMemory) }
     ensures note { IfOk result (λ v. v.items ≡ notes.file_note file.now (codes "text") (notes.text_refusal fault.now)) }
@@ -29,7 +29,7 @@ pub fn text_note(alloc: Global, file: &str, fault: &TextFault) -> Result<Vec<u8>
     file_note(alloc, file, b"text", &refusal)
 }
 
-/// Returns the note that a file's fields are no configuration, or an error where memory ran out, which isn't noted.
+/// Returns the note that a file's fields are no configuration, or an error if memory ran out. Running out of memory isn't noted.
 pub fn config_note(alloc: Global, file: &str, fault: &ConfigFault) -> Result<Vec<u8>, AllocError>
     ensures some { OnOk result (fault.now ≢ ConfigFault.OutOfMemory) }
     ensures note { IfOk result (λ v. v.items ≡ notes.file_note file.now (codes "config") (notes.config_refusal fault.now)) }

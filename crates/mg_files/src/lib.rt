@@ -1,6 +1,7 @@
-//! The files of a command: they are loaded and read as graphs. The notes of a file that couldn't be loaded or is no graph, and of a graph
-//! that is refused; and the texts that `check` and `expand` write of a graph.
-//! Answers to the definitions of `specs/File.antt`, `specs/Files.antt`, `specs/Loads.antt`, `specs/Notes.antt` and `specs/CheckNotes.antt`.
+//! The files of a command: they are loaded and read as graphs. The crate makes the notes of a file that couldn't be
+//! loaded or is no graph, and of a graph that is refused. It also makes the texts that `check` and `expand` write of a
+//! graph. Answers to the definitions of `specs/File.antt`, `specs/Files.antt`, `specs/Loads.antt`, `specs/Notes.antt`
+//! and `specs/CheckNotes.antt`.
 #![tactic(auto)]
 
 mod check_notes;

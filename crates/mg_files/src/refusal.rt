@@ -18,7 +18,7 @@ pub fn stage_note(alloc: Global, stage: &[u8], refusal: &[u8]) -> Result<Vec<u8>
     Ok(note)
 }
 
-/// Returns the words of a refusal: `refusal`, and behind it the number of a place.
+/// Returns the words of a refusal: `refusal`, followed by the number of a place.
 pub fn at_place(alloc: Global, refusal: &[u8], place: u32) -> Result<Vec<u8>, AllocError>
     ensures { IfOk result (λ v. v.items ≡ refusal.now ++ decimal place) }
 {
@@ -27,7 +27,7 @@ pub fn at_place(alloc: Global, refusal: &[u8], place: u32) -> Result<Vec<u8>, Al
     Ok(text)
 }
 
-/// Returns the words of a refusal: `refusal`, and behind it the text that it is about.
+/// Returns the words of a refusal: `refusal`, followed by the text that it is about.
 pub fn of_text(alloc: Global, refusal: &[u8], part: &MgText) -> Result<Vec<u8>, AllocError>
     ensures { IfOk result (λ v. v.items ≡ refusal.now ++ escaped part.now) }
 {

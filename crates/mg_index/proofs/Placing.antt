@@ -10,7 +10,7 @@ use Rattle.std.proofs.lemmas.List.Folds.{list_any-append}
 use Rattle.std.proofs.lemmas.Slice.Eq.{bytes_eq-Decides}
 use Rattle.mg_index.specs.Places.{is_same, place_of, place_again, earlier}
 
--- the place of the first element that passes, one element more in front
+-- the place of the first element that passes, one more element in front
 place_by : (test : Bool) (n count : ℕ) → cond (nat_lt (cond (not test) (1 + n) 0) (suc count)) (Some (cond (not test) (1 + n) 0)) None ≡ (if test then Some 0 else option_map suc (cond (nat_lt n count) (Some n) None))
 place_by true n count = grind (arith, nat_tests)
 place_by false n count = grind (arith, nat_tests)
@@ -18,7 +18,7 @@ place_by false n count = grind (arith, nat_tests)
 pub position-cons : {X : Type 0} (p : X → Bool) (x : X) (xs : List X) → position p (x ∷ xs) ≡ (if p x then Some 0 else option_map suc (position p xs))
 position-cons p x xs = place_by (p x) (position_or_len p xs) (length xs)
 
--- the same, one element more at the end
+-- the same, one more element at the end
 abbrev pub pushed : Option ℕ → Bool → ℕ → Option ℕ
 pushed (Some place) test n = Some place
 pushed None test n = if test then Some n else None
@@ -75,7 +75,7 @@ same_either is_name text other =
 pub no_name : (is_name : List ℕ → Bool) (text other : List ℕ) → is_name text ≡ false → is_same is_name text other ≡ false
 no_name is_name text other none = ap (λ b. b && bytes_eq text other) none
 
--- the first place whose name stands again, one text more at the end
+-- the first place whose name stands again, one more text at the end
 earlier_by : (again here : Bool) (place first : Option ℕ)
     → (if again || (here || false) then Some 0 else option_map suc (earlier place first)) ≡ earlier (if again then Some 0 else option_map suc place) (if here then Some 0 else option_map suc first)
 earlier_by true true place first = ap Some (omega arith)

@@ -20,7 +20,7 @@ abbrev pub place_again : (List ℕ → Bool) → List (List ℕ) → Option ℕ
 place_again is_name [] = None
 place_again is_name (text ∷ texts) = if list_any (is_same is_name text) texts then Some 0 else option_map suc (place_again is_name texts)
 
--- the earlier of two places, each of which may be missing
+-- the earlier of two places; each may be missing
 abbrev pub earlier : Option ℕ → Option ℕ → Option ℕ
 earlier None other = other
 earlier (Some place) None = Some place

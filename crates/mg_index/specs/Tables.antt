@@ -14,8 +14,8 @@ kept_place table name = get_by (λ key. bytes_eq name (cow_str_bytes key)) table
 abbrev pub kept_names : NameTable → List (List ℕ)
 kept_names table = map (λ entry. cow_str_bytes entry.0) table.places.entries
 
--- The table of texts: where each name stands first, the first that stands again, and, where none does, all names in the
--- order of the texts.
+-- The table of texts. It has the place at which each name stands first, and the place of the first name that stands
+-- again. If no name stands again, it has all names in the order of the texts.
 pub record IsTable (is_name : List ℕ → Bool) (table : NameTable) (texts : List (List ℕ)) : Type 0 where
   pub first : (name : List ℕ) → kept_place table name ≡ place_of is_name texts name
   pub again : table.again ≡ place_again is_name texts

@@ -1,5 +1,5 @@
-//! Names, each with the place at which it stands first in a list, found without a search of the list, and the first name
-//! that stands again. Answers to the definitions of `specs/Places.antt` and `Tables.antt`.
+//! Names of a list, each with the place at which it stands first. The place is found without a search of the list. The
+//! first name that stands again is kept, too. Answers to the definitions of `specs/Places.antt` and `Tables.antt`.
 #![tactic(auto)]
 
 mod name_table;

@@ -7,11 +7,11 @@ use indexmap::IndexMap;
 use std::alloc::{AllocError, Global};
 use std::borrow::CowStr;
 
-/// The names of a list of texts, in its order: the place at which each stands first, and the place of the first that
-/// stands again later. The names are borrowed, or the table's own, and looking one up takes the same time however many
-/// there are.
+/// The names of a list of texts, in its order. The table has the place at which each name stands first, and the place
+/// of the first name that stands again later. The names are borrowed, or the table's own, and a look-up takes the same
+/// time however many names there are.
 ///
-/// Texts that are no names are left out, but keep their places. Which texts are names is the caller's to say.
+/// Texts that are no names are left out, but keep their places. The caller says which texts are names.
 pub struct NameTable<'a> {
     places: IndexMap<CowStr<'a>, usize>,
     again: Option<usize>,
@@ -25,7 +25,7 @@ impl<'a> Drop for NameTable<'a> {
     }
 }
 
-// Returns the earlier of two places, of which the first may be missing.
+// Returns the earlier of two places; the first place may be missing.
 fn earlier_of(place: Option<usize>, other: usize) -> usize
     ensures { Some result ≡ earlier place (Some other) }
 {
@@ -58,7 +58,7 @@ impl<'a> NameTable<'a> {
         Ok(())
     }
 
-    /// Returns the place at which a name stands first, or None where it isn't there.
+    /// Returns the place at which a name stands first, or `None` if it isn't there.
     pub fn get(&self, name: &str) -> Option<usize>
         ensures { result ≡ kept_place self.now name.now }
     {

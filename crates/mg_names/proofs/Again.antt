@@ -84,7 +84,7 @@ port_is_made number text port made =
       numbered = λ empty. numbered_by (bytes_eq spelling.tag []) number (unwrap_or spelling.index 0) (ap (λ tag. bytes_eq tag []) empty);
     })
 
--- the count of untagged ports, one text more
+-- the count of untagged ports, one more text
 counted_push : (before : List (List ℕ)) (text : List ℕ) → count_by is_untagged (before ++ text ∷ []) ≡ count_by is_untagged before + (if is_untagged text then 1 else 0)
 counted_push before text = sum_by-append (λ t. if is_untagged t then 1 else 0) before (text ∷ []) ∙ ap (λ n. count_by is_untagged before + n) (zero-add (if is_untagged text then 1 else 0))
 
@@ -152,7 +152,7 @@ checked_by false false made ports passed = (refl, refl, same_ports made ports pa
 checked_same : (made ports : List Port) → checked made ≡ Ok ports → (stands_twice made ≡ false) × (has_gap made ≡ false) × (made ≡ ports)
 checked_same made ports passed = checked_by (stands_twice made) (has_gap made) made ports passed
 
--- what is no refusal without its place is none with it
+-- a result that is no refusal without its place is no refusal with it
 unplaced : (result : Result (List Port) PlacedFault) (ports : List Port) → without_place result ≡ Ok ports → result ≡ Ok ports
 unplaced (Ok made) ports passed =
     let same : made ≡ ports = cc in
@@ -170,7 +170,7 @@ made_of texts ports passed =
     let P : List Port → Type 0 = λ all. (ports_after [] texts ≡ Ok all) × (stands_twice all ≡ false) × (has_gap all ≡ false) in
     subst P known.2 (from.1, known.0, known.1)
 
--- where the texts are read, so are the texts of their ports
+-- if the texts are read, so are the texts of their ports
 pub read_again : (texts : List (List ℕ)) (ports : List Port) → ports_of texts ≡ Ok ports → ports_of (map text_of ports) ≡ Ok ports
 read_again texts ports made =
     let known = made_of texts ports made in
@@ -247,7 +247,7 @@ gap_named ports names =
     any_named (λ tag index. not (index == 0) && not (has_port tag (index - 1) (with_names ports names))) ports names
     ∙ lower_same (with_names ports names) ports ports (λ tag index. any_named (λ t i. bytes_eq tag t && (index == i)) ports names)
 
--- where the texts are read, so are those of their ports under other names
+-- if the texts are read, so are the texts of their ports under other names
 pub read_named : (texts : List (List ℕ)) (ports : List Port) (names : List (List ℕ)) → ports_of texts ≡ Ok ports → list_all is_name names ≡ true → ports_of (map text_of (with_names ports names)) ≡ Ok (with_names ports names)
 read_named texts ports names made good =
     let known = made_of texts ports made in

@@ -1,4 +1,4 @@
--- A refusal's cause is never want of memory.
+-- A refusal's cause is never out of memory.
 use Rattle.std.proofs.Common.{ℕ, ◌≡◌, ◌≢◌, List, [], ◌∷◌, ◌++◌, Bool, true, false, Option, None, Some, Result, Ok, Err, if◌then◌else◌, length, subst}
 use Rattle.mg_names.specs.Grammar.{is_name, is_tag, index_of}
 use Rattle.mg_names.specs.Spelling.{parts_of, spelling_of, spelling_of_parts, named, named_at}
@@ -91,7 +91,7 @@ placed_ports_caused texts = after_placed (ports_after [] texts) checked (after_c
 pub refusal_has_cause : (texts : List (List ℕ)) (refusal : PlacedFault) → placed_ports_of texts ≡ Err refusal → HasCause refusal
 refusal_has_cause texts refusal refused = subst IsPlaced refused (placed_ports_caused texts)
 
--- a fault that is the refusal of texts, or want of memory
+-- a fault that is the refusal of texts, or out of memory
 pub has_cause : (texts : List (List ℕ)) (refusal : PlacedFault) → (refusal ≢ placed.OutOfMemory → placed_ports_of texts ≡ Err refusal) → HasCause refusal
 has_cause texts (At place cause) refused = refusal_has_cause texts (At place cause) (refused (λ same. cc))
 has_cause texts (Whole cause) refused = refusal_has_cause texts (Whole cause) (refused (λ same. cc))

@@ -23,7 +23,7 @@ named_at_tag : (tag : List ℕ) (index : Option ℕ) (name : List ℕ) (spelling
 named_at_tag tag None name spelling made = cc
 named_at_tag tag (Some index) name spelling made = named_tag tag (Some index) name spelling made
 
--- where a test refuses, what is answered passed it
+-- if a test refuses, what is answered has passed the test
 pub if_ok : {A : Type 0} (test : Bool) (result : Result A NameFault) (fault : NameFault) (value : A) → (if test then result else Err fault) ≡ Ok value → (test ≡ true) × (result ≡ Ok value)
 if_ok true result fault value made = (refl, made)
 if_ok false result fault value made = cc
@@ -38,7 +38,7 @@ indexed_tag tag index name spelling made =
     let passed = if_ok (is_tag tag) (named_at tag (index_of index) name) BadTag spelling made in
     (passed.0, named_at_tag tag (index_of index) name spelling passed.1)
 
--- a spelling's tag is empty exactly where its text has one part
+-- a spelling's tag is empty exactly if its text has one part
 tag_of_parts : (parts : List (List ℕ)) (spelling : Spelling) → spelling_of_parts parts ≡ Ok spelling → bytes_eq spelling.tag [] ≡ is_one parts
 tag_of_parts [] spelling made = cc
 tag_of_parts (name ∷ []) spelling made = ap (λ tag. bytes_eq tag []) (named_tag [] None name spelling made)
@@ -61,7 +61,7 @@ pub after_ok : {A B E : Type 0} (result : Result A E) (next : A → Result B E) 
 after_ok (Ok first) next value made = (first, refl, made)
 after_ok (Err fault) next value made = cc
 
--- a test that refuses, and what is answered where it does not
+-- a test that refuses, and what is answered if it does not
 unless_ok : {A : Type 0} (test : Bool) (fault : NameFault) (result : Result A NameFault) (value : A) → (if test then Err fault else result) ≡ Ok value → (test ≡ false) × (result ≡ Ok value)
 unless_ok true fault result value made = cc
 unless_ok false fault result value made = (refl, made)
@@ -136,7 +136,7 @@ ports_refused texts i d fault made inside read whole =
     whole ∙ (ap (λ r. after (ports_after (take i texts) r) (λ more. Ok (made ++ more))) rest
     ∙ ports_cons_refused (take i texts) (get_or texts i d) (drop (i + 1) texts) fault made (ap (λ n. placed_at n (port_after (take i texts) (get_or texts i d))) place ∙ read))
 
--- the count of untagged ports, one text more
+-- the count of untagged ports, one more text
 pub count_step : (texts : List (List ℕ)) (i : ℕ) (d : List ℕ) (empty : Bool) → i < length texts → empty ≡ is_untagged (get_or texts i d)
     → count_by is_untagged (take i texts) + (if empty then 1 else 0) ≡ count_by is_untagged (take (i + 1) texts)
 count_step texts i d true inside same = sym (count_by_more_yes is_untagged texts i d inside (sym same))

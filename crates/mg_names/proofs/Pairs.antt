@@ -73,7 +73,7 @@ at_itself port = both_true (bytes_eq port.tag port.tag) (port.index == port.inde
 position_is : {X : Type 0} (p : X → Bool) (xs : List X) (i : ℕ) → position_or_len p xs ≡ i → i < length xs → position p xs ≡ Some i
 position_is p xs i first inside = grind (arith, nat_tests)
 
--- where none stands twice, each port is found at its own place
+-- if none stands twice, each port is found at its own place
 pub found_here : (ports : List Port) (i : ℕ) (port : Port) → stands_twice ports ≡ false → i < length ports → get_or ports i port ≡ port → place_of port.tag port.index ports ≡ Some i
 found_here ports i port once inside here =
     let earlier : (k : ℕ) → k < i → is_at port.tag port.index (get_or ports k port) ≡ false =

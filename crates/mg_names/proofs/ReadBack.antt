@@ -126,7 +126,7 @@ room_below false number small = refl
 room_tagged : (text : List ℕ) (number : ℕ) → is_untagged text ≡ false → lacks_index number text ≡ false
 room_tagged text number tagged = ap (λ b. b && nat_le 64 number) tagged
 
--- a port whose tag is empty, and one whose tag is a tag
+-- a port with an empty tag, and a port with a tag
 read_untagged : (index : ℕ) (name : List ℕ) (before : List (List ℕ)) → index < 64 → is_name name ≡ true → count_by is_untagged before ≡ index
     → port_after before name ≡ Ok (record { tag = []; index = index; name = name })
 read_untagged index name before small good number =

@@ -16,7 +16,7 @@ length-with_names [] names = refl
 length-with_names (port ∷ ports) [] = refl
 length-with_names (port ∷ ports) (name ∷ names) = ap suc (length-with_names ports names)
 
--- to take one name more is to rename the port at its place
+-- to take one more name is to rename the port at its place
 pub named_here : (ports : List Port) (names : List (List ℕ)) (name : List ℕ) (d : Port) → length names < length ports
     → with_names ports (names ++ name ∷ []) ≡ slice_set (with_names ports names) (length names) (record (slice_index_or (with_names ports names) (length names) d) { name = name })
 named_here [] names name d inside = refl
@@ -24,7 +24,7 @@ named_here (port ∷ []) [] name d inside = refl
 named_here (port ∷ other ∷ ports) [] name d inside = refl
 named_here (port ∷ ports) (first ∷ names) name d inside = ap (λ l. record port { name = first } ∷ l) (named_here ports names name d (omega arith))
 
--- to take one name more, where a count tells how many were taken
+-- one more name is taken; a count says how many names were taken before
 pub named_next : (start ports : List Port) (names : List (List ℕ)) (name : List ℕ) (d : Port) (i : ℕ) → ports ≡ with_names start names → i ≡ min (length names) (length ports) → i < length ports
     → slice_set ports i (record (slice_index_or ports i d) { name = name }) ≡ with_names start (names ++ name ∷ [])
 named_next start ports names name d i named counted inside =

@@ -9,7 +9,7 @@ twins_from : (ports : List Port) (i : ℕ) (port : Port) → i < length ports �
     → stands_twice (drop i ports) ≡ (has_port port.tag port.index (drop (i + 1) ports) || stands_twice (drop (i + 1) ports))
 twins_from ports i port inside here = ap stands_twice (drop_more ports i port inside ∙ ap (λ p. p ∷ drop (i + 1) ports) (sym here))
 
--- a port whose tag and index stand behind it too
+-- a port whose tag and index stand after it too
 pub twins_here : (ports : List Port) (i : ℕ) (port : Port) → i < length ports → port ≡ get_or ports i port
     → has_port port.tag port.index (drop (i + 1) ports) ≡ true → stands_twice (drop i ports) ≡ true
 twins_here ports i port inside here again = twins_from ports i port inside here ∙ ap (λ b. b || stands_twice (drop (i + 1) ports)) again

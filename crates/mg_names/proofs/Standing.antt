@@ -18,7 +18,7 @@ use Rattle.mg_names.specs.Code.Places.{kept_place, lacks_lower}
 use Rattle.mg_names.specs.declared.places.Places.{Places}
 use Rattle.mg_names.specs.declared.port.Port.{Port}
 
--- an element passes exactly where one has a place
+-- an element passes exactly if one has a place
 any_before_end : {X : Type 0} (p : X → Bool) (xs : List X) → list_any p xs ≡ nat_lt (position_or_len p xs) (length xs)
 any_before_end p [] = refl
 any_before_end p (x ∷ xs) = grind (arith, nat_tests, any_before_end p xs)
@@ -30,7 +30,7 @@ some_of_test false n = refl
 pub any_has_place : {X : Type 0} (p : X → Bool) (xs : List X) → list_any p xs ≡ is_some (position p xs)
 any_has_place p xs = any_before_end p xs ∙ some_of_test (nat_lt (position_or_len p xs) (length xs)) (position_or_len p xs)
 
--- the place after one element more
+-- the place after one more element
 place_push_other : {X : Type 0} (p : X → Bool) (xs : List X) (y : X) → p y ≡ false → position p (xs ++ y ∷ []) ≡ position p xs
 place_push_other p xs y other = grind (arith, nat_tests, position_or_len_push, prefix_len-le-length, length-append)
 
@@ -52,7 +52,7 @@ regroup false true true d = refl
 regroup false true false d = refl
 regroup false false c d = refl
 
--- with one port more a tag and index stand twice if they did before, or if a port before has those of the new one
+-- With one more port, a tag and index stand twice if they did before. They also do if a port before has the tag and index of the new port.
 pub twice_push : (ports : List Port) (port : Port) → stands_twice (ports ++ port ∷ []) ≡ (stands_twice ports || has_port port.tag port.index ports)
 twice_push [] port = refl
 twice_push (first ∷ ports) port =
@@ -65,14 +65,14 @@ either_true true b c d next some = refl
 either_true false true c d next some = refl
 either_true false false c d next some = next some
 
--- what stands twice goes on to
+-- what stands twice in a list stands twice in a longer one
 pub twice_append : (ports more : List Port) → stands_twice ports ≡ true → stands_twice (ports ++ more) ≡ true
 twice_append [] more twice = cc
 twice_append (first ∷ ports) more twice =
     ap (λ b. b || stands_twice (ports ++ more)) (list_any-append (is_at first.tag first.index) ports more)
     ∙ either_true (has_port first.tag first.index ports) (has_port first.tag first.index more) (stands_twice ports) (stands_twice (ports ++ more)) (twice_append ports more) twice
 
--- what the loop over the ports keeps: the places of the ports so far, of which none stands twice
+-- what the loop over the ports keeps: the places of the ports so far, none of them twice
 pub record IsTable (ports : List Port) (count : ℕ) (places : Places) : Type 0 where
   pub kept : (tag : List ℕ) (index : ℕ) → kept_place places tag index ≡ place_of tag index (take count ports)
   pub once : stands_twice (take count ports) ≡ false
@@ -86,7 +86,7 @@ same_place tag index port here =
     let parts = both_true (bytes_eq tag port.tag) (index == port.index) here in
     ((bytes_eq-Decides tag port.tag).0 parts.0, eqb-true index port.index parts.1)
 
--- a place of one port more
+-- a place of one more port
 place_more : (ports : List Port) (port : Port) (tag : List ℕ) (index : ℕ) → place_of port.tag port.index ports ≡ None
     → place_of tag index (ports ++ port ∷ []) ≡ (if is_at tag index port then Some (length ports) else place_of tag index ports)
 place_more ports port tag index absent =
@@ -115,7 +115,7 @@ take_port ports i port inside here = take_more ports i port inside ∙ ap (λ p.
 no_place : (ports : List Port) (i : ℕ) (port : Port) (places : Places) → IsTable ports i places → has_port port.tag port.index (take i ports) ≡ is_some (kept_place places port.tag port.index)
 no_place ports i port places table = any_has_place (is_at port.tag port.index) (take i ports) ∙ ap is_some (sym (table.kept port.tag port.index))
 
--- the table stands for one port more, of whose tag and index it had no place
+-- the table stands for one more port, if it had no place of the port's tag and index
 pub table_more : (ports : List Port) (i : ℕ) (port : Port) (old new : Places) → i < length ports → port ≡ get_or ports i port → IsTable ports i old
     → is_some (kept_place old port.tag port.index) ≡ false
     → ((tag : List ℕ) (index : ℕ) → kept_place new tag index ≡ (if bytes_eq tag port.tag && index == port.index then Some i else kept_place old tag index))
@@ -159,7 +159,7 @@ gap_by_places ports places kept =
     (ap is_none (kept port.tag (port.index - 1)) ∙ (none_is_not_some (place_of port.tag (port.index - 1) ports) ∙ ap not (sym (any_has_place (is_at port.tag (port.index - 1)) ports)))))
     ports
 
--- the test of ports of which none stands twice, by their table
+-- the test of ports by their table, if none of them stands twice
 checked_by_places : (ports : List Port) (places : Places) → stands_twice ports ≡ false
     → ((tag : List ℕ) (index : ℕ) → kept_place places tag index ≡ place_of tag index ports)
     → checked ports ≡ (if list_any (lacks_lower places) ports then Err (Whole Gap) else Ok ports)

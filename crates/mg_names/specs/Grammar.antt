@@ -1,5 +1,5 @@
--- What a tag, an index and a name look like, after the page Graphs of the MediaPipe framework (input and output
--- ports): a name is lower case, a tag is upper case, and an index is a small decimal number.
+-- What a tag, an index and a name look like, after the page Graphs of the MediaPipe framework (input and output ports).
+-- A name is lower case, a tag is upper case, and an index is a small decimal number.
 use Rattle.std.specs.Prelude.{ℕ, ◌+◌, ◌-◌, ◌*◌, List, [], ◌∷◌, Bool, false, ◌&&◌, ◌||◌, ◌==◌, nat_le, nat_lt, Option, None, Some, if◌then◌else◌}
 use Rattle.std.specs.List.{list_all}
 

@@ -18,11 +18,11 @@ abbrev pub after : {A B E : Type 0} → Result A E → (A → Result B E) → Re
 after (Ok value) next = next value
 after (Err refusal) next = Err refusal
 
--- the index of a port: the running number of an untagged one; the spelled index of a tagged one, or 0 where none is spelled
+-- the index of a port: the running number of an untagged port; the spelled index of a tagged port, or 0 if none is spelled
 abbrev pub index_in : ℕ → Spelling → ℕ
 index_in number spelling = if bytes_eq spelling.tag [] then number else unwrap_or spelling.index 0
 
--- the port that a spelling makes, where this number of untagged ports stands before it
+-- the port that a spelling makes with this number of untagged ports before it
 abbrev pub port_of : ℕ → Spelling → Port
 port_of number spelling = record { tag = spelling.tag; index = index_in number spelling; name = spelling.name }
 
@@ -30,8 +30,7 @@ port_of number spelling = record { tag = spelling.tag; index = index_in number s
 abbrev pub lacks_index : ℕ → List ℕ → Bool
 lacks_index number text = is_untagged text && nat_le index_count number
 
--- The port of a text, where this number of untagged ports stands before it, or its refusal. That no index is left is
--- tested before the text is.
+-- The port of a text with this number of untagged ports before it, or its refusal. That no index is left is tested before the text.
 abbrev pub port_at : ℕ → List ℕ → Result Port NameFault
 port_at number text = if lacks_index number text then Err BadIndex else after (spelling_of text) (λ spelling. Ok (port_of number spelling))
 
@@ -44,8 +43,8 @@ abbrev pub placed_at : {A : Type 0} → ℕ → Result A NameFault → Result A 
 placed_at place (Ok value) = Ok value
 placed_at place (Err cause) = Err (At place cause)
 
--- the ports of texts that stand after others, in the order of spelling, or the first refusal of a text, whose place is
--- the number of texts before it
+-- The ports of texts that stand after others, in the order of spelling, or the first refusal of a text. The place in
+-- the refusal is the number of texts before that text.
 abbrev pub ports_after : List (List ℕ) → List (List ℕ) → Result (List Port) PlacedFault
 ports_after before [] = Ok []
 ports_after before (text ∷ texts) =
@@ -90,7 +89,7 @@ without_place (Err refusal) = Err (cause_of refusal)
 abbrev pub ports_of : List (List ℕ) → Result (List Port) NameFault
 ports_of texts = without_place (placed_ports_of texts)
 
--- The cause that a refusal tells of a text or of the list isn't want of memory.
+-- The cause that a refusal gives of a text or of the list isn't out of memory.
 abbrev pub HasCause : PlacedFault → Type 0
 HasCause (At place cause) = cause ≢ fault.OutOfMemory
 HasCause (Whole cause) = cause ≢ fault.OutOfMemory
@@ -105,7 +104,7 @@ abbrev pub tagged_text : List ℕ → ℕ → List ℕ → List ℕ
 tagged_text tag index name =
     if index == 0 then tag ++ (58 ∷ name) else tag ++ (58 ∷ decimal index) ++ (58 ∷ name)
 
--- the text of a port: `name` where it is untagged, `TAG:name` at index 0, and `TAG:index:name` otherwise
+-- the text of a port: `name` if it is untagged, `TAG:name` at index 0, and `TAG:index:name` otherwise
 abbrev pub text_of : Port → List ℕ
 text_of port = if bytes_eq port.tag [] then port.name else tagged_text port.tag port.index port.name
 

@@ -49,6 +49,6 @@ abbrev pub is_one : List (List ℕ) → Bool
 is_one (part ∷ []) = true
 is_one _ = false
 
--- whether a text spells an untagged port, as one without a colon does
+-- whether a text spells an untagged port, as a text without a colon does
 abbrev pub is_untagged : List ℕ → Bool
 is_untagged text = is_one (parts_of text)

@@ -24,8 +24,8 @@ tag_with tag (Some index) = Ok (tag, index)
 abbrev pub tag_before : List ℕ → List ℕ → Result (List ℕ × ℕ) NameFault
 tag_before tag index = if is_tag_or_empty tag then tag_with tag (index_of index) else Err BadTag
 
--- The tag and index that the parts between the colons make, or the first refusal. More than one colon is refused
--- first: a name would stand behind it.
+-- The tag and index that the parts between the colons make, or the first refusal. More than one colon is refused first,
+-- since a name would stand after the second colon.
 abbrev pub tag_index_of_parts : List (List ℕ) → Result (List ℕ × ℕ) NameFault
 tag_index_of_parts (tag ∷ []) = tag_alone tag
 tag_index_of_parts (tag ∷ index ∷ []) = tag_before tag index
@@ -35,7 +35,7 @@ tag_index_of_parts parts = Err BadName
 abbrev pub tag_index_of : List ℕ → Result (List ℕ × ℕ) NameFault
 tag_index_of text = tag_index_of_parts (parts_of text)
 
--- the text of a tag and index: `TAG` at index 0, `TAG:index` at another one, and `:index` for the empty tag
+-- the text of a tag and index: `TAG` at index 0, `TAG:index` at another index, and `:index` for the empty tag
 abbrev pub text_of_tag_index : List ℕ → ℕ → List ℕ
 text_of_tag_index tag index = if (index == 0) && not (bytes_eq tag []) then tag else tag ++ 58 ∷ decimal index
 

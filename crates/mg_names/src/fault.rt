@@ -22,7 +22,7 @@ pub enum NameFault {
     /// Two ports have the same tag and index.
     #[error("a tag and index stand twice")]
     Twice = 5,
-    /// Want of memory.
+    /// Out of memory.
     #[error("out of memory")]
     OutOfMemory = 6,
 }

@@ -34,7 +34,7 @@ fn has_port(tag: &[u8], index: u8, ports: &[Port]) -> bool
     ports.iter().any(|port| is_at(tag, index, port))
 }
 
-/// Returns the place, from 0 on, of the first port with this tag and index, or none where no port has them.
+/// Returns the place, from 0 on, of the first port with this tag and index, or none if no port has them.
 pub(crate) fn place_among(ports: &[Port], tag: &[u8], index: u8) -> Option<u32>
     requires { length ports.now < 2 ^ 32 }
     ensures { result ≡ place_of tag.now index ports.now }
@@ -73,7 +73,7 @@ fn has_gap(ports: &[Port]) -> bool
     ports.iter().any(|port| lacks_below(ports, port))
 }
 
-/// Refuses ports of which two have the same tag and index, or else ports where the indexes of a tag have a gap.
+/// Refuses ports if two of them have the same tag and index, or else if the indexes of a tag have a gap.
 pub(crate) fn check_few(ports: &[Port]) -> Result<(), PlacedFault>
     ensures ok { OnOk result (checked ports.now ≡ Ok ports.now) }
     ensures err { IfErr result (λ fault. checked ports.now ≡ Err fault) }

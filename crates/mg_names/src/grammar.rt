@@ -71,7 +71,7 @@ pub(crate) fn is_tag(text: &[u8]) -> bool
     }
 }
 
-/// Returns the index that a text spells, 0 to 63 in decimal without leading zeros, or none where it spells none.
+/// Returns the index that a text spells, 0 to 63 in decimal without leading zeros, or none if it spells none.
 pub(crate) fn index_of(text: &[u8]) -> Option<u8>
     ensures { result ≡ grammar.index_of text.now }
 {
@@ -91,7 +91,7 @@ fn first_colon(text: &[u8]) -> Option<usize>
     text.iter().position(|byte| *byte == b':')
 }
 
-/// Returns what stands before and behind the first colon of a text, or none where the text has no colon.
+/// Returns what stands before and after the first colon of a text, or none if the text has no colon.
 #[tactic(auto, using(crate::proofs::Parts::parts_without_colon))]
 pub(crate) fn cut(text: &[u8]) -> Option<(&[u8], &[u8])>
     ensures { MatchOption result (parts_of text.now ≡ text.now ∷ []) (λ cut. parts_of text.now ≡ cut.0.now ∷ parts_of cut.1.now) }

@@ -11,7 +11,7 @@ use crate::places::Places;
 use crate::port::Port;
 use std::alloc::{AllocError, Global};
 
-/// Returns the table of the places of ports by tag and index, or the refusal where two ports have the same tag and index.
+/// Returns the table of the places of ports by tag and index, or the refusal if two ports have the same tag and index.
 pub(crate) fn places_of(alloc: Global, ports: &[Port]) -> Result<Places, PlacedFault>
     requires { length ports.now < 2 ^ 32 }
     ensures places { IfOk result (λ places. (tag : List ℕ) (index : ℕ) → kept_place places tag index ≡ place_of tag index ports.now) }
@@ -60,7 +60,7 @@ fn table_of(alloc: Global, ports: &[Port]) -> Result<Places, PlacedFault>
     Ok(places)
 }
 
-/// Judges ports. Returns the table of their places, or none where there are at most `FEW` ports, which need no table.
+/// Judges ports. Returns the table of their places, or none if there are at most `FEW` ports: so few need no table.
 pub(crate) fn judged_places(alloc: Global, ports: &[Port]) -> Result<Option<Places>, PlacedFault>
     requires { length ports.now < 2 ^ 32 }
     ensures places { IfOk result (λ places. (tag : List ℕ) (index : ℕ) → found_in places ports.now tag index ≡ place_of tag index ports.now) }
@@ -75,7 +75,7 @@ pub(crate) fn judged_places(alloc: Global, ports: &[Port]) -> Result<Option<Plac
     }
 }
 
-/// Returns the table of places for a copy of ports that were judged, or none where they had none.
+/// Returns the table of places for a copy of ports that were judged, or none if they had none.
 pub(crate) fn copied_places(
     alloc: Global,
     ports: &[Port],
@@ -87,7 +87,7 @@ pub(crate) fn copied_places(
     if places.is_none() {
         return Ok(None);
     }
-    // Ports that were judged have no tag and index twice, so the only fault here is want of memory.
+    // Ports that were judged have no tag and index twice, so the only fault here is out of memory.
     match places_of(alloc, ports) {
         Ok(places) => Ok(Some(places)),
         Err(_) => Err(AllocError),

@@ -8,7 +8,7 @@ ghost use Rattle.mg_names.specs.Renaming.{with_names};
 ghost use Rattle.mg_names.specs.TagIndex.{tag_index_of, text_of_tag_index, IsTagIndex};
 ghost use Rattle.mg_names.specs.Ports.{has_port, is_at, stands_twice, has_gap, ports_of, place_of, text_of, IsSpelled};
 
-/// A text spells an index exactly where the index is below 64 and the text is its decimal number.
+/// A text spells an index exactly if the index is below 64 and the text is its decimal number.
 pub fn indexes_are_decimal()
     ensures { (text : List ℕ) (index : ℕ) → (index_of text ≡ Some index) ↔ ((index < index_count) × (text ≡ decimal index)) }
 {}
@@ -33,12 +33,12 @@ pub fn tag_indexes_are_spelled()
     ensures { (text tag : List ℕ) (index : ℕ) → tag_index_of text ≡ Ok (tag, index) → IsTagIndex tag index }
 {}
 
-/// No tag and index stand twice exactly where each two ports differ in tag or index.
+/// No tag and index stand twice exactly if each two ports differ in tag or index.
 pub fn once_is_pairwise()
     ensures { (ports : List Port) → (stands_twice ports ≡ false) ↔ AllPairs (λ first second. is_at first.tag first.index second ≡ false) ports }
 {}
 
-/// There is no gap exactly where, for each port and each lower index, some port has its tag and that index.
+/// There is no gap exactly if, for each port and each lower index, some port has its tag and that index.
 pub fn filled_is_downward()
     ensures { (ports : List Port) → (has_gap ports ≡ false) ↔ All (λ port. (index : ℕ) → index < port.index → has_port port.tag index ports ≡ true) ports }
 {}

@@ -12,7 +12,7 @@ use crate::spelling::Spelling;
 use mg_value::MgText;
 use std::alloc::Global;
 
-/// Returns the port that a spelling makes, where `number` untagged ports stand before it.
+/// Returns the port that a spelling makes with `number` untagged ports before it.
 fn port_of(number: u8, spelling: Spelling) -> Port
     ensures { result ≡ ports.port_of number spelling }
 {
@@ -25,7 +25,7 @@ fn port_of(number: u8, spelling: Spelling) -> Port
     Port { tag, index, name }
 }
 
-/// Reads the port of a text, where `number` untagged ports stand before it.
+/// Reads the port of a text with `number` untagged ports before it.
 #[tactic(auto, using(crate::proofs::Counting::untagged_is_empty, crate::proofs::Counting::untagged_has_room))]
 fn port_at(alloc: Global, number: u8, text: &[u8]) -> Result<Port, NameFault>
     ensures ok { IfOk result (λ port. ports.port_at number text.now ≡ Ok port) }
@@ -40,7 +40,7 @@ fn port_at(alloc: Global, number: u8, text: &[u8]) -> Result<Port, NameFault>
     Ok(port_of(number, spelling))
 }
 
-/// Returns how many untagged ports stand before the next text, where `untagged` stand before this port.
+/// Returns how many untagged ports stand before the next text. `untagged` of them stand before this port.
 fn count_after(untagged: u8, port: &Port) -> u8
     requires { bytes_eq port.now.tag [] ≡ true → untagged < 64 }
     ensures { result ≡ untagged + (if bytes_eq port.now.tag [] then 1 else 0) }
@@ -52,7 +52,7 @@ fn count_after(untagged: u8, port: &Port) -> u8
     }
 }
 
-/// Returns the refusal of the text at a place for this cause; want of memory is told without the place.
+/// Returns the refusal of the text at a place for this cause. Out of memory is returned without the place.
 fn refused_at(place: usize, cause: NameFault) -> PlacedFault
     ensures { result ≢ PlacedFault.OutOfMemory → (cause ≢ NameFault.OutOfMemory) × (result ≡ PlacedFault.At place cause) }
 {
@@ -62,7 +62,7 @@ fn refused_at(place: usize, cause: NameFault) -> PlacedFault
     }
 }
 
-/// Reads the port of the text at a place, where `number` untagged ports stand before it.
+/// Reads the port of the text at a place, with `number` untagged ports before it.
 fn placed_port(alloc: Global, place: usize, number: u8, text: &[u8]) -> Result<Port, PlacedFault>
     ensures ok { IfOk result (λ port. ports.port_at number text.now ≡ Ok port) }
     ensures err { IfErr result (λ fault. fault ≢ PlacedFault.OutOfMemory → ports.placed_at place (ports.port_at number text.now) ≡ Err fault) }

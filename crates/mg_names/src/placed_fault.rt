@@ -15,7 +15,7 @@ pub enum PlacedFault {
     /// Each text spells a port, but a tag and index stand twice, or the indexes of a tag have a gap.
     #[error("{cause}")]
     Whole { cause: NameFault },
-    /// Want of memory.
+    /// Out of memory.
     #[error("out of memory")]
     OutOfMemory,
 }

@@ -33,7 +33,7 @@ impl Places {
         }
     }
 
-    /// Returns the place of a tag and index, or none where the table has none.
+    /// Returns the place of a tag and index, or none if the table has none.
     pub fn get(&self, tag: &[u8], index: u8) -> Option<u32>
         ensures { result ≡ kept_place self.now tag.now index }
     {
@@ -46,7 +46,7 @@ impl Places {
         }
     }
 
-    /// Puts the place of a tag and index into the table, instead of one that was there.
+    /// Puts the place of a tag and index into the table, instead of a place that was there.
     pub fn put(
         &mut self,
         alloc: Global,

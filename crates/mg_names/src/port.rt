@@ -1,7 +1,7 @@
 use mg_value::MgText;
 
-/// A port of a graph or a node (MediaPipe, Graphs): its tag, which is empty where it is untagged, its index among
-/// the ports of that tag, 0 to 63, and the name of what is joined to it.
+/// A port of a graph or a node (MediaPipe, Graphs). It has a tag, empty if the port is untagged, and an index among the
+/// ports of that tag, 0 to 63. It also has the name of the stream or side packet that is joined to it.
 #[derive(Debug, Drop)]
 pub struct Port {
     pub tag: MgText,

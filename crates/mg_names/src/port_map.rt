@@ -16,7 +16,7 @@ use std::marker::Model;
 #[derive(Debug, Drop)]
 pub struct PortMap {
     ports: BlockList<Port>,
-    // The places by tag and index where there are more than `FEW` ports. Shorter lists are searched one by one.
+    // The places by tag and index, if there are more than `FEW` ports. Shorter lists are searched one by one.
     places: Option<Places>,
 }
 
@@ -49,9 +49,9 @@ impl PortMap {
     }
 
     /// Reads the ports of texts, each spelled as `name`, `TAG:name` or `TAG:index:name`. A tagged port without a
-    /// spelled index has the index 0, and an untagged one its running number among the untagged. The texts go in order,
-    /// and the first that spells no port is refused; then a tag and index that stand twice, then a gap in the indexes
-    /// of a tag.
+    /// spelled index has the index 0, and an untagged port has its running number among the untagged ports. The texts go in order,
+    /// and the first that spells no port is refused. After that, a tag and index that stand twice are refused, and then
+    /// a gap in the indexes of a tag.
     pub fn read(alloc: Global, texts: &[MgText]) -> Result<PortMap, NameFault>
         ensures ok { IfOk result (λ map. ports_of texts.now ≡ Ok map) }
         ensures err { IfErr result (λ fault. fault ≢ NameFault.OutOfMemory → ports_of texts.now ≡ Err fault) }
@@ -64,7 +64,7 @@ impl PortMap {
         ensures ok { IfOk result (λ map. placed_ports_of texts.now ≡ Ok map) }
         ensures err { IfErr result (λ fault. fault ≢ PlacedFault.OutOfMemory → placed_ports_of texts.now ≡ Err fault) }
 
-        // The cause of an `At` or `Whole` is never want of memory, which is a fault of its own.
+        // The cause of an `At` or `Whole` is never out of memory, which is a fault of its own.
         ensures cause { IfErr result HasCause }
     {
         let ports = BlockList::from_vec(read_ports(alloc, texts)?)?;
@@ -93,7 +93,7 @@ impl PortMap {
         self.ports.get(i)
     }
 
-    /// Returns the place, from 0 on, of the port with a tag and an index, or none where no port has them. The tag of
+    /// Returns the place, from 0 on, of the port with a tag and an index, or none if no port has them. The tag of
     /// untagged ports is empty. In a long list the place is looked up in a tree of the tags.
     pub fn find(&self, tag: &[u8], index: u8) -> Option<u32>
         ensures { result ≡ place_of tag.now index self.now }

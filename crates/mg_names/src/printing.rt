@@ -21,9 +21,9 @@ fn written(alloc: Global, port: &Port) -> Result<String, AllocError>
     Ok(text)
 }
 
-/// Returns the text of a port: `name` where it is untagged, `TAG:name` at index 0, and `TAG:index:name` otherwise. A
-/// port that can be spelled is read back from its text; an untagged one needs as many untagged ports before it as its
-/// index says.
+/// Returns the text of a port: `name` if it is untagged, `TAG:name` at index 0, and `TAG:index:name` otherwise. A port
+/// that can be spelled is read back from its text. An untagged port needs as many untagged ports before it as its index
+/// says.
 
 pub fn print_port(alloc: Global, port: &Port) -> Result<MgText, AllocError>
     ensures text { IfOk result (λ text. text ≡ text_of port.now) }

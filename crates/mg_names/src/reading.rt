@@ -56,8 +56,8 @@ fn indexed(alloc: Global, tag: &[u8], index: &[u8], name: &[u8]) -> Result<Spell
     }
 }
 
-/// Reads the spelling of one port. A text is refused for the first of these rules that it breaks: it has at most two
-/// colons, its tag is a tag, its index is an index, its name is a name.
+/// Reads the spelling of one port. A text is refused for the first of these rules that it breaks. It has at most two
+/// colons, its tag is a tag, its index is an index, and its name is a name.
 #[tactic(auto, using(crate::proofs::Parts::third_colon_refused))]
 pub fn read_port(alloc: Global, text: &[u8]) -> Result<Spelling, NameFault>
     ensures ok { IfOk result (λ spelling. spelled.spelling_of text.now ≡ Ok spelling) }

@@ -45,8 +45,7 @@ fn tag_before(alloc: Global, tag: &[u8], index: &[u8]) -> Result<(MgText, u8), N
 }
 
 /// Reads the tag and index of a text. A tag alone has the index 0, and a tag before an index may be empty. A text is
-/// refused for the first of these rules that it breaks: it has at most one colon, its tag is a tag, its index is an
-/// index.
+/// refused for the first of these rules that it breaks. It has at most one colon, its tag is a tag, and its index is an index.
 #[tactic(auto, using(crate::proofs::Parts::second_colon_refused))]
 pub fn read_tag_index(alloc: Global, text: &[u8]) -> Result<(MgText, u8), NameFault>
     ensures ok { IfOk result (λ pair. spelled.tag_index_of text.now ≡ Ok pair) }
@@ -75,9 +74,8 @@ fn written(alloc: Global, tag: &MgText, index: u8) -> Result<String, AllocError>
     Ok(text)
 }
 
-/// Returns the text of a tag, which may be empty, and an index: `TAG` at index 0, `TAG:index` at another one, and
-/// `:index` for the empty tag. Both are read back from the text where the tag is empty or a tag, and the index is below
-/// 64.
+/// Returns the text of a tag, which may be empty, and an index: `TAG` at index 0, `TAG:index` at another index, and
+/// `:index` for the empty tag. Both are read back from the text if the tag is empty or a tag, and the index is below 64.
 pub fn print_tag_index(alloc: Global, tag: &MgText, index: u8) -> Result<MgText, AllocError>
     ensures text { IfOk result (λ text. text ≡ spelled.text_of_tag_index tag.now index) }
     ensures read_back { IfOk result (λ text. spelled.IsTagIndex tag.now index → spelled.tag_index_of text ≡ Ok (tag.now, index)) }

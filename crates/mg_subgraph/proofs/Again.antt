@@ -24,7 +24,7 @@ no_file : (o : Option GraphView) → is_some o ≡ false → o ≡ None
 no_file None known = refl
 no_file (Some x) known = cc
 
--- nodes of which none is a subgraph node use no file
+-- nodes use no file if none of them is a subgraph node
 pub flat_unused : (library : List GraphView) (nodes : List NodeView) → list_any (is_subgraph library) nodes ≡ false → (i : ℕ) (file : GraphView) → slice_get library i ≡ Some file → uses nodes file ≡ true → ⊥
 flat_unused library [] flat i file here known = false≢true known
 flat_unused library (node ∷ nodes) flat i file here known =

@@ -36,7 +36,7 @@ node_free owner n node free here =
     let nodes = none_right (find is_reserved own) (find is_reserved (flat_map node_names owner.nodes)) (sym (find-append is_reserved own (flat_map node_names owner.nodes)) ∙ free) in
     first_some_none (λ inner. find is_reserved (node_names inner)) owner.nodes (sym (find_in_lists is_reserved node_names owner.nodes) ∙ nodes) n node here
 
--- of which list of ports
+-- the same for each of the node's lists of ports, one after the other
 lists_free : (node : NodeView) → find is_reserved (node_names node) ≡ None
     → option_or (find is_reserved (port_names node.inputs)) (option_or (find is_reserved (port_names node.outputs)) (option_or (find is_reserved (port_names node.input_sides)) (find is_reserved (port_names node.output_sides)))) ≡ None
 lists_free node free = sym (find_in_four is_reserved (port_names node.inputs) (port_names node.outputs) (port_names node.input_sides) (port_names node.output_sides)) ∙ absent_later (is_reserved node.name) node.name (find is_reserved (list_names node.inputs node.outputs node.input_sides node.output_sides)) free
@@ -73,7 +73,7 @@ sides_free node free =
     let last = none_right (find is_reserved (port_names node.outputs)) sides rest in
     (none_left (find is_reserved (port_names node.input_sides)) (find is_reserved (port_names node.output_sides)) last, none_right (find is_reserved (port_names node.input_sides)) (find is_reserved (port_names node.output_sides)) last)
 
--- names that the node doesn't connect have a prefix, which none that it connects has
+-- a name that the node doesn't connect gets a prefix, and no outer name has such a prefix
 pub apart_by : (n : ℕ) (outer : List ℕ → Option (List ℕ)) → ((name o : List ℕ) → outer name ≡ Some o → is_reserved o ≡ false) → StayApart outer (λ name. unwrap_or (outer name) (prefix n ++ name))
 apart_by n outer free first second differ same = by_both (outer first) (outer second) refl refl same
   where

@@ -1,4 +1,4 @@
--- Tests joined by "or" and by "and", and options of which the first that there is counts.
+-- Tests joined by "or" and by "and", and options joined so that the first that there is counts.
 use Rattle.std.proofs.Common.{◌≡◌, ◌⊎◌, inl, inr, Bool, true, false, ◌&&◌, ◌||◌, cond, Option, None, Some, refl, sym}
 use Rattle.std.specs.Prelude.{option_map}
 use Rattle.std.specs.Option.{option_or}

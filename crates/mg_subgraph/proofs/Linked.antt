@@ -135,7 +135,7 @@ link_same library nodes more node flags longer none known other =
     ∙ (ap (λ b. b || uses_at library nodes other) (sym (found_nowhere library node none other))
     ∙ (sym (uses_more library nodes node other) ∙ ap (λ l. uses_at library l other) (sym longer)))
 
--- the links of one file more
+-- the links of one more file
 abbrev pub AreLinked : List GraphView → List (List ℕ) → Type 0
 AreLinked library links = (place : ℕ) (file : GraphView) (list : List ℕ) → slice_get library place ≡ Some file → slice_get links place ≡ Some list → (other : ℕ) → listed other list ≡ uses_at library file.nodes other
 

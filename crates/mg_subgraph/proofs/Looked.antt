@@ -42,7 +42,7 @@ find_here p xs i x here passes = ap (find p) (drop_next xs i x here) ∙ cond-tr
 pub find_later : {X : Type 0} (p : X → Bool) (xs : List X) (i : ℕ) (x : X) → slice_get xs i ≡ Some x → p x ≡ false → find p (drop i xs) ≡ find p (drop (i + 1) xs)
 find_later p xs i x here fails = ap (find p) (drop_next xs i x here) ∙ cond-false (p x) (Some x) (find p (drop (i + 1) xs)) fails
 
--- fields of which there are some
+-- fields that have a first field
 has_put : (name : List ℕ) (value : Value) (rest : Fields) → has_fields (put name value rest) ≡ true
 has_put name (simple kind bytes) rest = refl
 has_put name (inner fields) rest = refl
@@ -76,7 +76,7 @@ or_some first second x known = ap (λ o. option_or o second) known
 pub or_none : {X : Type 0} (first second : Option X) → first ≡ None → option_or first second ≡ second
 or_none first second known = ap (λ o. option_or o second) known
 
--- the digits in front of a text
+-- the digits that begin a text
 pub digits_in_front : (bytes : List ℕ) → unwrap_or (position (λ byte. not (is_digit byte)) bytes) (length bytes) ≡ prefix_len is_digit bytes
 digits_in_front [] = refl
 digits_in_front (b ∷ bs) = ap (λ o. unwrap_or o (suc (length bs))) (position-cons (λ byte. not (is_digit byte)) b bs) ∙ by_test (is_digit b) (position (λ byte. not (is_digit byte)) bs) (length bs) (prefix_len is_digit bs) (digits_in_front bs)
@@ -105,7 +105,7 @@ reserved_graph graph =
     ∙ (ap (λ o. option_or o (find is_reserved (flat_map node_names graph.nodes))) (reserved_lists graph.inputs graph.outputs graph.input_sides graph.output_sides)
     ∙ ap (λ o. option_or (reserved_at graph.inputs graph.outputs graph.input_sides graph.output_sides) o) (find_in_lists is_reserved node_names graph.nodes))
 
--- a place is found exactly where an element is
+-- a place is found exactly if an element is
 pub some_place : {X : Type 0} (p : X → Bool) (xs : List X) → is_some (position p xs) ≡ is_some (find p xs)
 some_place p xs = by_place (position p xs) refl
   where
@@ -130,7 +130,7 @@ pub copied_or : {X : Type 0} (first second : Option (Bor X)) → option_copied (
 copied_or None second = refl
 copied_or (Some x) second = refl
 
--- the first reserved name, where there is a subgraph node, and where there is none
+-- the first reserved name, without a subgraph node and with one
 pub reserved_none : (main : GraphView) (library : List GraphView) → list_any (is_subgraph library) main.nodes ≡ false → reserved_name main library ≡ None
 reserved_none main library none =
     cond-false (list_any (is_subgraph library) main.nodes) (option_map ReservedName (find is_reserved (flat_map graph_names (main ∷ used_files main library)))) None none
@@ -141,7 +141,7 @@ reserved_by main library some =
     cond-true (list_any (is_subgraph library) main.nodes) (option_map ReservedName (find is_reserved (flat_map graph_names (main ∷ used_files main library)))) None some
     ∙ ap (option_map ReservedName) (find_in_lists is_reserved graph_names (main ∷ used_files main library))
 
--- the names at the ports of one file more
+-- the names at the ports of one more file
 pub names_more : (files : List GraphView) (names : List FileNames) (place : ℕ) (file : GraphView) (entry : FileNames) → length names ≡ place → slice_get files place ≡ Some file → AreNames entry file
     → ((p : ℕ) (f : GraphView) (e : FileNames) → slice_get files p ≡ Some f → slice_get names p ≡ Some e → AreNames e f)
     → (p : ℕ) (f : GraphView) (e : FileNames) → slice_get files p ≡ Some f → slice_get (names ++ entry ∷ []) p ≡ Some e → AreNames e f

@@ -21,7 +21,7 @@ use Rattle.mg_subgraph.proofs.Reached.{take_next}
 use Rattle.mg_subgraph.proofs.Steps.{map-push, got_within}
 use Rattle.mg_subgraph.proofs.Joins.{none_left, none_right, none_else}
 
--- one element more is taken
+-- one more element is taken
 pub taken_got : {X Y : Type 0} (f : X → Y) (xs : List X) (i : ℕ) (x : X) → slice_get xs i ≡ Some x → map f (take (i + 1) xs) ≡ map f (take i xs) ++ f x ∷ []
 taken_got f xs i x here = ap (map f) (take_next xs i x here) ∙ map-push f (take i xs) x
 
@@ -34,7 +34,7 @@ got_right : {X : Type 0} (xs ys : List X) (j : ℕ) (y : X) → slice_get ys j �
 got_right [] ys j y here = let count : 0 + j ≡ j = omega arith in ap (slice_get ys) count ∙ here
 got_right (x ∷ xs) ys j y here = let count : suc (length xs) + j ≡ suc (length xs + j) = omega arith in ap (slice_get (x ∷ (xs ++ ys))) count ∙ got_right xs ys j y here
 
--- no ports have a name where the index of all has none
+-- nothing is found if no element passes the test
 find_none : {X : Type 0} (p : X → Bool) (xs : List X) → ((i : ℕ) (x : X) → slice_get xs i ≡ Some x → p x ≡ true → ⊥) → find p xs ≡ None
 find_none p xs none = none_else (find p xs) (λ x found. let here = find_found p xs x found in none here.0 x here.1 here.2)
 
@@ -46,7 +46,7 @@ joined_none given_in given_out inputs outputs name none =
     ap (λ o. option_or (option_and_then (λ port. option_map (λ outer. outer.name) (find (is_at port.tag port.index) given_in)) o) (outer_name given_out outputs name)) first
     ∙ ap (option_and_then (λ port. option_map (λ outer. outer.name) (find (is_at port.tag port.index) given_out))) second
 
--- a name that stands at a port that comes in stands at none that goes out, and the other way round
+-- a name at a port that comes in stands at no port that goes out, and the other way round
 pub joined_some : (given_in given_out inputs outputs : List Port) (name : List ℕ) (place : ℕ) (port : Port) → first_twice (port_names inputs ++ port_names outputs) ≡ None
     → position (λ p. names name p.name) (inputs ++ outputs) ≡ Some place → slice_get (inputs ++ outputs) place ≡ Some port
     → joined_name given_in given_out inputs outputs name ≡ option_map (λ outer. outer.name) (find (is_at port.tag port.index) (if nat_lt place (length inputs) then given_in else given_out))

@@ -53,7 +53,7 @@ pub decimal_some : (n : ℕ) → 0 < length (decimal n)
 unfolding digits
 decimal_some n = onto_some 63 n
 
--- a name behind the prefix
+-- a name after the prefix
 pub spelled_out : (n : ℕ) (name : List ℕ) → prefix n ++ name ≡ 115 ∷ (decimal n ++ (95 ∷ 95 ∷ name))
 spelled_out n name = append_assoc (115 ∷ decimal n) (95 ∷ 95 ∷ []) name
 
@@ -83,7 +83,7 @@ prefix_is_reserved n name =
     reserved_by : (k a b : ℕ) → 0 < k → a ≡ 95 → b ≡ 95 → ((115 == 115) && nat_lt 0 k && (a == 95) && (b == 95)) ≡ true
     reserved_by k a b some first second = grind (arith, nat_tests)
 
--- a name stays one behind the prefix
+-- a name stays a name after the prefix
 digits_continue : (ds rest : List ℕ) → list_all is_digit ds ≡ true → list_all continues_name rest ≡ true → list_all continues_name (ds ++ rest) ≡ true
 digits_continue [] rest known more = more
 digits_continue (d ∷ ds) rest known more =

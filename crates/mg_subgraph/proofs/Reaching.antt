@@ -43,7 +43,7 @@ passing-le-length p (x ∷ xs) =
     (λ fails. rw fails (omega (arith, passing-le-length p xs)))
     (cases_Bool (p x))
 
--- Where all that pass the first pass the second, the second counts more, or they agree.
+-- If all that pass the first test pass the second, the second counts more, or they agree.
 wider_by : (a b : Bool) (m n : ℕ) (firsts seconds : List Bool) → (a ≡ true → b ≡ true) → (firsts ≡ seconds) ⊎ (m < n) → ((firsts ≡ seconds) → m ≡ n)
     → (a ∷ firsts ≡ b ∷ seconds) ⊎ ((if a then 1 else 0) + m < (if b then 1 else 0) + n)
 wider_by true true m n firsts seconds wider (inl same) equal = inl (ap (λ l. true ∷ l) same)
@@ -68,7 +68,7 @@ wider_counts p q [] wider = inl refl
 wider_counts p q (x ∷ xs) wider =
     wider_by (p x) (q x) (passing p xs) (passing q xs) (map p xs) (map q xs) (wider 0 x refl) (wider_counts p q xs (λ i y here. wider (suc i) y here)) (counts_same p q xs)
 
--- through one file more
+-- through one more file
 pub reached_further : (library : List GraphView) (nodes : List NodeView) (k : ℕ) (file : GraphView) → reaches k library nodes file ≡ true → reaches (suc k) library nodes file ≡ true
 reached_further library nodes k file known = or_left (reaches k library nodes file) (list_any (λ other. reaches k library nodes other && uses other.nodes file) library) known
 
@@ -122,7 +122,7 @@ found_at p (x ∷ xs) some =
     (λ later. let rest = found_at p xs later in (suc rest.0, rest.1, rest.2, rest.3))
     (or_cases (p x) (list_any p xs) some)
 
--- what is found through one file more is found already, if it is in the library
+-- what is found through one more file is found already, if it is in the library
 still_found : (library : List GraphView) (nodes : List NodeView) (i : ℕ) (file : GraphView) → slice_get library i ≡ Some file → reaches (suc (length library)) library nodes file ≡ true → uses_file library nodes file ≡ true
 still_found library nodes i file here known =
     same_at (reaches (length library) library nodes) (reaches (suc (length library)) library nodes) library (still_at_end library nodes) i file here ∙ known
@@ -199,7 +199,7 @@ fewer_inside library nodes i file here used apart =
     (λ fewer. fewer)
     (wider_counts (uses_file library file.nodes) (uses_file library nodes) library (λ j other at known. used_through library nodes i j file other here at used known))
 
--- Nodes that use directly what others use, use what these use.
+-- If some nodes use directly all files that other nodes use directly, they use all files that those use.
 more_within : (library : List GraphView) (few many : List NodeView) → ((file : GraphView) → uses few file ≡ true → uses many file ≡ true)
     → (k i : ℕ) (file : GraphView) → slice_get library i ≡ Some file → reaches k library few file ≡ true → uses_file library many file ≡ true
 more_within library few many wider zero i file here known = used_directly library many file (wider file known)

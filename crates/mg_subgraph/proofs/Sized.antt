@@ -56,7 +56,7 @@ grounded_node library nodes i node grounded here = grounded_part library (node �
 pub no_more_in_node : (library : List GraphView) (nodes : List NodeView) (i : ℕ) (node : NodeView) → slice_get nodes i ≡ Some node → use_count library (node ∷ []) ≤ use_count library nodes
 no_more_in_node library nodes i node here = no_more_used library (node ∷ []) nodes (one_of nodes i node here)
 
--- a node that isn't replaced counts one, and one that is as many as its file comes to
+-- A node that isn't replaced counts as one node. A replaced node counts as many nodes as its file expands to.
 pub counted_none : (library : List GraphView) (node : NodeView) → position (is_of node.calculator) library ≡ None → 1 ≡ counted (replaced (expanded library) 0 node (file_of library node.calculator))
 counted_none library node none = sym (ap (λ found. counted (replaced (expanded library) 0 node found)) (place_none (is_of node.calculator) library none))
 
@@ -86,7 +86,7 @@ length-replaced_push expand library n (first ∷ nodes) node =
 pub counted_sum : (first second whole : ℕ) → whole ≡ first + second → min (min first (max_nodes + 1) + min second (max_nodes + 1)) (max_nodes + 1) ≡ min whole (max_nodes + 1)
 counted_sum first second whole sum = omega arith
 
--- what passes one test doesn't pass the other where none of it is found
+-- an element that passes q fails p, if p finds nothing among those that pass q
 pub find_filter_at : {X : Type 0} (p q : X → Bool) (xs : List X) → find p (filter q xs) ≡ None → (i : ℕ) (x : X) → slice_get xs i ≡ Some x → q x ≡ true → p x ≡ false
 find_filter_at p q [] none i x here passes = cc
 find_filter_at p q (y ∷ xs) none zero x here passes =
@@ -131,7 +131,7 @@ unshared_own library node place unshared found file here =
 pub unshared_node : (library : List GraphView) (nodes : List NodeView) (i : ℕ) (node : NodeView) → AreUnshared library nodes → slice_get nodes i ≡ Some node → AreUnshared library (node ∷ [])
 unshared_node library nodes i node unshared here j file at known = unshared j file at (used_by_more library (node ∷ []) nodes (one_of nodes i node here) j file at known)
 
--- a file that comes to no node
+-- a file that expands to no node
 empty_list : {X : Type 0} (xs : List X) → length xs ≡ 0 → xs ≡ []
 empty_list [] none = refl
 empty_list (x ∷ xs) none = absurd (omega arith)
@@ -149,7 +149,7 @@ replaced_by library expand n node place found =
 pub replaced_none : (library : List GraphView) (expand : List NodeView → List NodeView) (n : ℕ) (node : NodeView) → position (is_of node.calculator) library ≡ None → node ∷ [] ≡ replaced expand n node (file_of library node.calculator)
 replaced_none library expand n node none = sym (ap (replaced expand n node) (place_none (is_of node.calculator) library none))
 
--- one node more
+-- one more node
 pub all_replaced-push : (expand : List NodeView → List NodeView) (library : List GraphView) (n : ℕ) (nodes : List NodeView) (node : NodeView)
     → all_replaced expand library n (nodes ++ node ∷ []) ≡ all_replaced expand library n nodes ++ replaced expand (n + length nodes) node (file_of library node.calculator)
 all_replaced-push expand library n [] node =
@@ -162,7 +162,7 @@ all_replaced-push expand library n (first ∷ nodes) node =
     ∙ (sym (append_assoc head (all_replaced expand library (suc n) nodes) (replaced expand (suc n + length nodes) node (file_of library node.calculator)))
     ∙ ap (λ k. (head ++ all_replaced expand library (suc n) nodes) ++ replaced expand k node (file_of library node.calculator)) count)
 
--- what passes a test has no answer where none that passes has
+-- an element that passes a test has no answer if no passing element has one
 pub first_some_at : {X Y : Type 0} (answer : X → Option Y) (q : X → Bool) (xs : List X) → first_some answer (filter q xs) ≡ None → (i : ℕ) (x : X) → slice_get xs i ≡ Some x → q x ≡ true → answer x ≡ None
 first_some_at answer q [] none i x here passes = cc
 first_some_at answer q (y ∷ xs) none zero x here passes =

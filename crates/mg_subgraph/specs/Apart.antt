@@ -10,7 +10,7 @@ use Rattle.mg_subgraph.specs.Refusals.{graph_names}
 abbrev pub IsFree : GraphView → Type 0
 IsFree graph = find is_reserved (graph_names graph) ≡ None
 
--- Two inner names become one only where both stand at ports to which the node connects that one.
+-- Two inner names become the same name only if both stand at ports to which the node connects that name.
 abbrev pub StayApart : (List ℕ → Option (List ℕ)) → (List ℕ → List ℕ) → Type 0
 StayApart outer rename = (first second : List ℕ) → first ≢ second → rename first ≡ rename second → (outer first ≡ Some (rename first)) × (outer second ≡ Some (rename second))
 
@@ -18,6 +18,6 @@ StayApart outer rename = (first second : List ℕ) → first ≢ second → rena
 abbrev pub IsNew : List ℕ → GraphView → Type 0
 IsNew name graph = list_any (bytes_eq name) (graph_names graph) ≡ false
 
--- An inner name that stands at no connected port becomes one that the graph doesn't have.
+-- An inner name that stands at no connected port becomes a name that the graph doesn't have.
 abbrev pub AreNew : (List ℕ → Option (List ℕ)) → (List ℕ → List ℕ) → GraphView → Type 0
 AreNew outer rename graph = (name : List ℕ) → outer name ≡ None → IsNew (rename name) graph

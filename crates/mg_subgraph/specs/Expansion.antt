@@ -6,7 +6,7 @@ use Rattle.mg_subgraph.specs.Expanded.{expanded}
 use Rattle.mg_subgraph.specs.Refusals.{type_twice, recursive, too_many_nodes, reserved_name, port_shared, bad_field, no_such_port}
 use Rattle.mg_subgraph.specs.declared.fault.ExpandFault.{ExpandFault}
 
--- the first refusal, in the order in which they are looked for
+-- the first refusal, in the order in which refusals are looked for
 abbrev pub refusal : GraphView → List GraphView → Option ExpandFault
 refusal main library =
     option_or (type_twice library) (option_or (recursive main library) (option_or (too_many_nodes main library)

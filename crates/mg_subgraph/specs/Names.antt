@@ -27,13 +27,14 @@ is_reserved name =
     (slice_index name 0 == 115) && nat_lt 0 (digit_count name)
     && (slice_index name (digit_count name + 1) == 95) && (slice_index name (digit_count name + 2) == 95)
 
--- The outer name of what has an inner name: the one at the node's port of the tag and index that the inner name stands
--- at in the file. There is none where the name stands at no port of the file, or the node doesn't connect that port.
+-- The outer name of an inner name. It stands at the node's port with the tag and index of the file's port at which the
+-- inner name stands. There is none if the inner name stands at no port of the file, or the node doesn't connect that
+-- port.
 abbrev pub outer_name : List Port → List Port → List ℕ → Option (List ℕ)
 outer_name given ports name =
     option_and_then (λ port. option_map (λ outer. outer.name) (find (is_at port.tag port.index) given)) (find (λ port. names name port.name) ports)
 
--- the outer name of what stands at a port that comes in, or at one that goes out
+-- the outer name of a name at a port that comes in, or else at a port that goes out
 abbrev pub joined_name : List Port → List Port → List Port → List Port → List ℕ → Option (List ℕ)
 joined_name given_in given_out inputs outputs name = option_or (outer_name given_in inputs name) (outer_name given_out outputs name)
 
@@ -45,7 +46,7 @@ outer_stream node file = joined_name node.inputs node.outputs file.inputs file.o
 abbrev pub outer_side : NodeView → GraphView → List ℕ → Option (List ℕ)
 outer_side node file = joined_name node.input_sides node.output_sides file.input_sides file.output_sides
 
--- the new name of a stream of a file: the outer name, or else the inner one with the prefix of the node's number
+-- the new name of a stream of a file: the outer name, or else the inner name with the prefix of the node's number
 abbrev pub stream_name : ℕ → NodeView → GraphView → List ℕ → List ℕ
 stream_name n node file name = unwrap_or (outer_stream node file name) (prefix n ++ name)
 
@@ -53,7 +54,7 @@ stream_name n node file name = unwrap_or (outer_stream node file name) (prefix n
 abbrev pub side_name : ℕ → NodeView → GraphView → List ℕ → List ℕ
 side_name n node file name = unwrap_or (outer_side node file name) (prefix n ++ name)
 
--- the new name of a node of a file: the name with the prefix, or the empty name where it is empty
+-- the new name of a node of a file: the name with the prefix, or the empty name if the name is empty
 abbrev pub node_name : ℕ → List ℕ → List ℕ
 node_name n [] = []
 node_name n (first ∷ rest) = prefix n ++ first ∷ rest

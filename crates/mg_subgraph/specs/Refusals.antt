@@ -27,11 +27,11 @@ first_some answer (x ∷ xs) = option_or (answer x) (first_some answer xs)
 abbrev pub types_of : List GraphView → List (List ℕ)
 types_of library = map (λ file. file.type_name) library
 
--- Two files have the same type: the first that another one has too is told.
+-- Two files have the same type. The refusal has the first type that another file has too.
 abbrev pub type_twice : List GraphView → Option ExpandFault
 type_twice library = option_map TypeTwice (first_twice (types_of library))
 
--- A file that is used uses itself: the first such in the order of the library.
+-- A used file uses itself. The refusal has the first such file in the order of the library.
 abbrev pub recursive : GraphView → List GraphView → Option ExpandFault
 recursive main library = option_map (λ file. Recursive file.type_name) (find (is_recursive library) (used_files main library))
 

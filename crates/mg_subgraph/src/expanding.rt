@@ -17,8 +17,8 @@ use crate::shared::FileNames;
 use mg_config::NodeConfig;
 use std::alloc::{AllocError, Global};
 
-/// A library whose files have been judged, with the names at their ports, and for each file, where it is known, the
-/// number of nodes that it expands to.
+/// A library whose files have been judged, with the names at their ports. For each file it has the number of nodes that
+/// the file expands to, if that is known.
 #[derive(Drop)]
 pub struct Judged<'a> {
     pub library: &'a Library<'a>,

@@ -23,7 +23,7 @@ use mg_config::GraphConfig;
 use mg_value::BlockList;
 use std::alloc::{AllocError, Global};
 
-/// For each file whether it is used, and, where it is known, the number of nodes that it expands to.
+/// For each file whether it is used, and the number of nodes that it expands to, if that is known.
 #[derive(Drop)]
 struct Survey {
     used: Vec<bool>,
@@ -130,10 +130,10 @@ fn expand_in(
 }
 
 /// Returns the graph with the nodes of library files in the place of the nodes that use them (MediaPipe, Graphs:
-/// subgraphs). A node whose calculator is the type of a file uses that file. What stands at a port of the file that the
-/// node connects gets the name at the node's port of the same tag and index; every other name of the file that isn't
-/// empty gets the prefix `s<n>__`, n being the number of the node. The refusals are looked for in the order in which
-/// `ExpandFault` has them. The graph and the files stay as they are.
+/// subgraphs). A node whose calculator is the type of a file uses that file. A name at a port of the file that the node
+/// connects becomes the name at the node's port of the same tag and index. Every other name of the file that isn't
+/// empty gets the prefix `s<n>__`; n is the number of the node. The function looks for refusals in the order of
+/// `ExpandFault`. The graph and the files stay as they are.
 pub fn expand(
     alloc: Global,
     main: &GraphConfig,
@@ -142,7 +142,8 @@ pub fn expand(
     ensures ok { IfOk result (λ graph. expansion_of (graph_view main.now) (map graph_view library.now) ≡ Ok (graph_view graph)) }
     ensures err { IfErr result (λ fault. fault ≢ ExpandFault.OutOfMemory → expansion_of (graph_view main.now) (map graph_view library.now) ≡ Err fault) }
 
-    // Where the graph and all files can be written and read back, so can the expanded graph, and it can be printed where all of them can.
+    // If the graph and all files can be written and read back, so can the expanded graph. If all of them can be
+    // printed, so can the expanded graph.
     ensures sound { IfOk result (λ graph. IsSound (graph_view main.now) → All (λ file. IsSound (graph_view file)) library.now → IsSound (graph_view graph)) }
     ensures printable { IfOk result (λ graph. IsPrintable (graph_view main.now) → All (λ file. IsPrintable (graph_view file)) library.now → IsPrintable (graph_view graph)) }
 {
@@ -150,7 +151,7 @@ pub fn expand(
     expand_in(alloc, main, &library)
 }
 
-// Returns the expansion of a graph that is handed over. A graph without subgraph nodes is handed back.
+// Returns the expansion of a graph that the caller hands over. A graph without subgraph nodes is handed back.
 fn expand_own_in(
     alloc: Global,
     main: GraphConfig,
@@ -168,7 +169,8 @@ fn expand_own_in(
     Ok(main)
 }
 
-/// Returns what `expand` returns, of a graph that is handed over. A graph without subgraph nodes is handed back, and nothing of it is copied.
+/// Returns what `expand` returns, for a graph that the caller hands over. A graph without subgraph nodes is handed
+/// back, and nothing of it is copied.
 pub fn expand_own(
     alloc: Global,
     main: GraphConfig,
@@ -177,7 +179,8 @@ pub fn expand_own(
     ensures ok { IfOk result (λ graph. expansion_of (graph_view main) (map graph_view library.now) ≡ Ok (graph_view graph)) }
     ensures err { IfErr result (λ fault. fault ≢ ExpandFault.OutOfMemory → expansion_of (graph_view main) (map graph_view library.now) ≡ Err fault) }
 
-    // Where the graph and all files can be written and read back, so can the expanded graph, and it can be printed where all of them can.
+    // If the graph and all files can be written and read back, so can the expanded graph. If all of them can be
+    // printed, so can the expanded graph.
     ensures sound { IfOk result (λ graph. IsSound (graph_view main) → All (λ file. IsSound (graph_view file)) library.now → IsSound (graph_view graph)) }
     ensures printable { IfOk result (λ graph. IsPrintable (graph_view main) → All (λ file. IsPrintable (graph_view file)) library.now → IsPrintable (graph_view graph)) }
 {

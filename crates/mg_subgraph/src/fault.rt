@@ -23,8 +23,8 @@ pub enum ExpandFault {
     /// There would be more than 4,096 nodes.
     #[error("there are too many nodes")]
     TooManyNodes,
-    /// There is a subgraph node, and the graph or a used file has a name that begins with `s`, digits and `__`, as
-    /// those that expansion makes do.
+    /// There is a subgraph node, and the graph or a used file has a reserved name. Such a name begins with `s`, digits
+    /// and `__`, like the names that expansion makes.
     #[error("the name {} is reserved", .name.as_str())]
     ReservedName {
         name: MgText,

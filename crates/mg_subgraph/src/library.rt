@@ -10,7 +10,7 @@ use mg_config::GraphConfig;
 use mg_index::NameTable;
 use std::alloc::{AllocError, Global};
 
-/// The files of a library, of which no two have the same type, with the place of each type.
+/// The files of a library, no two of the same type, with the place of each type.
 #[derive(Drop)]
 pub struct Library<'a> {
     pub files: &'a [GraphConfig],
@@ -30,7 +30,7 @@ fn index_of<'a>(alloc: Global, files: &'a [GraphConfig]) -> Result<NameTable<'a>
 }
 
 impl<'a> Library<'a> {
-    /// Returns the library of files, or refuses files of which two have the same type.
+    /// Returns the library of files, or refuses files if two of them have the same type.
     pub fn new(alloc: Global, files: &'a [GraphConfig]) -> Result<Library<'a>, ExpandFault>
         ensures files { IfOk result (λ library. library.files.now ≡ files.now) }
         ensures err { IfErr result (λ fault. fault ≢ ExpandFault.OutOfMemory → type_twice (map graph_view files.now) ≡ Some fault) }
@@ -44,7 +44,7 @@ impl<'a> Library<'a> {
         }
     }
 
-    /// Returns the place of the file that a calculator names, or none where it names none.
+    /// Returns the place of the file that a calculator names, or none if it names none.
     pub fn find(&self, calculator: &str) -> Option<usize>
         ensures { result ≡ position (is_of calculator.now) (map graph_view self.now.files.now) }
     {

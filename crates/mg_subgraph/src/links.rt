@@ -84,7 +84,7 @@ pub fn all_links(alloc: Global, library: &Library) -> Result<Vec<Vec<usize>>, Al
     Ok(links)
 }
 
-/// Returns for each file whether it is used, directly or not, where the files at `start` are used directly.
+/// Returns for each file whether it is used, directly or not, if the files at `start` are used directly.
 pub fn reach(alloc: Global, links: &[Vec<usize>], start: &[usize]) -> Result<Vec<bool>, AllocError>
     requires links { AreClosed (map (λ list. list.items) links.now) }
     requires start { AreWithin (map (λ list. list.items) links.now) start.now }

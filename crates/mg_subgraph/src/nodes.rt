@@ -43,7 +43,7 @@ fn is_given(number: i32) -> bool
     number != 0
 }
 
-/// Returns the name of the first field of a node that only calculators have, or none where the node has no such field.
+/// Returns the name of the first field of a node that only calculators have, or none if the node has no such field.
 fn bad_field(node: &NodeConfig) -> Option<&'static str>
     ensures { option_copied result ≡ refusals.bad_field_of (node_view node.now) }
 {

@@ -15,8 +15,8 @@ use mg_names::{Port, PortMap};
 use mg_value::MgText;
 use std::alloc::{AllocError, Global};
 
-/// The ports of a file, with a table of the names there, and the ports that a node which uses the file has been given,
-/// for streams or for side packets.
+/// The ports of a file, with a table of the names there, and the ports of a node that uses the file. A binding is for
+/// streams or for side packets.
 #[derive(Drop)]
 struct Binding<'a> {
     names: &'a NameTable<'a>,
@@ -42,7 +42,7 @@ fn prefixed(alloc: Global, prefix: &MgText, name: &MgText) -> Result<MgText, All
     Ok(MgText::from_string(format!(in alloc; "{}{}", prefix.as_str(), name.as_str())?))
 }
 
-/// Returns the name at that of the given ports which has the tag and index of a port, if one has.
+/// Returns the name at the given port with the tag and index of `port`, if there is such a given port.
 fn name_at<'a>(given: &'a PortMap, port: &Port) -> Option<&'a MgText>
     ensures { option_copied result ≡ option_map (λ outer. outer.name) (find (is_at port.now.tag port.now.index) given.now) }
 {
@@ -58,7 +58,7 @@ fn name_at<'a>(given: &'a PortMap, port: &Port) -> Option<&'a MgText>
 impl<'a> Binding<'a> {
     ghost use Rattle.mg_subgraph.specs.Code.Bindings.{new_name};
 
-    /// Returns the name at the node's port of the same tag and index as the file's port at a place, if the node connects that port.
+    /// Returns the name at the node's port with the tag and index of the file's port at a place, if the node connects that port.
     fn name_beside(&self, place: usize) -> Option<&'a MgText>
         ensures { (port : Port) → slice_get (self.now.inputs.now ++ self.now.outputs.now) place ≡ Some port
             → option_copied result ≡ option_map (λ outer. outer.name) (find (is_at port.tag port.index) (if nat_lt place (length self.now.inputs.now) then self.now.given_in.now else self.now.given_out.now)) }

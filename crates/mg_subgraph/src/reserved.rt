@@ -1,4 +1,4 @@
-//! The check that names don't have the form of those that expansion makes.
+//! The check that names don't have the form of the names that expansion makes.
 ghost use Rattle.std.specs.Prelude.{◌≡◌, ◌≢◌, None, Some, IfErr, OnOk, map, find, not, position, option_copied, length};
 ghost use Rattle.std.specs.List.{list_any, prefix_len};
 ghost use Rattle.mg_names.specs.Grammar as grammar;
@@ -29,7 +29,7 @@ fn first_other(bytes: &[u8]) -> Option<usize>
     bytes.iter().position(|byte| !is_digit(*byte))
 }
 
-/// Returns how many digits stand in front of the first byte that is none.
+/// Returns how many digits stand before the first byte that is no digit.
 fn digit_count(bytes: &[u8]) -> usize
     ensures { result ≡ prefix_len grammar.is_digit bytes.now }
 {
@@ -140,7 +140,7 @@ pub(crate) fn has_subgraph(library: &Library, nodes: &[NodeConfig]) -> bool
     nodes.iter().any(|node| is_subgraph(library, node))
 }
 
-/// Refuses a graph with a subgraph node where it, or else a file that it uses, has a name of the form that expansion makes.
+/// Refuses a graph with a subgraph node if it, or else a file that it uses, has a name of the form that expansion makes.
 pub fn check_reserved(
     alloc: Global,
     main: &GraphConfig,

@@ -1,4 +1,4 @@
-//! The names at the ports of files, and the check that none stands at two ports of a file.
+//! The names at the ports of files, and the check that no name stands at two ports of a file.
 ghost use Rattle.std.specs.Prelude.{◌≡◌, ◌≢◌, ℕ, ◌+◌, ◌<◌, ◌^◌, ◌++◌, List, None, Some, IfOk, IfErr, OnOk, map, option_map, option_copied, length, slice_get};
 ghost use Rattle.mg_config.specs.Config.{graph_view};
 ghost use Rattle.mg_subgraph.specs.Code.Index.{IsIndex};
@@ -73,7 +73,7 @@ pub fn names_of<'a>(
     Ok(names)
 }
 
-/// Returns the port at a place, where the ports that come in stand before those that go out.
+/// Returns the port at a place. The ports that come in are counted before the ports that go out.
 pub fn port_at<'a>(inputs: &'a PortMap, outputs: &'a PortMap, place: usize) -> Option<&'a Port>
     ensures { option_copied result ≡ slice_get (inputs.now ++ outputs.now) place }
 {

@@ -22,7 +22,7 @@ pub(crate) fn is_large(nodes: &NodeList) -> bool
     nodes.len() > MAX_NODES
 }
 
-/// Returns the sum of two counts, or one more than the limit where the sum is above the limit.
+/// Returns the sum of two counts, or one more than the limit if the sum is above the limit.
 fn sum(first: u32, second: u32) -> u32
     requires first { first ≤ max_nodes + 1 }
     requires second { second ≤ max_nodes + 1 }
@@ -67,7 +67,7 @@ fn node_size(library: &Library, sizes: &mut [Option<u32>], node: &NodeConfig) ->
     }
 }
 
-/// Returns how many nodes a list of nodes expands to, or one more than the limit where they are more than the limit.
+/// Returns how many nodes a list of nodes expands to, or one more than the limit if they are more than the limit.
 #[cycle(sizes)]
 fn nodes_size(library: &Library, sizes: &mut [Option<u32>], nodes: &[NodeConfig]) -> u32
     requires room { length sizes.old ≡ length library.now.files.now }

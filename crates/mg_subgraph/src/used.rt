@@ -23,7 +23,7 @@ fn leads_back(alloc: Global, links: &[Vec<usize>], place: usize) -> Result<bool,
     Ok(flags[place])
 }
 
-/// Returns the first place of a file that is used and uses itself, directly or not, or none where there is no such file.
+/// Returns the first place of a file that is used and uses itself, directly or not, or none if there is no such file.
 fn recursive_place(
     alloc: Global,
     links: &[Vec<usize>],

@@ -46,7 +46,7 @@ lift pre w done later e (frame ∷ fs) spot next t same f (u, c, v, x, we, h, ce
   subst (λ d. Completes (append frame.before (message frame.name d none)) fs (at (after frame.name frame.slot)) v t) (ap (λ d. append d x) same ∙ append_fields_assoc done e x) more,
 )
 
--- one byte more before, and the same fields
+-- one more byte before, and the same fields
 pub one : (s : State) (spot next : Spot) (b : ℕ) (w : List ℕ) (t : Fields)
     → ((u z : List ℕ) (x : Fields) → u ++ z ≡ w → Rest next u x → Rest spot (b ∷ u) x)
     → Completes s.done s.frames next w t → Completes s.done s.frames spot (b ∷ w) t

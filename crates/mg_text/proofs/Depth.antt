@@ -27,7 +27,7 @@ pub level_monotone : (fs : List Frame) (j k : ℕ) → j ≤ k → level j fs �
 level_monotone [] j k h = h
 level_monotone (f ∷ fs) j k h = level_monotone fs _ _ (omega (arith, h))
 
--- what is completed is as deep as what is read
+-- the completed fields are at least as deep as the fields that are read
 level-completes : (d : Fields) (fs : List Frame) (spot : Spot) (w : List ℕ) (t : Fields) → Completes d fs spot w t → level (depth d) fs ≤ depth t
 level-completes d [] spot w t (x, h, e) = rw e (omega (arith, depth-append d x))
 level-completes d (f ∷ fs) spot w t (u, c, v, x, e, h, k, more) =
@@ -39,7 +39,7 @@ level-completes d (f ∷ fs) spot w t (u, c, v, x, e, h, k, more) =
 pub deep : (s : State) (w : List ℕ) (t : Fields) → outcome s w ≡ Some t → level (depth s.done) s.frames ≤ depth t
 deep s w t e = level-completes s.done s.frames s.spot w t (sound w s t e)
 
--- In a list of messages one has been read, once an element has; and no scalar is read there.
+-- After an element of a list of messages, a message has been read. No scalar is read there.
 abbrev pub place_deep : Place → Fields → Type 0
 place_deep (element n true) d = 1 ≤ depth d
 place_deep (behind n true) d = 1 ≤ depth d

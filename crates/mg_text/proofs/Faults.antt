@@ -104,7 +104,7 @@ no_text p e (rest, t, h) =
 pub one_text : (file : List ℕ) (t u : Fields) → Gives file t → Gives file u → t ≡ u
 one_text file t u h k = some_same (sym (complete_text (file ++ 10 ∷ []) t h) ∙ complete_text (file ++ 10 ∷ []) u k)
 
--- fronts of fronts
+-- prefixes of prefixes
 
 front_of : (file : List ℕ) (m n : ℕ) → m ≤ n → take n file ≡ take m file ++ drop m (take n file)
 front_of file m n h = sym (take-append-drop m (take n file)) ∙ ap (λ z. z ++ drop m (take n file)) (take-take m n file h)

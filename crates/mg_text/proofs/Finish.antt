@@ -26,7 +26,7 @@ use Rattle.mg_text.proofs.TokenRuns.{naming_run, token_run}
 use Rattle.mg_text.proofs.StringRuns.{inside_run, tail_bytes}
 use Rattle.mg_text.proofs.Complete.{complete}
 
--- The depth of the whole so far, where the innermost open message is k deep.
+-- The depth of the whole so far, if the innermost open message is k deep.
 abbrev pub level : ℕ → List Frame → ℕ
 level k [] = k
 level k (f ∷ fs) = level (max (depth f.before) (suc k)) fs
@@ -49,7 +49,7 @@ pub level_least : (k : ℕ) (fs : List Frame) → length fs + k ≤ level k fs
 level_least k [] = omega arith
 level_least k (f ∷ fs) = omega (arith, level_least (max (depth f.before) (suc k)) fs)
 
--- only where a message has to follow does a completion nest deeper
+-- a completion nests deeper only if a message has to follow
 abbrev pub extra : Place → ℕ
 extra (element n true) = 1
 extra _ = 0
@@ -262,7 +262,7 @@ unfolding class_of below_digits digit_class upper_class lower_class
 escape_completion d fs n slot bytes q =
     before _ _ _ (110 ∷ []) (λ w. inside_run d fs n slot bytes q Escape 110 (Plain Whole, 10 ∷ []) w refl) (plain_completion d fs n slot (bytes ++ 10 ∷ []) q)
 
--- where a message has to follow
+-- 1 if a message has to follow, and otherwise 0
 abbrev pub spot_extra : Spot → ℕ
 spot_extra (at p) = extra p
 spot_extra (comment p t) = extra p

@@ -1,4 +1,4 @@
--- What completes a name of which a part is read, and how such a rest makes a name of the grammar.
+-- What completes a name that is read in part, and how such a rest makes a name of the grammar.
 use Rattle.std.proofs.Common.{◌≡◌, ℕ, List, [], ◌∷◌, ◌++◌, Bool, true, false, Some, refl, sym, ap, subst, ◌⊎◌, inl, inr, append_assoc}
 use Rattle.std.proofs.lemmas.List.{append-nil}
 use Rattle.mg_text.specs.declared.parts.Class.{Class}
@@ -11,7 +11,7 @@ use Rattle.mg_text.specs.Grammar.{AllOf, IsWord, IsPath, IsName}
 use Rattle.mg_text.specs.Code.Machine.{name_next, is_whole_name}
 use Rattle.mg_text.proofs.Choices.{from_if}
 
--- these bytes end a name of which a part is read
+-- these bytes end a name that is read in part
 abbrev pub NameEnds : NamePart → List ℕ → Type 0
 NameEnds part [] = is_whole_name part ≡ true
 NameEnds part (b ∷ y) = (q : NamePart) × (name_next part (class_of b) ≡ Some q) × NameEnds q y

@@ -1,4 +1,4 @@
--- What completes a comment or a piece of a string of which a part is read, and how such a rest makes one of the grammar.
+-- What completes a comment or a piece of a string that is read in part, and how such a rest makes one of the grammar.
 use Rattle.std.proofs.Common.{◌≡◌, ℕ, ◌-◌, List, [], ◌∷◌, ◌++◌, true, Option, Some, None, refl, sym, ap, ◌∙◌, subst}
 use Rattle.std.specs.Option.{option_map}
 use Rattle.mg_text.specs.declared.parts.Class.{Class}
@@ -15,11 +15,11 @@ use Rattle.mg_text.specs.Code.Machine.{plain_next, escape_next, inside_next, dig
 use Rattle.mg_text.proofs.Choices.{some_same, from_if, mapped}
 use Rattle.mg_text.proofs.ByteValues.{octal_digit, first_octal_digit, octal_value}
 
--- these bytes end a comment of which a character is read in part
+-- these bytes end a comment with a character that is read in part
 pub data LineEnds : Tail → List ℕ → Type 0 where
   in_line_tail : {t : Tail} {u k : List ℕ} → IsTail t u → IsLine k → LineEnds t (u ++ k)
 
--- these bytes end a piece of which a part is read, and spell those
+-- the first bytes end a piece that is read in part, and spell the second bytes
 pub data InsideEnds (q : Quote) : Inside → List ℕ → List ℕ → Type 0 where
   in_char : {t : Tail} {u s d : List ℕ} → IsTail t u → IsContent q s d → InsideEnds q (Plain t) (u ++ s) (u ++ d)
   in_escape : {c v : ℕ} {s d : List ℕ} → escaped (class_of c) ≡ Some v → IsContent q s d → InsideEnds q Escape (c ∷ s) (v ∷ d)

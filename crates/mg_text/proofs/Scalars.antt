@@ -1,4 +1,4 @@
--- Words and numbers of which a part is read: they keep their kind, and what completes one makes one of the grammar.
+-- Words and numbers that are read in part: they keep their kind, and what completes one makes a word or a number of the grammar.
 use Rattle.std.proofs.Common.{◌≡◌, ℕ, List, [], ◌∷◌, ◌++◌, Bool, true, false, cond, Some, None, refl, sym, ap, subst, ◌⊎◌, inl, inr}
 use Rattle.mg_text.specs.declared.parts.Class.{Class}
 use Rattle.mg_text.specs.declared.parts.Class.TheVariants.{Minus, Plus, Dot, Zero, LetterE, LetterF, LetterX}
@@ -10,7 +10,7 @@ use Rattle.mg_text.specs.Grammar.{AllOf, Some1, IsWord, IsNumber, IsUnsigned, Is
 use Rattle.mg_text.specs.Code.Machine.{scalar_next, is_whole_scalar, kind_of}
 use Rattle.mg_text.proofs.Choices.{some_same, from_if}
 
--- these bytes end a word or a number of which a part is read
+-- these bytes end a word or a number that is read in part
 abbrev pub ScalarEnds : ScalarPart → List ℕ → Type 0
 ScalarEnds part [] = is_whole_scalar part ≡ true
 ScalarEnds part (b ∷ y) = (q : ScalarPart) × (scalar_next part (class_of b) ≡ Some q) × ScalarEnds q y

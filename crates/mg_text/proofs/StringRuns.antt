@@ -118,7 +118,7 @@ piece_run d fs p n slot sofar q b u e v l k h =
     go d fs (at p) d fs (piece n slot sofar q (Plain Whole)) b (quote_class q) (u ++ v) k (quote_byte d fs p q b (n, slot, sofar) l)
     ∙ content_run q d fs n slot sofar u e v h
 
--- A string is whole where what follows can stand after it.
+-- A string is whole if what follows can stand after it.
 
 abbrev whole_string : Fields → List ℕ → Slot → List ℕ → Fields
 whole_string d n slot bytes = append d (scalar n quoted bytes none)

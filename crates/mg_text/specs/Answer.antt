@@ -23,35 +23,36 @@ BeginsText bytes = (rest : List ℕ) × (t : Fields) × Gives (bytes ++ rest) t
 abbrev pub BeginsShallowText : List ℕ → Type 0
 BeginsShallowText bytes = (rest : List ℕ) × (t : Fields) × Gives (bytes ++ rest) t × (depth t ≤ max_depth)
 
--- The file is no text, and its longest front that begins some text has this length. Up to there it isn't too deep.
+-- The file is no text, and its longest prefix that begins some text has this length. This prefix begins a text that isn't too deep.
 pub record IsSyntaxFault (file : List ℕ) (place : ℕ) : Type 0 where
   pub within : place ≤ length file
   pub front : BeginsShallowText (take place file)
   pub longest : (n : ℕ) → place < n → n ≤ length file → ¬ (BeginsText (take n file))
   pub no_text : (t : Fields) → ¬ (Gives file t)
 
--- The byte at this place is the first that makes the file too deep, as the opening mark of a message does where as many
--- as may be are open: the front before it begins a text that isn't too deep, and with it only texts that are.
+-- The byte at this place is the first that makes the file too deep. The opening mark of a message does so if as many
+-- messages as may be are open. The prefix before the byte begins a text that isn't too deep. With the byte, the prefix
+-- begins some text, and each such text is too deep.
 pub record IsTooDeep (file : List ℕ) (place : ℕ) : Type 0 where
   pub within : place < length file
   pub front : BeginsShallowText (take place file)
   pub some : BeginsText (take (place + 1) file)
   pub all : (rest : List ℕ) (t : Fields) → Gives (take (place + 1) file ++ rest) t → max_depth < depth t
 
--- the cause of each fault; want of memory may come at any time
+-- the cause of each fault; out of memory may come at any time
 abbrev pub IsFault : List ℕ → TextFault → Type 0
 IsFault file (Syntax place) = IsSyntaxFault file place
 IsFault file (TooDeep place) = IsTooDeep file place
 IsFault file TooLong = max_len < length file
 IsFault file OutOfMemory = Unit {0}
 
--- the answer is that tree, or want of memory
+-- the answer is that tree, or out of memory
 abbrev pub IsTree : Fields → Result Tree TextFault → Type 0
 IsTree t (Ok tree) = view tree ≡ t
 IsTree t (Err OutOfMemory) = Unit {0}
 IsTree t (Err fault) = ⊥
 
--- the answer is that fault, or want of memory
+-- the answer is that fault, or out of memory
 abbrev pub IsFailed : TextFault → Result Tree TextFault → Type 0
 IsFailed fault (Ok tree) = ⊥
 IsFailed fault (Err OutOfMemory) = Unit {0}

@@ -31,7 +31,7 @@ digit_class b =
     else (if is_within 50 55 b then OctalDigit
     else Digit))
 
--- the class of a byte from the colon up to the letter a, which isn't among them
+-- the class of a byte from the colon on and before the letter a
 unfoldable pub upper_class : ℕ → Class
 upper_class b =
     if b == 58 then Colon
@@ -116,13 +116,14 @@ is_hex _ = false
 abbrev pub is_word_byte : Class → Bool
 is_word_byte c = is_letter c || is_digit c
 
--- whether a byte of this class may not follow a word or a number at once, since it would join it: a letter, a digit or a point
+-- Whether a byte of this class may not follow a word or a number at once, since it would join it. Such a byte is a
+-- letter, a digit or a point.
 abbrev pub joins : Class → Bool
 joins Dot = true
 joins c = is_word_byte c
 
 -- A character past ASCII is UTF-8 (RFC 3629, section 4): a first byte, and the bytes that its row allows. After the
--- first byte, what is awaited: so many bytes from 128 to 191; or one of a narrower range, and then so many.
+-- first byte, so many bytes from 128 to 191 are awaited, or one byte of a narrower range and then so many bytes.
 abbrev pub lead : ℕ → Option Tail
 lead b =
     if is_within 194 223 b then Some OneMore
@@ -145,7 +146,7 @@ follow AfterED b = if is_within 128 159 b then Some OneMore else None
 follow AfterF0 b = if is_within 144 191 b then Some TwoMore else None
 follow AfterF4 b = if is_within 128 143 b then Some TwoMore else None
 
--- The bytes end a character of which this is awaited.
+-- The bytes end a character that awaits this.
 pub data IsTail : Tail → List ℕ → Type 0 where
   whole : IsTail Whole []
   byte : {t u : Tail} {b : ℕ} {s : List ℕ} → follow t b ≡ Some u → IsTail u s → IsTail t (b ∷ s)

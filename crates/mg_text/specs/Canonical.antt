@@ -24,8 +24,8 @@ abbrev pub escape_by : Option ℕ → ℕ → List ℕ
 escape_by (Some c) b = 92 ∷ c ∷ []
 escape_by None b = if nat_lt b 32 || b == 127 then 92 ∷ (48 + b / 64) ∷ (48 + b / 8 % 8) ∷ (48 + b % 8) ∷ [] else b ∷ []
 
--- A byte in a string: a short escape where there is one, three octal digits for the other bytes below 32 and for 127,
--- and all else as it is.
+-- A byte in a string becomes its short escape if there is one. Other bytes below 32, and 127, become a backslash and
+-- three octal digits. All else stays as it is.
 abbrev pub escape : ℕ → List ℕ
 escape b = escape_by (short_escape b) b
 

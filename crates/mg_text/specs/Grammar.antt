@@ -36,8 +36,8 @@ pub data IsPath : List ℕ → Type 0 where
   last : (w : List ℕ) → IsWord w → IsPath w
   more : (w : List ℕ) (b : ℕ) {p : List ℕ} → IsWord w → class_of b ≡ Dot → IsPath p → IsPath (w ++ b ∷ p)
 
--- A name is a word; or, for an extension, a path in brackets; or, for an Any, two paths in brackets with a slash
--- between them. Nothing else stands in the brackets.
+-- A name is a word. The name of an extension is a path in brackets. The name of an Any is two paths in brackets, with a
+-- slash between them. Nothing else stands in the brackets.
 pub data IsName : List ℕ → Type 0 where
   plain : (w : List ℕ) → IsWord w → IsName w
   extension : {p : List ℕ} {o : ℕ} (c : ℕ) → class_of o ≡ BracketOpen → IsPath p → class_of c ≡ BracketClose → IsName (o ∷ p ++ c ∷ [])
@@ -204,8 +204,8 @@ is_separator Comma = true
 is_separator Semicolon = true
 is_separator _ = false
 
--- From a place on, up to the end of the message or of the file, these bytes may stand, and these fields are what they
--- stand for. White space and comments may stand anywhere between tokens. A list stands for fields of one name.
+-- From a place on, up to the end of the message or of the file, these bytes may stand. They stand for these fields.
+-- White space and comments may stand anywhere between tokens. A list stands for fields of one name.
 pub data Stands : Place → List ℕ → Fields → Type 0 where
   ends : {f : Bool} → Stands (start f) [] none
   gap : {p : Place} {g w : List ℕ} {t : Fields} → IsGap g → Stands p w t → Stands p (g ++ w) t

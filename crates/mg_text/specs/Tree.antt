@@ -7,14 +7,14 @@ pub data Kind : Type 0 where
   number : Kind
   quoted : Kind
 
--- The fields of a file or of a message, in order: none; or a scalar, its name and its bytes, and the fields after it;
--- or a message, its name and its fields, and the fields after it.
+-- The fields of a file or of a message, in order. There are none, or a first field and the fields after it. The first
+-- field is a scalar with its name, its kind and its bytes, or a message with its name and its fields.
 pub data Fields : Type 0 where
   none : Fields
   scalar : List ℕ → Kind → List ℕ → Fields → Fields
   message : List ℕ → Fields → Fields → Fields
 
--- some fields, with others behind them
+-- some fields, followed by more fields
 abbrev pub append : Fields → Fields → Fields
 append none more = more
 append (scalar name kind bytes rest) more = scalar name kind bytes (append rest more)

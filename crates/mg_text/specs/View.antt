@@ -31,7 +31,7 @@ abbrev pub fields_of : List Entry → Fields
 fields_of [] = none
 fields_of (e ∷ es) = put e.name e.value (fields_of es)
 
--- what a value stands for, where what the fields inside it stand for is already known
+-- what a value stands for, if it is already known what the fields inside it stand for
 abbrev pub value_step : TreeValue-F Value Entry Fields → Value
 value_step (TreeValue-F.Scalar s) = scalar_view s
 value_step (TreeValue-F.Message fields) = inner fields

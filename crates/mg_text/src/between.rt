@@ -9,7 +9,7 @@ use crate::parts::{Class, Mark, Slot, Tail};
 use crate::state::{Between, Reading};
 
 impl Between {
-    /// Returns the place behind a value that stands in this slot.
+    /// Returns the place after a value that stands in this slot.
     pub fn after(slot: Slot) -> Between
         ensures { (name bytes : List ℕ) → place_of result name bytes ≡ after name slot }
     {
@@ -20,7 +20,7 @@ impl Between {
         }
     }
 
-    /// Returns the slot of a word, a number or a string that begins here, or none where none may begin.
+    /// Returns the slot of a word, a number or a string that begins here, or none if none may begin.
     pub fn scalar_slot(self) -> Option<Slot>
         ensures { (name bytes : List ℕ) → named_slot name result ≡ scalar_slot (place_of self name bytes) }
     {
@@ -32,7 +32,7 @@ impl Between {
         }
     }
 
-    /// Returns the slot of a message that begins here, or none where none may begin.
+    /// Returns the slot of a message that begins here, or none if none may begin.
     pub fn message_slot(self) -> Option<Slot>
         ensures { (name bytes : List ℕ) → named_slot name result ≡ message_slot (place_of self name bytes) }
     {
@@ -45,7 +45,7 @@ impl Between {
         }
     }
 
-    /// Returns whether a list that begins here has a colon before it, or none where no list may begin.
+    /// Returns whether a list that begins here has a colon before it, or none if no list may begin.
     pub fn list_slot(self) -> Option<bool>
         ensures { (name bytes : List ℕ) → named_list name result ≡ list_slot (place_of self name bytes) }
     {
@@ -56,7 +56,7 @@ impl Between {
         }
     }
 
-    /// Returns what is read behind a colon, or none where no colon may stand here.
+    /// Returns what is read after a colon, or none if no colon may stand here.
     pub fn colon(self) -> Option<Reading>
         ensures { (name bytes : List ℕ) → option_map (λ r. spot_of r name bytes) result ≡ colon_spot (place_of self name bytes) }
     {
@@ -66,7 +66,7 @@ impl Between {
         }
     }
 
-    /// Returns what is read behind a comma, or none where no comma may stand here.
+    /// Returns what is read after a comma, or none if no comma may stand here.
     pub fn comma(self) -> Option<Reading>
         ensures { (name bytes : List ℕ) → option_map (λ r. spot_of r name bytes) result ≡ comma_spot (place_of self name bytes) }
     {
@@ -77,7 +77,7 @@ impl Between {
         }
     }
 
-    /// Returns what is read behind a semicolon, or none where no semicolon may stand here.
+    /// Returns what is read after a semicolon, or none if no semicolon may stand here.
     pub fn semicolon(self) -> Option<Reading>
         ensures { (name bytes : List ℕ) → option_map (λ r. spot_of r name bytes) result ≡ semicolon_spot (place_of self name bytes) }
     {
@@ -87,7 +87,7 @@ impl Between {
         }
     }
 
-    /// Returns what is read behind the bracket that closes a list, or none where no list may end here.
+    /// Returns what is read after the bracket that closes a list, or none if no list may end here.
     pub fn list_end(self) -> Option<Reading>
         ensures { (name bytes : List ℕ) → option_map (λ r. spot_of r name bytes) result ≡ list_end_spot (place_of self name bytes) }
     {
@@ -117,7 +117,7 @@ fn comment_start(p: Between, c: Class, b: u8) -> Option<Reading>
     }
 }
 
-/// Returns what is read after one more byte of a comment, or none where the byte can't stand there.
+/// Returns what is read after one more byte of a comment, or none if the byte can't stand there.
 pub fn comment_next(p: Between, t: Tail, c: Class, b: u8) -> Option<Reading>
     ensures { (name bytes : List ℕ) → option_map (λ r. spot_of r name bytes) result ≡ comment_spot (place_of p name bytes) t c b }
 {

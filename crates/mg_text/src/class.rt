@@ -98,7 +98,7 @@ impl Class {
     }
 }
 
-/// Returns what is awaited behind the first byte of a character past ASCII, or none where no character begins with the byte.
+/// Returns what is awaited after the first byte of a character past ASCII, or none if no character begins with the byte.
 pub fn lead(b: u8) -> Option<Tail>
     ensures { result ≡ lead b }
 {
@@ -131,7 +131,7 @@ fn within(low: u8, high: u8, b: u8, next: Tail) -> Option<Tail>
     }
 }
 
-/// Returns what is awaited of a character after one more byte, or none where the byte can't come next.
+/// Returns what is awaited of a character after one more byte, or none if the byte can't come next.
 pub fn follow(t: Tail, b: u8) -> Option<Tail>
     ensures { result ≡ follow t b }
 {

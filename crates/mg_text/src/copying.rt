@@ -1,4 +1,4 @@
-//! Copies of trees, and of what is in them. A copy stands for what the first stands for, and belongs to the caller. The
+//! Copies of trees, and of what is in them. A copy stands for what the original stands for, and belongs to the caller. The
 //! fields of a message aren't copied, but shared.
 ghost use Rattle.std.specs.Prelude.{◌≡◌, IfOk};
 ghost use Rattle.mg_text.specs.View.{view, field_view, value_view, scalar_view};
@@ -8,7 +8,7 @@ use std::alloc::{AllocError, Global};
 use std::sync::Arc;
 
 impl Scalar {
-    /// Returns a copy of the scalar. An error, want of memory, leaves nothing behind.
+    /// Returns a copy of the scalar. If memory runs out, the error leaves nothing behind.
     pub fn try_clone(&self, alloc: Global) -> Result<Scalar, AllocError>
         ensures { IfOk result (λ copy. scalar_view copy ≡ scalar_view self.now) }
     {
@@ -21,7 +21,8 @@ impl Scalar {
 }
 
 impl TreeValue {
-    /// Returns a copy of the value. The fields of a message are shared. An error, want of memory, leaves nothing behind.
+    /// Returns a copy of the value. The fields of a message are shared. If memory runs out, or the owners of a message
+    /// overflow their count, the error leaves nothing behind.
     pub fn try_clone(&self, alloc: Global) -> Result<TreeValue, AllocError>
         ensures { IfOk result (λ copy. value_view copy ≡ value_view self.now) }
     {
@@ -33,7 +34,7 @@ impl TreeValue {
 }
 
 impl Field {
-    /// Returns a copy of the field. An error, want of memory, leaves nothing behind.
+    /// Returns a copy of the field. If memory runs out, or the owners of a message overflow their count, the error leaves nothing behind.
     pub fn try_clone(&self, alloc: Global) -> Result<Field, AllocError>
         ensures { IfOk result (λ copy. field_view copy ≡ field_view self.now) }
     {
@@ -44,8 +45,8 @@ impl Field {
 }
 
 impl Tree {
-    /// Returns another owner of the same fields, which are shared and not copied. An error, where more owners would
-    /// overflow their count, leaves nothing behind.
+    /// Returns another owner of the same fields, which are shared and not copied. If more owners would overflow their
+    /// count, the error leaves nothing behind.
     pub fn try_clone(&self) -> Result<Tree, AllocError>
         ensures { IfOk result (λ copy. view copy ≡ view self.now) }
     {

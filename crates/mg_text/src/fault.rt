@@ -4,7 +4,7 @@ use thiserror::Error;
 /// Why a file isn't read. A place counts bytes from 0.
 #[derive(Debug, Drop, Error)]
 pub enum TextFault {
-    /// The file is no text of the grammar: its first `at` bytes begin some text, and no longer front of it begins one.
+    /// The file is no text of the grammar: its first `at` bytes begin some text, and no longer prefix of the file begins one.
     #[error("no text of the grammar goes on as the file does at byte {at}")]
     Syntax { at: u32 },
     /// The mark at byte `at` opens a message inside 64 others, which is one too many.

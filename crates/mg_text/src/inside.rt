@@ -43,7 +43,7 @@ fn is_first_octal(c: Class) -> bool
     matches!(c, Class::Zero | Class::One)
 }
 
-/// Returns the value, as a byte, of the octal digits with value `v` and one digit more.
+/// Returns the value, as a byte, of the octal digits with value `v` and one more digit.
 fn digit_onto(v: u8, b: u8) -> u8
     ensures { result ≡ digit_onto v b }
 {
@@ -90,8 +90,8 @@ fn escape_next(c: Class, b: u8) -> Option<(Inside, Option<u8>)>
     }
 }
 
-/// Returns what is read of a piece after a byte that doesn't close it, and the byte that the string gets, if any; or
-/// none where the byte can't stand there.
+/// Returns what is read of a piece after a byte that doesn't close it, and the byte that the string gets, if any.
+/// Returns none if the byte can't stand there.
 pub fn inside_next(q: Quote, i: Inside, c: Class, b: u8) -> Option<(Inside, Option<u8>)>
     ensures { option_map spelling_of result ≡ inside_next q i c b }
 {

@@ -10,12 +10,12 @@ pub fn one_tree()
     ensures { (text : List ℕ) (t u : Fields) → Gives text t → Gives text u → t ≡ u }
 {}
 
-/// The canonical text of fields is a text of the grammar that stands for them, where the grammar can spell their names and scalars.
+/// The canonical text of fields is a text of the grammar that stands for them, if the grammar can spell their names and scalars.
 pub fn canonical_text()
     ensures { (t : Fields) → AreSpelled t → Gives (canonical t) t }
 {}
 
-/// The grammar can spell the names and scalars of what a text stands for, so that can be printed.
+/// The grammar can spell the names and scalars of the fields that a text stands for, so these fields can be printed.
 pub fn spelled_text()
     ensures { (text : List ℕ) (t : Fields) → Gives text t → AreSpelled t }
 {}

@@ -24,8 +24,8 @@ pub struct Frame {
     pub mark: Mark,
 }
 
-/// The reader of a text: the fields of the innermost open message so far, the messages around it, and what is being
-/// read, with the name of the field and the bytes of the token so far.
+/// The reader of a text. It has the fields of the innermost open message so far, the messages around it, and what is
+/// being read. It also has the name of the field and the bytes of the token so far.
 #[derive(Drop)]
 pub struct Machine {
     pub done: Vec<Field>,
@@ -127,7 +127,7 @@ impl Machine {
         }
     }
 
-    /// Ends the string at a place, if one stands there, since no further piece follows. Returns the place behind it, or else `p`.
+    /// Ends the string at a place, if one stands there, since no further piece follows. Returns the place after the string, or else `p`.
     pub fn settle(&mut self, alloc: Global, p: Between) -> Result<Between, AllocError>
         requires { IsCleanPlace (place_of p self.old.name self.old.token.items) }
         ensures state { OnOk result (state_of self.new

@@ -10,7 +10,7 @@ fn name_if(holds: bool, next: NamePart) -> Option<NamePart>
     if holds { Some(next) } else { None }
 }
 
-/// Returns how far a name is read after one more byte, or none where the byte doesn't belong to the name.
+/// Returns how far a name is read after one more byte, or none if the byte doesn't belong to the name.
 pub fn name_next(part: NamePart, c: Class) -> Option<NamePart>
     ensures { result ≡ name_next part c }
 {
@@ -29,7 +29,7 @@ pub fn name_next(part: NamePart, c: Class) -> Option<NamePart>
     }
 }
 
-/// Whether a name may end behind this part.
+/// Whether a name may end after this part.
 pub fn is_whole_name(part: NamePart) -> bool
     ensures { result ≡ is_whole_name part }
 {
@@ -42,7 +42,7 @@ fn scalar_if(holds: bool, next: ScalarPart) -> Option<ScalarPart>
     if holds { Some(next) } else { None }
 }
 
-/// Returns how far a word or a number is read after one more byte, or none where the byte doesn't belong to it.
+/// Returns how far a word or a number is read after one more byte, or none if the byte doesn't belong to it.
 pub fn scalar_next(part: ScalarPart, c: Class) -> Option<ScalarPart>
     ensures { result ≡ scalar_next part c }
 {
@@ -76,7 +76,7 @@ pub fn scalar_next(part: ScalarPart, c: Class) -> Option<ScalarPart>
     }
 }
 
-/// Whether a word or a number may end behind this part.
+/// Whether a word or a number may end after this part.
 pub fn is_whole_scalar(part: ScalarPart) -> bool
     ensures { result ≡ is_whole_scalar part }
 {

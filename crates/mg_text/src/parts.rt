@@ -40,8 +40,8 @@ pub enum Class {
     Beyond,
 }
 
-/// What is awaited of a character past ASCII: nothing, so many bytes from 128 to 191, or one of the narrower range that
-/// its first byte asks for and then as many as are missing.
+/// What is awaited of a character past ASCII. It is nothing, or so many bytes from 128 to 191. Some first bytes ask for
+/// a byte of a narrower range, and then for as many bytes as are missing.
 #[derive(Clone, Copy, Debug)]
 pub enum Tail {
     Whole,

@@ -49,7 +49,7 @@ impl Machine {
     }
 }
 
-// Returns the run that is being read, or none where further bytes do more than lengthen what is being read.
+// Returns the run that is being read, or none if further bytes do more than lengthen what is being read.
 fn run_of(reading: Reading) -> Option<Run>
     ensures { result ≡ run_of reading }
 {

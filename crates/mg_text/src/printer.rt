@@ -20,7 +20,7 @@ fn put_indent(out: &mut Vec<u8>, k: usize) -> Result<(), AllocError>
     Ok(())
 }
 
-/// Returns what stands behind the backslash in the short escape of a byte, or none where the byte has none.
+/// Returns what stands after the backslash in the short escape of a byte, or none if the byte has no short escape.
 fn short_escape(b: u8) -> Option<u8>
     ensures { result ≡ short_escape b }
 {
@@ -78,7 +78,7 @@ fn put_scalar(out: &mut Vec<u8>, scalar: &Scalar) -> Result<(), AllocError>
     Ok(())
 }
 
-/// Writes the front of a field's line: its indent and its name.
+/// Writes the beginning of a field's line: its indent and its name.
 fn put_name(out: &mut Vec<u8>, field: &Field, k: usize) -> Result<(), AllocError>
     requires { k < 2 ^ 32 }
     ensures { OnOk result (out.new.items ≡ out.old.items ++ indent k ++ field.now.name) }
@@ -131,7 +131,7 @@ fn written(alloc: Global, tree: &Tree) -> Result<Vec<u8>, AllocError>
 }
 
 /// Returns the canonical text: a line for each scalar, and a message's lines between two of its own, indented by two
-/// spaces per open message. `parse` reads the tree back from the text, where that is at most 4,194,304 bytes long.
+/// spaces per open message. `parse` reads the tree back from the text, if the text is at most 4,194,304 bytes long.
 pub fn print(alloc: Global, tree: &Tree) -> Result<Vec<u8>, AllocError>
     requires spelled { AreSpelled (view tree.now) }
     requires shallow { depth (view tree.now) ≤ max_depth }

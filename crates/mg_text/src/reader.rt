@@ -54,9 +54,9 @@ fn read(alloc: Global, bytes: &[u8]) -> Result<Tree, TextFault>
 }
 
 /// Reads a file in the text form of protocol buffers, in the profile of docs/TEXT_FORMAT.md, after the Protocol Buffers
-/// text format language specification. The time grows with the file's length, and the stack doesn't with its depth.
+/// text format language specification. The time grows with the file's length. The stack doesn't grow with the file's depth.
 pub fn parse(alloc: Global, bytes: &[u8]) -> Result<Tree, TextFault>
-    // The tree that is returned is the one that the grammar gives.
+    // The returned tree is the tree that the grammar gives.
     ensures ok { IfOk result (λ tree. Gives bytes.now (view tree) × (depth (view tree) ≤ max_depth)) }
     ensures spelled { IfOk result (λ tree. AreSpelled (view tree)) }
     ensures fault { IfErr result (IsFault bytes.now) }

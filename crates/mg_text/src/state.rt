@@ -2,8 +2,8 @@
 
 use crate::parts::{Quote, Slot, Tail};
 
-/// How far a name is read: in a word; or in brackets, where a word begins or goes on, before the `/` or behind it; or
-/// behind the closing bracket.
+/// How far a name is read. A name without brackets is read in its word. In brackets, a word begins or goes on, before
+/// the `/` or after it. Or the closing bracket has been read.
 #[derive(Clone, Copy, Debug)]
 pub enum NamePart {
     Word,
@@ -15,8 +15,8 @@ pub enum NamePart {
 }
 
 /// How far a word or a number is read. The parts of a number are named by what was read last: `Zero` is a leading zero,
-/// `Point` the point, `Fraction` a digit behind it, `Exponent` the `e`, `Sign` its sign, `Power` a digit of it,
-/// `HexStart` the `x`, `Suffix` the `f`.
+/// `Point` the point, and `Fraction` a digit after the point. `Exponent` is the `e`, `Sign` its sign, and `Power` a
+/// digit of the exponent. `HexStart` is the `x`, and `Suffix` the `f`.
 #[derive(Clone, Copy, Debug)]
 pub enum ScalarPart {
     Word,
@@ -33,8 +33,8 @@ pub enum ScalarPart {
     Suffix,
 }
 
-/// How far a piece of a string is read: between characters or in one, behind a backslash, or in an octal escape behind
-/// its first or second digit, with the value of the digits so far.
+/// How far a piece of a string is read: between characters or in one, after a backslash, or in an octal escape. In an
+/// octal escape the first digit has been read, or the first two, and the value of these digits is kept.
 #[derive(Clone, Copy, Debug)]
 pub enum Inside {
     Plain(Tail),
@@ -55,7 +55,7 @@ pub enum Between {
     Joined(Slot),
 }
 
-/// What is being read: nothing, at a place between tokens; a comment there; a name; a word or a number; or a piece of a string.
+/// What is being read: nothing at a place between tokens, a comment there, a name, a word or number, or a piece of a string.
 #[derive(Clone, Copy, Debug)]
 pub enum Reading {
     At(Between),
@@ -73,7 +73,7 @@ pub enum Kind {
     Quoted,
 }
 
-/// What is being read where further bytes may only lengthen it: white space, a comment, a word, or a piece of a string.
+/// What is being read if further bytes may only lengthen it: white space, a comment, a word, or a piece of a string.
 #[derive(Clone, Copy, Debug)]
 pub enum Run {
     Blank,

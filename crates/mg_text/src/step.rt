@@ -197,7 +197,7 @@ impl Machine {
         }
     }
 
-    /// Keeps the name that has been read, and goes to the place behind it.
+    /// Keeps the name that has been read, and goes to the place after it.
     fn end_name(&mut self, alloc: Global) -> Result<(), AllocError>
         requires { IsUtf8 self.old.token.items }
         ensures state { OnOk result (state_of self.new ≡ moved (state_of self.old) (named self.old.token.items)) }
@@ -286,7 +286,7 @@ impl Machine {
         }
     }
 
-    /// Whether a text may end at this place, where nothing is being read.
+    /// Whether a text may end at this place, if nothing is being read.
     fn may_end(&self, p: Between) -> bool
         ensures { result ≡ is_some (final (fields_view self.now.done.items) (frames_of self.now.frames.items)
             (place_of p self.now.name self.now.token.items)) }
@@ -297,7 +297,7 @@ impl Machine {
         }
     }
 
-    /// Returns the fields of the text that ends here, or none where no text may end here.
+    /// Returns the fields of the text that ends here, or none if no text may end here.
     pub fn finish(mut self, alloc: Global) -> Result<Option<Tree>, AllocError>
         requires { IsClean (spot_of self.reading self.name self.token.items) }
         ensures { IfOk result (λ tree. option_map view tree ≡ accepts (state_of self)) }

@@ -40,7 +40,7 @@ pub enum Scalar {
 }
 
 impl Tree {
-    /// Returns the tree of fields. What room the list has for more is given back.
+    /// Returns the tree of fields. Room in the list for more fields is given back.
     pub fn new(alloc: Global, mut fields: Vec<Field>) -> Result<Tree, AllocError>
         ensures { IfOk result (λ tree. view tree ≡ fields_view fields.items) }
     {

@@ -11,7 +11,7 @@ use Rattle.mg_check.specs.declared.fault.CheckFault.TheVariants.{NoMoreBoxes}
 use Rattle.mg_check.specs.declared.groups.Groups.{Groups}
 use Rattle.mg_check.specs.declared.node_kind.NodeKind.{NodeKind}
 
--- The table has the numbers of the calculators that are handed in, by their names.
+-- The table has the numbers of the user-supplied calculators, by their names.
 abbrev pub IsStock : Groups → List OuterShape → Type 0
 IsStock stock outers = (name : List ℕ) → kept stock name ≡ outers_named outers name
 

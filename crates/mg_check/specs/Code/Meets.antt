@@ -15,7 +15,7 @@ meet inferred kind =
     if is_any inferred.kind then record { kind = kind; clash = inferred.clash }
     else record { kind = inferred.kind; clash = inferred.clash || not (is_any kind) && not (is_kind kind inferred.kind) }
 
--- what is known of all streams after one more port, which reads the stream of a number; the last argument is what was known of that one
+-- What is known of all streams after one more port, which reads the stream of a number. The last argument is what was known of that stream.
 abbrev pub meet_by : List Inferred → ℕ → Kind → Option Inferred → List Inferred
 meet_by mets stream kind None = mets
 meet_by mets stream kind (Some inferred) = slice_set mets stream (meet inferred kind)

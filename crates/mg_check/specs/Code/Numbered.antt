@@ -11,7 +11,7 @@ pub record AreNumbers (numbers : Numbers) (streams sides : List (List ℕ)) (fir
   pub at_outputs : numbers.outputs ≡ range_with_len first (length d.outputs)
   pub at_sides : numbers.sides ≡ map (number_among sides) d.sides
 
--- the number of the first stream after the outputs of these drafts, where that of the first output is this one
+-- the number of the first stream after the outputs of these drafts, if their first output has this number
 abbrev pub next_after : ℕ → List DraftView → ℕ
 next_after first [] = first
 next_after first (d ∷ ds) = next_after (first + length d.outputs) ds

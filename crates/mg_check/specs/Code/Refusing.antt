@@ -27,7 +27,7 @@ wiring_refusal graph ds = option_or (kind_clash graph ds) (option_or (back_edge_
 abbrev pub clash_by : List (List ℕ) → List Inferred → Option CheckFault
 clash_by names mets = option_map KindClash (option_and_then (λ n. slice_get names n) (position (λ inferred. inferred.clash) mets))
 
--- The names are those of the graph's streams and side packets, of which none has two producers.
+-- The names are those of the graph's streams and side packets. None of them has two producers.
 pub record ArePlanNames (plan_names : PlanNames) (graph : GraphView) (ds : List DraftView) : Type 0 where
   pub of_streams : plan_names.streams ≡ stream_names graph ds
   pub of_sides : plan_names.sides ≡ side_names graph ds

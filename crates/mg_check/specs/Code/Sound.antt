@@ -14,7 +14,7 @@ pub record HasNames (d : DraftView) : Type 0 where
   pub sides : length d.sides ≡ length d.shape.sides
   pub side_outputs : length d.side_outputs ≡ length d.constants
 
--- The number of sets that may be in flight is from 1 to 64, but 1 where a calculator is handed in or keeps a state.
+-- The number of sets that may be in flight is from 1 to 64. It is 1 if the calculator is user-supplied or keeps a state.
 pub record HasFlight (d : DraftView) : Type 0 where
   pub some : 1 ≤ d.in_flight
   pub most : d.in_flight ≤ 64
@@ -25,8 +25,8 @@ pub record HasFlight (d : DraftView) : Type 0 where
 abbrev pub IsBackPort : Law → ℕ → Type 0
 IsBackPort rule port = ((port ≡ 0) × (rule ≡ Loopback)) ⊎ ((port ≡ 1) × IsLimiter rule)
 
--- The draft's law has parameters in their ranges, its shape is its law's, it has a policy that its law may have, a calculator that is
--- handed in where its law is stated, and a back edge only where one may be.
+-- The draft's law has parameters in their ranges, and the draft's shape is its law's. The draft has a policy that its
+-- law may have. If its law is stated, its calculator is user-supplied. It has a back edge only where one may be.
 pub record IsSound (d : DraftView) : Type 0 where
   pub names : HasNames d
   pub parameters : ParametersFit d.law
@@ -36,12 +36,13 @@ pub record IsSound (d : DraftView) : Type 0 where
   pub stated : IsStated d.law → IsSome d.box_number
   pub back : IfSome d.back (IsBackPort d.law)
 
--- The calculator that is handed in has the draft's law and shape.
+-- The user-supplied calculator has the draft's law and shape.
 pub record FitsDraft (d : DraftView) (outer : OuterShape) : Type 0 where
   pub same_law : outer.law ≡ d.law
   pub same_shape : outer.shape ≡ d.shape
 
--- All drafts are sound; no two have the same calculator that is handed in, and each that has one has its law and shape.
+-- All drafts are sound, and no two have the same user-supplied calculator. Each draft with a user-supplied calculator
+-- has that calculator's law and shape.
 pub record AreSound (outers : List OuterShape) (ds : List DraftView) : Type 0 where
   pub each : All IsSound ds
   pub once : AllPairs ◌≢◌ (filter_map (λ d. d.box_number) ds)

@@ -14,7 +14,7 @@ stream_of e = record { name = e.0; kind = e.1.0.kind; producer = e.1.1 }
 abbrev pub streams_of : List (List ℕ) → List Inferred → List Producer → List PlanStream
 streams_of names mets writers = map stream_of (zip names (zip mets writers))
 
--- the side packets that are handed in, whose places are counted from a number on
+-- the graph's input side packets, with their places counted from a number on
 abbrev pub given_from : ℕ → List (List ℕ) → List PlainSide
 given_from from names = map (λ e. record { name = e.1; value = given_at e.0 }) (enumerate_from from names)
 

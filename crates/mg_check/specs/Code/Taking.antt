@@ -9,7 +9,7 @@ use Rattle.mg_check.specs.Order.{is_among}
 abbrev pub is_marked : List Bool → ℕ → Bool
 is_marked marks n = slice_index_or marks n false
 
--- There are so many places, of which exactly those at the numbers are marked.
+-- There are so many places, and exactly those at the numbers are marked.
 pub record HasMarks (count : ℕ) (ns : List ℕ) (marks : List Bool) : Type 0 where
   pub len : length marks ≡ count
   pub marked : (n : ℕ) → n < count → is_marked marks n ≡ is_among ns n
@@ -46,8 +46,8 @@ pub record HasPassing (bound : ℕ) (passes : ℕ → Bool) (set : BTreeSet ℕ)
   pub below : (n : ℕ) → contains nat_cmp set n ≡ true → n < bound
   pub passing : (n : ℕ) → n < bound → contains nat_cmp set n ≡ passes n
 
--- The marks, the counts and the set are those of an order so far: which nodes are taken, how many links each waits for,
--- and which may be taken next.
+-- The marks, the counts and the set are those of an order so far. The marks say which nodes are taken, and the counts
+-- how many links each node waits for. The set has the nodes that may be taken next.
 pub record IsAfter (count : ℕ) (links : List Link) (order : List ℕ) (taken : List Bool) (waiting : List ℕ) (ready : BTreeSet ℕ) : Type 0 where
   pub marks : HasMarks count order taken
   pub waits : HasWaits count links (is_among order) waiting

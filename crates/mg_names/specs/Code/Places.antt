@@ -23,7 +23,7 @@ kept_place places tag index = slot_of (option_map (λ slots. slots.items) (tree.
 abbrev pub lacks_lower : Places → Port → Bool
 lacks_lower places port = not (port.index == 0) && is_none (kept_place places port.tag (port.index - 1))
 
--- the place of a tag and index among ports, by their table where they have one
+-- the place of a tag and index among ports, by their table if they have one
 abbrev pub found_in : Option Places → List Port → List ℕ → ℕ → Option ℕ
 found_in None ports tag index = place_of tag index ports
 found_in (Some places) ports tag index = kept_place places tag index

@@ -5,7 +5,7 @@ use Rattle.mg_subgraph.specs.Names.{prefix, joined_name, stream_name, side_name}
 use Rattle.mg_subgraph.specs.declared.renaming.Binding.{Binding}
 use Rattle.mg_subgraph.specs.declared.renaming.Use.{Use}
 
--- what an inner name becomes: the name that the node connects, or else the name with a front
+-- what an inner name becomes: the name that the node connects, or else the name with a prefix
 abbrev pub new_name : Binding → List ℕ → List ℕ → List ℕ
 new_name binding front name = unwrap_or (joined_name binding.given_in.now binding.given_out.now binding.inputs.now binding.outputs.now name) (front ++ name)
 

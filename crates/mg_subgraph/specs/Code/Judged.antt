@@ -28,7 +28,7 @@ pub record AreFileNames (files : List GraphView) (names : List FileNames) : Type
   pub same : length names ≡ length files
   pub named : (place : ℕ) (file : GraphView) (entry : FileNames) → slice_get files place ≡ Some file → slice_get names place ≡ Some entry → AreNames entry file
 
--- In no file that nodes use, directly or not, a name stands at two ports.
+-- No name stands at two ports of a file that nodes use, directly or not.
 abbrev pub AreUnshared : List GraphView → List NodeView → Type 0
 AreUnshared library nodes = (place : ℕ) (file : GraphView) → slice_get library place ≡ Some file → uses_file library nodes file ≡ true → shared_name file ≡ None
 

@@ -1,4 +1,4 @@
--- Files by their places in the library: which use which, and which are used.
+-- Files by their places in the library: the files that each file uses, and the files that are used.
 use Rattle.std.specs.Prelude.{ℕ, ◌+◌, ◌≡◌, ◌<◌, List, [], ◌∷◌, if◌then◌else◌, Bool, true, false, ◌==◌, Option, None, Some, unwrap_or, length, slice_get}
 use Rattle.std.specs.Option.{option_map_or}
 use Rattle.std.specs.List.{list_any}
@@ -40,7 +40,8 @@ AreWithin links list = (place : ℕ) → listed place list ≡ true → place < 
 abbrev pub AreClosed : List (List ℕ) → Type 0
 AreClosed links = (place : ℕ) (list : List ℕ) → slice_get links place ≡ Some list → AreWithin links list
 
--- The flags are those of the least set of places that has the listed ones, and with each place those that its links lead to.
+-- The flags are those of the least set of places with two properties. It has the listed places, and with each place the
+-- places that its links lead to.
 pub record IsReach (links : List (List ℕ)) (start : List ℕ) (flags : List Bool) : Type 0 where
   pub started : (place : ℕ) → listed place start ≡ true → flag_at flags place ≡ true
   pub closed : (place : ℕ) (list : List ℕ) (other : ℕ) → flag_at flags place ≡ true → slice_get links place ≡ Some list → listed other list ≡ true → flag_at flags other ≡ true
@@ -48,11 +49,11 @@ pub record IsReach (links : List (List ℕ)) (start : List ℕ) (flags : List Bo
       → ((place : ℕ) (list : List ℕ) (other : ℕ) → test place ≡ true → slice_get links place ≡ Some list → listed other list ≡ true → test other ≡ true)
       → (place : ℕ) → flag_at flags place ≡ true → test place ≡ true
 
--- The answer tells whether links lead from the place back to it: whether its own links reach it.
+-- The answer is whether links lead from the place back to it: whether its own links reach it.
 abbrev pub IsCyclic : List (List ℕ) → ℕ → Bool → Type 0
 IsCyclic links place cyclic = (list : List ℕ) → slice_get links place ≡ Some list → (flags : List Bool) × IsReach links list flags × (flag_at flags place ≡ cyclic)
 
--- The answer is the first place with its flag set from which links lead back to it, or none where there is no such place.
+-- The answer is the first place with its flag set from which links lead back to it. It is none if there is no such place.
 abbrev pub IsFirstCycle : List (List ℕ) → List Bool → Option ℕ → Type 0
 IsFirstCycle links flags None = (place : ℕ) → flag_at flags place ≡ true → IsCyclic links place false
 IsFirstCycle links flags (Some found) =

@@ -6,7 +6,7 @@ use Rattle.mg_subgraph.specs.Library.{uses_file, is_recursive}
 use Rattle.mg_subgraph.specs.Expanded.{expanded}
 use Rattle.mg_subgraph.specs.Refusals.{max_nodes}
 
--- the number of nodes, or one more than there may be where it is above that
+-- the number of nodes, or one more than there may be if the number is above that
 abbrev pub counted : List NodeView → ℕ
 counted nodes = min (length nodes) (max_nodes + 1)
 

@@ -8,7 +8,7 @@ use Rattle.mg_text.specs.declared.state.Inside.TheVariants.{Plain, Escape, Secon
 use Rattle.mg_text.specs.declared.parts.Tail.{Tail}
 use Rattle.mg_text.specs.declared.parts.Tail.TheVariants.{Whole}
 
--- The bytes are characters, of which this is still awaited of the last.
+-- The bytes are characters; the last one still awaits this.
 pub data CharsTo : Tail → List ℕ → Type 0 where
   no_byte : CharsTo Whole []
   ascii : (b : ℕ) {s : List ℕ} → b < 128 → CharsTo Whole s → CharsTo Whole (s ++ b ∷ [])

@@ -25,7 +25,7 @@ lengthens (Piece q) c = in_piece q c
 abbrev pub AllLengthen : Run → List ℕ → Type 0
 AllLengthen run bytes = All (λ b. lengthens run (class_of b) ≡ true) bytes
 
--- the run that is being read, where further bytes may only lengthen it
+-- the run that is being read, if further bytes may only lengthen it
 abbrev pub run_of : Reading → Option Run
 run_of (reading.At p) = Some Blank
 run_of (reading.Comment p Whole) = Some Comment

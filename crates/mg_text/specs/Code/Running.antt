@@ -46,7 +46,7 @@ abbrev pub named_list : List ℕ → Option Bool → Option (List ℕ × Bool)
 named_list name None = None
 named_list name (Some colon) = Some (name, colon)
 
--- the bytes that a string gets where it gets one or none
+-- the bytes that a string gets, if it gets one byte or none
 abbrev pub spelled : Option ℕ → List ℕ
 spelled None = []
 spelled (Some b) = b ∷ []
@@ -70,12 +70,12 @@ frames_of fs = map frame_of (reverse fs)
 abbrev pub state_of : Machine → State
 state_of m = record { done = fields_view m.done.items; frames = frames_of m.frames.items; spot = spot_of m.reading m.name m.token.items }
 
--- The flag tells whether there is a state after the step, and the state is that one.
+-- The flag is whether there is a state after the step. If there is, it is the given state.
 abbrev pub Stepped : Option State → Bool → State → Type 0
 Stepped o true s = o ≡ Some s
 Stepped o false s = o ≡ None
 
--- The answer is due where a file ends in this state, at this place.
+-- The answer is due if a file ends in this state, at this place.
 abbrev pub FileEnds : State → ℕ → Result Tree TextFault → Type 0
 FileEnds s place (Ok tree) = model.outcome s (10 ∷ []) ≡ Some (view tree)
 FileEnds s place (Err (Syntax where_is)) = (where_is ≡ place) × (model.outcome s (10 ∷ []) ≡ None)

@@ -1,4 +1,4 @@
--- With those that are left it comes to the same.
+-- The list so far, followed by what the remaining ports give, is the whole list.
 use Rattle.std.proofs.Common.{◌≡◌, ◌++◌, drop}
 use Rattle.mg_kinds.specs.Kinds.{names_of}
 use Rattle.mg_subgraph.specs.Refusals.{port_names}

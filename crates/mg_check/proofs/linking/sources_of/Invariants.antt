@@ -1,4 +1,4 @@
--- With those that are left it comes to the same.
+-- The list so far, followed by what the remaining nodes give, is the whole list.
 use Rattle.std.proofs.Common.{◌≡◌, ◌++◌, drop}
 use Rattle.mg_check.specs.DraftView.{drafts_view}
 use Rattle.mg_check.specs.Code.Writers.{sources_from}

@@ -1,4 +1,4 @@
--- With those that are left it comes to the same.
+-- The list so far, followed by what the remaining ports give, is the whole list.
 use Rattle.std.proofs.Common.{◌≡◌, ◌++◌, drop, map}
 use Rattle.mg_value.specs.declared.kind.Kind.TheVariants.{Any}
 use Rattle.mg_check.proofs.meeting.add_any.Given as goal

@@ -1,4 +1,4 @@
--- With those that are left it comes to the same.
+-- The list so far, followed by what the remaining ports give, is the whole list.
 use Rattle.std.proofs.Common.{◌≡◌, ◌++◌, drop}
 use Rattle.mg_check.specs.Joining.{kinds}
 use Rattle.mg_check.proofs.meeting.add_kinds.Given as goal

@@ -1,4 +1,4 @@
--- With those that are left it comes to the same.
+-- The list so far, followed by what the remaining kinds give, is the whole list.
 use Rattle.std.proofs.Common.{◌≡◌, ◌++◌, drop, map}
 use Rattle.mg_check.specs.Code.Meets.{begun}
 use Rattle.mg_check.proofs.meeting.begin.Given as goal

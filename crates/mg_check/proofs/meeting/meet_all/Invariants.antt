@@ -1,4 +1,4 @@
--- With those that are left it comes to the same.
+-- The remaining readings turn what is known so far into what all readings give.
 use Rattle.std.proofs.Common.{◌≡◌, drop}
 use Rattle.mg_check.specs.Code.Meets.{meet_all, readings_of}
 use Rattle.mg_check.proofs.meeting.meet_all.Given as goal

@@ -1,4 +1,4 @@
--- With those that are left it comes to the same.
+-- The first missing name among the remaining texts is the first among all texts.
 use Rattle.std.proofs.Common.{◌≡◌, drop}
 use Rattle.mg_kinds.specs.Kinds.{names_of}
 use Rattle.mg_check.specs.Names.{first_missing}
