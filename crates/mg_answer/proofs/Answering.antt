@@ -1,4 +1,4 @@
--- What a run came to, by its status, and what follows of it.
+-- What a run did, by its status, and what follows from that.
 use Rattle.std.proofs.Common.{◌≡◌, ◌≢◌, ◌⊎◌, inl, inr, ℕ, List, [], ◌∷◌, ◌++◌, Bool, true, false, not, if◌then◌else◌, Option, None, Some, IfSome, refl, sym, ap, ◌∙◌, subst, arith, append-nil}
 use Rattle.mg_edge.specs.Edge.{SourceTold, SinkTold, Rose, one_more}
 use Rattle.mg_edge.specs.Runs.{Gave}
@@ -90,7 +90,7 @@ took-some laws plan input end inputs output streams gathered solution front = re
   front = front;
 }
 
--- an input that came to something was read without want of memory, and no status of it tells that
+-- memory sufficed to read an input that gave lines and an end, and no status of such an input is that memory ran out
 pub no-want : (plan : Plan) (input : Device SourceTold) (end : FeedEnd) (fs : List Fault) (ns : List ℕ) (came : List ℕ) (read : Read) → CameAs end (inputs_of plan) input came read
     → OutOfMemory ≡ status_of end fs ns → ⊥
 no-want plan input Ended [] [] came read by is = cc
@@ -156,7 +156,7 @@ wrote-failed answer failed status noted said output notes is failed_is text sent
   noted = inl (text.rose, noted-from noted notes failed (subst (λ (l : List ℕ). Sent noted notes.before notes.now l) (ap said is ∙ sym failed_is) sent));
 }
 
--- the notes are those of the status, which is that of a write fault where the output's failed
+-- the notes are those of the status; the status is that of a write fault if a write of the output failed
 wrote-by : (end : FeedEnd) (fs : List Fault) (ns : List ℕ) (answer : RunAnswer) (failed : List ℕ) (status : Status) (written noted : Bool) (said : Status → List ℕ) (output notes : Device SinkTold)
     → status ≡ (if written then status_of end fs ns else WriteFault) → answer.status ≡ status_of end fs ns → answer.notes ≡ said (status_of end fs ns) → failed ≡ said WriteFault
     → Sent written output.before output.now answer.output → Sent noted notes.before notes.now (said status)
@@ -185,7 +185,7 @@ wrote telling job end streams status result written noted output notes solution 
       (λ (s : Status). notes_at s telling job end streams) output notes is refl refl refl text notes_text);
 }
 
--- and so it is of a frozen one
+-- and so it is for a frozen job
 wrote-frozen : (telling : Telling) (job : Job) (streams : List (StreamPrefix Plain)) (status result : Status) (written noted : Bool) (output notes : Device SinkTold)
     → IsSolution job streams → status ≡ (if written then status_of Ended (faults job streams) [] else WriteFault)
     → Sent written output.before output.now (output_in telling.form job.plan streams)
@@ -199,7 +199,7 @@ wrote-frozen telling job streams status result written noted output notes soluti
       (λ (s : Status). frozen_notes s telling job streams) output notes is refl refl refl text notes_text);
 }
 
--- what is said of outcomes that a job's streams tell, where these streams stalled
+-- what is said of outcomes that tell a job's streams, if these streams stalled
 said-by : (status : Status) (plan : Plan) (end : FeedEnd) (outcomes : Outcomes) (ns : List ℕ) (report : Reporting) (job : Job) (streams : List (StreamPrefix Plain)) → job.plan ≡ plan
     → TellsOf job streams outcomes → told_notes status report plan end outcomes ns ≡ notes_by status job.plan end (faults job streams) (bounds_of streams) ns ++ asked_report report (report_of job streams)
 said-by status plan end outcomes ns report job streams plan_is tells =
@@ -217,7 +217,7 @@ sent-of plan view view' written before now flush none written_is form job stream
     (subst (λ (p : Plan). Sent (not view'.failed) first now (output_in form p streams)) (sym plan_is)
     (put-sent view'.failed first now view'.kept (output_in form plan streams) none (flush first (output_in form plan streams) put)))
 
--- the same, where the text was put, and the outcomes tell the rest
+-- the same, if the text was put, and the outcomes tell the rest
 pub wrote-told : (plan : Plan) (end : FeedEnd) (outcomes : Outcomes) (ns : List ℕ) (report : Reporting) (view view' : TextView) (status result : Status) (written noted : Bool) (bytes said : List ℕ)
     (before now notes_before notes_now : SinkTold) → ((first : SinkTold) (text : List ℕ) → HasPut first before view text → HasPut first now view' text)
     → (view'.failed ≡ false → view'.kept ≡ []) → written ≡ not view'.failed → ns ≡ open_numbers outcomes.ends.items
@@ -292,7 +292,7 @@ ran-read laws report plan ReadFault all ran some = (ran.read, ran.input)
 ran-read laws report plan WriteFault all ran some = (ran.read, ran.input)
 ran-read laws report plan OutOfMemory all ran some = absurd (some refl)
 
--- it was read once, also where memory ran out
+-- the input was read once, also if memory ran out
 pub ran-once : (laws : Laws) (report : Reporting) (plan : Plan) (status : Status) (all : RunDevices) → Ran laws report plan status all → ReadSome (inputs_of plan) all.input
 ran-once laws report plan Good all ran = read-came (inputs_of plan) all.input ran.read ran.input
 ran-once laws report plan LineRefused all ran = read-came (inputs_of plan) all.input ran.read ran.input
@@ -408,7 +408,7 @@ write-risen laws report plan OutOfMemory all ran risen = inr (inl refl)
 
 -- The whole input --
 
--- where the input tells its bytes, and no read failed, what was read is what an input comes to that ends after them
+-- if the input tells its bytes, and no read failed, its lines and its end are those of an input that ends after these bytes
 pub none-left : (ended : Bool) (before now : SourceTold) (bytes left : List ℕ) → before.left ≡ Some bytes → now.left ≡ Some left → MetEnd false ended before now → ended ≡ true → left ≡ []
 none-left true before now bytes left is is_left met e = let none : now.left ≡ Some [] = subst (λ (o : Option (List ℕ)). IfSome o (λ _. now.left ≡ Some [])) is met.none in cc
 none-left false before now bytes left is is_left met e = cc

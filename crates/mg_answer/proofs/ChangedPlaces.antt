@@ -1,4 +1,4 @@
--- Where lines of different streams change places, and all are good either way, the answer is the same.
+-- If lines of different streams change places, and all are good either way, the answer is the same.
 use Rattle.std.proofs.Common.{◌≡◌, ℕ, List, [], ◌∷◌, ◌++◌, sym, ap, subst, ◌∙◌}
 use Rattle.mg_calc.specs.declared.plan.Plan.{Plan}
 use Rattle.mg_calc.specs.Equations.{Job}
@@ -15,7 +15,7 @@ use Rattle.mg_feed.proofs.ChangingPlaces.{places_changed}
 use Rattle.mg_answer.specs.Answer.{by_lines, Read, RunAnswer, end_by, ended_input, is_ended, IsAnswerOf, IsAnswer, AnswersEnded}
 use Rattle.mg_answer.specs.declared.run.Reporting.{Reporting}
 
--- what an input came to whose lines are all good
+-- what an input gives whose lines are all good
 abbrev all_read : List (List ℕ) → Read
 all_read lines = record { lines = lines; end = Ended }
 

@@ -25,7 +25,7 @@ use Rattle.mg_answer.proofs.Prefixes.{prefixes-given}
 
 -- Streams --
 
--- so many entries are found, where the numbers are in range
+-- so many entries are found, if the numbers are in range
 there : {X : Type 0} (xs : List X) (k : ℕ) → k < length xs → (x : X) × (slice_get xs k ≡ Some x)
 there [] k lt = absurd (omega arith)
 there (x ∷ xs) zero lt = (x, refl)

@@ -1,4 +1,4 @@
--- What a feed that read an input hands to a graph.
+-- What a feed that read an input gives a graph.
 use Rattle.std.proofs.Common.{◌≡◌, ◌≢◌, ◌⊎◌, inl, inr, ℕ, List, [], length, Bool, false, Option, refl, sym, ap, ◌∙◌, subst}
 use Rattle.mg_edge.specs.Edge.{SourceTold}
 use Rattle.mg_edge.specs.Runs.{Gave}
@@ -71,7 +71,7 @@ read-none graph told = record {
   faults = inl (unfailed-same told);
 }
 
--- an input that came to something was read so
+-- an input that gave lines and an end was read so
 pub read-came : (graph : GraphInputs) (input : Device SourceTold) (read : Read) → CameTo graph input read → ReadSome graph input
 read-came graph input read c = record { came = c.came; gave = c.gave; once = c.once; faults = faults-by read.end input.before input.now c.faults }
 
@@ -85,7 +85,7 @@ once-read graph end before now old new is_old is_new stands unread read spent = 
   reads = subst (λ (r : Reading). Spends (late r.ended) 1 before.left now.left before.reads now.reads) unread spent;
 }
 
--- also where there was no memory
+-- also if memory ran out
 pub some-read : (graph : GraphInputs) (end : FeedEnd) (before now : SourceTold) (old new : Fed) → old.view.graph ≡ graph → new.view.graph ≡ graph
     → HasAccepted [] (nothing_taken graph) old.view → old.read ≡ record { kept = []; ended = false } → HasRead end before now old new → FailedBy end before now
     → Spends (late old.read.ended) 1 before.left now.left before.reads now.reads → ReadSome graph (device before now)

@@ -28,7 +28,7 @@ use Rattle.mg_answer.proofs.Prefixes.{each-stepped, each-fresh}
 
 -- Rounds --
 
--- of two numbers with one remainder the later has the higher quotient
+-- of two numbers with the same remainder the later has the higher quotient
 later-round : (k i m : ℕ) → i < m → m % k ≡ i % k → i / k < m / k
 later-round k i m lt same =
     let one = div-add-mod' i k in
@@ -52,7 +52,7 @@ waits-empty zero j t le = tt
 waits-empty (suc n) zero t le = le
 waits-empty (suc n) (suc j) t le = waits-empty n j t le
 
--- what holds at a place holds after a step at another one, and at the step's own where the step gives it
+-- what holds at a place holds after a step at another place. It holds at the step's own place if the step gives it
 some-stepped : {X : Type 0} (P : X → Type 0) (i j : ℕ) (f : X → X) (xs : List X) → IfSome (slice_get xs j) P → (i ≡ j → IfSome (slice_get xs j) (λ x. P (f x)))
     → IfSome (slice_get (stepped i f xs) j) P
 some-stepped P i j f [] h here = tt
@@ -107,7 +107,7 @@ each-ended ended [] all = tt
 each-ended true (s ∷ ss) all = (closed_is_prefix s all.0, each-ended true ss all.1)
 each-ended false (s ∷ ss) all = (all.0, each-ended false ss all.1)
 
--- so many packets fit, also where there are more to come
+-- so many packets fit, also if more are to come
 pub made-fit : {L : Law → Type 0} {E : Plan → Edge → Type 0} (plan : Plan) (number : ℕ) (ended : Bool) → HoldsTogether L E plan → number < 2 ^ 32
     → InputsFit plan (record { streams = ended_streams ended (generated_streams (inputs_of plan).kinds number); sides = generated_sides (length (inputs_of plan).sides); ended = ended })
 made-fit plan number ended valid few =

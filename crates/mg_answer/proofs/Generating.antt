@@ -1,4 +1,4 @@
--- What a run over packets that are made came to, by its status, and what follows of it.
+-- What a run over packets that are made did, by its status, and what follows from that.
 use Rattle.std.proofs.Common.{◌≡◌, ◌≢◌, ◌<◌, ◌^◌, length, ◌⊎◌, inl, inr, ℕ, List, [], ◌∷◌, refl}
 use Rattle.mg_edge.specs.Edge.{Rose}
 use Rattle.mg_value.specs.Payload.{Plain}
@@ -51,7 +51,7 @@ wrote-short laws report plan number status all wrote by = record {
   short = by;
 }
 
--- no status of packets that are made tells want of memory
+-- no status of packets that are made is that memory ran out
 no-want : (fs : List Fault) (ns : List ℕ) → OutOfMemory ≡ status_of Ended fs ns → ⊥
 no-want [] [] is = cc
 no-want [] (n ∷ ns) is = cc

@@ -1,4 +1,4 @@
--- The text of some lines is a front of the text of a whole input that begins with them.
+-- The text of some lines is a prefix of the text of a whole input that begins with these lines.
 use Rattle.std.proofs.Common.{◌≡◌, ℕ, zero, suc, List, [], ◌∷◌, ◌++◌, length, take, drop, false, sym, ap, ◌∙◌, subst}
 use Rattle.std.specs.List.{flat_map}
 use Rattle.std.proofs.lemmas.Grind.{flat_map-append}

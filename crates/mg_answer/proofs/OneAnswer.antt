@@ -39,7 +39,7 @@ answer-cut laws report plan bytes valid =
     let read : Read = cut_input (inputs_of plan) bytes in
     answer-of (by_lines report) (job_of laws plan read) read.end (record { plan = valid; inputs = accepted-fit plan (whole_lines bytes) read.end valid })
 
--- and no second one
+-- and there is no second answer
 pub one-of : (telling : Telling) (job : Job) (end : FeedEnd) (answer other : RunAnswer) → IsAnswerOf telling job end answer → IsAnswerOf telling job end other → answer ≡ other
 one-of telling job end answer other a b =
     a.is ∙ ap (answer_of telling job end) (one_solution job a.streams b.streams a.solution b.solution) ∙ sym b.is

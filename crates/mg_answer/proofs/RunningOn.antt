@@ -1,4 +1,4 @@
--- What a run that writes as it goes came to, by its status, and what follows of it.
+-- What a run that writes as it goes did, by its status, and what follows from that.
 use Rattle.std.proofs.Common.{◌≡◌, ◌≢◌, ◌⊎◌, inl, inr, [], ◌∷◌, refl, sym, ◌∙◌}
 use Rattle.mg_calc.specs.declared.plan.Plan.{Plan}
 use Rattle.mg_calc.specs.Meaning.{faults, stalled}
@@ -55,7 +55,7 @@ written-ran laws report plan read all OutOfMemory came wrote =
 
 -- What follows --
 
--- unless memory ran out, such a run is one that has the whole answer at its end
+-- unless memory ran out, such a run has the whole answer at its end
 ran-whole : (laws : Laws) (report : Reporting) (plan : Plan) (status : Status) (all : RunDevices) → RanOn laws report plan status all → status ≢ OutOfMemory → Ran laws report plan status all
 ran-whole laws report plan Good all ran some = ran
 ran-whole laws report plan LineRefused all ran some = ran

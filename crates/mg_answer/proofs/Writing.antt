@@ -35,7 +35,7 @@ part-then first before now xs ys one two = record {
   rose = subst (λ (n : ℕ). Rose n now.faults) one.steady two.rose;
 }
 
--- whether a write failed or not, the sink took a front
+-- whether a write failed or not, the sink took a prefix
 pub front-sent : (all : Bool) (first now : SinkTold) (text : List ℕ) → Sent all first now text → TookFront (device first now) text
 front-sent true first now text sent = (text, ([], sym (append-nil text)), sent.whole)
 front-sent false first now text sent = (sent.front, (sent.rest, sent.cut), sent.taken)
@@ -43,7 +43,7 @@ front-sent false first now text sent = (sent.front, (sent.rest, sent.cut), sent.
 pub front-none : (told : SinkTold) (text : List ℕ) → TookFront (device told told) text
 front-none told text = ([], (text, refl), TookAll-start told.taken)
 
--- a front of a front
+-- a prefix of a prefix
 pub front-on : (sink : Device SinkTold) (text longer : List ℕ) → IsFront text longer → TookFront sink text → TookFront sink longer
 front-on sink text longer begins took =
     (took.0, (took.1.0 ++ begins.0, begins.1 ∙ ap (λ l. l ++ begins.0) took.1.1 ∙ append_assoc took.0 took.1.0 begins.0), took.2)
@@ -53,7 +53,7 @@ front-on sink text longer begins took =
 pub nothing-put : (first : SinkTold) (names : List (List ℕ)) → HasPut first first (nothing_put names) []
 nothing-put first names = ([], record { whole = TookAll-start first.taken; steady = refl }, refl)
 
--- what is put so far is taken in front
+-- the sink took a prefix of what is put so far
 pub put-front : (failed : Bool) (first now : SinkTold) (kept text : List ℕ) → PutBy failed first now kept text → TookFront (device first now) text
 put-front true first now kept text put = (put.front, (put.rest, put.cut), put.taken)
 put-front false first now kept text put = (put.0, (kept, put.2), put.1.whole)
@@ -90,7 +90,7 @@ put-rest all failed failed' first before now kept left text was put sent none to
     subst (λ (b : Bool). PutBy b first now left text) (sym told)
     (rest-by all first before now kept left text (subst (λ (b : Bool). PutBy b first before kept text) was put) sent none)
 
--- a text of which nothing is kept was sent, unless a write has failed
+-- a text was sent if nothing of it is kept, unless a write has failed
 pub put-sent : (failed : Bool) (first now : SinkTold) (kept text : List ℕ) → (failed ≡ false → kept ≡ []) → PutBy failed first now kept text → Sent (not failed) first now text
 put-sent true first now kept text none put = put
 put-sent false first now kept text none put =
@@ -98,7 +98,7 @@ put-sent false first now kept text none put =
 
 -- Sets --
 
--- the next set's lines stand in front
+-- the next set's lines stand before the lines of the later sets
 sets-next : (names : List (List ℕ)) (sets : List (TimedSet Plain)) (i : ℕ) (timed : TimedSet Plain) → i < length sets → timed ≡ get_or sets i timed
     → sets_text names (drop i sets) ≡ set_text names timed.set ++ sets_text names (drop (suc i) sets)
 sets-next names [] i timed lt is = absurd (omega arith)
@@ -136,7 +136,7 @@ pub pours-end : (first now : SinkTold) (view : TextView) (names : List (List ℕ
 pours-end first now view names sets i whole pours past =
     subst (λ (l : List ℕ). HasPut first now view l) (sym (pours.is ∙ ap (λ l. pours.so_far ++ l) (sets-past names sets i past) ∙ append-nil pours.so_far)) pours.has
 
--- what was put is in front of the whole
+-- the text that was put is a prefix of the whole text
 pub pours-front : (first before now : SinkTold) (view : TextView) (whole rest : List ℕ) → Pours first before view whole rest → now ≡ before → TookFront (device first now) whole
 pours-front first before now view whole rest pours is =
     subst (λ (t : SinkTold). TookFront (device first t) whole) (sym is)
@@ -151,7 +151,7 @@ set-past : (names : List (List ℕ)) → set_text names [] ≡ []
 set-past [] = refl
 set-past (name ∷ names) = refl
 
--- an output's place, and those behind it
+-- an output's place, and the places after this one
 set-next : (names : List (List ℕ)) (set : Places) (i : ℕ) (name : List ℕ) → i < length names → name ≡ get_or names i name
     → set_text (drop i names) (drop i set) ≡ packet_text name (unwrap_or (slice_get set i) None) ++ set_text (drop (suc i) names) (drop (suc i) set)
 set-next [] set i name lt is = absurd (omega arith)

@@ -1,6 +1,6 @@
--- What a run of a graph answers: its output, its notes and its status, as a function of the plan, of what is handed in and of
--- the solution. There is one solution (mg_calc), so the input's bytes, or the number of packets that are made, decide the answer, by the
--- laws of the program: what its calculators of their authors' own compute.
+-- What a run of a graph answers: its output, its notes and its status. They are a function of the plan, of the inputs that the
+-- graph gets, and of the solution. There is one solution (mg_calc). So the input's bytes, or the number of packets that are made,
+-- decide the answer. They do so by the laws of the program: what its user-supplied calculators compute.
 use Rattle.std.specs.Prelude.{◌≡◌, ℕ, List, [], ◌++◌, Bool, true, false, Option, None, Some, length}
 use Rattle.mg_value.specs.Payload.{Plain}
 use Rattle.mg_settled.specs.Prefix.{StreamPrefix}
@@ -27,7 +27,7 @@ use Rattle.mg_answer.specs.declared.run.Reporting.{Reporting}
 
 -- The input --
 
--- what an input came to: the lines that count, and how it ended
+-- what an input gave: the lines that count, and how it ended
 pub record Read : Type 0 where
   pub lines : List (List ℕ)
   pub end : FeedEnd
@@ -36,12 +36,12 @@ abbrev pub end_by : Option RefusedLine → FeedEnd
 end_by None = Ended
 end_by (Some refused) = Refused refused.number refused.fault
 
--- What an input comes to that ended after these bytes: the lines before the first that isn't good count.
+-- What an input gave that ended after these bytes: the lines before the first that isn't good count.
 abbrev pub ended_input : GraphInputs → List ℕ → Read
 ended_input graph bytes = record { lines = accepted graph (all_lines bytes); end = end_by (first_refused_after graph [] (all_lines bytes)) }
 
--- What an input comes to of which a read failed after these bytes: the lines that were whole before it count. All of these are good, since
--- no read follows a line that isn't good.
+-- What an input gave if a read failed after these bytes: the lines that were whole before the read count. All of these lines are
+-- good, since no read follows a line that isn't good.
 abbrev pub cut_input : GraphInputs → List ℕ → Read
 cut_input graph bytes = record { lines = accepted graph (whole_lines bytes); end = Failed (length (whole_lines bytes)) }
 
@@ -54,7 +54,7 @@ is_ended OutOfMemory = false
 
 -- The job --
 
--- What lines give a graph: at the end of the input every stream closes, and otherwise each stays as its lines left it.
+-- What lines give a graph. If the input ended well, every stream closes. Otherwise each stream stays as its lines left it.
 abbrev pub inputs_by : GraphInputs → Read → Inputs
 inputs_by graph read = record {
   streams = ended_streams (is_ended read.end) (given_by graph read.lines).streams;
@@ -62,11 +62,11 @@ inputs_by graph read = record {
   ended = is_ended read.end;
 }
 
--- the job of a plan over what an input came to, by what the program's own calculators compute
+-- the job of a plan over what an input gave, by what the program's own calculators compute
 abbrev pub job_of : Laws → Plan → Read → Job
 job_of laws plan read = record { plan = plan; inputs = inputs_by (inputs_of plan) read; laws = laws }
 
--- What is made for a graph that is run without an input: `number` packets, behind which every stream closes.
+-- What is made for a graph that is run without an input: `number` packets. Every stream closes after its packets.
 abbrev pub generated_inputs : GraphInputs → ℕ → Inputs
 generated_inputs graph number = record {
   streams = generated graph.kinds number;
@@ -80,8 +80,8 @@ generated_job laws plan number = record { plan = plan; inputs = generated_inputs
 
 -- The answer --
 
--- How a solution is told: by the lines of its outputs, by a summary of these, or by another text in their place, such as a trace of the
--- events that led to it; and with a report behind the notes or without.
+-- How the output tells a solution: by the lines of the graph's outputs, by a summary of these, or by another text in their place.
+-- Such a text may be a trace of the events that led to the solution. A `Telling` also says whether a report stands after the notes.
 pub data OutputForm : Type 0 where
   packet_lines : OutputForm
   totals : OutputForm
@@ -112,7 +112,7 @@ pub record RunAnswer : Type 0 where
   pub notes : List ℕ
   pub status : Status
 
--- the notes of a run that ends with a status, by the streams of its job and by how its input ended; the report stands last
+-- the notes of a run that ends with a status, by the streams of its job and by how its input ended. The report stands last
 abbrev pub notes_at : Status → Telling → Job → FeedEnd → List (StreamPrefix Plain) → List ℕ
 notes_at status telling job end streams = notes_of status job.plan end (faults job streams) streams ++ asked_report telling.report (report_of job streams)
 
@@ -128,13 +128,13 @@ answer_of telling job end streams = record {
   status = status_of end (faults job streams) (stalled streams);
 }
 
--- The answer of a job, by how its input ended: the one that the job's solution makes.
+-- The answer of a job, by how its input ended: the answer that the job's solution makes.
 pub record IsAnswerOf (telling : Telling) (job : Job) (end : FeedEnd) (answer : RunAnswer) : Type 0 where
   pub streams : List (StreamPrefix Plain)
   pub solution : IsSolution job streams
   pub is : answer ≡ answer_of telling job end streams
 
--- the answer of a graph over an input that came to this, with a report or without
+-- the answer of a graph over what an input gave, with a report or without
 abbrev pub IsAnswer : Laws → Reporting → Plan → Read → RunAnswer → Type 0
 IsAnswer laws report plan read answer = IsAnswerOf (by_lines report) (job_of laws plan read) read.end answer
 
@@ -142,7 +142,7 @@ IsAnswer laws report plan read answer = IsAnswerOf (by_lines report) (job_of law
 abbrev pub AnswersEnded : Laws → Reporting → Plan → List ℕ → RunAnswer → Type 0
 AnswersEnded laws report plan bytes answer = IsAnswer laws report plan (ended_input (inputs_of plan) bytes) answer
 
--- the answer of a graph over an input of which a read failed after these bytes
+-- the answer of a graph over an input, if a read failed after these bytes
 abbrev pub AnswersCut : Laws → Reporting → Plan → List ℕ → RunAnswer → Type 0
 AnswersCut laws report plan bytes answer = IsAnswer laws report plan (cut_input (inputs_of plan) bytes) answer
 

@@ -1,5 +1,5 @@
--- The devices of a run, and what the run did to each: what each told of itself before it, and tells now. The words for what a source and a
--- sink did are those of mg_feed (`specs/Ran.antt` and `specs/Sent.antt` there).
+-- The devices of a run, and what the run did to each: what each device told of itself before the run, and tells now. The words for
+-- what a source and a sink did are those of mg_feed (`specs/Ran.antt` and `specs/Sent.antt` there).
 use Rattle.std.specs.Prelude.{◌≡◌, ◌⊎◌, ℕ, ◌^◌, ◌-◌, ◌<◌, List, ◌++◌}
 use Rattle.mg_edge.specs.Edge.{SourceTold, SinkTold}
 use Rattle.mg_edge.specs.Runs.{TookAll}
@@ -32,7 +32,7 @@ run_devices input output notes = record { input = input; output = output; notes 
 abbrev pub HasRisen : ℕ → ℕ → Type 0
 HasRisen before now = before < now
 
--- No call has failed: the count of faults is as it was, and below 2^64 - 1, where it stops counting.
+-- No call has failed: the count of faults is as it was, and below 2^64 - 1. At this number it stops counting.
 abbrev pub Unrisen : ℕ → ℕ → Type 0
 Unrisen before now = (now ≡ before) × (now < 2 ^ 64 - 1)
 
@@ -48,7 +48,7 @@ pub record NoneFailed (devices : RunDevices) : Type 0 where
 abbrev pub IsFront : List ℕ → List ℕ → Type 0
 IsFront front text = (rest : List ℕ) × (text ≡ front ++ rest)
 
--- A sink took a front of a text, and no more.
+-- A sink took a prefix of a text, and no more.
 abbrev pub TookFront : Device SinkTold → List ℕ → Type 0
 TookFront sink text = (front : List ℕ) × IsFront front text × TookAll sink.before.taken sink.now.taken front
 
@@ -56,10 +56,10 @@ TookFront sink text = (front : List ℕ) × IsFront front text × TookAll sink.b
 abbrev pub TookText : Device SinkTold → List ℕ → Type 0
 TookText sink text = SentAll sink.before sink.now text
 
--- A sink took a front of a text, and a write of it failed.
+-- A sink took a prefix of a text, and a write of the text failed.
 abbrev pub TookPart : Device SinkTold → List ℕ → Type 0
 TookPart sink text = SentPart sink.before sink.now text
 
--- The notes took a text, or a front of it where a write failed.
+-- The notes took a text, or a prefix of the text if a write failed.
 abbrev pub TookNotes : Device SinkTold → List ℕ → Type 0
 TookNotes notes text = TookText notes text ⊎ TookPart notes text

@@ -1,5 +1,5 @@
--- What a run answers of a job whose input was frozen, as a recorded run may say of its job: the input didn't end well, and why isn't told.
--- So each stream stays as its lines left it, and none is told to have stalled.
+-- What a run answers of a job whose input was frozen. A recorded run may say so of its job: the input didn't end well, and the
+-- reason isn't given. So each stream stays as its lines left it, and no stream is reported as stalled.
 use Rattle.std.specs.Prelude.{◌≡◌, ℕ, List, [], ◌++◌}
 use Rattle.mg_edge.specs.Edge.{SinkTold}
 use Rattle.mg_value.specs.Payload.{Plain}
@@ -20,7 +20,7 @@ use Rattle.mg_answer.specs.declared.status.Status.{Status}
 abbrev pub frozen_status : List NodeFault → Status
 frozen_status faults = ended_status faults []
 
--- the notes over a frozen job: each node's fault, the notes of the status, and the report where it is asked for
+-- the notes over a frozen job: each node's fault, the notes of the status, and the report if it is asked for
 abbrev pub frozen_notes : Status → Telling → Job → List (StreamPrefix Plain) → List ℕ
 frozen_notes status telling job streams = notes_by status job.plan Ended (faults job streams) (bounds_of streams) [] ++ asked_report telling.report (report_of job streams)
 
@@ -32,7 +32,7 @@ frozen_answer telling job streams = record {
   status = frozen_status (faults job streams);
 }
 
--- The answer of a frozen job: the one that the job's solution makes.
+-- The answer of a frozen job: the answer that the job's solution makes.
 pub record IsFrozenAnswer (telling : Telling) (job : Job) (answer : RunAnswer) : Type 0 where
   pub streams : List (StreamPrefix Plain)
   pub solution : IsSolution job streams

@@ -1,4 +1,4 @@
--- What a feed that read an input hands to a graph.
+-- What a feed that read an input gives a graph.
 use Rattle.std.specs.Prelude.{◌≡◌, []}
 use Rattle.mg_edge.specs.Edge.{SourceTold}
 use Rattle.mg_calc.specs.declared.inputs.Inputs.{Inputs}
@@ -9,7 +9,7 @@ use Rattle.mg_answer.specs.Answer.{Read, inputs_by}
 use Rattle.mg_answer.specs.Devices.{Device}
 use Rattle.mg_answer.specs.Ran.{CameTo}
 
--- an input came to lines, all of them good, and to this end; and the inputs are what these lines give the graph
+-- an input gave lines and this end. All of the lines are good, and the inputs are what these lines give the graph
 pub record GatheredInputs (graph : GraphInputs) (input : Device SourceTold) (end : FeedEnd) (inputs : Inputs) : Type 0 where
   pub read : Read
   pub came : CameTo graph input read

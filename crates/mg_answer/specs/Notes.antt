@@ -25,7 +25,7 @@ use Rattle.mg_answer.specs.declared.status.Status.TheVariants as runs
 
 -- The input --
 
--- the word for why a value is no payload; want of memory has none
+-- the word for why a value is no payload, or no word if memory ran out
 abbrev pub value_name : ValueFault → List ℕ
 value_name values.Fraction = codes "Fraction"
 value_name values.Null = codes "Null"
@@ -33,7 +33,7 @@ value_name values.TooDeep = codes "TooDeep"
 value_name values.TooWide = codes "TooWide"
 value_name values.OutOfMemory = []
 
--- the words for why a line isn't good; want of memory has none
+-- the words for why a line isn't good, or no words if memory ran out
 abbrev pub line_fault_text : LineFault → List ℕ
 line_fault_text lines.NotJson = codes "NotJson"
 line_fault_text lines.BadShape = codes "BadShape"
@@ -58,7 +58,7 @@ line_note line cause = codes "line " ++ decimal line ++ codes ": " ++ line_fault
 abbrev pub read_note : ℕ → List ℕ
 read_note lines = codes "read fault after line " ++ decimal lines ++ codes "\n"
 
--- the note of how an input ended: of a failed read or a refused line, and else none
+-- the note of how an input ended: the note of a failed read or a refused line, and else none
 abbrev pub end_note : FeedEnd → List ℕ
 end_note Ended = []
 end_note (Failed lines) = read_note lines
@@ -122,7 +122,7 @@ arrival_note node port at = codes "free " ++ decimal node ++ codes " " ++ decima
 abbrev pub write_note : List ℕ
 write_note = codes "write fault\n"
 
--- the note that memory ran out, which is the only one then
+-- the note that memory ran out; it is then the only note
 abbrev pub memory_note : List ℕ
 memory_note = codes "out of memory\n"
 
@@ -140,12 +140,13 @@ status_notes runs.ReadFault plan bounds stalled = []
 status_notes runs.WriteFault plan bounds stalled = write_note
 status_notes runs.OutOfMemory plan bounds stalled = memory_note
 
--- All notes of a run that ends with a status: how the input ended, then each node's fault in node order, then the notes of the status, with
--- streams in stream order. `bounds` has the bound of each stream, and `stalled` the numbers of those that stalled.
+-- All notes of a run that ends with a status. First comes how the input ended, then each node's fault in node order, then the notes
+-- of the status. These name streams in stream order. `bounds` has the bound of each stream, and `stalled` the numbers of the
+-- streams that stalled.
 abbrev pub notes_by : Status → Plan → FeedEnd → List NodeFault → List ℕ → List ℕ → List ℕ
 notes_by status plan end faults bounds stalled =
     end_note end ++ flat_map (fault_note plan) faults ++ status_notes status plan bounds stalled
 
--- all notes of a run, where the streams of its plan are known
+-- all notes of a run, if the streams of its plan are known
 abbrev pub notes_of : Status → Plan → FeedEnd → List NodeFault → List (StreamPrefix Plain) → List ℕ
 notes_of status plan end faults streams = notes_by status plan end faults (bounds_of streams) (stalled streams)

@@ -16,23 +16,23 @@ use Rattle.mg_answer.specs.declared.status.Status.{Status}
 use Rattle.mg_answer.specs.declared.status.Status.TheVariants.{WriteFault}
 use Rattle.mg_answer.specs.declared.run.Reporting.{Reporting}
 
--- the outcomes tell these streams of a job: its nodes' faults, how many sets each node was shown, and how far each stream has come; no node
--- is free
+-- the outcomes tell these streams of a job. They have its nodes' faults, how many sets each node was shown, and how far each stream
+-- has come. There are no lines of arrivals, since no node is free
 pub record TellsOf (job : Job) (streams : List (StreamPrefix Plain)) (outcomes : Outcomes) : Type 0 where
   pub faults : outcomes.faults ≡ the_faults job streams
   pub sets : outcomes.sets ≡ counts job streams
   pub ends : outcomes.ends.items ≡ map end_of streams
   pub arrivals : outcomes.arrivals.items ≡ []
 
--- The notes of a run that ends with a status and in which these streams stalled: the lines of the arrivals at free nodes stand behind the
--- others, and then comes the report where it is asked for.
+-- The notes of a run that ends with a status and in which these streams stalled. The lines of the arrivals at free nodes stand
+-- after the other notes. The report comes last, if it is asked for.
 abbrev pub told_notes : Status → Reporting → Plan → FeedEnd → Outcomes → List ℕ → List ℕ
 told_notes status report plan end outcomes stalled =
     notes_by status plan end outcomes.faults (end_bounds outcomes.ends.items) stalled
     ++ outcomes.arrivals.items
     ++ asked_report report (report_by plan outcomes.sets outcomes.ends.items)
 
--- the answer of a run by its outcomes, whose output is this text
+-- the answer of a run by its outcomes; its output is this text
 abbrev pub told_answer : Reporting → Plan → FeedEnd → Outcomes → List ℕ → RunAnswer
 told_answer report plan end outcomes text = record {
   output = text;

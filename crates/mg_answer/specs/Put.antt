@@ -3,14 +3,14 @@ use Rattle.std.specs.Prelude.{◌≡◌, ℕ, List, [], ◌++◌, Bool, true, fa
 use Rattle.mg_edge.specs.Edge.{SinkTold}
 use Rattle.mg_feed.specs.Sent.{SentAll, SentPart}
 
--- An output text as contracts see it: the names of the outputs whose lines it has, the bytes that aren't written yet, and whether a write
--- has failed.
+-- An output text as contracts see it. It has the names of the outputs whose lines are in the text, the bytes that aren't written
+-- yet, and whether a write has failed.
 pub record TextView : Type 0 where
   pub names : List (List ℕ)
   pub kept : List ℕ
   pub failed : Bool
 
--- the output text of these outputs of which nothing is put yet
+-- the output text of these outputs before anything is put into it
 abbrev pub nothing_put : List (List ℕ) → TextView
 nothing_put names = record { names = names; kept = []; failed = false }
 
@@ -22,8 +22,8 @@ pub record BlockView : Type 0 where
 abbrev pub nothing_kept : BlockView
 nothing_kept = record { kept = []; failed = false }
 
--- Where a write has failed, the sink took a front of the text. Where none has, it took all of it but the bytes that are kept for the next
--- write.
+-- If a write has failed, the sink took a prefix of the text. If none has, the sink took all of the text but the bytes that are kept
+-- for the next write.
 abbrev pub PutBy : Bool → SinkTold → SinkTold → List ℕ → List ℕ → Type 0
 PutBy true first now kept text = SentPart first now text
 PutBy false first now kept text = (sent : List ℕ) × SentAll first now sent × (text ≡ sent ++ kept)

@@ -1,4 +1,4 @@
--- What a run came to, by its status.
+-- What a run did, by its status.
 use Rattle.std.specs.Prelude.{◌≡◌, ◌≤◌, ℕ, ◌⊎◌, ◌++◌, List, [], length, Bool, true, false, IfSome}
 use Rattle.mg_edge.specs.Edge.{SourceTold, SinkTold}
 use Rattle.mg_edge.specs.Runs.{Gave}
@@ -26,9 +26,9 @@ use Rattle.mg_answer.specs.declared.run.Reporting.{Reporting}
 
 -- The input --
 
--- How the bytes that came in a call show what an input came to. It ended after them: the source answered `End`, and where it tells its
--- bytes none is left. Or one of their lines isn't good, whatever bytes may follow, of which there are none where the source has ended. Or a
--- read failed after them, and their whole lines are all good.
+-- How the bytes that came in a call show what an input gave. Either the input ended after them: the source answered `End`, and if
+-- the source tells its bytes, none is left. Or one of their lines isn't good, whatever bytes may follow. No bytes follow if the
+-- source has ended. Or a read failed after them, and their whole lines are all good.
 abbrev pub CameAs : FeedEnd → GraphInputs → Device SourceTold → List ℕ → Read → Type 0
 CameAs Ended graph input came read = EndCame input.before input.now × (read ≡ ended_input graph came)
 CameAs (Failed lines) graph input came read = (read ≡ cut_input graph came) × (read.lines ≡ whole_lines came)
@@ -36,9 +36,9 @@ CameAs (Refused line cause) graph input came read =
     (ended : Bool) × MetEnd false ended input.before input.now × ((more : List ℕ) → (ended ≡ true → more ≡ []) → read ≡ ended_input graph (came ++ more))
 CameAs no_lines graph input came read = ⊥
 
--- An input was read to its end, to its first line that isn't good, or until a read failed, and came to these lines and this end. A read
--- failed exactly in the last of these cases, and nothing was read after it. The input was read once, and no further than to the block in
--- which its first line that isn't good ends.
+-- An input was read to its end, to its first line that isn't good, or until a read failed. It gave these lines and this end. A read
+-- failed exactly in the last of these cases, and nothing was read after it. The input was read once, and no further than to the
+-- block in which its first line that isn't good ends.
 pub record CameTo (graph : GraphInputs) (input : Device SourceTold) (read : Read) : Type 0 where
   pub came : List ℕ
   pub gave : Gave input.before.left input.now.left came
@@ -47,7 +47,7 @@ pub record CameTo (graph : GraphInputs) (input : Device SourceTold) (read : Read
   pub once : ReadsOnce graph input.before input.now came
   pub few : length read.lines ≤ most_lines
 
--- Some of an input was read, or none of it, once and no further than needed: no read failed, or the last one did.
+-- Some of an input was read, or none of it, once and no further than needed. No read failed, or the last read did.
 pub record ReadSome (graph : GraphInputs) (input : Device SourceTold) : Type 0 where
   pub came : List ℕ
   pub gave : Gave input.before.left input.now.left came
@@ -56,7 +56,7 @@ pub record ReadSome (graph : GraphInputs) (input : Device SourceTold) : Type 0 w
 
 -- The run --
 
--- The run wrote the answer over what its input came to, and ended with its status.
+-- The run wrote the answer over what its input gave, and ended with its status.
 pub record RanAll (laws : Laws) (report : Reporting) (plan : Plan) (status : Status) (devices : RunDevices) : Type 0 where
   pub read : Read
   pub input : CameTo (inputs_of plan) devices.input read
@@ -64,7 +64,7 @@ pub record RanAll (laws : Laws) (report : Reporting) (plan : Plan) (status : Sta
   pub is : IsAnswer laws report plan read answer
   pub met : Meets answer status devices.output devices.notes
 
--- A write failed, after the input was read; what was written is of the answer over what the input came to.
+-- A write failed after the input was read. All bytes that were written are of the answer over what the input gave.
 pub record RanShort (laws : Laws) (report : Reporting) (plan : Plan) (devices : RunDevices) : Type 0 where
   pub read : Read
   pub input : CameTo (inputs_of plan) devices.input read
@@ -72,7 +72,7 @@ pub record RanShort (laws : Laws) (report : Reporting) (plan : Plan) (devices : 
   pub is : IsAnswer laws report plan read answer
   pub short : MetShort answer (failed_notes (by_lines report) (job_of laws plan read) read.end is.streams) devices.output devices.notes
 
--- The output took a front of the answer's text over what the input came to.
+-- The output took a prefix of the answer's text over what the input gave.
 pub record TookSome (laws : Laws) (plan : Plan) (input : Device SourceTold) (output : Device SinkTold) : Type 0 where
   pub read : Read
   pub came : CameTo (inputs_of plan) input read
@@ -84,14 +84,15 @@ pub record TookSome (laws : Laws) (plan : Plan) (input : Device SourceTold) (out
 abbrev pub RanOut : Laws → Plan → RunDevices → Type 0
 RanOut laws plan devices = Untouched devices.output ⊎ TookSome laws plan devices.input devices.output
 
--- A run ended with this status. Where memory ran out the notes say that alone, and what was read of the input was read once.
+-- A run ended with this status. If memory ran out, the notes say that alone, and no part of the input was read twice.
 abbrev pub Ran : Laws → Reporting → Plan → Status → RunDevices → Type 0
 Ran laws report plan WriteFault devices = RanShort laws report plan devices
 Ran laws report plan OutOfMemory devices = RanOut laws plan devices × TookNotes devices.notes memory_note × ReadSome (inputs_of plan) devices.input
 Ran laws report plan status devices = RanAll laws report plan status devices
 
--- Memory ran out. Either the input was read, and the output took a front of the answer's text over what it came to; or it was still being
--- read, and where the input tells its bytes the output took a front of the answer's text over an input that ends after them.
+-- Memory ran out. Either the input was read, and the output took a prefix of the answer's text over what the input gave. Or the
+-- input was still being read. If it tells its bytes, the output then took a prefix of the answer's text over an input that ends
+-- after these bytes.
 abbrev pub RanShortOf : Laws → Plan → RunDevices → Type 0
 RanShortOf laws plan devices =
     TookSome laws plan devices.input devices.output ⊎ IfSome devices.input.before.left (λ bytes. (streams : List (StreamPrefix Plain))
@@ -103,7 +104,7 @@ RanOn laws report plan WriteFault devices = RanShort laws report plan devices
 RanOn laws report plan OutOfMemory devices = RanShortOf laws plan devices × TookNotes devices.notes memory_note
 RanOn laws report plan status devices = RanAll laws report plan status devices
 
--- Where the input tells its bytes, the run wrote the answer over an input that ends after them.
+-- If the input tells its bytes, the run wrote the answer over an input that ends after these bytes.
 abbrev pub IsAnswered : Laws → Reporting → Plan → Status → RunDevices → Type 0
 IsAnswered laws report plan status devices =
     IfSome devices.input.before.left (λ bytes. (answer : RunAnswer) × AnswersEnded laws report plan bytes answer × Meets answer status devices.output devices.notes)
@@ -116,13 +117,13 @@ pub record GeneratedAll (laws : Laws) (report : Reporting) (plan : Plan) (number
   pub is : AnswersGenerated laws report plan number answer
   pub met : Meets answer status devices.output devices.notes
 
--- A write failed in a run over packets that are made; what was written is of the answer over these.
+-- A write failed in a run over packets that are made. All bytes that were written are of the answer over these packets.
 pub record GeneratedShort (laws : Laws) (report : Reporting) (plan : Plan) (number : ℕ) (devices : RunDevices) : Type 0 where
   pub answer : RunAnswer
   pub is : AnswersGenerated laws report plan number answer
   pub short : MetShort answer (failed_notes (by_summary report) (generated_job laws plan number) Ended is.streams) devices.output devices.notes
 
--- Memory ran out in a run over packets that are made: the output took a front of the summary.
+-- Memory ran out in a run over packets that are made: the output took a prefix of the summary.
 pub record GeneratedSome (laws : Laws) (plan : Plan) (number : ℕ) (output : Device SinkTold) : Type 0 where
   pub streams : List (StreamPrefix Plain)
   pub solution : IsSolution (generated_job laws plan number) streams

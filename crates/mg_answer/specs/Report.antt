@@ -15,7 +15,7 @@ use Rattle.mg_answer.specs.Text.{name_of}
 use Rattle.mg_answer.specs.Notes.{label_of}
 use Rattle.mg_answer.specs.declared.run.Reporting.{Reporting}
 
--- the numbers of the streams that haven't ended, where the list tells how far each stream has come
+-- the numbers of the streams that haven't ended; the list says how far each stream has come
 abbrev pub open_numbers : List StreamEnd → List ℕ
 open_numbers ends = map (λ entry. entry.0) (filter (λ entry. not (entry.1.bound == done)) (numbered ends))
 
@@ -23,8 +23,8 @@ open_numbers ends = map (λ entry. entry.0) (filter (λ entry. not (entry.1.boun
 abbrev pub end_bounds : List StreamEnd → List ℕ
 end_bounds ends = map (λ e. e.bound) ends
 
--- the line of a node: its number, its label, and how many sets it was shown; of a source how often it was called, of a loopback how many
--- packets it answered, and of a free node how many packets arrived
+-- the line of a node: its number, its label and a count. The count says how many sets the node was shown. For a source it says how
+-- often it was called, and for a loopback how many packets it answered. For a free node it says how many packets arrived
 abbrev pub node_line : Plan → ℕ × ℕ → List ℕ
 node_line plan entry = codes "node " ++ decimal entry.0 ++ codes " " ++ escaped (label_of plan entry.0) ++ codes " sets=" ++ decimal entry.1 ++ codes "\n"
 
@@ -41,10 +41,10 @@ report_by plan sets ends = flat_map (node_line plan) (numbered sets) ++ flat_map
 abbrev pub report_of : Job → List (StreamPrefix Plain) → List ℕ
 report_of job streams = report_by job.plan (counts job streams) (map end_of streams)
 
--- the report where it is asked for, and else nothing
+-- the report if it is asked for, and else nothing
 abbrev pub asked_report : Reporting → List ℕ → List ℕ
 asked_report asked report = if asked.counts then report else []
 
--- the lines of arrivals where they are asked for, and else nothing
+-- the lines of arrivals if they are asked for, and else nothing
 abbrev pub asked_arrivals : Reporting → List ℕ → List ℕ
 asked_arrivals asked lines = if asked.arrivals then lines else []

@@ -1,5 +1,5 @@
--- The summary of an output text: for each graph output how many packets it has in the text, when the first and the last of
--- them stand, and the sum of its whole numbers.
+-- The summary of an output text. It says of each graph output how many packets the output has in the text, and when the first and
+-- the last of them stand. It also has the sum of the output's whole numbers.
 use Rattle.std.specs.Prelude.{◌≡◌, ℕ, ℤ, pos, ◌+ℤ◌, List, [], ◌∷◌, ◌++◌, map, reverse, length, Option, None, Some, slice_index_or, codes, decimal}
 use Rattle.std.specs.List.{flat_map, filter_map}
 use Rattle.std.specs.Fmt.{signed_decimal}
@@ -30,12 +30,12 @@ abbrev pub sum_of : List (Stamped Plain) → ℤ
 sum_of [] = pos 0
 sum_of (p ∷ ps) = addend p.value +ℤ sum_of ps
 
--- the time of the first of some packets, where there is one
+-- the time of the first of some packets, if there is one
 abbrev pub first_time_of : List (Stamped Plain) → Option ℕ
 first_time_of [] = None
 first_time_of (p ∷ ps) = Some p.at
 
--- the time of the last of some packets, where there is one
+-- the time of the last of some packets, if there is one
 abbrev pub last_time_of : List (Stamped Plain) → Option ℕ
 last_time_of ps = first_time_of (reverse ps)
 
@@ -49,7 +49,7 @@ total_of ps = record { packets = length ps; first = first_time_of ps; last = las
 abbrev pub packets_at : ℕ → List (TimedSet Plain) → List (Stamped Plain)
 packets_at place sets = filter_map (λ timed. slice_index_or timed.set place None) sets
 
--- a time, or a dash where there is none
+-- a time, or a dash if there is none
 abbrev pub time_or_dash : Option ℕ → List ℕ
 time_or_dash None = codes "-"
 time_or_dash (Some t) = time_text t

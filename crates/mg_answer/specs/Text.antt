@@ -17,7 +17,7 @@ name_of plan number = unwrap_or (option_map (λ s. s.name) (slice_get plan.strea
 abbrev pub output_names : Plan → List (List ℕ)
 output_names plan = map (name_of plan) plan.outputs
 
--- the line of a packet, where there is one
+-- the line of a packet, if there is one
 abbrev pub packet_text : List ℕ → Option (Stamped Plain) → List ℕ
 packet_text name None = []
 packet_text name (Some p) = line_text name p
@@ -32,7 +32,7 @@ set_text (name ∷ names) (place ∷ places) = packet_text name place ++ set_tex
 abbrev pub sets_text : List (List ℕ) → List (TimedSet Plain) → List ℕ
 sets_text names sets = flat_map (λ timed. set_text names timed.set) sets
 
--- The output text that the streams of a plan make: at each time that is settled on all outputs of the graph, ascending, the
--- lines of what the outputs have there.
+-- The output text that the streams of a plan make. For each time that is settled on all outputs of the graph, in ascending order,
+-- it has the lines of the outputs' packets there.
 abbrev pub output_text_of : Plan → List (StreamPrefix Plain) → List ℕ
 output_text_of plan streams = sets_text (output_names plan) (settled_sets Default (inputs_of streams plan.outputs))

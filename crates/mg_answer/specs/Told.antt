@@ -12,8 +12,8 @@ ended_status (fault ∷ faults) stalled = node_fault
 ended_status [] (stream ∷ stalled) = Stalled
 ended_status [] [] = Good
 
--- The status of a run: a failed read goes before a line that isn't good, and that before a node's fault. A stream that hasn't ended counts
--- only where the input ended well.
+-- The status of a run: a failed read goes before a line that isn't good, and that before a node's fault. A stream that hasn't ended
+-- counts only if the input ended well.
 abbrev pub status_of : FeedEnd → List NodeFault → List ℕ → Status
 status_of Ended faults stalled = ended_status faults stalled
 status_of (Failed lines) faults stalled = ReadFault

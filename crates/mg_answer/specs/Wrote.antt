@@ -16,8 +16,9 @@ pub record Meets (answer : RunAnswer) (status : Status) (output notes : Device S
   pub noted : TookText notes answer.notes
   pub told : status ≡ answer.status
 
--- A write failed. The output took a front of the answer's text, and all of it where no write to the output failed. Where one did, the notes
--- took the text that says so (`failed`), or a front of that; where none did, they took a front of the answer's notes.
+-- A write failed. The output took a prefix of the answer's text, and all of the text if no write to the output failed. If a write
+-- to the output failed, the notes took the text that says so (`failed`), or a prefix of that. If none did, the notes took a prefix
+-- of the answer's notes.
 pub record MetShort (answer : RunAnswer) (failed : List ℕ) (output notes : Device SinkTold) : Type 0 where
   pub rose : Rose output.before.faults output.now.faults ⊎ Rose notes.before.faults notes.now.faults
   pub front : TookFront output answer.output

@@ -23,10 +23,10 @@ pub trait Puts {
         ensures unchanged { OnErr result (text.new.items ≡ text.old.items) };
 }
 
-/// A text that is put part by part: its bytes are written once there is a block of 64 KiB, so that memory doesn't grow with it. Once a
-/// write has failed nothing more is written.
+/// A text that is put part by part. Its bytes are written once there is a block of 64 KiB, so that memory doesn't grow with the
+/// text. Once a write has failed nothing more is written.
 ///
-/// What of a text was put, and what a sink took of it, is `HasPutIn` of `specs/Put.antt`.
+/// `HasPutIn` of `specs/Put.antt` says what of a text was put, and what a sink took of it.
 #[derive(Drop)]
 pub struct BlockText {
     text: Vec<u8>,
@@ -45,7 +45,7 @@ impl Model for BlockText {
 }
 
 impl BlockText {
-    /// A text of which nothing is put yet.
+    /// Makes a text. Nothing is put into it yet.
     pub fn new(alloc: Global) -> BlockText
         ensures { result ≡ nothing_kept }
     {
@@ -55,7 +55,7 @@ impl BlockText {
         }
     }
 
-    /// A text that was put whole, of which nothing is written yet.
+    /// Makes a text that was put whole. Nothing of it is written yet.
     pub fn whole(text: Vec<u8>) -> BlockText
         ensures { result ≡ record { kept = text.items; failed = false } }
     {
@@ -93,7 +93,7 @@ impl BlockText {
         self.text.clear();
     }
 
-    /// Whether a write has failed.
+    /// Returns whether a write has failed.
     pub fn has_failed(&self) -> bool
         ensures { result ≡ self.now.failed }
     {
@@ -101,7 +101,7 @@ impl BlockText {
     }
 }
 
-// Writes a text and empties it, once it has a block of bytes. Returns false where a write failed.
+// Writes a text and empties it, once it has a block of bytes. Returns false if a write failed.
 fn hand_on<K: Sink>(output: &mut K, text: &mut Vec<u8>) -> bool
     ensures { HandedOn result (K.told output.old) (K.told output.new) text.old.items text.new.items }
 {

@@ -20,12 +20,12 @@ use mg_edge::Sink;
 use mg_feed::{FeedEnd, put_all};
 use std::alloc::AllocError;
 
-/// Ends a run whose sets are all put: writes the rest of the output text and then the notes, with the report behind them where it is asked
-/// for, and returns the status. The notes tell how the input ended and what came of the nodes and streams; the lines of arrivals at free
-/// nodes stand between these and the report.
+/// Ends a run whose sets are all put, and returns the status. Writes the rest of the output text, then the notes, and then the
+/// report if it is asked for. The notes say how the input ended and what became of the nodes and streams. The lines of arrivals at
+/// free nodes stand between these notes and the report.
 ///
-/// Where a write of the text has failed, or that of the rest does, the notes are written all the same, and say so. Where memory runs out
-/// (`Err`) no note is written.
+/// If a write of the text has failed, or a write of the rest fails, the notes are written all the same, and say so. If memory runs
+/// out (`Err`) no note is written.
 pub fn conclude<K: Sink, E: Sink>(
     run: &Run<'_>,
     end: FeedEnd,
@@ -39,8 +39,8 @@ pub fn conclude<K: Sink, E: Sink>(
     requires sets { length outcomes.now.sets ≡ length run.now.plan.now.nodes }
     requires nodes { All (λ fault. fault.node < length run.now.plan.now.nodes) outcomes.now.faults }
 
-    // For each job of the plan: where the outcomes tell its solution, and the text that was put is the solution's output in one of the
-    // forms, the answer of the job was written.
+    // For each job of the plan the answer was written, if two things hold. The outcomes tell the job's solution. The text that was
+    // put is the solution's output in one of the forms.
     ensures wrote { IfOk result (λ status. (form : OutputForm) (job : Job) (streams : List (StreamPrefix Plain)) (first : SinkTold)
         → job.plan ≡ run.now.plan.now → IsSolution job streams → TellsOf job streams outcomes.now
         → HasPut first (K.told output.old) text (output_in form run.now.plan.now streams)
@@ -50,7 +50,7 @@ pub fn conclude<K: Sink, E: Sink>(
     ensures told { IfOk result (λ status. (first : SinkTold) (whole : List ℕ) → HasPut first (K.told output.old) text whole
         → WroteBy status (told_answer run.now.report run.now.plan.now end outcomes.now whole) (told_failed run.now.report run.now.plan.now end outcomes.now) (device first (K.told output.new)) (device (E.told notes.old) (E.told notes.new))) }
 
-    // Where memory ran out the output took a front of the text.
+    // If memory ran out, the output took a prefix of the text.
     ensures front { OnErr result ((first : SinkTold) (whole : List ℕ) → HasPut first (K.told output.old) text whole
         → TookFront (device first (K.told output.new)) whole) }
     ensures unnoted { OnErr result (E.told notes.new ≡ E.told notes.old) }
@@ -62,8 +62,8 @@ pub fn conclude<K: Sink, E: Sink>(
     Ok(unless_failed(noted, told.status))
 }
 
-/// Ends a run whose input was frozen, once its sets are all put, as `conclude` ends any other. Such an input didn't end well, but nothing
-/// is noted of that, and no stream is told to have stalled.
+/// Ends a run whose input was frozen, once its sets are all put, as `conclude` ends any other run. Such an input didn't end well,
+/// but nothing is noted of that, and no stream is told to have stalled.
 pub fn conclude_frozen<K: Sink, E: Sink>(
     run: &Run<'_>,
     outcomes: &Outcomes,
@@ -89,7 +89,7 @@ pub fn conclude_frozen<K: Sink, E: Sink>(
     Ok(unless_failed(noted, told.status))
 }
 
-// Returns a status, or `WriteFault` where something wasn't written.
+// Returns a status, or `WriteFault` if something wasn't written.
 fn unless_failed(written: bool, status: Status) -> Status
     ensures { result ≡ (if written then status else Status.WriteFault) }
 {

@@ -1,4 +1,4 @@
-//! The notes of a call for which there isn't memory enough, or whose text couldn't be written.
+//! The notes of a call that ran out of memory, or whose text couldn't be written.
 ghost use Rattle.std.specs.Prelude.{◌≡◌};
 ghost use Rattle.mg_answer.specs.Devices.{device, TookNotes};
 ghost use Rattle.mg_answer.specs.Notes.{write_note, memory_note};
@@ -13,7 +13,7 @@ pub const WRITE_NOTE: &[u8] = b"write fault\n";
 /// The note that memory ran out.
 pub const MEMORY_NOTE: &[u8] = b"out of memory\n";
 
-/// Notes that a text couldn't be written, and returns the status that says so. This allocates nothing.
+/// Notes that a text couldn't be written, and returns the status that says so. The function allocates nothing.
 pub fn note_write_fault<E: Sink>(notes: &mut E) -> Status
     ensures status { result ≡ Status.WriteFault }
     ensures noted { TookNotes (device (E.told notes.old) (E.told notes.new)) write_note }
@@ -22,7 +22,7 @@ pub fn note_write_fault<E: Sink>(notes: &mut E) -> Status
     Status::WriteFault
 }
 
-/// Notes that memory ran out, and returns the status that says so. This allocates nothing.
+/// Notes that memory ran out, and returns the status that says so. The function allocates nothing.
 pub fn note_out_of_memory<E: Sink>(notes: &mut E) -> Status
     ensures status { result ≡ Status.OutOfMemory }
     ensures noted { TookNotes (device (E.told notes.old) (E.told notes.new)) memory_note }

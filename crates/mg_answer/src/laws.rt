@@ -34,20 +34,20 @@ ghost use Rattle.mg_answer.specs.declared.status.Status.{Status};
 ghost use Rattle.mg_answer.specs.declared.status.Status.TheVariants.{Good, NodeFault, Stalled, ReadFault, WriteFault, OutOfMemory};
 ghost use Rattle.mg_answer.specs.declared.run.Reporting.{Reporting};
 
-/// What good lines give the graph of a valid plan, which may have free nodes, fits the plan: a prefix for each input, by the rule of
-/// streams, and a place for each side packet.
+/// What good lines give the graph of a valid plan fits the plan. Each input has a prefix, by the rule of streams, and each side
+/// packet has a place. The plan may have free nodes.
 pub fn what_lines_give_fits()
     ensures { (plan : Plan) (read : Read) → IsValidWithFree plan → AllGood (inputs_of plan) [] read.lines → InputsFit plan (inputs_by (inputs_of plan) read) }
 {}
 
-/// The packets that are made for the graph of a valid plan, which may have free nodes, fit the plan: each input has a prefix, which has
-/// ended.
+/// The packets that are made for the graph of a valid plan fit the plan: each input has a prefix that has ended. The plan may have
+/// free nodes.
 pub fn generated_packets_fit()
     ensures { (plan : Plan) (number : ℕ) → IsValidWithFree plan → number < 2 ^ 32 → InputsFit plan (generated_inputs (inputs_of plan) number) }
 {}
 
-/// A valid plan's graph has one answer over any bytes, whether the input ended after them or a read failed, and one over any number of
-/// packets that are made.
+/// A valid plan's graph has one answer over any bytes, both if the input ended after them and if a read failed. It has one answer
+/// over any number of packets that are made.
 pub fn there_is_one_answer()
     ensures ended { (laws : Laws) (report : Reporting) (plan : Plan) (bytes : List ℕ) → IsValid plan → (answer : RunAnswer) × AnswersEnded laws report plan bytes answer }
     ensures cut { (laws : Laws) (report : Reporting) (plan : Plan) (bytes : List ℕ) → IsValid plan → (answer : RunAnswer) × AnswersCut laws report plan bytes answer }
@@ -55,8 +55,9 @@ pub fn there_is_one_answer()
     ensures one { (telling : Telling) (job : Job) (end : FeedEnd) (answer other : RunAnswer) → IsAnswerOf telling job end answer → IsAnswerOf telling job end other → answer ≡ other }
 {}
 
-/// Where each line is good, no node fails and no stream stalls, the answer over an input that ends well is a good one: all of the output
-/// text, and no note but the report where it is asked for. Packets that are made have no line.
+/// If each line is good, no node fails and no stream stalls, the answer over an input that ends well is good. It has all of the
+/// output text, and no note but the report if it is asked for. The same holds over packets that are made: they have no lines, and
+/// the output is the summary.
 pub fn what_has_no_fault_is_good()
     ensures read { (laws : Laws) (report : Reporting) (plan : Plan) (bytes : List ℕ) (streams : List (StreamPrefix Plain)) (answer : RunAnswer)
         → let job = job_of laws plan (ended_input (inputs_of plan) bytes) in IsSolution job streams
@@ -67,20 +68,20 @@ pub fn what_has_no_fault_is_good()
         → AnswersGenerated laws report plan number answer → answer ≡ record { output = summary_of plan streams; notes = asked_report report (report_of job streams); status = Good } }
 {}
 
-/// Of a new text the empty text was put. Of whatever text was put so far the sink took a front, and nothing else.
+/// The empty text was put into a new text. The sink took a prefix of the text that was put so far, and nothing else.
 pub fn what_is_put_is_taken_in_front()
     ensures nothing { (first : SinkTold) (names : List (List ℕ)) → HasPut first first (nothing_put names) [] }
     ensures front { (first now : SinkTold) (view : TextView) (text : List ℕ) → HasPut first now view text → TookFront (device first now) text }
 {}
 
-/// A sink that took a front of a text took a front of each longer text that begins with it.
+/// A sink that took a prefix of a text took a prefix of each longer text that begins with this text.
 pub fn the_front_of_the_text()
     ensures { (sink : Device SinkTold) (text longer : List ℕ) → IsFront text longer → TookFront sink text → TookFront sink longer }
 {}
 
-/// What follows where a run that writes as it goes ended with a status: unless memory ran out, its input was read to its
-/// end, its first line that isn't good, or its first fault, and where no device failed the run wrote the answer; where it went
-/// well, or a node failed or a stream never closed, the input's end was met. No fault of a device hides behind another status.
+/// What follows if a run that writes as it goes ended with a status. Unless memory ran out, its input was read to its end, its
+/// first line that isn't good, or its first fault. Unless memory ran out, the run wrote the answer if no device failed. If the run
+/// went well, a node failed or a stream never closed, the input's end was met. Another status never hides a fault of a device.
 pub fn runs_that_write_as_they_go()
     ensures read { (laws : Laws) (report : Reporting) (plan : Plan) (status : Status) (devices : RunDevices) → RanOn laws report plan status devices → status ≢ OutOfMemory
         → (read : Read) × CameTo (inputs_of plan) devices.input read }
@@ -95,8 +96,8 @@ pub fn runs_that_write_as_they_go()
         → IsOneOf status (WriteFault ∷ OutOfMemory ∷ []) }
 {}
 
-/// What follows where a run over packets that are made ended with a status: unless memory ran out, it wrote the answer where neither
-/// the output nor the notes failed, and no fault of them hides behind another status.
+/// What follows if a run over packets that are made ended with a status. Unless memory ran out, the run wrote the answer if neither
+/// the output nor the notes failed. Another status never hides a fault of the output or the notes.
 pub fn runs_over_generated_packets()
     ensures answered { (laws : Laws) (report : Reporting) (plan : Plan) (number : ℕ) (status : Status) (devices : RunDevices) → RanGenerated laws report plan number status devices
         → Unrisen devices.output.before.faults devices.output.now.faults → Unrisen devices.notes.before.faults devices.notes.now.faults → status ≢ OutOfMemory
@@ -106,8 +107,9 @@ pub fn runs_over_generated_packets()
         → IsOneOf status (WriteFault ∷ OutOfMemory ∷ []) }
 {}
 
-/// Where an input came to some lines and an end, and the answer over these was written with a status, a run that writes as it goes has
-/// ended with that status; and so has a run over packets that are made, where the answer over them was written.
+/// Suppose an input gave some lines and an end, and the answer over these was written with a status. Then a run that writes as it
+/// goes has ended with that status. The same holds of a run over packets that are made, if the answer over these packets was
+/// written.
 pub fn what_is_written_ran()
     ensures read { (laws : Laws) (report : Reporting) (plan : Plan) (read : Read) (devices : RunDevices) (status : Status) → CameTo (inputs_of plan) devices.input read
         → Wrote (by_lines report) (job_of laws plan read) read.end status devices.output devices.notes → RanOn laws report plan status devices }
@@ -121,8 +123,8 @@ pub fn sets_are_few()
         → length (settled_sets Default (ports_of streams job.plan.outputs)) < 2 ^ 64 }
 {}
 
-/// Where a source gave some bytes, these lines were accepted of them, the end is the one that the lines and the source's calls have, and
-/// the bytes were read once, the input came to these lines and this end.
+/// The input gave these lines and this end, if four things hold. The source gave some bytes. These lines were accepted of the
+/// bytes. The end is that of the lines and of the source's calls, and not that memory ran out. The bytes were read once.
 pub fn what_batches_came_to()
     ensures { (graph : GraphInputs) (input : Device SourceTold) (came : List ℕ) (lines : List (List ℕ)) (end : FeedEnd) (ended : Bool)
         → Gave input.before.left input.now.left came → EndsAs end graph [] came lines ended → MetEnd false ended input.before input.now
@@ -130,8 +132,8 @@ pub fn what_batches_came_to()
         → CameTo graph input (record { lines = lines; end = end }) }
 {}
 
-/// The output text of lines so far is a front of the text of a whole input that begins with them, where no side packet comes behind
-/// them.
+/// The output text of some lines is a prefix of the output text of a whole input that begins with these lines. No side packet may
+/// come after the lines.
 pub fn texts_grow()
     ensures { (laws : Laws) (plan : Plan) (bytes : List ℕ) (lines more : List (List ℕ)) (streams longer : List (StreamPrefix Plain)) → IsValid plan
         → accepted (inputs_of plan) (all_lines bytes) ≡ lines ++ more
@@ -144,8 +146,8 @@ pub fn texts_grow()
         → IsSolution (job_of laws plan (ended_input (inputs_of plan) bytes)) longer → IsFront (output_text_of plan streams) (output_text_of plan longer) }
 {}
 
-/// Lines of different streams may change places: where two that stand one behind the other name different streams, and all lines are good
-/// in either order, the answer is the same.
+/// Lines of different streams may change places. If two lines that stand one after the other name different streams, and all lines
+/// are good in either order, the answer is the same.
 pub fn lines_of_different_streams_answer_the_same()
     ensures { (laws : Laws) (report : Reporting) (plan : Plan) (input other : List ℕ) (front back : List (List ℕ)) (first second : List ℕ) (answer : RunAnswer)
         → all_lines input ≡ front ++ first ∷ second ∷ back → all_lines other ≡ front ++ second ∷ first ∷ back → AreApart first second

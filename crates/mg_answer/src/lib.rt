@@ -1,8 +1,8 @@
-//! What a run of a graph answers: its output text or a summary of it, its notes with a report behind them, and its status, as
-//! functions of the plan, of the input's bytes and of the solution; how it is written, set by set and then the end; and a run
-//! that computes its answer plainly.
-//! Answers to the definitions of `specs/Text.antt`, `specs/Summary.antt`, `specs/Told.antt`, `specs/Notes.antt`, `specs/Report.antt`,
-//! `specs/Answer.antt`, `specs/Frozen.antt`, `specs/Outcomes.antt`, `specs/Put.antt`, `specs/Wrote.antt` and `specs/Ran.antt`.
+//! Defines what a run of a graph answers: its output text or a summary, its notes with a report after them, and its status. They
+//! are functions of the plan, of the input's bytes and of the solution. Also defines how the answer is written, set by set and then
+//! the end. Has a run that computes its answer plainly. Answers to the definitions of `specs/Text.antt`, `specs/Summary.antt`,
+//! `specs/Told.antt`, `specs/Notes.antt`, `specs/Report.antt`, `specs/Answer.antt`, `specs/Frozen.antt`, `specs/Outcomes.antt`,
+//! `specs/Put.antt`, `specs/Wrote.antt` and `specs/Ran.antt`.
 #![tactic(auto)]
 
 mod block_text;

@@ -17,7 +17,7 @@ use mg_settled::StreamEnd;
 use mg_time::Timestamp;
 use std::alloc::AllocError;
 
-/// Puts the note of how an input ended at a text's end, where a read failed or a line was refused. Otherwise it puts nothing.
+/// Puts the note of how an input ended at a text's end, if a read failed or a line was refused. Otherwise it puts nothing.
 pub fn put_end(text: &mut Vec<u8>, end: FeedEnd) -> Result<(), AllocError>
     ensures { OnOk result (text.new.items ≡ text.old.items ++ notes.end_note end) }
 {
@@ -120,8 +120,8 @@ pub fn put_arrival(
     put(text, b"\n")
 }
 
-/// Puts the notes of a status at a text's end: which streams stalled, that a write failed, or that memory ran out. Any other status has
-/// none.
+/// Puts the notes of a status at a text's end: which streams stalled, that a write failed, or that memory ran out. Any other status
+/// has no note.
 pub fn put_status(
     text: &mut Vec<u8>,
     status: Status,
@@ -176,7 +176,7 @@ fn put_stall(
     put(text, b"\n")
 }
 
-// Returns the bound of the stream of a number, where `ends` tells how far each stream has come.
+// Returns the bound of the stream of a number. `ends` says how far each stream has come.
 fn bound_at(ends: &[StreamEnd], number: u32) -> Timestamp
     requires { number < length ends.now }
     ensures { result ≡ slice_index_or (end_bounds ends.now) number pre_stream }

@@ -7,8 +7,9 @@ use mg_value::CountList;
 pub struct Outcomes {
     /// The faults of the nodes that failed, in node order.
     pub faults: NodeFaultList,
-    /// For each node how many sets it was shown, how often it was called if it is a source, how many packets of MAIN it answered if it is
-    /// a loopback, and how many packets arrived at it if it is free; the set or call that failed included.
+    /// A count for each node: how many sets it was shown. For a source it is how often it was called, and for a loopback how many
+    /// packets of MAIN it answered. For a free node it is how many packets arrived at it. The set or call that failed is counted
+    /// too.
     pub sets: CountList,
     /// How far each stream has come, in stream order.
     pub ends: Vec<StreamEnd>,

@@ -18,10 +18,10 @@ use mg_value::MgText;
 use std::alloc::{AllocError, Global};
 use std::marker::Model;
 
-/// A summary of a graph's outputs: for each how many packets it has in the sets that were put, when the first and the last of them stand,
-/// and the exact sum of its whole numbers.
+/// A summary of a graph's outputs. For each output it has the number of packets in the sets that were put, and the times of the
+/// first and last packet. It also has the exact sum of the output's whole numbers.
 ///
-/// Which sets were put is `HasSummed` of `specs/Summary.antt`.
+/// `HasSummed` of `specs/Summary.antt` says which sets were put.
 #[derive(Drop)]
 pub struct OutputSummary {
     names: Vec<MgText>,
@@ -42,7 +42,7 @@ impl Model for OutputSummary {
 }
 
 impl OutputSummary {
-    /// A summary for the outputs of a plan, to which nothing is put yet.
+    /// Makes a summary for the outputs of a plan. No set is put into it yet.
     pub fn new(alloc: Global, plan: &Plan) -> Result<OutputSummary, AllocError>
         requires shown { All (λ s. s < length plan.now.streams) plan.now.outputs }
         ensures names { IfOk result (λ s. s.names ≡ output_names plan.now) }
@@ -68,7 +68,7 @@ impl OutputSummary {
         self.sets += 1;
     }
 
-    /// The text of the summary, of which nothing is written yet.
+    /// Returns the text of the summary. Nothing of it is written yet.
     pub fn text(&self, alloc: Global) -> Result<OutputText, AllocError>
         ensures { IfOk result (λ text. (sets : List (TimedSet Plain)) (first : SinkTold) → HasSummed self.now sets
             → HasPut first first text (summary_text self.now.names sets)) }
@@ -79,7 +79,7 @@ impl OutputSummary {
     }
 }
 
-// The names of a graph's outputs.
+// Returns the names of a graph's outputs.
 fn names_of(alloc: Global, plan: &Plan) -> Result<Vec<MgText>, AllocError>
     requires { All (λ s. s < length plan.now.streams) plan.now.outputs }
     ensures names { IfOk result (λ names. names.items ≡ output_names plan.now) }

@@ -13,10 +13,10 @@ use mg_settled::InputSet;
 use std::alloc::{AllocError, Global};
 use std::marker::Model;
 
-/// The text that a graph's outputs make, on its way to a sink: sets are put one after the other, and their lines are written in blocks.
-/// Once a write has failed nothing more is written.
+/// The text that a graph's outputs make, on its way to a sink. Sets are put one after the other, and their lines are written in
+/// blocks. Once a write has failed nothing more is written.
 ///
-/// What of a text was put, and what a sink took of it, is `HasPut` of `specs/Put.antt`.
+/// `HasPut` of `specs/Put.antt` says what of a text was put, and what a sink took of it.
 #[derive(Drop)]
 pub struct OutputText {
     writers: Vec<LineWriter>,
@@ -35,7 +35,7 @@ impl Model for OutputText {
 }
 
 impl OutputText {
-    /// A text for the outputs of a plan, of which nothing is put yet.
+    /// Makes a text for the outputs of a plan. Nothing is put into it yet.
     pub fn new(alloc: Global, plan: &Plan) -> Result<OutputText, AllocError>
         requires shown { All (λ s. s < length plan.now.streams) plan.now.outputs }
         ensures { IfOk result (λ t. t ≡ nothing_put (output_names plan.now)) }
@@ -47,7 +47,7 @@ impl OutputText {
         })
     }
 
-    /// A text that was put whole, of which nothing is written yet. No sets are put behind it.
+    /// Makes a text that was put whole. Nothing of it is written yet, and no sets are put after it.
     pub fn whole(alloc: Global, text: Vec<u8>) -> OutputText
         ensures { result ≡ record { names = []; kept = text.items; failed = false } }
     {
@@ -57,7 +57,7 @@ impl OutputText {
         }
     }
 
-    /// A text that was put into blocks, of which a part may have been written. No sets are put behind it.
+    /// Makes a text that was put into blocks. A part of the blocks may have been written, and no sets are put after them.
     pub fn of_blocks(alloc: Global, blocks: BlockText) -> OutputText
         ensures { result ≡ record { names = []; kept = blocks.kept; failed = blocks.failed } }
     {
@@ -93,7 +93,7 @@ impl OutputText {
         self.blocks.flush(output);
     }
 
-    /// Whether a write has failed.
+    /// Returns whether a write has failed.
     pub fn has_failed(&self) -> bool
         ensures { result ≡ self.now.failed }
     {

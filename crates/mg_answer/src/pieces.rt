@@ -9,7 +9,7 @@ use mg_time::Timestamp;
 use mg_value::MgText;
 use std::alloc::AllocError;
 
-/// The label of a node.
+/// Returns the label of a node.
 pub fn label_at(plan: &Plan, node: usize) -> &MgText
     requires { node < length plan.now.nodes }
     ensures { result.now ≡ label_of plan.now node }

@@ -14,15 +14,15 @@ use mg_edge::Source;
 use mg_feed::{Feed, FeedEnd};
 use std::alloc::{AllocError, Global};
 
-/// A whole input: how it ended, and what its lines hand to a graph.
+/// A whole input: how it ended, and what its lines give a graph.
 #[derive(Drop)]
 pub struct WholeInput {
     pub end: FeedEnd,
     pub inputs: Inputs,
 }
 
-/// Reads packet lines for a plan to the input's end, its first fault or its first line that isn't good. After an `Err`, where memory ran
-/// out, some of the input may have been read.
+/// Reads packet lines for a plan to the input's end, its first fault or its first line that isn't good. An `Err` means that memory
+/// ran out: some of the input may have been read.
 pub fn read_whole<S: Source>(
     alloc: Global,
     plan: &Plan,

@@ -12,7 +12,7 @@ use mg_calc::Plan;
 use mg_settled::StreamEnd;
 use std::alloc::AllocError;
 
-/// Puts the report at a text's end, where it is asked for.
+/// Puts the report at a text's end, if it is asked for.
 pub fn put_asked(
     text: &mut Vec<u8>,
     asked: Reporting,

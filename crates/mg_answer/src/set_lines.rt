@@ -10,7 +10,7 @@ use mg_settled::InputSet;
 use mg_value::{MgText, Packet};
 use std::alloc::{AllocError, Global};
 
-/// Returns for each output of a graph, in order, what writes its lines.
+/// Returns a writer of lines for each output of a graph, in order.
 pub fn writers_of(alloc: Global, plan: &Plan) -> Result<Vec<LineWriter>, AllocError>
     requires { All (λ s. s < length plan.now.streams) plan.now.outputs }
     ensures names { IfOk result (λ writers. writers.items ≡ output_names plan.now) }
@@ -68,7 +68,7 @@ fn push_set(text: &mut Vec<u8>, writers: &[LineWriter], set: &InputSet) -> Resul
     Ok(())
 }
 
-// Puts the line of a packet, where there is one.
+// Puts the line of a packet, if there is a packet.
 fn push_packet(
     text: &mut Vec<u8>,
     writer: &LineWriter,

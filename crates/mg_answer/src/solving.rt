@@ -29,35 +29,35 @@ use mg_settled::{Prefix, PrefixList, StreamEnd, TimedSet, settled_sets};
 use mg_value::Policy;
 use std::alloc::{AllocError, Global};
 
-/// Reads packet lines to the input's end, its first fault or its first line that isn't good, solves the graph's equations for what they
-/// give, and writes the output text and then the notes, with the report behind them where it is asked for. No calculator that is handed in
-/// is called.
+/// Reads packet lines to the input's end, its first fault or its first line that isn't good. Solves the graph's equations for what
+/// the lines give. Writes the output text, then the notes, and then the report if it is asked for. No user-supplied calculator is
+/// called.
 ///
-/// Once a write to the output has failed nothing more is written to it; the notes are written all the same, and say so.
+/// Once a write to the output has failed nothing more is written to it. The notes are written all the same, and say so.
 pub fn solve_input<S: Source, K: Sink, E: Sink>(
     run: &Run<'_>,
     devices: &mut Devices<'_, '_, '_, S, K, E>,
 ) -> Status
     requires plan { IsValid run.now.plan.now }
     requires unstated { All (λ node. IsStated node.law → ⊥) run.now.plan.now.nodes }
-    // What each status means, whatever the stated laws are, of which the graph has none: the answer was written, or a write failed, or
-    // memory ran out.
+    // What each status means: the answer was written, or a write failed, or memory ran out. This holds whatever the stated laws
+    // are, since no node of the graph has a stated law.
     ensures ran { (laws : Laws) → Ran laws run.now.report run.now.plan.now result (told_by S.told K.told E.told devices.old devices.new) }
 
-    // Unless memory ran out, the input was read to its end, its first line that isn't good, or its first fault; and it was read
-    // once, and no further.
+    // Unless memory ran out, the input was read to its end, its first line that isn't good, or its first fault. In any case it was
+    // read once, and no further.
     ensures read { result ≢ Status.OutOfMemory → (read : Read) × CameTo (inputs_of run.now.plan.now) (told_by S.told K.told E.told devices.old devices.new).input read }
     ensures once { ReadSome (inputs_of run.now.plan.now) (told_by S.told K.told E.told devices.old devices.new).input }
 
     // A run that went well, or in which a node failed or a stream never closed, met the input's end.
     ensures ended { IsOneOf result (Status.Good ∷ Status.NodeFault ∷ Status.Stalled ∷ []) → EndCame (S.told devices.old.input.now) (S.told devices.new.input.now) }
 
-    // No device failed and memory was had: the output's text, the notes and the status are those of the answer to the
-    // input's bytes.
+    // If no device failed and memory sufficed, the output's text, the notes and the status are those of the answer to the input's
+    // bytes.
     ensures answered { NoneFailed (told_by S.told K.told E.told devices.old devices.new) → result ≢ Status.OutOfMemory
         → (laws : Laws) → IsAnswered laws run.now.report run.now.plan.now result (told_by S.told K.told E.told devices.old devices.new) }
 
-    // No fault of a device hides behind another status.
+    // Another status never hides a fault of a device.
     ensures read_rose { HasRisen (S.told devices.old.input.now).faults (S.told devices.new.input.now).faults
         → IsOneOf result (Status.ReadFault ∷ Status.WriteFault ∷ Status.OutOfMemory ∷ []) }
     ensures write_rose { HasRisen (K.told devices.old.output.now).faults (K.told devices.new.output.now).faults
@@ -68,7 +68,7 @@ pub fn solve_input<S: Source, K: Sink, E: Sink>(
     solve_whole(run, devices)
 }
 
-// Reads the whole input, solves the graph and writes the answer. Where memory runs out it notes that alone.
+// Reads the whole input, solves the graph and writes the answer. If memory runs out it notes that alone.
 fn solve_whole<S: Source, K: Sink, E: Sink>(
     run: &Run<'_>,
     devices: &mut Devices<'_, '_, '_, S, K, E>,
@@ -84,7 +84,7 @@ fn solve_whole<S: Source, K: Sink, E: Sink>(
     }
 }
 
-// Reads the whole input, solves the graph and writes the answer. Where memory runs out (`Err`) no note is written.
+// Reads the whole input, solves the graph and writes the answer. If memory runs out (`Err`) no note is written.
 fn solve_read<S: Source, K: Sink, E: Sink>(
     run: &Run<'_>,
     devices: &mut Devices<'_, '_, '_, S, K, E>,

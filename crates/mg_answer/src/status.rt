@@ -1,7 +1,8 @@
 ghost use Rattle.std.specs.Prelude.{◌≡◌};
 ghost use Rattle.mg_answer.specs.Status.{number_of};
 
-/// How a call of the program ended. `StoreFault`, `Usage` and `GraphRefused` are of calls that run no graph; a run ends with any other.
+/// How a call of the program ended. `StoreFault`, `Usage` and `GraphRefused` are of calls that run no graph. A run ends with any
+/// other status.
 #[derive(Clone, Copy, Debug, PartialEq, Eq)]
 pub enum Status {
     /// All went well.
@@ -22,12 +23,12 @@ pub enum Status {
     ReadFault,
     /// The output or the notes couldn't be written.
     WriteFault,
-    /// There wasn't memory enough.
+    /// Memory ran out.
     OutOfMemory,
 }
 
 impl Status {
-    /// The number that the program exits with.
+    /// Returns the number that the program exits with.
     pub fn number(self) -> u8
         ensures { result ≡ number_of self }
     {

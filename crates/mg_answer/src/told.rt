@@ -11,7 +11,7 @@ use mg_settled::StreamEnd;
 use mg_time::Timestamp;
 use std::alloc::{AllocError, Global};
 
-/// Returns the numbers of the streams that haven't ended, where `ends` tells how far each stream has come.
+/// Returns the numbers of the streams that haven't ended. `ends` says how far each stream has come.
 pub fn stalled_of(alloc: Global, ends: &[StreamEnd]) -> Result<Vec<u32>, AllocError>
     requires { length ends.now < 2 ^ 32 }
     ensures { IfOk result (λ numbers. numbers.items ≡ open_numbers ends.now) }
@@ -39,7 +39,7 @@ pub fn status_of(end: FeedEnd, faults: &[NodeFault], stalled: &[u32]) -> Status
     }
 }
 
-/// Whether an input ended well.
+/// Returns whether an input ended well.
 pub fn is_ended(end: FeedEnd) -> bool
     ensures { result ≡ is_ended end }
 {
@@ -51,7 +51,7 @@ pub fn is_ended(end: FeedEnd) -> bool
     }
 }
 
-/// Whether memory ran out while the input was read.
+/// Returns whether memory ran out while the input was read.
 pub fn ran_out(end: FeedEnd) -> bool
     ensures { (result ≡ false) ↔ (end ≢ FeedEnd.OutOfMemory) }
 {

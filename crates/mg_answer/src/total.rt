@@ -43,7 +43,7 @@ impl Total {
     }
 }
 
-// Returns `first` where there is one, or else `at`.
+// Returns `first` if there is one, or else `at`.
 fn first_of(first: Option<Timestamp>, at: Timestamp) -> Option<Timestamp>
     ensures { result ≡ Some (unwrap_or first at) }
 {
@@ -53,7 +53,7 @@ fn first_of(first: Option<Timestamp>, at: Timestamp) -> Option<Timestamp>
     }
 }
 
-// Returns the whole number that a packet holds, or 0 where its payload is of another kind.
+// Returns the whole number that a packet holds, or 0 if its payload is of another kind.
 fn number_in(packet: &Packet) -> i64
     ensures { result ≡ addend packet.now.value }
 {

@@ -39,7 +39,7 @@ fn put_total(text: &mut Vec<u8>, name: &MgText, total: &Total) -> Result<(), All
     put(text, b"\n")
 }
 
-// Puts a timestamp, or a dash where there is none.
+// Puts a timestamp, or a dash if there is none.
 fn put_time_or_dash(text: &mut Vec<u8>, time: Option<Timestamp>) -> Result<(), AllocError>
     ensures { OnOk result (text.new.items ≡ text.old.items ++ time_or_dash time) }
 {
@@ -49,7 +49,7 @@ fn put_time_or_dash(text: &mut Vec<u8>, time: Option<Timestamp>) -> Result<(), A
     }
 }
 
-// Puts a number's digits, behind a minus sign where it is negative.
+// Puts a number's digits, after a minus sign if the number is negative.
 fn put_sum(text: &mut Vec<u8>, sum: i128) -> Result<(), AllocError>
     ensures { OnOk result (text.new.items ≡ text.old.items ++ signed_decimal sum) }
 {

@@ -1,4 +1,4 @@
-//! The words by which notes tell why a line was refused or a node failed.
+//! The words by which notes say why a line was refused or a node failed.
 ghost use Rattle.std.specs.Prelude.{◌≡◌};
 ghost use Rattle.mg_answer.specs.Notes as notes;
 
@@ -6,7 +6,7 @@ use mg_calc::Cause;
 use mg_feed::LineFault;
 use mg_json::ValueFault;
 
-/// Returns the words for why a line was refused: none where memory ran out.
+/// Returns the words for why a line was refused, or no words if memory ran out.
 pub fn line_refusal(fault: LineFault) -> &'static str
     ensures { result.now ≡ notes.line_fault_text fault }
 {

@@ -1,4 +1,4 @@
--- The longest run of good lines, and the first line behind it.
+-- The longest run of good lines, and the first line after it.
 use Rattle.std.proofs.Common.{◌≡◌, ◌≢◌, ℕ, ◌+◌, ◌<◌, ◌≤◌, List, [], ◌∷◌, ◌++◌, length, nat_lt, nat_le, Bool, true, false, if◌then◌else◌, Option, None, Some, refl, sym, ap, ◌∙◌, subst, arith, append_assoc, append-nil, length-append}
 use Rattle.std.proofs.lemmas.Bool.{lt-ltb, leb-false}
 use Rattle.mg_feed.specs.Graph.{GraphInputs}
@@ -12,7 +12,7 @@ use Rattle.mg_feed.specs.declared.line_fault.LineFault.TheVariants.{TooLong, Too
 use Rattle.mg_feed.specs.declared.feed_end.FeedEnd.{FeedEnd}
 use Rattle.mg_feed.specs.declared.feed_end.FeedEnd.TheVariants.{Ended, Failed, Refused, OutOfMemory}
 
--- of lines that are all good the last ones are, and the first ones
+-- if lines are all good, so are the last of them, and so are the first
 pub good-behind : (graph : GraphInputs) (before xs ys : List (List ℕ)) → AllGood graph before (xs ++ ys) → AllGood graph (before ++ xs) ys
 good-behind graph before [] ys good = rw append-nil good
 good-behind graph before (x ∷ xs) ys good = rw (sym (append_assoc before (x ∷ []) xs)) (good-behind graph (before ++ x ∷ []) xs ys good.1)
@@ -84,7 +84,7 @@ good-within graph before (line ∷ lines) few good =
 pub good-few : (graph : GraphInputs) (lines : List (List ℕ)) → AllGood graph [] lines → length lines ≤ most_lines
 good-few graph lines good = good-within graph [] lines (omega arith) good
 
--- the lines of an input that came to an end are all good
+-- the accepted lines of an input are all good, unless memory ran out
 pub good-ends : (end : FeedEnd) (graph : GraphInputs) (came : List ℕ) (lines : List (List ℕ)) (ended : Bool) → EndsAs end graph [] came lines ended → end ≢ OutOfMemory → AllGood graph [] lines
 good-ends Ended graph came lines ended ends some = subst (λ (l : List (List ℕ)). AllGood graph [] l) ends.2.0 (good-accepted graph [] (all_lines came))
 good-ends (Failed number) graph came lines ended ends some = subst (λ (l : List (List ℕ)). AllGood graph [] l) ends.2.0 (good-accepted graph [] (whole_lines came))

@@ -46,7 +46,7 @@ part-front block at filled count le =
     let many : (at + count) - at ≡ count = omega arith in
     ap (λ n. take n (drop at block)) many ∙ sym (take-twice count (filled - at) (drop at block) (omega (arith, le)))
 
--- the first bytes of a part were put behind others
+-- the first bytes of a part were put after other bytes
 pub part-held : (cut held block : List ℕ) (at filled count : ℕ) → at + count ≤ filled → held ≡ cut ++ take count (take (filled - at) (drop at block))
     → held ++ take (filled - (at + count)) (drop (at + count) block) ≡ cut ++ take (filled - at) (drop at block)
 part-held cut held block at filled count le is =

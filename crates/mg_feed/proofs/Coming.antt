@@ -29,7 +29,7 @@ stops-nothing graph first = record { before = []; block = []; split = refl; few 
 stops-same : (g h : GraphInputs) (first : List (List ℕ)) (past : List ℕ) → h ≡ g → StopsInTime g first past → StopsInTime h first (past ++ [])
 stops-same g h first past same stops = rw (append-nil past, same) stops
 
--- a block came behind good lines, and the line that they leave open isn't too long
+-- a block came after good lines, and the line that these leave open isn't too long
 stops-block : (graph : GraphInputs) (first lines : List (List ℕ)) (past kept came : List ℕ) → AllGood graph [] (first ++ lines) → IsCut past lines kept → NoFeed kept → length kept ≤ longest_line
     → length came ≤ longest_block → StopsInTime graph first (past ++ came)
 stops-block graph first lines past kept came good cut none short few = record {
@@ -128,7 +128,7 @@ ends-long f none long first past lines gone c more fits =
 
 -- What callers carry from one call to the next --
 
--- nothing came to a feed that is new
+-- nothing came to a new feed
 pub came-nothing : (lines : List (List ℕ)) (gone : List (List (Stamped Plain))) (f : Fed) → f.read ≡ record { kept = []; ended = false } → HasAccepted lines gone f.view → Came lines [] [] gone f
 came-nothing lines gone f unread stands = record {
   stands = rw append-nil stands;
@@ -145,7 +145,7 @@ came-taken first came lines gone gone' f g it same graph stands = record {
   stops = subst (λ (g : GraphInputs). StopsInTime g first came) (sym graph) it.stops;
 }
 
--- the lines that were accepted so far stand in front of those of the whole input
+-- the lines that were accepted so far are the first accepted lines of the whole input
 pub came-front : (past rest : List ℕ) (lines : List (List ℕ)) (gone : List (List (Stamped Plain))) (f : Fed) → Came [] past lines gone f → (f.read.ended ≡ true → rest ≡ [])
     → (more : List (List ℕ)) × (accepted f.view.graph (all_lines (past ++ rest)) ≡ lines ++ more)
 came-front past rest lines gone f c fits =

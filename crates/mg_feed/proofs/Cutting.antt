@@ -83,7 +83,7 @@ pub cut-all : (bytes : List ℕ) (lines : List (List ℕ)) (rest more : List ℕ
 cut-all bytes lines rest more cut =
     ap (λ l. all_lines (l ++ more)) cut.is ∙ ap all_lines (append_assoc (fed_lines lines) rest more) ∙ all_lines-fed lines (rest ++ more) cut.whole
 
--- where no line feed is left
+-- if no line feed is left
 pub no_feed-whole : (p : List ℕ) → NoFeed p → whole_lines p ≡ []
 no_feed-whole p none = rw (parts-no_feed p none) refl
 
@@ -145,7 +145,7 @@ but_empty-some ((c ∷ p) ∷ []) b rest is = refl
 but_empty-some ([] ∷ q ∷ ps) b rest is = ap (λ l. [] ∷ l) (but_empty-some (q ∷ ps) b rest is)
 but_empty-some ((c ∷ p) ∷ q ∷ ps) b rest is = ap (λ l. (c ∷ p) ∷ l) (but_empty-some (q ∷ ps) b rest is)
 
--- with its last line feed an input that has ended has the same lines, and all are whole
+-- an input that has ended has the same lines with its last line feed, and all of them are whole
 completed-by : (rest bytes : List ℕ) → unended_line bytes ≡ rest → (whole_lines (with_feed rest bytes) ≡ all_lines bytes) × (unended_line (with_feed rest bytes) ≡ [])
 completed-by [] bytes is = (sym (but_empty-none (parts bytes) is), is)
 completed-by (b ∷ rest) bytes is = (
@@ -162,7 +162,7 @@ rest_of-completed bytes = (completed-by (unended_line bytes) bytes refl).1
 pub all_lines-completed : (bytes : List ℕ) → all_lines (completed bytes) ≡ all_lines bytes
 all_lines-completed bytes = but_empty-none (parts (completed bytes)) (rest_of-completed bytes) ∙ whole_lines-completed bytes
 
--- where no line feed is left of an input that has ended, all its lines are taken
+-- if no line feed is left of an input that has ended, all its lines are taken
 pub cut-ended : (bytes : List ℕ) (lines : List (List ℕ)) (rest : List ℕ) → IsCut (completed bytes) lines rest → NoFeed rest → lines ≡ all_lines bytes
 cut-ended bytes lines rest cut none = cut-whole (completed bytes) lines rest cut none ∙ whole_lines-completed bytes
 
@@ -182,7 +182,7 @@ all_lines-begin p more none some =
     let g = first_line (p ++ f.0) f.1 (omega (arith, length-append p f.0)) in
     (f.0, g.0, ap but_empty_last f.2 ∙ g.1)
 
--- Where the code finds no line feed --
+-- If the code finds no line feed --
 
 is_false : (b : Bool) → (b ≡ true → ⊥) → b ≡ false
 is_false true differs = absurd (differs refl)
@@ -211,7 +211,7 @@ line_end-from bytes (Some i) first = record {
   cut = rw add-one (cut-at bytes i first.0.high first.1);
 }
 
--- bytes without a line feed behind others
+-- bytes without a line feed after others
 pub no_feed-append : (xs ys : List ℕ) → NoFeed xs → NoFeed ys → NoFeed (xs ++ ys)
 no_feed-append [] ys none more = more
 no_feed-append (x ∷ xs) ys none more = (none.0, no_feed-append xs ys none.1 more)

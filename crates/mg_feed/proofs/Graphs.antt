@@ -24,7 +24,7 @@ names-some all placed more n s left next p is cut name place pushed =
     ∙ sym (append_assoc placed (p ∷ []) (numbered (n + 1) (map (λ s. s.name) next)))
     ∙ ap (λ l. l ++ numbered (n + 1) (map (λ s. s.name) next)) (sym pushed)
 
--- a list that is mapped from the front
+-- a list that is mapped item by item from its first
 pub mapped-some : {X Y : Type 0} (f : X → Y) (all done more : List Y) (x : X) (left next : List X) (y : Y)
     → all ≡ done ++ map f left → left ≡ x ∷ next → y ≡ f x → more ≡ done ++ y ∷ [] → all ≡ more ++ map f next
 mapped-some f all done more x left next y is cut same pushed =

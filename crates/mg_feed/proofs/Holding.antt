@@ -186,7 +186,7 @@ stands-taken lines ts v w stands is =
     } in
     subst (λ (x : View). HasAccepted lines (taken_with ts v.given.streams) x) (sym is) s
 
--- where nothing was taken, the feed has all that its lines gave
+-- if nothing was taken, the feed has all that its lines gave
 pub behind-none : (n : ℕ) (ss : List (StreamPrefix Plain)) → n ≡ length ss → behind_all (replicate n []) ss ≡ ss
 behind-none zero [] is = refl
 behind-none zero (s ∷ ss) is = absurd (omega (arith, is))

@@ -9,7 +9,7 @@ use Rattle.serde_json.specs.Read.{of_json, of_items, of_members, converted}
 use Rattle.serde_json.specs.View.{view, items_view}
 use Rattle.serde_json.specs.declared.value.Value.{Value}
 
--- the members that are read behind others
+-- the members that are read after others
 abbrev pub members_behind : Members → json.Members → Option Members
 members_behind old ms = of_members ms old
 
@@ -87,6 +87,6 @@ pub none_before : (r : Option (Items × List Token)) → r ≡ parse_map (λ a. 
 none_before None = refl
 none_before (Some p) = refl
 
--- a text of one value, with nothing behind it
+-- a text of one value, with nothing after it
 pub whole_read : (o : Option (json.Json × List Token)) (d : Data) → converted of_json o ≡ Some (d, []) → option_and_then of_json (option_and_then (λ p. if_last p.0 p.1) o) ≡ Some d
 whole_read o d e = let j = read_before of_json o d [] e in ap (λ x. option_and_then of_json (option_and_then (λ p. if_last p.0 p.1) x)) j.1 ∙ j.2

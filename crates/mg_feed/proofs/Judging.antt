@@ -22,7 +22,7 @@ use Rattle.mg_feed.specs.declared.line_fault.LineFault.TheVariants.{BadTimestamp
 
 -- Reasons --
 
--- where no reason holds, none of the first does, and none of the others
+-- if no reason holds, the first doesn't, and none of the later ones does
 first-parts : (x : Option LineFault) (xs : List (Option LineFault)) → first_refusal (x ∷ xs) ≡ None → (x ≡ None) × (first_refusal xs ≡ None)
 first-parts None xs none = (refl, none)
 first-parts (Some fault) xs none = cc
@@ -99,7 +99,7 @@ pub record MayStand (t : ℕ) (s : StreamPrefix Plain) : Type 0 where
   pub above : s.bound ≤ t
   pub alone : t ≡ post_stream → length s.packets ≡ 0
 
--- where no reason against a packet holds, it may follow its stream
+-- if no reason against a packet holds, it may follow its stream
 none-begun : (ps : List (Stamped Plain)) → has_some ps ≡ false → length ps ≡ 0
 none-begun [] none = refl
 none-begun (p ∷ ps) none = absurd (false≢true (sym none))
@@ -203,7 +203,7 @@ words-keep : (P : State → Type 0) (graph : GraphInputs) (n : ℕ) (given : Sta
 words-keep P graph n given true v none start step = start
 words-keep P graph n given false v none start step = said-keeps P graph n given v none start step
 
--- what holds of what is given holds with a good line, where it holds with what the line says
+-- a property of what is given holds after a good line, if it holds after what the line says
 pub line-keeps : (P : State → Type 0) (graph : GraphInputs) (n : ℕ) (given : State) (line : List ℕ) → line_refusal (before graph n given) line ≡ None → P given
     → ((form : Form) → option_and_then form_of (json_value line) ≡ Some form → first_refusal (form_refusals (before graph n given) form) ≡ None → P (with_form graph given form))
     → P (with_line graph given line)

@@ -100,7 +100,7 @@ reads-then TooLong first before now came gave one two = unfailed-then first befo
 reads-then Ended first before now came gave one two = unfailed-then first before now one two
 reads-then Failed first before now came gave one two = failed-stop first before now came gave one two
 
--- one that is too long already, whatever comes
+-- a line that is too long already, whatever comes
 long-comes : (r : Reading) (past : List ℕ) (lines : List (List ℕ)) → NoFeed r.kept → longest_line < length r.kept → HasHanded past lines r → (line : List ℕ) → ComesAs TooLong line past lines r
 long-comes r past lines none long has line more fits =
     let b = all_lines-begin r.kept more none (omega (arith, long)) in (
@@ -169,7 +169,7 @@ next-takes next line before now old read new m takes = record {
 
 -- A line in the block --
 
--- one that was held, and whose line feed was passed
+-- a line that was held, and whose line feed was passed
 pub took-line : (cut left line held after : List ℕ) (old new : Reading) (i : ℕ) → old.kept ≡ cut ++ left → has_feed cut ≡ false → EndsLine left i → line ≡ cut ++ take i left → held ≡ drop i left → after ≡ drop 1 held
     → new.kept ≡ after → new.ended ≡ old.ended → length line ≤ longest_line → HandsOutLine Line line old new
 took-line cut left line held after old new i is none ends line_is passed behind now ended short = (
@@ -179,7 +179,7 @@ took-line cut left line held after old new i is none ends line_is passed behind 
   short,
 )
 
--- one that can't be held
+-- a line that can't be held
 pub took-long : (cut left : List ℕ) (old new : Reading) (next : NextLine) (i : ℕ) (line : List ℕ) → next ≡ TooLong → new ≡ old → old.kept ≡ cut ++ left → has_feed cut ≡ false → EndsLine left i → longest_line < length cut + i → HandsOutLine next line old new
 took-long cut left old new next i line next_is same is none ends long = subst (λ (n : NextLine). HandsOutLine n line old new) (sym next_is) (
   same,

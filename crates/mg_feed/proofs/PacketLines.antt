@@ -15,7 +15,7 @@ use Rattle.mg_feed.proofs.Trees.{scalar_read, object_read, text_read}
 abbrev usual_members : List ℕ → Data → Data → Members
 usual_members name time v = member (codes "stream") (text_data name) (member (codes "ts") time (member (codes "value") v no_members))
 
--- what the members that come next give, behind others
+-- what the members that come next give, after others
 abbrev members_read : Members → ℕ → List Token → Option (Members × List Token)
 members_read old n ts = converted (members_behind old) (members (value 126) n ts)
 

@@ -28,7 +28,7 @@ size-generated kinds zero = length-replicate (length kinds) empty_prefix
 size-generated kinds (suc n) =
     length-stepped (n % length kinds) (λ s. appended s (generated_packet kinds n)) (generated_streams kinds n) ∙ size-generated kinds n
 
--- what a taking leaves, behind what it took
+-- what a taking leaves, after what it took
 behind-left : (ss : List (StreamPrefix Plain)) → behind_all (packets_of ss) (map without_packets ss) ≡ ss
 behind-left [] = refl
 behind-left (s ∷ ss) =
@@ -82,7 +82,7 @@ made-nowhere gone from to v none made = record {
 
 -- Pieces --
 
--- with what it handed on a generator's streams are those that it made
+-- a generator's streams, with what it handed on, are the streams that it made
 begun : (graph : GraphInputs) (number : ℕ) (m : Making) → HasHandedOn graph number m → AreMade (packets_of (generated_streams graph.kinds m.made)) m.made m.view
 begun graph number m has =
     let ss = generated_streams graph.kinds m.made in
@@ -102,7 +102,7 @@ none-made graph number m same all none streams sides = record {
   sides = sides;
 }
 
--- So many are made by now, of which the last are still to be handed on.
+-- So many packets are made by now. The last of them are still to be handed on.
 pub record Makes (old mid : Making) (now : ℕ) : Type 0 where
   pub made : (gone : List (List (Stamped Plain))) → AreMade gone old.made old.view → AreMade gone now mid.view
   pub sides : mid.view.given.sides ≡ old.view.given.sides

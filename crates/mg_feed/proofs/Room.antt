@@ -31,7 +31,7 @@ room-there n [] i d lt room = absurd (omega arith)
 room-there n (s ∷ ss) zero d lt room = room
 room-there n (s ∷ ss) (suc i) d lt room = room-there n ss i d (omega arith) room
 
--- where another stream has room for m packets before, it has room for n afterwards
+-- if another stream has room for m packets before, it has room for n afterwards
 pub room-after : (m n : ℕ) (ss : List FeedStream) (i j : ℕ) (y d : FeedStream) → n ≤ m
     → (vec_len (get_or ss i d).packets + m ≤ packets_room (get_or ss i d) → vec_len y.packets + n ≤ packets_room y)
     → RoomIn m ss j → RoomIn n (set ss i y) j
@@ -71,7 +71,7 @@ room-one n ss (Some j) le room = one n ss j le room
     one n (s ∷ ss) zero le room = omega arith
     one n (s ∷ ss) (suc j) le room = one n ss j le room
 
--- all packets have room, where their streams are changed so
+-- all packets have room, if their streams are changed so
 pub all_room-after : (m n : ℕ) (ss tt' : List FeedStream) (ds : List Due) → ((p : Option ℕ) → HasRoom m ss p → HasRoom n tt' p) → AllRoom m ss ds → AllRoom n tt' ds
 all_room-after m n ss tt' [] step room = tt
 all_room-after m n ss tt' (d ∷ ds) step room = (step d.place room.0, all_room-after m n ss tt' ds step room.1)
@@ -103,7 +103,7 @@ due-push graph time [] (e ∷ ds) v d due place packet = absurd due
 due-push graph time (u ∷ vs) [] v d due place packet = absurd due
 due-push graph time (u ∷ vs) (e ∷ ds) v d due place packet = (due.0, due.1, due-push graph time vs ds v d due.2 place packet)
 
--- once one is laid, the others have room
+-- once one packet is laid, the other packets have room
 pub room-next : (ss tt' : List FeedStream) (items rest : List Due) (d : Due) → items ≡ d ∷ rest → AllRoom (length items) ss items
     → ((n : ℕ) (p : Option ℕ) → HasRoom (n + 1) ss p → HasRoom n tt' p) → AllRoom (length rest) tt' rest
 room-next ss tt' items rest d cut room step =

@@ -1,4 +1,4 @@
--- What the code's steps come to.
+-- What the code's steps do.
 use Rattle.std.proofs.Common.{◌≡◌, ◌≢◌, inl, inr, ℕ, ◌+◌, ◌<◌, ◌≤◌, List, [], ◌∷◌, ◌++◌, take, drop, length, Bool, true, false, None, Some, refl, sym, ap, ◌∙◌, subst, arith, append_assoc, append-nil, length-append}
 use Rattle.std.proofs.lemmas.List.{length-take-le}
 use Rattle.mg_edge.specs.Edge.{SourceTold}
@@ -77,7 +77,7 @@ stopped-failed old new before now same was none got =
 
 -- Lines --
 
--- the reading stops where nothing was read
+-- the reading stops if nothing was read
 stopped-here : (end : FeedEnd) (old new : Fed) (told : SourceTold) → new ≡ old → (FailedBy end told told) → HasCause end → EndsReading end old → Stopped end told told old new
 stopped-here end old new told same failed cause ends = record {
   gave = Gave-start told.left;
@@ -102,11 +102,11 @@ stopped-by end old new told fault lines count (inr refused) same ends =
     subst (λ (e : FeedEnd). Stopped e told told old new) (sym (refused.1 ∙ ap (λ n. Refused (n + 1) fault) count))
     (stopped-here (Refused (old.view.lines + 1) fault) old new told same (unfailed-same told) refused.0 (ends refused.0))
 
--- what is kept where no line feed is left
+-- what is kept if no line feed is left
 pub kept-none : (cut left : List ℕ) → has_feed cut ≡ false → NoFeed left → NoFeed (cut ++ left)
 kept-none cut left none more = no_feed-append cut left (no_feed-of cut none) more
 
--- and where nothing is left of the block
+-- and if nothing is left of the block
 pub kept-short : (cut left : List ℕ) → left ≡ [] → length cut ≤ longest_line → length (cut ++ left) ≤ longest_line
 kept-short cut left passed short = rw (passed, append-nil cut) short
 

@@ -1,7 +1,7 @@
 -- What is put at a text's end in whole, or not at all.
 use Rattle.std.proofs.Common.{◌≡◌, ◌++◌, ℕ, List, [], ◌∷◌, take, length, cond, is_ok, Result, Ok, Err, OnOk, OnErr, append-nil, append_assoc, refl, sym, ap, subst, ◌∙◌}
 
--- bytes with something behind them
+-- bytes that begin with the old bytes
 abbrev pub With : List ℕ → List ℕ → Type 0
 With old new = (part : List ℕ) × (new ≡ old ++ part)
 

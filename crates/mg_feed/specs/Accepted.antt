@@ -33,7 +33,7 @@ pub record State : Type 0 where
   pub sides : List (Option Plain)
   pub named : Bool
 
--- what is given before any line: streams of which nothing is known, and no side packets
+-- what is given before any line: a stream without packets for each input stream, and no side packets
 abbrev pub fresh : GraphInputs → State
 fresh graph = record { streams = replicate (length graph.kinds) empty_prefix; sides = replicate (length graph.sides) None; named = false }
 
@@ -54,7 +54,7 @@ with_packets graph time [] ss = ss
 with_packets graph time (v ∷ vs) ss =
     with_packets graph time vs (stepped_at (place_of graph.streams v.name) (λ s. appended s (record { at = time; value = plain_of v.value })) ss)
 
--- the time that a line's JSON value says, or 0 where it says none
+-- the time that a line's JSON value says, or 0 if it says none
 abbrev pub time_or_none : Data → ℕ
 time_or_none t = unwrap_or (time_of t) 0
 
@@ -68,7 +68,7 @@ with_form graph given (close name) =
 with_form graph given (side name v) =
     record { streams = given.streams; sides = stepped_at (place_of graph.sides name) (λ _. Some (plain_of v)) given.sides; named = given.named }
 
--- what is given after a good line of this form, where it has one
+-- what is given after a good line of this form, if it has one
 abbrev pub with_said : GraphInputs → State → Option Form → State
 with_said graph given None = given
 with_said graph given (Some form) = with_form graph given form
@@ -84,7 +84,7 @@ given_by graph lines = fold (λ given line. with_line graph given line) (fresh g
 
 -- Refusals --
 
--- a fault, where a test holds
+-- a fault, if a test holds
 abbrev pub when : Bool → LineFault → Option LineFault
 when test fault = if test then Some fault else None
 
@@ -99,8 +99,8 @@ abbrev pub has_some : {X : Type 0} → List X → Bool
 has_some [] = false
 has_some (x ∷ xs) = true
 
--- what a stream's next line is judged by: the stream's bound, and whether it has a packet. The stream is closed where the bound is Done,
--- which no packet and no bound line makes it
+-- what a stream's next line is judged by: the stream's bound, and whether the stream has a packet. The stream is closed if the
+-- bound is Done. No packet and no bound line raises the bound to Done
 abbrev pub standing : StreamPrefix Plain → Standing
 standing s = record { bound = s.bound; begun = has_some s.packets }
 
@@ -125,7 +125,7 @@ abbrev pub placed : {X : Type 0} → Option ℕ → List X → Option X
 placed None xs = None
 placed (Some place) xs = slice_get xs place
 
--- the kind of the stream with this name, or Any where there is none
+-- the kind of the stream with this name, or Any if there is none
 abbrev pub kind_at : Before → List ℕ → Kind
 kind_at b name = unwrap_or (placed (place_of b.graph.streams name) b.graph.kinds) Any
 
@@ -164,7 +164,7 @@ side_refusals named came v = when named SideLate ∷ when (is_some came) SideTwi
 abbrev pub is_stream : Before → List ℕ → Bool
 is_stream b name = is_some (place_of b.graph.streams name)
 
--- whether a name is that of a side packet that is handed in
+-- whether a name is that of a user-supplied side packet
 abbrev pub is_side : Before → List ℕ → Bool
 is_side b name = is_some (place_of b.graph.sides name)
 
@@ -172,8 +172,8 @@ is_side b name = is_some (place_of b.graph.sides name)
 abbrev pub several_refusals : Before → Option ℕ → List Named → List (Option LineFault)
 several_refusals b time vs = flat_map (λ v. packet_refusals (kind_at b v.name) (standing_at b v.name) time v.value) vs
 
--- Why a line of this form isn't good: a name is that of no input; or else, for one named stream after the other, the reasons by that
--- stream's own standing.
+-- Why a line of this form isn't good. The first reason is that a name is that of no input. For each named stream, one after the
+-- other, the reasons by that stream's own standing follow. For a side packet its own reasons follow.
 abbrev pub form_refusals : Before → Form → List (Option LineFault)
 form_refusals b (packets t vs) =
     when (not (list_all (λ v. is_stream b v.name) vs)) UnknownStream
@@ -209,7 +209,7 @@ refusal graph lines line = line_refusal (before graph (length lines) (given_by g
 
 -- Accepted lines --
 
--- `good` where a line is good, and `bad` where it is refused
+-- `good` if a line is good, and `bad` if it is refused
 abbrev pub if_good : {A : Type 0} → Option LineFault → A → A → A
 if_good None good bad = good
 if_good (Some fault) good bad = bad
@@ -229,7 +229,7 @@ pub record Refused : Type 0 where
   pub number : ℕ
   pub fault : LineFault
 
--- the refusal of the line of this number, or a later one where it is good
+-- the refusal of the line of this number, or a later refusal if the line is good
 abbrev pub refused_at : ℕ → Option LineFault → Option Refused → Option Refused
 refused_at number None later = later
 refused_at number (Some fault) later = Some (record { number = number; fault = fault })

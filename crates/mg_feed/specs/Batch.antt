@@ -17,9 +17,10 @@ use Rattle.mg_feed.specs.declared.feed_end.FeedEnd.TheVariants.{Ended, Failed, R
 use Rattle.mg_feed.specs.declared.feed_end.BatchEnd.{BatchEnd}
 use Rattle.mg_feed.specs.declared.feed_end.BatchEnd.TheVariants.{More, End}
 
--- What the end of an input says of all bytes that came, and of the lines that were accepted of them after the first ones:
--- the source ended, and all lines are good; a read failed after these whole lines, all of them good; or this line is the
--- first that isn't good, whatever bytes may follow, of which there are none where the source has ended.
+-- What the end of an input says of all bytes that came, and of the lines that were accepted of them after the first ones. `Ended`:
+-- the source ended, and all lines are good. `Failed`: a read failed after these whole lines, and all of them are good. `Refused`:
+-- this line is the first that isn't good, whatever bytes may follow. No bytes follow if the source has ended. `OutOfMemory` says
+-- nothing.
 abbrev pub EndsAs : FeedEnd → GraphInputs → List (List ℕ) → List ℕ → List (List ℕ) → Bool → Type 0
 EndsAs Ended graph first came lines ended = (ended ≡ true) × (lines ≡ all_lines came) × Judged graph first (all_lines came) lines None
 EndsAs (Failed number) graph first came lines ended =
@@ -29,14 +30,15 @@ EndsAs (Refused number cause) graph first came lines ended =
     → Judged graph first (all_lines (came ++ more)) lines (Some (record { number = number; fault = cause }))
 EndsAs OutOfMemory graph first came lines ended = ⊤
 
--- the cause of a refusal is never want of memory
+-- the cause of a refusal is never that memory ran out
 abbrev pub HasCause : FeedEnd → Type 0
 HasCause Ended = ⊤
 HasCause (Failed number) = ⊤
 HasCause (Refused number cause) = cause ≢ no_memory
 HasCause OutOfMemory = ⊤
 
--- A call that reads an input to its end: these bytes came, and it took these lines of the bytes that were kept and of those that came.
+-- A call that reads an input to its end. These bytes came. The call took these lines of the bytes that were kept and of the bytes
+-- that came.
 pub record HasRead (end : FeedEnd) (before now : SourceTold) (old new : Fed) : Type 0 where
   pub came : List ℕ
   pub taken : List (List ℕ)
@@ -55,24 +57,24 @@ most_kept = longest_line + longest_block
 abbrev pub naming : List (List ℕ) → ℕ
 naming lines = count_by names_stream lines
 
--- A batch ends with More exactly where it took as many lines that name a stream as it may. The last of them is then the
--- batch's last line.
+-- A batch ends with More exactly if it took as many lines that name a stream as it may. The last of them is then the batch's last
+-- line.
 abbrev pub Fills : BatchEnd → ℕ → List (List ℕ) → Type 0
 Fills More most taken = (naming taken ≡ most) × ((taken ≡ []) ⊎ (naming (but_last taken) < most))
 Fills (End end) most taken = naming taken < most
 
--- How a batch is cut: it has as many lines as it may; or, where it may end early, a line that names a stream.
+-- How a batch is cut: it has as many lines as it may. If it may end early, a line that names a stream is enough.
 abbrev pub CutsAt : Bool → BatchEnd → ℕ → List (List ℕ) → Type 0
 CutsAt false end most taken = Fills end most taken
 CutsAt true More most taken = 0 < most → 0 < naming taken
 CutsAt true (End end) most taken = ⊤
 
--- what the end of a batch says of all bytes that came, and of the lines that were accepted of them
+-- what the end of a batch says of all bytes that came, and of the lines that were accepted of these bytes
 abbrev pub BatchEndsAs : BatchEnd → GraphInputs → List (List ℕ) → List ℕ → List (List ℕ) → Bool → Type 0
 BatchEndsAs More graph first came lines ended = ⊤
 BatchEndsAs (End end) graph first came lines ended = EndsAs end graph first came lines ended
 
--- the cause of a refusal that ends a batch is never want of memory
+-- the cause of a refusal that ends a batch is never that memory ran out
 abbrev pub BatchHasCause : BatchEnd → Type 0
 BatchHasCause More = ⊤
 BatchHasCause (End end) = HasCause end
@@ -82,13 +84,13 @@ abbrev pub BatchFailedBy : BatchEnd → SourceTold → SourceTold → Type 0
 BatchFailedBy More before now = Unfailed before now
 BatchFailedBy (End end) before now = FailedBy end before now
 
--- how many reads gave no byte by the end of a batch, at most: the one that answered `End`, or one that failed
+-- how many reads gave no byte by the end of a batch, at most: the read that answered `End`, or a read that failed
 abbrev pub idle_by : BatchEnd → Bool → ℕ
 idle_by More ended = late ended
 idle_by (End end) ended = 1
 
--- A call that reads a batch, which may end early or not: these bytes came, and it took these lines of the bytes that were kept and of
--- those that came.
+-- A call that reads a batch. `early` says whether the batch may end early. These bytes came. The call took these lines of the bytes
+-- that were kept and of the bytes that came.
 pub record HasReadBatch (early : Bool) (most : ℕ) (end : BatchEnd) (before now : SourceTold) (old new : Fed) : Type 0 where
   pub came : List ℕ
   pub taken : List (List ℕ)

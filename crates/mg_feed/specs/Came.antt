@@ -1,5 +1,5 @@
--- The bytes of an input that came to a feed, however it was cut into reads and batches, and the lines that it accepted of
--- them.
+-- The bytes of an input that came to a feed, and the lines that the feed accepted of them. How the input was cut into reads and
+-- batches doesn't matter.
 use Rattle.std.specs.Prelude.{◌≡◌, ℕ, List, ◌++◌, Bool, Option, if◌then◌else◌}
 use Rattle.mg_value.specs.Payload.{Plain}
 use Rattle.mg_value.specs.Packet.{Stamped}
@@ -10,12 +10,12 @@ use Rattle.mg_feed.specs.Stands.{HasAccepted}
 use Rattle.mg_feed.specs.Fed.{Fed}
 use Rattle.mg_feed.specs.Once.{StopsInTime}
 
--- the bytes that came, and a line feed where the input has ended without one
+-- the bytes that came, and a line feed if the input has ended without one
 abbrev pub arrived_bytes : Bool → List ℕ → List ℕ
 arrived_bytes ended came = if ended then completed came else came
 
--- After the first lines, which came in another way, the feed accepted these lines of the bytes that came. The bytes behind
--- them are kept, and no block was read behind a line that isn't good.
+-- After the first lines, which came in another way, the feed accepted these lines of the bytes that came. The bytes after these
+-- lines are kept, and no block was read after a line that isn't good.
 pub record Came (first : List (List ℕ)) (came : List ℕ) (lines : List (List ℕ)) (gone : List (List (Stamped Plain))) (f : Fed) : Type 0 where
   pub stands : HasAccepted (first ++ lines) gone f.view
   pub cut : IsCut (arrived_bytes f.read.ended came) lines f.read.kept

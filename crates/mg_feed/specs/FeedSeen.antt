@@ -9,6 +9,6 @@ use Rattle.mg_feed.specs.declared.feed.Feed.{Feed}
 abbrev pub seen : Feed → View
 seen feed = input_buffer feed.input_buffer
 
--- what the feed has of accepted lines, and what it read behind them
+-- what the feed has of accepted lines, and what it read after them
 abbrev pub fed : Feed → Fed
 fed feed = record { view = seen feed; read = reading_of feed.reader }

@@ -53,19 +53,19 @@ abbrev pub listed : Members → List Named
 listed no_members = []
 listed (member k d ms) = record { name = k; value = d } ∷ listed ms
 
--- the text at a key of an object, where one is there
+-- the text at a key of an object, if one is there
 abbrev pub text_at : List ℕ → Data → Option (List ℕ)
 text_at key d = option_and_then as_str (get key d)
 
--- the truth value at a key of an object, where one is there
+-- the truth value at a key of an object, if one is there
 abbrev pub flag_at : List ℕ → Data → Option Bool
 flag_at key d = option_and_then as_bool (get key d)
 
--- the members of the object at a key of an object, where one is there
+-- the members of the object at a key of an object, if one is there
 abbrev pub members_at : List ℕ → Data → Option Members
 members_at key d = option_and_then as_object (get key d)
 
--- the forms, each from the members that it needs, where all are there
+-- the forms, each from the members that it needs, if all are there
 abbrev pub packet_form : Option (List ℕ) → Option Data → Option Data → Option Form
 packet_form None time value = None
 packet_form (Some name) None value = None
@@ -93,12 +93,12 @@ packets_form (Some time) None = None
 packets_form (Some time) (Some no_members) = None
 packets_form (Some time) (Some (member k d ms)) = Some (packets time (listed (member k d ms)))
 
--- the first form, or the other where it isn't there
+-- the first form, or the other form if there is no first
 abbrev pub either : Option Form → Option Form → Option Form
 either None other = other
 either (Some form) other = Some form
 
--- the form of an object of two members, where it has one
+-- the form of an object of two members, if it has one
 abbrev pub two_form : Data → Option Form
 two_form d =
     either (bound_form (text_at (codes "stream") d) (get (codes "bound") d))
@@ -106,7 +106,7 @@ two_form d =
     (either (side_form (text_at (codes "side") d) (get (codes "value") d))
     (packets_form (get (codes "at") d) (members_at (codes "packets") d))))
 
--- the form of a JSON value, where it has one
+-- the form of a JSON value, if it has one
 abbrev pub form_of : Data → Option Form
 form_of d =
     if member_count d == 3 then packet_form (text_at (codes "stream") d) (get (codes "ts") d) (get (codes "value") d)
@@ -122,11 +122,11 @@ json_value text = if is_utf8 text then read text else None
 abbrev pub is_of_range : ℤ → Bool
 is_of_range time = nat_le least (place_of time) && nat_le (place_of time) greatest
 
--- the time of a number, where it is in the range
+-- the time of a number, if it is in the range
 abbrev pub time_numbered : ℤ → Option ℕ
 time_numbered z = if is_of_range z then Some (place_of z) else None
 
--- the time of a name, where it is one of the two
+-- the time of a name, if it is one of the two
 abbrev pub time_named : List ℕ → Option ℕ
 time_named s = if bytes_eq s (codes "PreStream") then Some pre_stream else (if bytes_eq s (codes "PostStream") then Some post_stream else None)
 

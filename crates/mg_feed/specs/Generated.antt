@@ -7,7 +7,7 @@ use Rattle.mg_value.specs.Packet.{Stamped}
 use Rattle.mg_settled.specs.Prefix.{StreamPrefix, empty_prefix, appended, closed}
 use Rattle.mg_feed.specs.Accepted.{stepped}
 
--- the value of a packet, by the stream's kind: `i` is the packet's number, and `round` how many came before it to its input
+-- the value of a packet, by the stream's kind: `i` is the packet's number, and `round` how many packets came before it to its input
 abbrev pub generated_value : Kind → ℕ → ℕ → Plain
 generated_value Any i round = int (pos i)
 generated_value Flag i round = flag (round % 2 == 0)
@@ -28,7 +28,7 @@ abbrev pub generated_streams : List Kind → ℕ → List (StreamPrefix Plain)
 generated_streams kinds zero = replicate (length kinds) empty_prefix
 generated_streams kinds (suc i) = stepped (i % length kinds) (λ s. appended s (generated_packet kinds i)) (generated_streams kinds i)
 
--- the streams that are made: so many packets, and each stream is closed behind its own
+-- the streams that are made: so many packets, and each stream is closed after its own
 abbrev pub generated : List Kind → ℕ → List (StreamPrefix Plain)
 generated kinds number = map closed (generated_streams kinds number)
 

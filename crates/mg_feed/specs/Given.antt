@@ -3,7 +3,7 @@ use Rattle.std.specs.Prelude.{Bool, List, map, if◌then◌else◌}
 use Rattle.mg_value.specs.Payload.{Plain}
 use Rattle.mg_settled.specs.Prefix.{StreamPrefix, closed}
 
--- a stream's prefix at the end of the lines: closed where the input ended well, and otherwise as the lines left it
+-- a stream's prefix at the end of the lines: closed if the input ended well, and otherwise as the lines left it
 abbrev pub ended_stream : Bool → StreamPrefix Plain → StreamPrefix Plain
 ended_stream ended s = if ended then closed s else s
 

@@ -8,14 +8,14 @@ use Rattle.mg_calc.specs.declared.plan.Plan.{Plan}
 use Rattle.mg_calc.specs.declared.plan_stream.PlanStream.{PlanStream}
 use Rattle.mg_feed.specs.declared.places.Placed.{Placed}
 
--- the names of the input streams, each with its place; in the order of the places what each takes; and the names of the
--- side packets that are handed in, each with its place
+-- the inputs of a graph. `streams` has the names of the input streams, each with its place. `kinds` has what each stream takes, in
+-- the order of the places. `sides` has the names of the user-supplied side packets, each with its place
 pub record GraphInputs : Type 0 where
   pub streams : List Placed
   pub kinds : List Kind
   pub sides : List Placed
 
--- the place of a name: that of the first which has it
+-- the place of a name: that of the first entry with this name
 abbrev pub place_of : List Placed → List ℕ → Option ℕ
 place_of [] name = None
 place_of (p ∷ ps) name = if bytes_eq p.name name then Some p.place else place_of ps name
@@ -29,12 +29,12 @@ numbered place (name ∷ names) = record { name = name; place = place } ∷ numb
 abbrev pub input_streams : Plan → List PlanStream
 input_streams plan = filter_map (slice_get plan.streams) plan.inputs
 
--- the list with a side packet's name and place in front, where it is handed in
+-- the list, with a side packet's name and place put before it if the side packet is user-supplied
 abbrev pub placed_side : List ℕ → PlainSideValue → List Placed → List Placed
 placed_side name (given_at place) later = record { name = name; place = place } ∷ later
 placed_side name (fixed value) later = later
 
--- the side packets of a plan that are handed in, with their places
+-- the user-supplied side packets of a plan, with their places
 abbrev pub given_sides : List PlainSide → List Placed
 given_sides [] = []
 given_sides (side ∷ sides) = placed_side side.name side.value (given_sides sides)

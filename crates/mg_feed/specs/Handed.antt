@@ -10,7 +10,7 @@ use Rattle.mg_feed.specs.Ran.{MetEnd, Unfailed, ReadFailed}
 use Rattle.mg_feed.specs.declared.lines.NextLine.{NextLine}
 use Rattle.mg_feed.specs.declared.lines.NextLine.TheVariants.{Line, TooLong, Ended, Failed}
 
--- Of the bytes that came these lines were handed out, and what stands behind them is kept.
+-- These lines of the bytes that came were handed out, and the bytes after these lines are kept.
 abbrev pub HasHanded : List ℕ → List (List ℕ) → Reading → Type 0
 HasHanded came lines read = IsCut (arrived_bytes read.ended came) lines read.kept
 
@@ -22,15 +22,16 @@ pub record MovesOn (before now : SourceTold) (old new : Reading) : Type 0 where
   pub unfailed : Unfailed before now
   pub grows : (past : List ℕ) (lines : List (List ℕ)) → HasHanded past lines old → HasHanded (past ++ came) lines new
 
--- what became of the reads of a call, by its answer: the last failed where this is Failed, and none otherwise
+-- what became of the reads of a call, by its answer: the last read failed if this is Failed, and otherwise no read failed
 abbrev pub EndsReads : NextLine → SourceTold → SourceTold → Type 0
 EndsReads Line before now = Unfailed before now
 EndsReads TooLong before now = Unfailed before now
 EndsReads Ended before now = Unfailed before now
 EndsReads Failed before now = ReadFailed before now
 
--- What comes behind the lines of the bytes that came: a line, which is handed out; a line that is too long, whatever bytes may follow, of
--- which there are none where the source has ended; nothing, since the source has ended; or nothing whole before a read failed.
+-- What comes after the lines of the bytes that came. `Line`: a line, and it is handed out. `TooLong`: a line that is too long,
+-- whatever bytes may follow. No bytes follow if the source has ended. `Ended`: nothing, since the source has ended. `Failed`: no
+-- whole line before a read failed.
 abbrev pub ComesAs : NextLine → List ℕ → List ℕ → List (List ℕ) → Reading → Type 0
 ComesAs Line line came lines read = HasHanded came (lines ++ line ∷ []) read × (length line ≤ longest_line)
 ComesAs TooLong line came lines read =

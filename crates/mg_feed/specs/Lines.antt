@@ -18,7 +18,7 @@ but_last [] = []
 but_last (part ∷ []) = []
 but_last (part ∷ next ∷ parts) = part ∷ but_last (next ∷ parts)
 
--- all parts, but the last where it is empty
+-- all parts, but not the last if it is empty
 abbrev pub but_empty_last : List (List ℕ) → List (List ℕ)
 but_empty_last [] = []
 but_empty_last ([] ∷ []) = []
@@ -43,7 +43,7 @@ last_part (part ∷ next ∷ parts) = last_part (next ∷ parts)
 abbrev pub unended_line : List ℕ → List ℕ
 unended_line bytes = last_part (parts bytes)
 
--- the bytes, and a line feed behind them where the part after their last line feed isn't empty
+-- the bytes, and a line feed after them if the part after their last line feed isn't empty
 abbrev pub with_feed : List ℕ → List ℕ → List ℕ
 with_feed [] bytes = bytes
 with_feed (b ∷ rest) bytes = bytes ++ 10 ∷ []
@@ -62,12 +62,12 @@ abbrev pub NoFeeds : List (List ℕ) → Type 0
 NoFeeds [] = Unit {0}
 NoFeeds (line ∷ lines) = NoFeed line × NoFeeds lines
 
--- lines, each with its line feed behind it
+-- lines, each with its line feed after it
 abbrev pub fed_lines : List (List ℕ) → List ℕ
 fed_lines [] = []
 fed_lines (line ∷ lines) = line ++ 10 ∷ fed_lines lines
 
--- The bytes are these lines, each with its line feed behind it, and a rest.
+-- The bytes are these lines, each with its line feed after it, and a rest.
 pub record IsCut (bytes : List ℕ) (lines : List (List ℕ)) (rest : List ℕ) : Type 0 where
   pub whole : NoFeeds lines
   pub is : bytes ≡ fed_lines lines ++ rest

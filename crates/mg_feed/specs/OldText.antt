@@ -18,7 +18,7 @@ pub data OldForm : Type 0 where
   old_close : List ℕ → OldForm
   old_side : List ℕ → Data → OldForm
 
--- the forms, each from the members that it needs, where all are there
+-- the forms, each from the members that it needs, if all are there
 abbrev pub old_packet_form : Option (List ℕ) → Option Data → Option Data → Option OldForm
 old_packet_form None time value = None
 old_packet_form (Some name) None value = None
@@ -40,12 +40,12 @@ old_side_form None value = None
 old_side_form (Some name) None = None
 old_side_form (Some name) (Some value) = Some (old_side name value)
 
--- the first form, or the other where it isn't there
+-- the first form, or the other form if there is no first
 abbrev pub old_either : Option OldForm → Option OldForm → Option OldForm
 old_either None other = other
 old_either (Some form) other = Some form
 
--- the form of a JSON value, where it has one of the four
+-- the form of a JSON value, if it has one of the four
 abbrev pub old_form_of : Data → Option OldForm
 old_form_of d =
     if member_count d == 3 then old_packet_form (text_at (codes "stream") d) (get (codes "ts") d) (get (codes "value") d)
@@ -69,7 +69,7 @@ with_old graph given (old_close name) =
 with_old graph given (old_side name v) =
     record { streams = given.streams; sides = stepped_at (place_of graph.sides name) (λ _. Some (plain_of v)) given.sides; named = given.named }
 
--- what is given after a good line of this form, where it has one
+-- what is given after a good line of this form, if it has one
 abbrev pub with_old_said : GraphInputs → State → Option OldForm → State
 with_old_said graph given None = given
 with_old_said graph given (Some form) = with_old graph given form

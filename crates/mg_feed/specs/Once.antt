@@ -12,9 +12,9 @@ use Rattle.mg_feed.specs.declared.limits.TheConstants.{LONGEST_BLOCK}
 abbrev pub longest_block : ℕ
 longest_block = LONGEST_BLOCK
 
--- The bytes that came are some bytes and at most one block behind them. The whole lines of the bytes before the block are all good
--- after the first lines, which came in another way, and the line that they leave open isn't too long yet. So a line that isn't good
--- ends, or grows too long, in that block.
+-- The bytes that came are some bytes and at most one block after them. The whole lines of the bytes before the block are all good
+-- after the first lines, which came in another way. The line that these bytes leave open isn't too long yet. So a line that isn't
+-- good ends, or grows too long, in that block.
 pub record StopsInTime (graph : GraphInputs) (first : List (List ℕ)) (came : List ℕ) : Type 0 where
   pub before : List ℕ
   pub block : List ℕ
@@ -23,8 +23,8 @@ pub record StopsInTime (graph : GraphInputs) (first : List (List ℕ)) (came : L
   pub good : AllGood graph first (whole_lines before)
   pub open_line : length (unended_line before) ≤ longest_line
 
--- An input, of which these bytes came, was read no further than `StopsInTime` says. Where the source tells its bytes and its reads, there
--- was at most one read more than bytes came: the one that answered `End`, or that failed.
+-- These bytes of an input came, and it was read no further than `StopsInTime` says. If the source tells its bytes and its reads,
+-- there was at most one read more than bytes came. That read answered `End`, or it failed.
 pub record ReadsOnce (graph : GraphInputs) (before now : SourceTold) (came : List ℕ) : Type 0 where
   pub stops : StopsInTime graph [] came
   pub reads : Spends 0 1 before.left now.left before.reads now.reads

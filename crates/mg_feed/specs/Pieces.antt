@@ -7,7 +7,8 @@ use Rattle.mg_feed.specs.View.{View, without_packets}
 use Rattle.mg_feed.specs.Stands.{behind_all, packets_of}
 use Rattle.mg_feed.specs.Generated.{generated_streams, generated_sides}
 
--- what a generator has: what it made but for packets that it handed on, how many packets there are in all, and how many it made
+-- what a generator has. `view` is what it made, without packets that it handed on. `number` is how many packets there are in all,
+-- and `made` how many of them it made
 pub record Making : Type 0 where
   pub view : View
   pub number : ℕ
@@ -21,8 +22,8 @@ pub record HasHandedOn (graph : GraphInputs) (number : ℕ) (m : Making) : Type 
   pub streams : m.view.given.streams ≡ map without_packets (generated_streams graph.kinds m.made)
   pub sides : m.view.given.sides ≡ generated_sides (length graph.sides)
 
--- A piece is what comes to a graph once `now` packets are made, where those of `before` came to it already: stream by stream the further
--- packets, and the bound as it is now, or Done where the streams have ended. All side packets are in each piece.
+-- A piece is what a graph gets once `now` packets are made, if it got the first `before` packets already. It has, stream by stream,
+-- the further packets and the bound as it is now. The bound is Done if the streams have ended. All side packets are in each piece.
 pub record IsPiece (graph : GraphInputs) (before now : ℕ) (ended : Bool) (piece : Inputs) : Type 0 where
   pub many : length piece.streams ≡ length graph.kinds
   pub streams : ended_streams ended (generated_streams graph.kinds now) ≡ behind_all (packets_of (generated_streams graph.kinds before)) piece.streams

@@ -8,7 +8,7 @@ pub record SentAll (before now : SinkTold) (text : List ℕ) : Type 0 where
   pub whole : TookAll before.taken now.taken text
   pub steady : now.faults ≡ before.faults
 
--- A sink took a front of a text, and no more, and a write failed.
+-- A sink took a prefix of a text, and no more, and a write failed.
 pub record SentPart (before now : SinkTold) (text : List ℕ) : Type 0 where
   pub front : List ℕ
   pub rest : List ℕ

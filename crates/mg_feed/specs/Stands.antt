@@ -1,4 +1,4 @@
--- What a feed stands for: lines that were accepted, and packets that were taken of what they gave.
+-- What a feed stands for: lines that were accepted, and packets that were taken of what these lines gave.
 use Rattle.std.specs.Prelude.{◌≡◌, ℕ, List, [], ◌∷◌, ◌++◌, map, replicate, length, None}
 use Rattle.mg_value.specs.Payload.{Plain}
 use Rattle.mg_value.specs.Packet.{Stamped}
@@ -12,11 +12,11 @@ abbrev pub AllGood : GraphInputs → List (List ℕ) → List (List ℕ) → Typ
 AllGood graph before [] = Unit {0}
 AllGood graph before (line ∷ lines) = (refusal graph before line ≡ None) × AllGood graph (before ++ line ∷ []) lines
 
--- a prefix, with the packets that were taken of it in front
+-- a prefix, with the packets that were taken of it put before its own
 abbrev pub with_gone : List (Stamped Plain) → StreamPrefix Plain → StreamPrefix Plain
 with_gone t s = record { packets = t ++ s.packets; bound = s.bound }
 
--- the prefixes, each with the packets that were taken of it in front
+-- the prefixes, each with the packets that were taken of it put before its own
 abbrev pub behind_all : List (List (Stamped Plain)) → List (StreamPrefix Plain) → List (StreamPrefix Plain)
 behind_all [] ss = []
 behind_all (t ∷ ts) [] = []
@@ -38,7 +38,7 @@ packets_of ss = map (λ s. s.packets) ss
 abbrev pub nothing_taken : GraphInputs → List (List (Stamped Plain))
 nothing_taken graph = replicate (length graph.kinds) []
 
--- the packets that were taken before, and those of some prefixes behind them
+-- the packets that were taken before, and those of some prefixes after them
 abbrev pub taken_with : List (List (Stamped Plain)) → List (StreamPrefix Plain) → List (List (Stamped Plain))
 taken_with [] ss = []
 taken_with (t ∷ ts) [] = []

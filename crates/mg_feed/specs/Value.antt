@@ -5,14 +5,14 @@ use Rattle.mg_value.specs.declared.kind.Kind.{Kind}
 use Rattle.mg_value.specs.declared.kind.Kind.TheVariants.{Any, Flag, Int, Text, Items as KindItems, Record}
 use Rattle.mg_value.specs.Plain.{Plain, flag, int, text, items, entries, Items, no_items, item, Entries, no_entries, entry}
 
--- the number that a JSON number is, where it is whole
+-- the number that a JSON number is, if it is whole
 abbrev pub whole : json.Num → ℤ
 whole (json.unsigned n) = pos n
 whole (json.negative z) = z
 whole (json.float x) = pos 0
 
--- The payload of a JSON value. Where the value has a fault (`first_fault` of mg_json) it says none, and what stands here
--- for `null` and for a fraction counts for nothing.
+-- The payload of a JSON value. If the value has a fault (`first_fault` of mg_json), it says no payload. What stands here for `null`
+-- and for a fraction counts for nothing.
 abbrev mutual
   pub plain_of : json.Data → Plain
   plain_of json.null = flag false
@@ -30,7 +30,7 @@ abbrev mutual
   plain_entries json.no_members = no_entries
   plain_entries (json.member k d ms) = entry k (plain_of d) (plain_entries ms)
 
--- whether a stream of a kind takes a payload: one of the kind Any takes each, and any other those of its kind
+-- whether a stream of a kind takes a payload. A stream of the kind Any takes each payload, and any other stream those of its kind
 abbrev pub takes : Kind → Plain → Bool
 takes Any p = true
 takes Flag (flag b) = true

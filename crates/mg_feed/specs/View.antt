@@ -6,15 +6,15 @@ use Rattle.mg_feed.specs.Graph.{GraphInputs}
 use Rattle.mg_feed.specs.Accepted.{State, Before, has_some, stepped}
 use Rattle.mg_feed.specs.declared.standing.Standing.{Standing}
 
--- what a feed has of the lines that it accepted: the graph's inputs, what the lines gave but for packets that were taken,
--- of which streams packets were taken, and how many lines there were
+-- what a feed has of the lines that it accepted. `graph` is the graph's inputs. `given` is what the lines gave, without packets
+-- that were taken. `taken` says of each stream whether packets were taken of it. `lines` is how many lines there were
 pub record View : Type 0 where
   pub graph : GraphInputs
   pub given : State
   pub taken : List Bool
   pub lines : ℕ
 
--- the standings of the streams, where packets may have been taken
+-- the standings of the streams; packets may have been taken of them
 abbrev pub standings : List Bool → List (StreamPrefix Plain) → List Standing
 standings [] ss = []
 standings (t ∷ ts) [] = []
@@ -28,7 +28,7 @@ before_seen v = record { graph = v.graph; lines = v.lines; streams = standings v
 abbrev pub without_packets : StreamPrefix Plain → StreamPrefix Plain
 without_packets s = record { packets = []; bound = s.bound }
 
--- of which streams packets were taken, once all that they have are
+-- for each stream whether packets were taken of it, once all that it has are taken
 abbrev pub all_taken : List Bool → List (StreamPrefix Plain) → List Bool
 all_taken [] ss = []
 all_taken (t ∷ ts) [] = []
@@ -43,7 +43,7 @@ after_taking v = record {
   lines = v.lines;
 }
 
--- the view with other streams, after a line that named one
+-- the view with other streams, after a line that named a stream
 abbrev pub with_streams : View → List (StreamPrefix Plain) → View
 with_streams v ss = record { graph = v.graph; given = record { streams = ss; sides = v.given.sides; named = true }; taken = v.taken; lines = v.lines }
 

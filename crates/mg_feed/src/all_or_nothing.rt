@@ -4,7 +4,7 @@ ghost use Rattle.std.specs.Prelude.{◌≡◌, ◌++◌, is_ok, take, OnOk, OnEr
 
 use std::alloc::AllocError;
 
-/// Returns `put`, the result of an append to a text that had `len` bytes. Where it is an `Err`, the text is cut to these bytes again.
+/// Returns `put`, the result of an append to a text that had `len` bytes. If it is an `Err`, the text is cut to these bytes again.
 pub fn whole_or_none(
     text: &mut Vec<u8>,
     len: usize,

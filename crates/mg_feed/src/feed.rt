@@ -64,8 +64,7 @@ impl Feed {
         })
     }
 
-    /// Takes the next line, without its line feed, or tells why it isn't good. A line that isn't taken leaves the feed as
-    /// it was.
+    /// Takes the next line, without its line feed, or returns why it isn't good. A line that isn't taken leaves the feed as it was.
     pub fn line(&mut self, text: &[u8]) -> Result<(), LineFault>
         ensures good { OnOk result ((lines : List (List ℕ)) (gone : List (List (Stamped Plain))) → HasAccepted lines gone (seen self.old)
             → (refusal (seen self.old).graph lines text.now ≡ None) × HasAccepted (lines ++ text.now ∷ []) gone (seen self.new)) }
@@ -79,8 +78,8 @@ impl Feed {
         Ok(())
     }
 
-    /// Takes what the lines gave since the last taking: for each stream its further packets, and its bound as it is now or,
-    /// where the input ended well, Done; and all side packets. Where there is no memory nothing was taken.
+    /// Takes what the lines gave since the last taking. For each stream this is its further packets and its bound as it is now, or
+    /// Done if the input ended well. All side packets are returned too. If memory runs out, nothing was taken.
     pub fn take_inputs(&mut self, ended: bool) -> Result<Inputs, AllocError>
         ensures streams { IfOk result (λ inputs. inputs.streams ≡ ended_streams ended (seen self.old).given.streams) }
         ensures sides { IfOk result (λ inputs. inputs.sides ≡ (seen self.old).given.sides) }
@@ -112,8 +111,8 @@ impl Feed {
         input_buffer.into_inputs(alloc, ended)
     }
 
-    /// Reads a source to its end, its first fault or the first line that isn't good, and takes the lines. Behind the block in which
-    /// that line ends nothing is read, also where there is no memory.
+    /// Reads a source to its end, its first fault or the first line that isn't good, and takes the lines. No block is read after
+    /// the block in which that line ends, even if memory runs out.
     pub fn read_all<S: Source>(&mut self, source: &mut S) -> FeedEnd
         ensures read { HasRead result (S.told source.old) (S.told source.new) (fed self.old) (fed self.new) }
         ensures end { MetEnd (fed self.old).read.ended (fed self.new).read.ended (S.told source.old) (S.told source.new) }
@@ -130,12 +129,12 @@ impl Feed {
         }
     }
 
-    /// Reads a source until `most` lines that name a stream were taken, or to its end, its first fault or the first line that
-    /// isn't good. What was read behind the last of these lines is kept for the next call. Once the source answered `End`
-    /// it isn't read again.
+    /// Reads a source until `most` lines that name a stream were taken. Stops earlier at the source's end, at its first fault, or
+    /// at the first line that isn't good. Keeps the bytes that were read after the last of these lines for the next call. Once the
+    /// source answered `End` it isn't read again.
     ///
-    /// With `early` the batch also ends, after its last whole line, where it has a line that names a stream and the last read gave fewer
-    /// bytes than were asked for. The source then has nothing more for now.
+    /// With `early` the batch also ends if the last read gave fewer bytes than were asked for: the source then has nothing more for
+    /// now. The batch ends so after its last whole line, and only if it has a line that names a stream.
     pub fn read_batch<S: Source>(&mut self, source: &mut S, most: u32, early: bool) -> BatchEnd
         ensures read { HasReadBatch early most result (S.told source.old) (S.told source.new) (fed self.old) (fed self.new) }
         ensures end { MetEnd (fed self.old).read.ended (fed self.new).read.ended (S.told source.old) (S.told source.new) }
@@ -161,7 +160,8 @@ impl Feed {
         BatchEnd::More
     }
 
-    // Takes the next line of what was read, whose line feed is at `end` in what is left of the block, or reads on where there is none.
+    // Takes the next line of what was read, or reads on if `end` is None. `end` is the place of the next line feed in what is left
+    // of the block.
     fn step<S: Source>(&mut self, source: &mut S, end: Option<usize>) -> Step
         requires { MatchOption end (NoFeed (left_of self.old.reader)) (EndsLine (left_of self.old.reader)) }
         ensures { Stepped result (S.told source.old) (S.told source.new) (fed self.old) (fed self.new) }
@@ -250,7 +250,7 @@ impl Feed {
         }
     }
 
-    // Returns how the reading ends where the next line wasn't taken for this cause.
+    // Returns how the reading ends if the next line wasn't taken for this cause.
     fn stop_by(&self, fault: LineFault) -> FeedEnd
         ensures { StopsBy fault (seen self.now).lines result }
     {

@@ -9,23 +9,23 @@ pub enum FeedEnd {
     Failed { lines: u64 },
     /// The line of number `line`, counted from 1, is the first that isn't good, for this cause.
     Refused { line: u64, cause: LineFault },
-    /// Want of memory. The lines that were accepted so far are kept, and a further call goes on behind them.
+    /// Out of memory. The lines that were accepted so far are kept, and a further call goes on after them.
     OutOfMemory,
 }
 
 /// How a batch of lines ended.
 #[derive(Clone, Copy)]
 pub enum BatchEnd {
-    /// The batch has as many lines that name a stream as it may. More may come behind it.
+    /// The batch has as many lines that name a stream as it may. More lines may come after it.
     More,
     /// The reading of the input ended in this way.
     End(FeedEnd),
 }
 
-/// What the next step of a reading came to.
+/// The result of the next step of a reading.
 #[derive(Clone, Copy)]
 pub enum Step {
-    /// A line was accepted. True where it names a stream.
+    /// A line was accepted. True if it names a stream.
     Line(bool),
     /// A read gave more bytes, or met the end.
     Read,

@@ -15,7 +15,7 @@ pub enum Form<'a> {
     Side(&'a str, &'a Value),
 }
 
-/// Returns the form of a line's JSON value, or None where it has none of the five.
+/// Returns the form of a line's JSON value, or None if it has none of the five forms.
 pub fn form_by(value: &Value) -> Option<Form<'_>>
     ensures { option_map form_view result ≡ form_of (view value.now) }
 {

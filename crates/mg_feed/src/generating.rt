@@ -81,7 +81,7 @@ fn ones(alloc: Global, count: usize) -> Result<Vec<Option<Arc<Payload>>>, AllocE
     Ok(sides)
 }
 
-// Makes packet `number`, before which `round` packets came to its stream.
+// Makes packet `number`. `round` packets came to its stream before it.
 fn packet_of(alloc: Global, kind: Kind, number: u32, round: u32) -> Result<Packet, AllocError>
     ensures { IfOk result (λ p. p ≡ record { at = 10 * round + 2 ^ 63; value = generated_value kind number round }) }
 {

@@ -6,8 +6,8 @@ use crate::input_buffer::InputBuffer;
 use mg_calc::{Inputs, Plan};
 use std::alloc::{AllocError, Global};
 
-/// Makes a given number of packets for the inputs of a plan's graph, piece by piece, and all its side packets: with them a graph can be
-/// tried without a file.
+/// Makes a given number of packets for the inputs of a plan's graph, piece by piece, and all its side packets. With them a graph
+/// can be tried without a file.
 #[derive(Drop)]
 pub struct Generator {
     alloc: Global,
@@ -24,7 +24,7 @@ impl Generator {
     ghost use Rattle.mg_feed.specs.Pieces.{HasHandedOn, IsPiece};
     ghost use Rattle.mg_feed.specs.GeneratorSeen.{making};
 
-    /// Makes a generator of `number` packets, none of which is made yet.
+    /// Makes a generator of `number` packets. No packet is made yet.
     pub fn new(alloc: Global, plan: &Plan, number: u32) -> Result<Generator, AllocError>
         ensures fresh { IfOk result (λ g. HasHandedOn (inputs_of plan.now) number (making g)) }
         ensures none { IfOk result (λ g. (making g).made ≡ 0) }
@@ -39,8 +39,8 @@ impl Generator {
         })
     }
 
-    /// Makes `most` further packets, or all that are left where these are fewer, and returns them as inputs of the graph. With the
-    /// last packet all streams end. After an `Err`, which is want of memory, the generator is of no further use.
+    /// Makes `most` further packets, or all that are left if these are fewer, and returns them as inputs of the graph. With the
+    /// last packet all streams end. An `Err` means out of memory: the generator is then of no further use.
     pub fn next_piece(&mut self, most: u32) -> Result<Inputs, AllocError>
         ensures piece { (graph : GraphInputs) (number : ℕ) → HasHandedOn graph number (making self.old)
             → IfOk result (λ inputs. IsPiece graph (making self.old).made (making self.new).made ((making self.new).made == number) inputs) }
@@ -57,7 +57,7 @@ impl Generator {
     }
 }
 
-// Returns `made + most`, or `number` where that is less.
+// Returns `made + most`, or `number` if that is less.
 fn further_by(made: u32, most: u32, number: u32) -> u32
     requires { made ≤ number }
     ensures { result ≡ min (made + most) number }

@@ -13,7 +13,7 @@ pub struct Graph {
     pub streams: Places,
     /// The kind that each input stream takes, in the order of their places.
     pub kinds: Vec<Kind>,
-    /// The side packets that are handed in.
+    /// The user-supplied side packets.
     pub sides: Places,
 }
 
@@ -45,7 +45,7 @@ pub fn graph_of(alloc: Global, plan: &Plan) -> Result<Graph, AllocError>
     })
 }
 
-// Returns the stream of the graph input of a number, or None where there is none.
+// Returns the stream of the graph input of a number, or None if there is none.
 fn stream_of(plan: &Plan, input: u32) -> Option<&PlanStream>
     ensures { option_copied result ≡ option_and_then (slice_get plan.now.streams) (slice_get plan.now.inputs input) }
 {
@@ -81,7 +81,7 @@ fn kinds_of(alloc: Global, plan: &Plan) -> Result<Vec<Kind>, AllocError>
     Ok(kinds)
 }
 
-// Returns the names of the side packets that are handed in, with their places.
+// Returns the names of the user-supplied side packets, with their places.
 fn placed_sides(alloc: Global, sides: &SideList) -> Result<Vec<Placed>, AllocError>
     ensures { IfOk result (λ placed. placed.items ≡ given_sides sides.now) }
 {
@@ -94,7 +94,7 @@ fn placed_sides(alloc: Global, sides: &SideList) -> Result<Vec<Placed>, AllocErr
     Ok(placed)
 }
 
-// Returns the name and the place of a side packet that is handed in, and None for one whose value the plan has.
+// Returns the name and the place of a user-supplied side packet. Returns None for a side packet whose value the plan has.
 fn given_side(alloc: Global, side: &Side) -> Result<Option<Placed>, AllocError>
     ensures { IfOk result (λ placed. placed_side side.now.name side.now.value [] ≡ option_to_list placed) }
 {

@@ -57,7 +57,7 @@ impl InputBuffer {
     ghost use Rattle.mg_feed.specs.Code.Due.{AreDue, AllRoom, with_due};
     ghost use Rattle.mg_feed.specs.Code.Heard.{Heard, Took};
 
-    /// Takes the next line and returns whether it names a stream, or tells why it isn't good.
+    /// Takes the next line and returns whether it names a stream, or why it isn't good.
     pub fn line(
         &mut self,
         alloc: Global,
@@ -218,7 +218,7 @@ impl InputBuffer {
         self.named = true;
     }
 
-    // Whether the name of each member is that of an input stream.
+    // Returns whether the name of each member is that of an input stream.
     fn knows_all(&self, members: &Map<String, Value>) -> bool
         ensures { result ≡ list_all (λ v. is_stream (before_seen (input_buffer self.now)) v.name) (listed (members_view members.now.entries)) }
     {
@@ -230,7 +230,7 @@ impl InputBuffer {
         true
     }
 
-    // Makes the packets of a line that names several streams, each with its stream's place, or tells why one isn't good.
+    // Makes the packets of a line that names several streams, each with its stream's place, or returns why a packet isn't good.
     fn due(
         &self,
         alloc: Global,
@@ -257,7 +257,7 @@ impl InputBuffer {
         Ok(due)
     }
 
-    // Returns the kind of the stream at a place, or Any where there is none.
+    // Returns the kind of the stream at a place, or Any if there is none.
     fn kind_of(&self, place: Option<u32>) -> Kind
         ensures { result ≡ unwrap_or (placed place (input_buffer self.now).graph.kinds) Any }
     {
@@ -267,7 +267,7 @@ impl InputBuffer {
         }
     }
 
-    // Returns the standing of the stream at a place, or that of a closed stream where there is none.
+    // Returns the standing of the stream at a place, or that of a closed stream if there is none.
     fn standing_of(&self, place: Option<u32>) -> Standing
         ensures { result ≡ unwrap_or (placed place (before_seen (input_buffer self.now)).streams) no_stream }
     {
@@ -335,7 +335,7 @@ impl InputBuffer {
         Ok(())
     }
 
-    /// Returns the kind of the stream at a place, or Any where there is none.
+    /// Returns the kind of the stream at a place, or Any if there is none.
     pub fn kind(&self, place: u32) -> Kind
         ensures { result ≡ unwrap_or (slice_get (input_buffer self.now).graph.kinds place) Any }
     {
@@ -352,7 +352,7 @@ impl InputBuffer {
         standing_at(&self.streams, place)
     }
 
-    // Whether the side packet at a place came already.
+    // Returns whether the side packet at a place came already.
     fn has_side(&self, place: u32) -> bool
         ensures { result ≡ is_some (unwrap_or (slice_get (input_buffer self.now).given.sides place) None) }
     {

@@ -14,7 +14,7 @@ use serde_json::Value;
 use std::alloc::Global;
 use std::sync::Arc;
 
-/// Makes the packet that a line gives a stream of this kind and standing, or tells why it isn't good.
+/// Makes the packet that a line gives a stream of this kind and standing, or returns why it isn't good.
 pub fn packet_by(
     alloc: Global,
     kind: Kind,
@@ -46,7 +46,7 @@ pub fn packet_by(
     Ok(Packet { at, payload })
 }
 
-/// Returns the payload of a JSON value, or tells why it has none.
+/// Returns the payload of a JSON value, or why it has none.
 pub fn payload_by(alloc: Global, value: &Value) -> Result<Arc<Payload>, LineFault>
     ensures payload { IfOk result (λ p. plain (arc_value p) ≡ plain_of (view value.now)) }
     ensures clear { IfOk result (λ _. first_fault (view value.now) ≡ None) }
@@ -70,7 +70,7 @@ fn value_refusal(fault: ValueFault) -> LineFault
     }
 }
 
-// Whether a stream of a kind takes a payload.
+// Returns whether a stream of a kind takes a payload.
 fn takes_payload(kind: Kind, payload: &Payload) -> bool
     ensures { result ≡ takes kind (plain payload.now) }
 {

@@ -21,12 +21,12 @@ ghost use Rattle.mg_feed.specs.Batch.{naming};
 ghost use Rattle.mg_feed.specs.declared.feed_end.FeedEnd.{FeedEnd};
 ghost use Rattle.mg_feed.specs.OldText.{old_given_by, AllGoodBefore};
 
-/// A feed of which nothing was taken has all that its lines gave.
+/// A feed from which nothing was taken has all that its lines gave.
 pub fn all_that_lines_gave()
     ensures { (lines : List (List ℕ)) (v : View) → HasAccepted lines (nothing_taken v.graph) v → v.given ≡ given_by v.graph lines }
 {}
 
-/// The packets that were taken and those that weren't are all that the lines gave, stream by stream.
+/// The packets that were taken and the packets that weren't are all that the lines gave, stream by stream.
 pub fn takings_together()
     ensures { (lines : List (List ℕ)) (gone : List (List (Stamped Plain))) (v : View) → HasAccepted lines gone v
         → (length gone ≡ length v.given.streams) × ((given_by v.graph lines).streams ≡ behind_all gone v.given.streams) }
@@ -38,8 +38,8 @@ pub fn old_lines()
     ensures same { (graph : GraphInputs) (lines : List (List ℕ)) → AllGoodBefore graph [] lines → given_by graph lines ≡ old_given_by graph lines }
 {}
 
-/// What lines gave is extended by what more lines give, also where the input ends after them. Once a line named a stream,
-/// no more side packets come.
+/// What lines gave is extended by what more lines give, also if the input ends after them. Once a line named a stream, no more side
+/// packets come.
 pub fn what_lines_give_grows()
     ensures streams { (graph : GraphInputs) (lines more : List (List ℕ)) (ended : Bool) → AllGood graph [] (lines ++ more)
         → AreExtendedBy (given_by graph lines).streams (ended_streams ended (given_by graph (lines ++ more)).streams) }
@@ -54,8 +54,8 @@ pub fn a_full_batch_names_a_stream()
     ensures { (graph : GraphInputs) (lines taken : List (List ℕ)) → 0 < naming taken → (given_by graph (lines ++ taken)).named ≡ true }
 {}
 
-/// Where all that some lines gave was taken, what is taken after more lines is the rest, stream by stream: the packets taken first
-/// and then the later ones are all of them, and the greater of both bounds is the stream's.
+/// If all that some lines gave was taken, the taking after more lines has the rest, stream by stream. The packets taken first and
+/// then the later packets are all packets of the stream. The greater of both bounds is the stream's bound.
 pub fn takings_join()
     ensures piece { (lines more : List (List ℕ)) (v : View) (ended : Bool) (input : ℕ)
         → HasAccepted (lines ++ more) (packets_of (given_by v.graph lines).streams) v → input < length v.given.streams
@@ -73,13 +73,13 @@ pub fn takings_join()
         → taken_with gone v.given.streams ≡ packets_of (given_by v.graph lines).streams }
 {}
 
-/// The lines that a feed accepted of the bytes that came are the first of those that are accepted of the whole input.
+/// The lines that a feed accepted of the bytes that came are the first accepted lines of the whole input.
 pub fn what_came_is_a_front()
     ensures { (past rest : List ℕ) (lines : List (List ℕ)) (gone : List (List (Stamped Plain))) (f : Fed) → Came [] past lines gone f
         → (f.read.ended ≡ true → rest ≡ []) → (more : List (List ℕ)) × (accepted f.view.graph (all_lines (past ++ rest)) ≡ lines ++ more) }
 {}
 
-/// Two lines of different streams, one behind the other, give a plan's graph the same in either order.
+/// Two lines of different streams, one after the other, give a plan's graph the same in either order.
 pub fn lines_of_different_streams_may_change_places()
     ensures { (plan : Plan) (front back : List (List ℕ)) (first second : List ℕ) → AreApart first second
         → given_by (inputs_of plan) (front ++ first ∷ second ∷ back) ≡ given_by (inputs_of plan) (front ++ second ∷ first ∷ back) }
@@ -90,8 +90,9 @@ pub fn accepted_lines_are_good()
     ensures { (graph : GraphInputs) (lines : List (List ℕ)) → AllGood graph [] (accepted graph lines) }
 {}
 
-/// What two calls, one after the other, did to a source follows from what each of them did: the bytes that it gave, whether it ended,
-/// how many reads gave no byte, and whether a read failed, which is the last one.
+/// What two calls, one after the other, did to a source follows from what each of them did. This holds for the bytes that the
+/// source gave, whether it ended, and how many reads gave no byte. It holds too for whether a read failed: a failed read is the
+/// last one.
 pub fn batches_go_on()
     ensures gave { (first before now : Option (List ℕ)) (came more : List ℕ) → Gave first before came → Gave before now more
         → Gave first now (came ++ more) }

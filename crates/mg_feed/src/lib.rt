@@ -1,7 +1,8 @@
-//! Reads packet lines into a graph's inputs, and writes the packets that a graph puts out as lines.
-//! What lines mean and what is written is defined in `specs/Form.antt`, `specs/Accepted.antt`, `specs/Output.antt`, `specs/Generated.antt`
-//! and `specs/Pieces.antt`; what a feed stands for in `specs/Stands.antt`; which of the bytes that it read it took as lines in
-//! `specs/Came.antt` and `specs/Batch.antt`; and how `Lines` hands out the lines of an input in `specs/Handed.antt`.
+//! Reads packet lines into a graph's inputs, and writes the packets that a graph puts out as lines. The files `specs/Form.antt`,
+//! `specs/Accepted.antt`, `specs/Output.antt`, `specs/Generated.antt` and `specs/Pieces.antt` define what lines mean and what is
+//! written. The file `specs/Stands.antt` defines what a feed stands for. The files `specs/Came.antt` and `specs/Batch.antt` define
+//! which of the bytes that a feed read it took as lines. The file `specs/Handed.antt` defines how `Lines` hands out the lines of an
+//! input.
 #![tactic(auto)]
 
 mod all_or_nothing;

@@ -5,7 +5,7 @@ use mg_json::ValueFault;
 use std::alloc::{AllocError, AllocFailed};
 use thiserror::Error;
 
-/// Why a line isn't good. Of several causes the first in the order of `specs/Accepted.antt` is told.
+/// Why a line isn't good. If there are several causes, the first in the order of `specs/Accepted.antt` is returned.
 #[derive(Clone, Copy, Debug, PartialEq, Eq, Error)]
 pub enum LineFault {
     /// The line isn't JSON.
@@ -17,7 +17,7 @@ pub enum LineFault {
     /// The line names a stream or a side packet that is no input of the graph.
     #[error("it names no input of the graph")]
     UnknownStream,
-    /// A timestamp is none that a packet may carry.
+    /// No packet may carry the timestamp.
     #[error("no packet may carry the timestamp")]
     BadTimestamp,
     /// A packet stands below the bound of its stream.
@@ -47,7 +47,7 @@ pub enum LineFault {
     /// A packet at PostStream isn't the only one of its stream.
     #[error("the packet at PostStream isn't the only one of its stream")]
     NotAlone,
-    /// Want of memory. The line may be good.
+    /// Out of memory. The line may be good.
     #[error("out of memory")]
     OutOfMemory,
 }

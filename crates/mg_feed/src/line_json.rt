@@ -24,7 +24,7 @@ pub fn json_by(alloc: Global, text: &[u8], scratch: &mut Scratch) -> Result<Valu
     }
 }
 
-/// Whether all bytes of a line are blanks: spaces, tabs or carriage returns.
+/// Returns whether all bytes of a line are blanks: spaces, tabs or carriage returns.
 pub fn is_blank_line(line: &[u8]) -> bool
     ensures { result ≡ list_all is_blank line.now }
 {

@@ -5,12 +5,12 @@ use crate::reader::Reader;
 use mg_edge::{Got, Source};
 use std::alloc::{AllocError, Global};
 
-/// What a call of `Lines::next` came to.
+/// The result of a call of `Lines::next`.
 #[derive(Clone, Copy)]
 pub enum NextLine {
     /// A line, which is kept until the next one is asked for.
     Line,
-    /// A line that is longer than a packet line may be. It isn't kept, and nothing is read behind it.
+    /// A line that is longer than a packet line may be. It isn't kept, and nothing is read after it.
     TooLong,
     /// The source answered `End`, and no line is left.
     Ended,
@@ -18,7 +18,7 @@ pub enum NextLine {
     Failed,
 }
 
-// What a search for the end of the next line came to.
+// The result of a search for the end of the next line.
 #[derive(Clone, Copy)]
 enum Found {
     /// The line feed is at this place, counted in the bytes of the block that weren't passed yet.
@@ -35,7 +35,7 @@ pub struct Lines {
     number: u64,
 }
 
-// Returns `TooLong` for a line that can't be held, or an error where memory ran out.
+// Returns `TooLong` for a line that can't be held, or an error if memory ran out.
 fn too_long(fault: LineFault) -> Result<NextLine, AllocError>
     ensures { IfOk result (λ next. (next ≡ NextLine.TooLong) × (fault ≢ LineFault.OutOfMemory)) }
 {
@@ -68,22 +68,22 @@ impl Lines {
         })
     }
 
-    /// The line that was handed out last, without its line feed.
+    /// Returns the line that was handed out last, without its line feed.
     pub fn line(&self) -> &[u8]
         ensures { result.now ≡ line_of self.now }
     {
         self.line.as_slice()
     }
 
-    /// How many lines were handed out.
+    /// Returns how many lines were handed out.
     pub fn number(&self) -> u64
         ensures { result ≡ number_of self.now }
     {
         self.number
     }
 
-    /// Hands out the next line, or tells why there is none. Once the source answered `End` it isn't read again. Errs at want of
-    /// memory, where what was read is kept, and after 2^64 - 1 lines.
+    /// Hands out the next line, or returns why there is none. Once the source answered `End` it isn't read again. Returns an error
+    /// if memory runs out, and after 2^64 - 1 lines. An error leaves all bytes that were read kept.
     pub fn next<S: Source>(&mut self, source: &mut S) -> Result<NextLine, AllocError>
         ensures comes { IfOk result (λ next. NextComes next (line_of self.new) (S.told source.old) (S.told source.new) (reading self.old) (reading self.new)) }
         ensures number { IfOk result (λ next. number_of self.new ≡ counted_with next (number_of self.old)) }
@@ -121,7 +121,8 @@ impl Lines {
         }
     }
 
-    // Holds what is left of the block, which has no line feed, and reads the next block. Returns why there is no line, where there is none.
+    // Holds what is left of the block, which has no line feed, and reads the next block. Returns why there is no line, if there is
+    // none.
     fn read_on<S: Source>(&mut self, source: &mut S) -> Result<Option<NextLine>, AllocError>
         requires { NoFeed (left_of self.old.reader) }
         ensures steps { IfOk result (λ next. StepsOn next (S.told source.old) (S.told source.new) (reading_of self.old.reader) (reading_of self.new.reader)) }
@@ -139,7 +140,7 @@ impl Lines {
         Ok(self.fill(source))
     }
 
-    // Reads the next block. Returns `Failed` where the read failed.
+    // Reads the next block. Returns `Failed` if the read failed.
     fn fill<S: Source>(&mut self, source: &mut S) -> Option<NextLine>
         requires passed { left_of self.old.reader ≡ [] }
         requires open { self.old.reader.ended ≡ false }

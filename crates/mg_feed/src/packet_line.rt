@@ -31,8 +31,8 @@ impl<'a> Drop for PacketLine<'a> {
     }
 }
 
-/// Reads a packet line of the usual form from its tokens, without a JSON value of the whole line. None for any other line, and
-/// where there is no memory.
+/// Reads a packet line of the usual form from its tokens, without a JSON value of the whole line. Returns None for any other line,
+/// and if memory runs out.
 pub fn packet_line_of<'a>(
     alloc: Global,
     text: &'a [u8],
@@ -78,7 +78,7 @@ fn stream_by<'a>(reader: &mut Reader<'a>) -> Option<&'a str>
     text_by(reader)
 }
 
-// Reads the key `ts` and the timestamp behind it, a whole number.
+// Reads the key `ts` and the timestamp after it, a whole number.
 fn time_by(reader: &mut Reader<'_>) -> Option<Number>
     ensures { IfSome result (λ n. NumberAt (codes "ts") reader.old (number (number_view n)) reader.new) }
 {
@@ -89,7 +89,7 @@ fn time_by(reader: &mut Reader<'_>) -> Option<Number>
     whole_by(text)
 }
 
-// Reads the key `value` and the value behind it. It lies in the line's object, so it may be one level less deep.
+// Reads the key `value` and the value after it. The value lies in the line's object, so it may be one level less deep.
 fn value_by(alloc: Global, reader: &mut Reader<'_>) -> Option<Value>
     ensures { IfSome result (λ v. ValueAt (codes "value") reader.old (view v) reader.new) }
 {
@@ -99,21 +99,21 @@ fn value_by(alloc: Global, reader: &mut Reader<'_>) -> Option<Value>
     value_by_tokens(alloc, reader, MAX_DEPTH - 1)
 }
 
-// Whether the next token begins an object.
+// Returns whether the next token begins an object.
 fn begins(reader: &mut Reader<'_>) -> bool
     ensures { IsTrue result → reader.old ≡ begin_object ∷ reader.new }
 {
     matches!(reader.next(), Some(Token::BeginObject))
 }
 
-// Whether the next token ends an object and is the last one.
+// Returns whether the next token ends an object and is the last token.
 fn ends(reader: &mut Reader<'_>) -> bool
     ensures { IsTrue result → reader.old ≡ end_object ∷ [] }
 {
     matches!(reader.next(), Some(Token::EndObject)) && reader.next().is_none()
 }
 
-// Whether the next token is a key of this name.
+// Returns whether the next token is a key of this name.
 fn has_key(reader: &mut Reader<'_>, name: &str) -> bool
     ensures { IsTrue result → reader.old ≡ key name.now ∷ reader.new }
 {
@@ -123,7 +123,7 @@ fn has_key(reader: &mut Reader<'_>, name: &str) -> bool
     }
 }
 
-// Reads the next token, where it is a text.
+// Reads the next token, if it is a text.
 fn text_by<'a>(reader: &mut Reader<'a>) -> Option<&'a str>
     ensures { IfSome result (λ s. reader.old ≡ text_token s.now ∷ reader.new) }
 {
@@ -133,7 +133,7 @@ fn text_by<'a>(reader: &mut Reader<'a>) -> Option<&'a str>
     }
 }
 
-// Reads the next token, where it is a number, and returns the number's text.
+// Reads the next token, if it is a number, and returns the number's text.
 fn number_by<'a>(reader: &mut Reader<'a>) -> Option<&'a str>
     ensures { IfSome result (λ s. reader.old ≡ number_token s.now ∷ reader.new) }
 {

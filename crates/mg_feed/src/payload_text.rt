@@ -44,7 +44,7 @@ fn push_items(text: &mut Vec<u8>, payloads: &[Payload]) -> Result<(), AllocError
     Ok(())
 }
 
-// Puts a comma at the end of a text, where something stands before.
+// Puts a comma at the end of a text, if something stands before it.
 fn push_comma(text: &mut Vec<u8>, later: bool) -> Result<(), AllocError>
     ensures put { OnOk result (text.new.items ≡ text.old.items ++ comma_if later) }
     ensures unchanged { OnErr result (text.new.items ≡ text.old.items) }

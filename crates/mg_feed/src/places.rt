@@ -45,7 +45,7 @@ impl Drop for Places {
 }
 
 impl Places {
-    /// Makes a table of entries. Of a name that stands twice the first place is found.
+    /// Makes a table of entries. If a name stands twice, its first place is found.
     pub fn of(alloc: Global, entries: Vec<Placed>) -> Result<Places, AllocError>
         ensures { IfOk result (λ places. places ≡ entries.items) }
     {
@@ -53,14 +53,14 @@ impl Places {
         Ok(Places { entries, names })
     }
 
-    /// How many names there are.
+    /// Returns how many names there are.
     pub fn len(&self) -> usize
         ensures { result ≡ length self.now }
     {
         self.entries.len()
     }
 
-    /// Returns the place of a name, or None where it isn't in the table.
+    /// Returns the place of a name, or None if it isn't in the table.
     #[tactic(auto, using(crate::proofs::Finding::place_there, crate::proofs::Finding::place_missing))]
     pub fn find(&self, name: &str) -> Option<u32>
         ensures { result ≡ place_of self.now name.now }

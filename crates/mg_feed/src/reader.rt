@@ -66,12 +66,12 @@ impl Reader {
         line_end(self.left())
     }
 
-    /// Whether the last read gave fewer bytes than were asked for, and the source hasn't ended.
+    /// Returns whether the last read gave fewer bytes than were asked for, and the source hasn't ended.
     pub fn is_drained(&self) -> bool {
         self.filled < self.block.len() && !self.ended
     }
 
-    /// Whether bytes of the next line are held.
+    /// Returns whether bytes of the next line are held.
     pub fn has_cut(&self) -> bool
         ensures { result ≡ false → self.now.cut.items ≡ [] }
     {
@@ -96,7 +96,8 @@ impl Reader {
         self.at += count;
     }
 
-    /// Passes `count` bytes of the block, and holds them for the next line. Errs where the line gets too long, or at want of memory.
+    /// Passes `count` bytes of the block, and holds them for the next line. Returns an error if the line gets too long or memory
+    /// runs out.
     pub fn hold(&mut self, count: usize) -> Result<(), LineFault>
         requires within { count ≤ length (left_of self.old) }
         requires none { NoFeed (take count (left_of self.old)) }
@@ -114,8 +115,8 @@ impl Reader {
         Ok(())
     }
 
-    /// Passes all that is left of the block, which has no line feed, and holds it for the next line. Errs where the line gets too long,
-    /// or at want of memory.
+    /// Passes all that is left of the block, which has no line feed, and holds it for the next line. Returns an error if the line
+    /// gets too long or memory runs out.
     pub fn hold_rest(&mut self) -> Result<(), LineFault>
         requires { NoFeed (left_of self.old) }
         ensures reading { reading_of self.new ≡ reading_of self.old }
@@ -169,7 +170,7 @@ impl Reader {
         got
     }
 
-    // Notes that the source has ended, and puts a line feed behind a last line that lacks it.
+    // Notes that the source has ended, and puts a line feed after a last line that lacks it.
     fn finish(&mut self)
         requires { left_of self.old ≡ [] }
         ensures ended { self.new.ended ≡ true }

@@ -14,10 +14,10 @@ use mg_value::{BlockList, Packet};
 use std::alloc::{AllocError, Global};
 use std::mem;
 
-/// The most packets that a stream holds. More of them count as want of memory.
+/// The most packets that a stream holds. A packet more counts as out of memory.
 pub const MOST_PACKETS: usize = (1 << 32) - 1;
 
-/// Returns the standing of the stream at a place, or that of a closed stream where there is none.
+/// Returns the standing of the stream at a place, or that of a closed stream if there is none.
 pub fn standing_at(streams: &[FeedStream], place: u32) -> Standing
     ensures { result ≡ unwrap_or (slice_get (standings (map was_taken streams.now) (map waiting streams.now)) place) no_stream }
 {
@@ -99,15 +99,15 @@ pub fn close_at(streams: &mut [FeedStream], place: u32)
     }
 }
 
-// The greater of two bounds.
+// Returns the greater of two bounds.
 fn greater(a: Timestamp, b: Timestamp) -> Timestamp
     ensures { result ≡ max a b }
 {
     if a < b { b } else { a }
 }
 
-/// Takes the packets out of all streams, and puts a prefix of each into `prefixes`, which is empty and has room: those packets, with the
-/// stream's bound or, where the input ended, Done. It takes no memory.
+/// Takes the packets out of all streams, and puts a prefix for each stream into `prefixes`. A prefix has those packets and the
+/// stream's bound, or Done if the input ended. `prefixes` has to be empty and to have room. The function takes no memory.
 pub fn take_prefixes(
     alloc: Global,
     streams: &mut [FeedStream],
@@ -137,7 +137,7 @@ fn push_within(prefixes: &mut Vec<Prefix>, prefix: Prefix)
     let _ = prefixes.push(prefix);
 }
 
-// Takes the packets out of a stream, as a prefix with the stream's bound or, where the input ended, Done.
+// Takes the packets out of a stream, as a prefix with the stream's bound, or Done if the input ended.
 fn take_prefix(alloc: Global, stream: &mut FeedStream, ended: bool) -> Prefix
     ensures prefix { result ≡ ended_stream ended (waiting stream.old) }
     ensures waiting { waiting stream.new ≡ without_packets (waiting stream.old) }

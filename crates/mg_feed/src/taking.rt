@@ -55,8 +55,8 @@ impl InputBuffer {
         })
     }
 
-    /// Takes the packets that came since the last taking, with each stream's bound, or Done where the input ended, and all side packets.
-    /// After an `Err`, which is want of memory, nothing was taken.
+    /// Takes the packets that came since the last taking, and all side packets. Each stream has its bound, or Done if the input
+    /// ended. An `Err` means out of memory: nothing was taken.
     pub fn take_inputs(&mut self, alloc: Global, ended: bool) -> Result<Inputs, AllocError>
         ensures streams { IfOk result (λ inputs. inputs.streams ≡ ended_streams ended (input_buffer self.old).given.streams) }
         ensures sides { IfOk result (λ inputs. inputs.sides ≡ (input_buffer self.old).given.sides) }
@@ -70,8 +70,8 @@ impl InputBuffer {
         Ok(inputs_by(prefixes, sides, ended))
     }
 
-    /// Takes the packets that came since the last taking, with each stream's bound, or Done where the input ended, and all side packets.
-    /// It takes no memory.
+    /// Takes the packets that came since the last taking, and all side packets. Each stream has its bound, or Done if the input
+    /// ended. The function takes no memory.
     pub fn into_inputs(self, alloc: Global, ended: bool) -> Inputs
         ensures streams { result.streams ≡ ended_streams ended (input_buffer self).given.streams }
         ensures sides { result.sides ≡ (input_buffer self).given.sides }
@@ -139,7 +139,7 @@ fn open_streams(alloc: Global, count: usize) -> Result<Vec<FeedStream>, AllocErr
     Ok(streams)
 }
 
-// Returns `count` places of side packets, none of which came.
+// Returns `count` places of side packets. No side packet came yet.
 fn no_sides(alloc: Global, count: usize) -> Result<Vec<Option<Arc<Payload>>>, AllocError>
     ensures sides { IfOk result (λ sides. map given sides.items ≡ replicate count None) }
     ensures few { IfOk result (λ sides. vec_len sides < 2 ^ 32) }
@@ -165,7 +165,7 @@ fn copy_sides(alloc: Global, sides: &[Option<Arc<Payload>>]) -> Result<GivenList
     Ok(GivenList::from_vec(copies)?)
 }
 
-// Shares a side packet, where it came.
+// Shares a side packet, if it came.
 fn copy_side(side: &Option<Arc<Payload>>) -> Result<Option<Arc<Payload>>, AllocError>
     ensures { IfOk result (λ copy. given copy ≡ given side.now) }
 {

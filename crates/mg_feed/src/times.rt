@@ -5,7 +5,8 @@ ghost use Rattle.mg_feed.specs.Form.{time_of, time_named};
 use mg_time::Timestamp;
 use serde_json::Value;
 
-/// Returns the timestamp that a JSON value says, where a packet may carry it: a whole number of the range, `PreStream` or `PostStream`.
+/// Returns the timestamp that a JSON value says, if a packet may carry it: a whole number of the range, `PreStream` or
+/// `PostStream`.
 pub fn time_by(value: &Value) -> Option<Timestamp>
     ensures { result ≡ time_of (view value.now) }
 {

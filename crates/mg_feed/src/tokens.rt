@@ -16,8 +16,8 @@ use std::alloc::Global;
 /// The most arrays and objects that may lie inside one another in a line, as `serde_json` has it.
 pub const MAX_DEPTH: usize = 127;
 
-/// Reads the JSON value of a text from its tokens, with a scratch that is kept. None where the text isn't JSON, where a number isn't
-/// whole or doesn't fit in 64 bits, and where there is no memory.
+/// Reads the JSON value of a text from its tokens, with a scratch that is kept. Returns None if the text isn't JSON, if a number
+/// isn't whole or doesn't fit in 64 bits, or if memory runs out.
 pub fn text_by_tokens(alloc: Global, text: &[u8], scratch: &mut Scratch) -> Option<Value>
     ensures { IfSome result (λ v. json_value text.now ≡ Some (view v)) }
 {
@@ -102,7 +102,7 @@ fn members_by(alloc: Global, reader: &mut Reader<'_>, depth: usize) -> Option<Ma
     Some(found)
 }
 
-// Returns None where a further token comes.
+// Returns None if a further token comes.
 fn over(reader: &mut Reader<'_>) -> Option<()>
     ensures { IfSome result (λ _. reader.old ≡ []) }
 {
@@ -112,7 +112,7 @@ fn over(reader: &mut Reader<'_>) -> Option<()>
     }
 }
 
-// Appends an item to a list, where there is memory.
+// Appends an item to a list, if memory suffices.
 fn add_item(items: &mut Vec<Value>, item: Value) -> Option<()>
     ensures { IfSome result (λ _. items.new.items ≡ items.old.items ++ item ∷ []) }
 {
@@ -122,7 +122,7 @@ fn add_item(items: &mut Vec<Value>, item: Value) -> Option<()>
     }
 }
 
-// Puts a member under its name, where there is memory.
+// Puts a member under its name, if memory suffices.
 fn add_member(
     alloc: Global,
     members: &mut Map<String, Value>,
@@ -147,7 +147,7 @@ fn name_by<'a>(reader: &mut Reader<'a>) -> Option<Option<&'a str>>
     }
 }
 
-// Returns the value of a token that is a value by itself, where there is memory.
+// Returns the value of a token that is a value by itself, if memory suffices.
 fn scalar_by(alloc: Global, token: Token<'_>) -> Option<Value>
     ensures { IfSome result (λ v. scalar_of (token_of token.entry) ≡ Some (view v)) }
 {

@@ -6,7 +6,7 @@ ghost use Rattle.serde_json.specs.View.{number_view};
 use fast_float::Numeral;
 use serde_json::Number;
 
-/// Returns the number that a JSON number's text says, where it is whole and fits in 64 bits.
+/// Returns the number that a JSON number's text says, if it is whole and fits in 64 bits.
 pub fn whole_by(text: &str) -> Option<Number>
     ensures { IfSome result (λ n. number_of text.now ≡ Some (number_view n)) }
 {
@@ -25,7 +25,7 @@ fn has_minus(bytes: &[u8]) -> bool
     !bytes.is_empty() && bytes[0] == b'-'
 }
 
-// Returns the number of a numeral without a sign, where it is whole and fits in 64 bits.
+// Returns the number of a numeral without a sign, if it is whole and fits in 64 bits.
 fn unsigned(numeral: &Numeral<'_>) -> Option<Number>
     ensures { IfSome result (λ n. number_from false numeral.now ≡ Some (number_view n)) }
 {
@@ -33,7 +33,7 @@ fn unsigned(numeral: &Numeral<'_>) -> Option<Number>
     Some(Number::from(number))
 }
 
-// Returns the number of a numeral behind a minus, where it is whole, fits in 64 bits and isn't 0.
+// Returns the number of a numeral after a minus, if it is whole, fits in 64 bits and isn't 0.
 fn negative(numeral: &Numeral<'_>) -> Option<Number>
     ensures { IfSome result (λ n. number_from true numeral.now ≡ Some (number_view n)) }
 {

@@ -46,7 +46,7 @@ whole_of {laws} plan job first sink rested net text told same stands running res
     (λ streams solves. all streams solves (all_come_at_rest job streams rested stands running rests solves))
     (tells (told_none job first rested text (text_of plan job text same is) none)) (λ p f now sets has. has.put)
 
--- or a front of it
+-- or a prefix of it
 pub front_told : {laws : Laws} (plan : Plan) (job : LoggedJob laws) (first sink : SinkTold) (net : NetView) (text : TextView) (streams : List (StreamPrefix Plain)) → job.job.plan ≡ plan → StandsFor job net → text ≡ nothing_put (output_names plan) → taken_out net ≡ 0
     → (IsTold HasLines job.job first first (taken_out net) text → IsToldSome HasLines job.job first sink) → IsSolution job.job streams → TookFront (device first sink) (output_text_of job.job.plan streams)
 front_told {laws} plan job first sink net text streams same stands is none tells solution =
@@ -56,6 +56,6 @@ front_told {laws} plan job first sink net text streams same stands is none tells
 pub front_none : (sink : SinkTold) (text : List ℕ) → TookFront (device sink sink) text
 front_none sink text = ([], (text, refl), TookAll-start sink.taken)
 
--- a net at rest has rested, also where sets were taken from it
+-- a net at rest has rested, also if sets were taken from it
 pub rested_since : {laws : Laws} (job : LoggedJob laws) (rested net : NetView) → StandsFor job rested → IsRunning rested → IsAtRest laws rested → LeavesNodes rested net → HasRested job net
 rested_since {laws} job rested net stands running rests since = record { rested = rested; stands = stands; running = running; rests = rests; since = since }

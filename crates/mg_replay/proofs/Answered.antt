@@ -1,4 +1,4 @@
--- What a recorded run that was made again came to, by its status, and what follows of it.
+-- What a recorded run that was made again did, by its status, and what follows from that.
 use Rattle.std.proofs.Common.{◌≡◌, ◌≢◌, ◌⊎◌, inl, inr, ℕ, Bool, true, false, List, [], ◌∷◌, ◌++◌, Option, None, Some, IfSome, refl, sym, ap, ◌∙◌, subst, append-nil}
 use Rattle.mg_edge.specs.Edge.{SourceTold, SinkTold, Rose}
 use Rattle.mg_edge.specs.Runs.{Gave}
@@ -54,7 +54,7 @@ end_status Accepted fs ns = ended_status fs ns
 end_status (Refused line cause) fs ns = LineRefused
 end_status (Failed lines) fs ns = ReadFault
 
--- what was written is an answer's
+-- the texts that were written are those of an answer
 record EndMet (laws : Laws) (end : TraceEnd) (report : Reporting) (plan : Plan) (job : Option Inputs) (status : Status) (output notes : Device SinkTold) : Type 0 where
   answer : RunAnswer
   is : AnswersEnd laws end report plan job answer
@@ -125,7 +125,7 @@ out_or {laws} OutOfMemory report plan all boxes ran = inl refl
 
 -- The status --
 
--- none of a replay is that of a file that can't be loaded, or of words that are no command
+-- no status of a replay is that of a file that can't be loaded, or of words that are no command
 other_status : (end : TraceEnd) (status : Status) (fs : List Fault) (ns : List ℕ) → (status ≡ StoreFault) ⊎ (status ≡ Usage) → status ≡ end_status end fs ns → ⊥
 other_status Accepted status [] [] (inl store) is = cc
 other_status Accepted status [] (n ∷ ns) (inl store) is = cc

@@ -1,4 +1,4 @@
--- What a recorded run that isn't accepted leaves of the calculators that were handed in.
+-- What a recorded run that isn't accepted leaves of the user-supplied calculators.
 use Rattle.std.proofs.Common.{◌≡◌, inl, inr, ℕ, List, ◌++◌, length, Some, option_map, slice_get, refl, sym, ap, ◌∙◌, subst}
 use Rattle.mg_value.specs.Payload.{Plain}
 use Rattle.mg_settled.specs.Prefix.{StreamPrefix}
@@ -65,7 +65,7 @@ closed_where {laws} job before back wound engines work_queues running is stands 
           (ap (λ (p : Plan). slice_get p.nodes number) (plan_stood job back stands) ∙ there) has outer;
     }
 
--- By the calculators that were handed in --
+-- By the user-supplied calculators --
 
 closed_at : {laws : Laws} (plan : Plan) (inputs : Inputs) (boxes : List BoxTold) (net : NetView) (streams : List (StreamPrefix Plain)) (number place : ℕ) (node : PlanNode) → BoxesFit plan boxes → slice_get plan.nodes number ≡ Some node → node.box_number ≡ Some place
     → (IsOuter node.law → (told : BoxTold) × (slice_get (given_back net) place ≡ Some told) × HadClose (job_of laws plan inputs boxes) streams node told) → IsRelatedAt place (HadAClose (job_over laws plan inputs) streams node) (device boxes (given_back net))

@@ -81,7 +81,7 @@ opening_none plan told read number view unread none graph stands = record {
   packets = tt;
 }
 
--- what the packet lines hand to a graph
+-- what the packet lines give a graph
 abbrev inputs_same : (inputs : Inputs) (ss : List (StreamPrefix Plain)) (sides : List (Option Plain)) (ended : Bool) → inputs.streams ≡ ss → inputs.sides ≡ sides → inputs.ended ≡ ended → inputs ≡ record { streams = ss; sides = sides; ended = ended }
 inputs_same inputs ss sides ended a b c = λ i. record { streams = a i; sides = b i; ended = c i }
 

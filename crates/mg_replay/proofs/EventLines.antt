@@ -44,7 +44,7 @@ use Rattle.mg_replay.proofs.JobLines.{reading_line, came_behind, lines_then, lin
 
 -- The lines of the job were read --
 
--- they stand in front of all lines
+-- they stand before all other lines
 module _ {laws : Laws} (plan : Plan) (boxes : List BoxTold) (inputs : Inputs) (lines : List (List ℕ)) (net : NetView) (run : LinesLedTo laws plan boxes lines inputs net) where
   opens_with : (all rest : List (List ℕ)) → all ≡ lines ++ rest → (more : List (List ℕ)) × (all ≡ run.given ++ end_word inputs.ended ∷ more)
   opens_with all rest is = (map event_line run.events ++ rest, is ∙ ap (λ (l : List (List ℕ)). l ++ rest) run.lines_are ∙ append_assoc run.given (end_word inputs.ended ∷ map event_line run.events) rest)
@@ -100,7 +100,7 @@ opened_by {laws} plan boxes inputs first now later read new number net m b =
     (gave-then first.left now.left later.left m.reading.came b.came m.reading.gave b.gave) (met-then false read.ended new.ended first now later m.reading.came m.reading.gave m.reading.met b.met)
     (λ more fits. b.in_front m.reading.came m.lines m.reading.handed more fits)
 
--- behind a line more, whatever it is
+-- after one more line, whatever it is
 pub opened_behind : {laws : Laws} (line : List ℕ) (plan : Plan) (boxes : List BoxTold) (inputs : Inputs) (first before now later : SourceTold) (old read new : Reading) (number : ℕ) (net : NetView) → IsMaking laws plan boxes inputs first before old number net
     → NextComes Line line before now old read → ComesBehind now later read new → BeginsWithJob plan (device first later) inputs
 opened_behind {laws} line plan boxes inputs first before now later old read new number net m n b =
@@ -109,7 +109,7 @@ opened_behind {laws} line plan boxes inputs first before now later old read new 
     (gave-then first.left now.left later.left r.came b.came r.gave b.gave) (met-then false read.ended new.ended first now later r.came r.gave r.met b.met)
     (λ more fits. (let all = b.in_front r.came (m.lines ++ line ∷ []) r.handed more fits in (line ∷ all.0, all.1 ∙ append_assoc m.lines (line ∷ []) all.0)))
 
--- What comes behind the lines of a run --
+-- What comes after the lines of a run --
 
 place_of : (number count : ℕ) (cause : TraceFault) → number ≡ count → Refused (number + 1) cause ≡ Refused (count + 1) cause
 place_of number count cause same = ap (λ (k : ℕ). Refused (k + 1) cause) same
@@ -261,7 +261,7 @@ makes_line {laws} (Some end) line plan boxes inputs first before now old new num
 
 -- The last line --
 
--- where the net may go on
+-- if the net may go on
 pub ends_early : {laws : Laws} (line : List ℕ) (plan : Plan) (boxes : List BoxTold) (inputs : Inputs) (first before now : SourceTold) (old new : Reading) (number count : ℕ) (net : NetView) → IsMaking laws plan boxes inputs first before old number net
     → NextComes Line line before now old new → count ≡ number + 1 → line ≡ codes "end" → MayGoOn laws net → WasRead laws plan boxes (device first now) (Some inputs) (Refused count NotAtRest)
 ends_early {laws} line plan boxes inputs first before now old new number count net m n is line_is may =
@@ -287,7 +287,7 @@ ends_early {laws} line plan boxes inputs first before now old new number count n
       faults = r.unfailed;
     })
 
--- where it is at rest, by what comes next
+-- if it is at rest, by what comes next
 module _ {laws : Laws} (line : List ℕ) (plan : Plan) (boxes : List BoxTold) (inputs : Inputs) (first before now later : SourceTold) (old read new : Reading) (number count : ℕ) (net : NetView) (m : IsMaking laws plan boxes inputs first before old number net)
     (n : NextComes Line line before now old read) (is : count ≡ number + 1) (line_is : line ≡ codes "end") (rests : IsAtRest laws net) where
   behind : (rest : List (List ℕ)) (all : List (List ℕ)) → all ≡ (m.lines ++ line ∷ []) ++ rest → (end : TraceEnd) → EndsAt (length m.lines + 1) rest end → StopsAfterJob laws plan boxes all inputs end
@@ -372,7 +372,7 @@ ends_run {laws} end line plan boxes inputs first before now later old read new n
 ends_run {laws} end line plan boxes inputs first before now later old read new number count net net_now m n is line_is (inr (rests, same, (next, l, comes, stop))) =
     ended line plan boxes inputs first before now later old read new number count net m n is line_is rests next l end comes stop
 
--- What a line behind a run comes to --
+-- What a line after a run does --
 
 pub makes_by : (laws : Laws) (stop : Option TraceEnd) (event : Event) (plan : Plan) (line : List ℕ) (number : ℕ) (net now : NetView) → IsEventOf plan event → line ≡ event_line event → MakesEvent laws stop event number net now → MakesLine laws stop plan line number net now
 makes_by laws None event plan line number net now of is makes = (event, of, is, makes)
@@ -434,7 +434,7 @@ pub opened_next : {laws : Laws} (next : NextLine) (line : List ℕ) (plan : Plan
 opened_next {laws} next line plan boxes inputs first before now later old read new number stopped long net m n is behind =
     opened_behind line plan boxes inputs first before now later old read new number net m (line_comes next line before now old read number stopped long n is) behind
 
--- where the reading stops for want of a line no run is accepted
+-- if the reading stops because there is no line, no run is accepted
 pub stops_not : (next : NextLine) (lines : ℕ) (long : TraceFault) (stop : Option TraceEnd) → StopsBy next lines long stop → stop ≡ Some Accepted → ⊥
 stops_not Line lines long stop is same = (let clash : None ≡ Some Accepted = sym is ∙ same in cc)
 stops_not TooLong lines long stop is same = (let clash : Some (Refused (lines + 1) long) ≡ Some Accepted = sym is ∙ same in cc)

@@ -33,7 +33,7 @@ use Rattle.mg_replay.proofs.PacketLines.{long_word, refused_long, packets_push, 
 
 -- Any lines --
 
--- one more was handed out
+-- one more line was handed out
 pub reading_line : (line : List ℕ) (first before now : SourceTold) (old new : Reading) (number count : ℕ) (lines : List (List ℕ)) → IsReading first before old number lines → NextComes Line line before now old new → count ≡ number + 1
     → IsReading first now new count (lines ++ line ∷ [])
 reading_line line first before now old new number count lines r n is = record {
@@ -69,7 +69,7 @@ came_behind answer line first before now old new number lines r n = record {
   comes = n.comes r.came lines r.handed;
 }
 
--- all lines of an input, whatever comes behind those that were handed out
+-- all lines of an input, whatever comes after the lines that were handed out
 pub lines_then : (first now : SourceTold) (read : Reading) (number : ℕ) (lines : List (List ℕ)) (r : IsReading first now read number lines) (more : List ℕ) → (read.ended ≡ true → more ≡ [])
     → all_lines (r.came ++ more) ≡ lines ++ all_lines (read.kept ++ more)
 lines_then first now read number lines r more fits = lines-by read.ended r.came lines read.kept more r.handed fits
@@ -146,7 +146,7 @@ opens_line laws line plan first before now old new number count view later o n i
       omega (arith, now_is, long, few),
     )
 
--- the word behind them
+-- the word after the packet lines
 pub opens_word : (line : List ℕ) (ended : Bool) (plan : Plan) (first before now : SourceTold) (old new : Reading) (number count : ℕ) (view later : View) → IsOpening plan first before old number view → NextComes Line line before now old new
     → count ≡ number + 1 → TakesLine (Some (Job ended)) line count view later → HasJob plan ended first now new count later
 opens_word line ended plan first before now old new number count view later o n is (word, same) = subst (HasJob plan ended first now new count) (sym same) (record {
@@ -185,14 +185,14 @@ opens_bad {laws} line end plan boxes first before now old new number count view 
       faults = r.unfailed;
     })
 
--- what a line came to
+-- what a line did
 pub opens_on : (laws : Laws) (opened : Option Opened) (line : List ℕ) (plan : Plan) (first before now : SourceTold) (old new : Reading) (number count : ℕ) (view later : View) → IsOpening plan first before old number view → NextComes Line line before now old new
     → count ≡ number + 1 → TakesLine opened line count view later → OpensOn laws opened plan first now new count view later
 opens_on laws None line plan first before now old new number count view later o n is takes = opens_line laws line plan first before now old new number count view later o n is takes
 opens_on laws (Some (Job ended)) line plan first before now old new number count view later o n is takes = opens_word line ended plan first before now old new number count view later o n is takes
 opens_on laws (Some (Stopped end)) line plan first before now old new number count view later o n is takes = λ boxes. opens_bad line end plan boxes first before now old new number count view later o n is takes
 
--- a line was handed out where the reading didn't stop
+-- a line was handed out if the reading didn't stop
 pub is_line : (next : NextLine) (number : ℕ) (long : TraceFault) → StopsBy next number long None → next ≡ Line
 is_line Line number long stop = refl
 is_line TooLong number long stop = absurd cc

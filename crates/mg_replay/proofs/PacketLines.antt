@@ -42,7 +42,7 @@ word_is false false ended line first second is = absurd cc
 pub a_word : (line : List ℕ) (ended : Bool) → ends_so line ≡ Some ended → line ≡ end_word ended
 a_word line ended is = word_is (bytes_eq line (codes "ended")) (bytes_eq line (codes "frozen")) ended line refl refl is
 
--- a longer line is none of them
+-- a longer line is none of these words
 not_word : (line word : List ℕ) → length word < length line → bytes_eq line word ≡ false
 not_word line word less = elim (cases_Bool (bytes_eq line word)) [
   | inl is ↦ absurd (let same = ap length ((bytes_eq-Decides line word).0 is) in omega (arith, same, less))
@@ -103,7 +103,7 @@ packets_push graph before [] line are is = (subst (λ (l : List (List ℕ)). IsP
 packets_push graph before (l ∷ ls) line are is =
     (are.0, packets_push graph (before ++ l ∷ []) ls line are.1 (subst (λ (x : List (List ℕ)). IsPacket graph x line) (sym (append_assoc before (l ∷ []) ls)) is))
 
--- behind a good line there are no more of them than may be
+-- after a good line there are no more lines than there may be
 few_by : (long many : Bool) (other : Option LineFault) → (if long then Some TooLong else (if many then Some TooManyLines else other)) ≡ None → many ≡ false
 few_by true many other none = absurd cc
 few_by false true other none = absurd cc
@@ -127,7 +127,7 @@ no_more_lines graph lines line short none =
     let less = below_by most_lines (length lines) few in
     omega (arith, less)
 
--- what a line came to that is no such word
+-- the result of a line that is no such word
 pub takes_line : (opened : Option Opened) (line : List ℕ) (number : ℕ) (old new : View) → is_end_word line ≡ false → TakesOther opened line number old new → TakesLine opened line number old new
 takes_line None line number old new word takes = (word, takes)
 takes_line (Some (Job ended)) line number old new word takes = absurd takes

@@ -1,4 +1,4 @@
--- What a recorded run that isn't accepted leaves of the calculators that are handed in.
+-- What a recorded run that isn't accepted leaves of the user-supplied calculators.
 use Rattle.std.specs.Prelude.{◌≡◌, ◌⊎◌, ℕ, ◌≤◌, true, false, List, Some, slice_get}
 use Rattle.mg_value.specs.Payload.{Plain}
 use Rattle.mg_settled.specs.Prefix.{StreamPrefix}
@@ -9,9 +9,9 @@ use Rattle.mg_answer.specs.Devices.{Device}
 use Rattle.mg_node.specs.Had.{FailsToOpen}
 use Rattle.mg_drive.specs.Leaves.{KeepsAFront, IsRelatedAt}
 
--- A calculator was opened and closed: its log, where it tells one, grew by a front of the calls that its node has in a solution, Open and
--- perhaps a Process for each of the first sets that the node is shown, and by Close behind them. Where Open fails it grew by that alone.
--- The calculator keeps what its node has come to after these calls.
+-- A calculator was opened and closed. If it tells a log, the log grew by a prefix of its node's calls in a solution, and then by
+-- Close. The prefix is Open and perhaps a Process for each of the first sets that the node is shown. If Open fails, the log grew by
+-- Open alone. The calculator keeps what its node has reached after these calls.
 pub record HadAClose (job : Job) (streams : List (StreamPrefix Plain)) (node : PlanNode) (before now : BoxTold) : Type 0 where
   pub keeps : KeepsAFront job streams node before now
   pub begun : 1 ≤ keeps.front.count

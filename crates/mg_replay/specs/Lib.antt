@@ -1,4 +1,4 @@
--- What a recorded run comes to when it is made again: whoever wants to know what is proved reads these files.
+-- What a recorded run does when it is made again. Whoever wants to know what is proved reads these files.
 pub mod Opening
 pub mod Replay
 pub mod Reading

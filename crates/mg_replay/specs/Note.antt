@@ -19,7 +19,7 @@ trace_refusal NotAtRest = codes "NotAtRest"
 trace_refusal NoEnd = codes "NoEnd"
 trace_refusal AfterEnd = codes "AfterEnd"
 
--- the note of how the reading of a recorded run ended, which is empty for an accepted one
+-- the note of how the reading of a recorded run ended; it is empty for an accepted run
 abbrev pub trace_note : TraceEnd → List ℕ
 trace_note Accepted = []
 trace_note (Refused line cause) = codes "line " ++ decimal line ++ codes ": " ++ trace_refusal cause ++ codes "\n"

@@ -1,4 +1,4 @@
--- The lines of a recorded run that tell its job: packet lines, and behind them a line that says how the job's input ended.
+-- The lines of a recorded run that tell its job: packet lines, and after them a line that says how the job's input ended.
 use Rattle.std.specs.Prelude.{◌≡◌, ℕ, ◌==◌, Bool, true, false, ◌||◌, List, [], ◌∷◌, ◌++◌, length, nat_lt, Option, None, Some, option_map, codes, if◌then◌else◌, ⊤}
 use Rattle.std.specs.Str.{bytes_eq}
 use Rattle.mg_calc.specs.declared.inputs.Inputs.{Inputs}
@@ -15,12 +15,13 @@ use Rattle.mg_replay.specs.declared.trace_end.TraceFault.TheVariants.{Line, BadE
 abbrev pub is_end_word : List ℕ → Bool
 is_end_word line = bytes_eq line (codes "ended") || bytes_eq line (codes "frozen")
 
--- whether a line opens an object, perhaps behind blanks, or is of blanks alone
+-- whether a line opens an object, perhaps after blanks, or is of blanks alone
 abbrev pub may_say_packet : List ℕ → Bool
 may_say_packet [] = true
 may_say_packet (b ∷ line) = if is_blank b then may_say_packet line else b == 123
 
--- Why a line that stands where packet lines do isn't good after those before it. Where it is too long that goes before all else.
+-- Why a line that stands where packet lines do isn't good after the lines before it. If the line is too long, that goes before all
+-- else.
 abbrev pub packet_refusal : GraphInputs → List (List ℕ) → List ℕ → Option TraceFault
 packet_refusal graph before line =
     if nat_lt longest_line (length line) then Some (Line TooLong)
@@ -36,7 +37,7 @@ abbrev pub ArePackets : GraphInputs → List (List ℕ) → List (List ℕ) → 
 ArePackets graph before [] = ⊤
 ArePackets graph before (line ∷ lines) = IsPacket graph before line × ArePackets graph (before ++ line ∷ []) lines
 
--- the inputs that packet lines give a graph, whose input ended well or didn't
+-- the inputs that packet lines give a graph. `ended` says whether the graph's input ended well
 abbrev pub inputs_with : Plan → List (List ℕ) → Bool → Inputs
 inputs_with plan lines ended = record {
   streams = ended_streams ended (given_by (inputs_of plan) lines).streams;

@@ -1,4 +1,4 @@
--- A recorded run while it is read: which lines were handed out since a source told `first`, and what they came to so far.
+-- A recorded run while it is read: which lines were handed out since a source told `first`, and what they led to so far.
 use Rattle.std.specs.Prelude.{◌≡◌, ℕ, Bool, true, false, List, [], ◌∷◌, ◌++◌, length, None}
 use Rattle.mg_edge.specs.Edge.{SourceTold}
 use Rattle.mg_edge.specs.Runs.{Gave}
@@ -44,7 +44,7 @@ pub record IsSomeOpening (now : SourceTold) (read : Reading) (number : ℕ) (vie
   pub first : SourceTold
   pub opening : IsOpening plan first now read number view
 
--- The packet lines of a job have ended with a word behind them, and a feed has taken them.
+-- The packet lines of a job have ended with a word after them, and a feed has taken them.
 pub record HasJob (plan : Plan) (ended : Bool) (first now : SourceTold) (read : Reading) (number : ℕ) (view : View) : Type 0 where
   pub given : List (List ℕ)
   pub reading : IsReading first now read number (given ++ end_word ended ∷ [])
@@ -52,7 +52,7 @@ pub record HasJob (plan : Plan) (ended : Bool) (first now : SourceTold) (read : 
   pub stands : HasAccepted given (nothing_taken (inputs_of plan)) view
   pub packets : ArePackets (inputs_of plan) [] given
 
--- What the reading of a job's lines came to: the job, or where it stopped, with no node begun.
+-- The result of reading a job's lines: the job, or where the reading stopped, with no node begun.
 abbrev pub Opens : Laws → Opened → Plan → SourceTold → SourceTold → Reading → ℕ → View → Type 0
 Opens laws (Job ended) plan first now read number view = HasJob plan ended first now read number view
 Opens laws (Stopped end) plan first now read number view = (boxes : List BoxTold) → WasRead laws plan boxes (device first now) None end
@@ -63,8 +63,8 @@ pub record IsMaking (laws : Laws) (plan : Plan) (boxes : List BoxTold) (inputs :
   pub reading : IsReading first now read number lines
   pub has_run : LinesLedTo laws plan boxes lines inputs net
 
--- The bytes that came begin with the lines of a job that has these inputs, whatever bytes may follow, of which there are none where the
--- source has ended.
+-- The bytes that came begin with the lines of a job that has these inputs, whatever bytes may follow. No bytes follow if the source
+-- has ended.
 pub record BeginsWithJob (plan : Plan) (input : Device SourceTold) (inputs : Inputs) : Type 0 where
   pub came : List ℕ
   pub gave : Gave input.before.left input.now.left came

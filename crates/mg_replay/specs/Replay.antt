@@ -1,6 +1,6 @@
--- What the lines of a recorded run come to. The first ones tell its job. Behind them stands a line for each event, and each event is made,
--- on a net on which the events before it were made, from where the runs of the job begin. The last line is `end`. It is accepted where the
--- net is at rest then, and nothing stands behind it.
+-- What the lines of a recorded run say. The first lines tell its job. After them stands a line for each event. Each event is made
+-- on the net to which the events before it led. The first event is made where the runs of the job begin. The last line is `end`. It
+-- is accepted if the net is at rest then, and nothing stands after it.
 use Rattle.std.specs.Prelude.{◌≡◌, ◌≢◌, ◌⊎◌, ℕ, ◌+◌, ◌<◌, Bool, true, false, List, [], ◌∷◌, ◌++◌, length, map, codes, Option, None, Some}
 use Rattle.mg_edge.specs.Edge.{SourceTold}
 use Rattle.mg_edge.specs.Runs.{Gave}
@@ -29,13 +29,13 @@ use Rattle.mg_replay.specs.declared.trace_end.TraceEnd.TheVariants.{Accepted, Re
 
 -- The lines of the job --
 
--- The reading stops behind these packet lines, and no node was begun: the lines end there, or the next one isn't good.
+-- The reading stops after these packet lines, and no node was begun: the lines end there, or the next line isn't good.
 abbrev pub StopsEarlyAt : Plan → List (List ℕ) → List (List ℕ) → TraceEnd → Type 0
 StopsEarlyAt plan given [] end = end ≡ Refused (length given + 1) NoEnd
 StopsEarlyAt plan given (line ∷ more) end =
     (is_end_word line ≡ false) × ((cause : TraceFault) × (packet_refusal (inputs_of plan) given line ≡ Some cause) × (end ≡ Refused (length given + 1) cause))
 
--- The lines begin with packet lines, behind which the reading stops before there is a job.
+-- The lines begin with packet lines. The reading stops after these, before there is a job.
 pub record StopsEarly (plan : Plan) (lines : List (List ℕ)) (end : TraceEnd) : Type 0 where
   pub given : List (List ℕ)
   pub tail : List (List ℕ)
@@ -45,8 +45,8 @@ pub record StopsEarly (plan : Plan) (lines : List (List ℕ)) (end : TraceEnd) :
 
 -- The lines of events --
 
--- Lines led a net to where it is: they are the packet lines of a job, the word behind them, and the lines of the events of a run from where
--- the job's runs begin.
+-- Lines led a net to where it is. They are the packet lines of a job, the word after them, and the lines of the events of a run.
+-- The run begins where the job's runs begin.
 pub record LinesLedTo (laws : Laws) (plan : Plan) (boxes : List BoxTold) (lines : List (List ℕ)) (inputs : Inputs) (net : NetView) : Type 0 where
   pub given : List (List ℕ)
   pub packets : ArePackets (inputs_of plan) [] given
@@ -57,7 +57,7 @@ pub record LinesLedTo (laws : Laws) (plan : Plan) (boxes : List BoxTold) (lines 
   pub run : IsRun laws events begun net
   pub lines_are : lines ≡ given ++ end_word inputs.ended ∷ map event_line events
 
--- A line is neither the last line of a run nor the line of an event of the plan, or is longer than a line may be.
+-- A line is neither the last line of a run nor the line of an event of the plan. Or it is longer than a line may be.
 pub record IsNoEvent (plan : Plan) (number : ℕ) (line : List ℕ) (end : TraceEnd) : Type 0 where
   pub bad : ((line ≢ codes "end") × ((event : Event) → ¬ (IsEventOf plan event × (line ≡ event_line event)))) ⊎ (longest_line < length line)
   pub is : end ≡ Refused number BadEvent
@@ -70,7 +70,8 @@ pub record IsIdleEvent (laws : Laws) (plan : Plan) (net : NetView) (number : ℕ
   pub idle : Acts laws event Idle net net
   pub is : end ≡ Refused number IdleEvent
 
--- What is said by what stands behind the last line of a run: where nothing does the run is accepted.
+-- How the reading ends by what stands after the last line of a run. If nothing does, the run is accepted. Else the next line is
+-- refused.
 abbrev pub EndsAt : ℕ → List (List ℕ) → TraceEnd → Type 0
 EndsAt number [] end = end ≡ Accepted
 EndsAt number (line ∷ more) end = end ≡ Refused (number + 1) AfterEnd
@@ -85,7 +86,7 @@ abbrev pub StopsAt : Laws → Plan → NetView → ℕ → List (List ℕ) → T
 StopsAt laws plan net number [] end = end ≡ Refused number NoEnd
 StopsAt laws plan net number (line ∷ more) end = IsNoEvent plan number line end ⊎ (IsIdleEvent laws plan net number line end ⊎ IsLastLine laws net number line more end)
 
--- The lines begin with those that led a net somewhere, where the reading stops.
+-- The lines begin with lines that led a net somewhere, and there the reading stops.
 pub record StopsAfterJob (laws : Laws) (plan : Plan) (boxes : List BoxTold) (lines : List (List ℕ)) (inputs : Inputs) (end : TraceEnd) : Type 0 where
   pub front : List (List ℕ)
   pub tail : List (List ℕ)
@@ -96,28 +97,28 @@ pub record StopsAfterJob (laws : Laws) (plan : Plan) (boxes : List BoxTold) (lin
 
 -- All lines --
 
--- What the lines of an input that ends behind them come to: with `None` they stop before there is a job, and no node is begun; else they
--- tell a job that has these inputs, whose nodes are begun.
+-- What the lines of an input that ends after them say. With `None` they stop before there is a job, and no node is begun. Else they
+-- tell a job that has these inputs, and its nodes are begun.
 abbrev pub LinesComeTo : Laws → Plan → List BoxTold → List (List ℕ) → Option Inputs → TraceEnd → Type 0
 LinesComeTo laws plan boxes lines None end = StopsEarly plan lines end
 LinesComeTo laws plan boxes lines (Some inputs) end = StopsAfterJob laws plan boxes lines inputs end
 
--- More lines may come: none so far is refused. The last of them may be `end`, where the net is at rest.
+-- More lines may come: none so far is refused. The last of them may be `end`, if the net is at rest.
 pub record MoreMayCome (laws : Laws) (plan : Plan) (boxes : List BoxTold) (lines : List (List ℕ)) (inputs : Inputs) : Type 0 where
   pub front : List (List ℕ)
   pub net : NetView
   pub has_run : LinesLedTo laws plan boxes front inputs net
   pub lines_are : (lines ≡ front) ⊎ ((lines ≡ front ++ codes "end" ∷ []) × IsAtRest laws net)
 
--- More lines may come: where there is no job yet, all lines so far are packet lines; else none of them is refused.
+-- More lines may come. If there is no job yet, all lines so far are packet lines. Else none of them is refused.
 abbrev pub MayComeTo : Laws → Plan → List BoxTold → List (List ℕ) → Option Inputs → Type 0
 MayComeTo laws plan boxes lines None = ArePackets (inputs_of plan) [] lines
 MayComeTo laws plan boxes lines (Some inputs) = MoreMayCome laws plan boxes lines inputs
 
 -- The input --
 
--- What the bytes that came say of the whole input. It ended after them; or one of their lines is refused, whatever bytes may follow, of which
--- there are none where the source has ended; or a read failed after them, and none of their whole lines is refused.
+-- What the bytes that came say of the whole input. Either it ended after them. Or one of their lines is refused, whatever bytes may
+-- follow. No bytes follow if the source has ended. Or a read failed after them, and none of their whole lines is refused.
 abbrev pub CameAs : Laws → TraceEnd → Plan → List BoxTold → Device SourceTold → List ℕ → Option Inputs → Type 0
 CameAs laws Accepted plan boxes input came job = EndCame input.before input.now × LinesComeTo laws plan boxes (all_lines came) job Accepted
 CameAs laws (Refused line cause) plan boxes input came job =

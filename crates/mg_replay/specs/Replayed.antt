@@ -1,4 +1,4 @@
--- What a call that makes a recorded run again came to, by its status.
+-- What a call that makes a recorded run again did, by its status.
 use Rattle.std.specs.Prelude.{◌≡◌, ◌⊎◌, ℕ, Bool, true, false, List, [], Option, None, Some, slice_get}
 use Rattle.mg_edge.specs.Edge.{SourceTold, SinkTold}
 use Rattle.mg_value.specs.Payload.{Plain}
@@ -33,12 +33,13 @@ job_over laws plan inputs = record { plan = plan; inputs = inputs; laws = laws }
 
 -- The answer --
 
--- The answer of a job is that of a run of it where its input ended well, and else that of a frozen job.
+-- The answer of a job is that of a run of it if its input ended well, and else that of a frozen job.
 abbrev pub AnswersJob : Bool → Reporting → Job → RunAnswer → Type 0
 AnswersJob true report job answer = IsAnswerOf (by_lines report) job Ended answer
 AnswersJob false report job answer = IsFrozenAnswer (by_lines report) job answer
 
--- The answer to lines that come to this: that of the job, where they are accepted; and otherwise nothing but the one note.
+-- The answer to lines by how their reading ended: the answer of the job if they are accepted, and otherwise nothing but the one
+-- note.
 abbrev pub AnswersEnd : Laws → TraceEnd → Reporting → Plan → Option Inputs → RunAnswer → Type 0
 AnswersEnd laws Accepted report plan None answer = ⊥
 AnswersEnd laws Accepted report plan (Some inputs) answer = AnswersJob inputs.ended report (job_over laws plan inputs) answer
@@ -54,7 +55,7 @@ pub record AnswersTrace (laws : Laws) (report : Reporting) (plan : Plan) (boxes 
 
 -- What was written --
 
--- What was written of a job: that of a run of it where its input ended well, and else that of a frozen job.
+-- What was written of a job. If its input ended well, this is the answer of a run of it, and else the answer of a frozen job.
 abbrev pub WroteJob : Bool → Reporting → Job → Status → Device SinkTold → Device SinkTold → Type 0
 WroteJob true report job status output notes = Wrote (by_lines report) job Ended status output notes
 WroteJob false report job status output notes = WroteFrozen (by_lines report) job status output notes
@@ -68,9 +69,9 @@ WroteEnd laws (Failed lines) report plan job status output notes = Untouched out
 
 -- The calculators --
 
--- Behind an accepted run each calculator that a node uses had all calls of its node. Behind any other, where the nodes were begun, each was
--- opened, shown some of the first sets, perhaps none, and closed, and keeps what its node has come to by then; where they weren't, none had
--- a call.
+-- After an accepted run each calculator that a node uses had all calls of its node. After any other run, if the nodes were begun,
+-- each calculator was opened, shown some of the first sets, perhaps none, and closed. It keeps what its node has reached by then.
+-- If the nodes weren't begun, no calculator had a call.
 abbrev pub HadEnd : Laws → TraceEnd → Plan → Option Inputs → Device (List BoxTold) → Type 0
 HadEnd laws Accepted plan None boxes = ⊥
 HadEnd laws Accepted plan (Some inputs) boxes = HadCallsOf (job_over laws plan inputs) boxes
@@ -81,7 +82,7 @@ HadEnd laws (Failed lines) plan (Some inputs) boxes = HadCloses (job_over laws p
 
 -- The call --
 
--- A recorded run was read as far as it goes, and what is due then was done.
+-- A recorded run was read as far as it goes. The output, the notes and the calculators are as they have to be then.
 pub record Replayed (laws : Laws) (report : Reporting) (plan : Plan) (status : Status) (devices : RunDevices) (boxes : Device (List BoxTold)) : Type 0 where
   pub job : Option Inputs
   pub end : TraceEnd
@@ -89,12 +90,13 @@ pub record Replayed (laws : Laws) (report : Reporting) (plan : Plan) (status : S
   pub wrote : WroteEnd laws end report plan job status devices.output devices.notes
   pub had : HadEnd laws end plan job boxes
 
--- The lines came to an accepted run, and the output took a front of the text that the streams make.
+-- The lines are those of an accepted run, and the output took a prefix of the text that the streams make.
 abbrev pub TookOutput : Laws → Plan → Inputs → List (StreamPrefix Plain) → List BoxTold → Device SourceTold → Device SinkTold → Type 0
 TookOutput laws plan inputs streams boxes input output = WasRead laws plan boxes input (Some inputs) Accepted × TookFront output (output_text_of plan streams)
 
--- Memory ran out once the lines of a job were read. In one solution of that job the output took nothing, or, where the run is accepted, a
--- front of its text; and each calculator had a front of its calls, and keeps what its node has come to after these.
+-- Memory ran out once the lines of a job were read. The rest is said of one solution of that job. The output took nothing, or a
+-- prefix of the solution's text if the run is accepted. Each calculator had a prefix of its calls, and keeps what its node has
+-- reached after these calls.
 pub record ReplayedShort (laws : Laws) (plan : Plan) (input : Device SourceTold) (output : Device SinkTold) (boxes : Device (List BoxTold)) : Type 0 where
   pub inputs : Inputs
   pub opened : BeginsWithJob plan input inputs
@@ -108,7 +110,7 @@ pub record ReplayedShort (laws : Laws) (plan : Plan) (input : Device SourceTold)
 abbrev pub ReplayedSome : Laws → Plan → RunDevices → Device (List BoxTold) → Type 0
 ReplayedSome laws plan devices boxes = (Untouched devices.output × Untouched boxes) ⊎ ReplayedShort laws plan devices.input devices.output boxes
 
--- A call ended with this status. Where memory ran out the notes say that alone.
+-- A call ended with this status. If memory ran out, the notes say that alone.
 abbrev pub ReplayedBy : Laws → Status → Reporting → Plan → RunDevices → Device (List BoxTold) → Type 0
 ReplayedBy laws OutOfMemory report plan devices boxes = ReplayedSome laws plan devices boxes × TookNotes devices.notes memory_note
 ReplayedBy laws status report plan devices boxes = Replayed laws report plan status devices boxes

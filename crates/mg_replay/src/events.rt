@@ -26,12 +26,13 @@ use std::alloc::AllocError;
 /// Makes the events of a recorded run on a net of its plan, one by one, each Process call through the gate. The lines of the run's job were
 /// read before, and the net was made for that job and begun.
 ///
-/// Returns how the reading ended. The run is accepted where each line is that of an event that moves the net, behind them stands `end`, at
-/// a net at rest, and nothing stands behind that. Otherwise the first line that isn't so is refused, with its number among all lines of
-/// the source; or a read failed.
+/// Returns how the reading ended. The run is accepted if each line is that of an event that moves the net, and the line `end`
+/// follows these lines. The net has to be at rest then, and nothing may stand after `end`. Otherwise the first line that isn't so
+/// is refused, with its number among all lines of the source; or a read failed.
 ///
-/// It leaves the net where the events so far led it; where `end` came too early one event of its own may have been made, which performs no
-/// work. An event that does nothing leaves it as it was. Where memory runs out it is somewhere on its way.
+/// It leaves the net where the events so far led it. If `end` came too early, the function may have made one event of its own. That
+/// event performs no work. An event that does nothing leaves the net as it was. If memory runs out, the net is somewhere on its
+/// way.
 pub fn replay_events<G: Gate, C: NodeCalculator, S: Source>(
     plan: &Plan,
     net: &mut Net<C>,
@@ -88,7 +89,7 @@ fn next_event<G: Gate, C: NodeCalculator, S: Source>(
     }
 }
 
-// Makes the event of the line that was handed out last, or ends the run where that line is `end`.
+// Makes the event of the line that was handed out last, or ends the run if that line is `end`.
 fn take_event<G: Gate, C: NodeCalculator, S: Source>(
     plan: &Plan,
     net: &mut Net<C>,
@@ -137,7 +138,7 @@ fn make_line<G: Gate, C: NodeCalculator>(
     }
 }
 
-// Makes an event, or refuses its line, which has this number, where the event does nothing.
+// Makes an event, or refuses its line if the event does nothing. `number` is the number of the line.
 fn make_event<G: Gate, C: NodeCalculator>(
     net: &mut Net<C>,
     gate: &G,
@@ -160,7 +161,7 @@ fn make_event<G: Gate, C: NodeCalculator>(
     }
 }
 
-// Ends a run at its last line: the net has to be at rest, and nothing may stand behind that line.
+// Ends a run at its last line: the net has to be at rest, and nothing may stand after that line.
 fn end_run<C: NodeCalculator, S: Source>(
     net: &mut Net<C>,
     lines: &mut Lines,
@@ -184,7 +185,7 @@ fn end_run<C: NodeCalculator, S: Source>(
     Ok(behind_end(next, number))
 }
 
-// Returns how the reading ends, by what comes behind the last line of a run, which has this number.
+// Returns how the reading ends, by what comes after the last line of a run, which has this number.
 fn behind_end(next: NextLine, number: u64) -> TraceEnd
     requires { number + 1 < 2 ^ 64 }
     ensures { StopsBehind next number result }

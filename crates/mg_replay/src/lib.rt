@@ -1,4 +1,4 @@
-//! Recorded runs, made again: the lines of a recorded run are read, its events are made on a net one by one, and how that ended is noted.
+//! Makes recorded runs again: reads the lines of a recorded run, makes its events on a net one by one, and notes how that ended.
 //! Answers to the definitions of `specs/Replay.antt`, `specs/Reading.antt` and `specs/Note.antt`.
 #![tactic(auto)]
 

@@ -9,8 +9,8 @@ use mg_edge::Sink;
 use mg_feed::{FeedEnd, put_all};
 use std::alloc::{AllocError, Global};
 
-/// Writes the note of how the reading of a recorded run ended, where it isn't accepted, and returns the status: the one that is due for
-/// that, or `WriteFault` where a write failed. Where memory runs out nothing was written.
+/// Writes the note of how the reading of a recorded run ended, if the run isn't accepted. Returns the status of that end, or
+/// `WriteFault` if a write failed. If memory runs out, nothing was written.
 pub fn note_end<E: Sink>(alloc: Global, end: TraceEnd, notes: &mut E) -> Result<Status, AllocError>
     ensures wrote { IfOk result (λ status. WroteNote end status (device (E.told notes.old) (E.told notes.new))) }
     ensures unnoted { OnErr result (E.told notes.new ≡ E.told notes.old) }

@@ -15,7 +15,7 @@ use mg_edge::Source;
 use mg_feed::{Feed, LineFault, Lines, NextLine};
 use std::alloc::AllocError;
 
-/// What the reading of a job's lines came to.
+/// The result of reading a job's lines.
 #[derive(Clone, Copy)]
 pub enum Opened {
     /// The job's packet lines have ended, and its input ended well (`true`) or is frozen (`false`).
@@ -24,7 +24,8 @@ pub enum Opened {
     Stopped(TraceEnd),
 }
 
-/// Returns how the reading stops behind `lines` lines where no further one is handed out. A line that is too long is refused with `long`.
+/// Returns how the reading stops after `lines` lines, if no further line is handed out. A line that is too long is refused with
+/// `long`.
 pub fn stopped_at(next: NextLine, lines: u64, long: TraceFault) -> Option<TraceEnd>
     requires { lines + 1 < 2 ^ 64 }
     ensures { StopsBy next lines long result }
@@ -45,11 +46,11 @@ pub fn stopped_at(next: NextLine, lines: u64, long: TraceFault) -> Option<TraceE
 
 /// Reads the lines of a recorded run's job: packet lines, which a feed takes, up to the line `ended` or `frozen`.
 ///
-/// Returns which of the two it was, or how the reading stopped: the first line that is neither of them and no good packet line is refused,
-/// with its number; or the lines end there, or a read failed.
+/// Returns which of the two lines it was, or how the reading stopped. The first line that is neither of the two and no good packet
+/// line is refused, with its number. The reading also stops if the lines end or a read fails.
 ///
-/// It leaves the feed with what the packet lines gave, and the lines behind the one that ended them. Where the reading stopped, or memory
-/// ran out, neither is of further use.
+/// It leaves the feed with what the packet lines gave, and `lines` after the line that ended them. If the reading stopped, or
+/// memory ran out, neither of the two is of further use.
 pub fn read_job<S: Source>(
     feed: &mut Feed,
     lines: &mut Lines,
@@ -68,7 +69,7 @@ pub fn read_job<S: Source>(
     }
 }
 
-// Reads the next line, and takes it if it is a packet line. Returns what the reading came to, if it ends there.
+// Reads the next line, and takes it if it is a packet line. Returns the result of the reading, if it ends there.
 fn next_packet<S: Source>(
     feed: &mut Feed,
     lines: &mut Lines,
@@ -90,7 +91,7 @@ fn next_packet<S: Source>(
     }
 }
 
-// Takes the line of this number, if it is a packet line, and returns what the reading came to if it isn't.
+// Takes the line of this number, if it is a packet line, and returns the result of the reading if it isn't.
 fn take_line(feed: &mut Feed, line: &[u8], number: u64) -> Result<Option<Opened>, AllocError>
     requires { length line.now ≤ longest_line }
     ensures { IfOk result (λ opened. TakesLine opened line.now number (seen feed.old) (seen feed.new)) }

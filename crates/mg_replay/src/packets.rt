@@ -10,14 +10,14 @@ use crate::TraceFault;
 use mg_feed::{Feed, LineFault};
 use std::alloc::AllocError;
 
-// Whether a byte is blank in a line.
+// Returns whether a byte is blank in a line.
 fn is_blank(byte: u8) -> bool
     ensures { result ≡ is_blank byte }
 {
     byte == b' ' || byte == b'\t' || byte == b'\r'
 }
 
-// Whether a line opens an object, perhaps behind blanks, or is of blanks alone.
+// Returns whether a line opens an object, perhaps after blanks, or is of blanks alone.
 fn may_say_packet(line: &[u8]) -> bool
     ensures { result ≡ may_say_packet line.now }
 {
@@ -29,7 +29,7 @@ fn may_say_packet(line: &[u8]) -> bool
     true
 }
 
-/// Returns whether the input of a job ended well, where a line says that: true for `ended`, false for `frozen`.
+/// Returns whether the input of a job ended well, if a line says that: true for `ended`, false for `frozen`.
 pub fn end_word(line: &[u8]) -> Option<bool>
     ensures { result ≡ ends_so line.now }
 {
@@ -42,7 +42,7 @@ pub fn end_word(line: &[u8]) -> Option<bool>
     }
 }
 
-/// Takes a line that stands where packet lines do, or tells why it isn't good.
+/// Takes a line that stands where packet lines do, or returns why it isn't good.
 pub fn take_packet(feed: &mut Feed, line: &[u8]) -> Result<Option<TraceFault>, AllocError>
     requires { length line.now ≤ longest_line }
     ensures { IfOk result (λ fault. TakesPackets fault line.now (seen feed.old) (seen feed.new)) }
@@ -59,7 +59,7 @@ pub fn take_packet(feed: &mut Feed, line: &[u8]) -> Result<Option<TraceFault>, A
     }
 }
 
-// Returns why a line isn't good, or an error where memory ran out.
+// Returns why a line isn't good, or an error if memory ran out.
 fn refused(fault: LineFault) -> Result<Option<TraceFault>, AllocError>
     ensures { IfOk result (λ cause. (cause ≡ Some (TraceFault.Line fault)) × (fault ≢ LineFault.OutOfMemory)) }
 {

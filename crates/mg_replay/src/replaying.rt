@@ -1,4 +1,4 @@
-//! Recorded runs: their lines are read, their events are made, and what is due then is written.
+//! Recorded runs: their lines are read, their events are made, and the answer or the one note is written.
 ghost use Rattle.std.specs.Prelude.{◌≡◌, List, map, IfOk, OnOk, OnErr};
 ghost use Rattle.mg_edge.specs.Edge.{SourceTold};
 ghost use Rattle.mg_value.specs.Payload.{Plain};
@@ -42,15 +42,15 @@ use mg_settled::InputSet;
 use std::alloc::{AllocError, Global};
 use std::mem;
 
-/// Makes a recorded run of a plan again, with the calculators that are handed in, and leaves these in their places. It reads the lines of the
-/// run's job, begins the nodes, and makes the events one by one, each Process call through the gate. The run is accepted where its events
-/// are one of its job to rest and nothing stands behind them; only then the output text of the job is written, and the notes, with the
-/// report behind them where it is asked for.
+/// Makes a recorded run of a plan again, with user-supplied calculators, and leaves these in their places. It reads the lines of
+/// the run's job, begins the nodes, and makes the events one by one, each Process call through the gate. The run is accepted if its
+/// events are a run of its job to rest and nothing stands after them. Only then the output text of the job is written, then the
+/// notes, and then the report if it is asked for.
 ///
 /// Otherwise nothing is written but one note: which line is refused and why, or that a read failed. The run breaks off where it is then:
 /// no set is shown any more, and nodes that were opened are closed.
 ///
-/// A write that fails is told by the status, as of a run. Where memory runs out the notes say that alone.
+/// The status reports a write that fails, as the status of a run does. If memory runs out, the notes say that alone.
 pub fn replay_lines<G: Gate, C: NodeCalculator, S: Source, K: Sink, E: Sink>(
     run: &Run<'_>,
     gate: &G,
@@ -102,7 +102,7 @@ fn replay_whole<G: Gate, C: NodeCalculator, S: Source, K: Sink, E: Sink>(
     }
 }
 
-// The inputs that the lines of a job give a graph, and the lines behind them.
+// The inputs that the lines of a job give a graph, and the lines after them.
 #[derive(Drop)]
 struct Opening {
     inputs: Inputs,
@@ -176,7 +176,7 @@ fn replay_net<G: Gate, C: NodeCalculator, S: Source, K: Sink, E: Sink>(
     Ok(status)
 }
 
-// Whether the reading ended so that the run is accepted.
+// Returns whether the reading ended so that the run is accepted.
 fn is_accepted(end: TraceEnd) -> bool
     ensures { result ≡ accepts end }
 {

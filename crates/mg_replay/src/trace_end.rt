@@ -3,9 +3,9 @@ use mg_feed::LineFault;
 /// Why a line of a recorded run is refused.
 #[derive(Clone, Copy, Debug, PartialEq, Eq)]
 pub enum TraceFault {
-    /// The line stands where packet lines do, and isn't a good one.
+    /// The line stands where packet lines do, and isn't a good packet line.
     Line(LineFault),
-    /// The line is that of no event of the plan, or stands where packet lines do and opens no object.
+    /// The line isn't that of an event of the plan, or it stands where packet lines do and opens no object.
     BadEvent,
     /// The line's event does nothing.
     IdleEvent,
@@ -13,14 +13,14 @@ pub enum TraceFault {
     NotAtRest,
     /// The lines end before the last line of a run.
     NoEnd,
-    /// The line stands behind the last line of a run.
+    /// The line stands after the last line of a run.
     AfterEnd,
 }
 
 /// How the reading of a recorded run ended.
 #[derive(Clone, Copy, Debug, PartialEq, Eq)]
 pub enum TraceEnd {
-    /// The events are a run of the job to rest, and nothing stands behind the line `end`.
+    /// The events are a run of the job to rest, and nothing stands after the line `end`.
     Accepted,
     /// The line of this number, counted from 1, is refused for this cause.
     Refused { line: u64, cause: TraceFault },

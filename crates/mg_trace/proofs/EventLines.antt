@@ -1,4 +1,4 @@
--- No line of an event has a line feed within, so the lines of events are found again in their text, and so are the events.
+-- No line of an event has a line feed within. So the lines of events are found again in their text, and so are the events.
 use Rattle.std.proofs.Common.{◌≡◌, ◌<◌, ◌^◌, ◌==◌, ◌||◌, ℕ, Bool, true, false, List, [], ◌∷◌, ◌++◌, All, get_or, codes, decimal, refl, sym, ap, ◌∙◌, arith, append_assoc}
 use Rattle.std.specs.List.{AllByRecursion as Each}
 use Rattle.std.specs.Str.Parse.{AllDigits}

@@ -65,7 +65,7 @@ streams_say graph given ended first (name ∷ names) (s ∷ ss) placed told many
     (streams_say graph next ended more names ss (subst (λ k. ArePlaced graph k names) next_place placed.1) told.1 (omega (arith, many))
     (e ∙ sym (append_assoc first (left_of ended s ∷ []) (replicate (length ss) empty_prefix)))))
 
--- where the input ended well the streams are closed
+-- if the input ended well, the streams are closed
 ended_are : (ended : Bool) (ss : List (StreamPrefix Plain)) → AreTold ended ss → ended_streams ended (map (left_of ended) ss) ≡ ss
 ended_are true [] told = refl
 ended_are false [] told = refl
@@ -120,7 +120,7 @@ pub are_found : (plan : Plan) (sides : List PlainSide) → All (λ side. IsUtf8 
 are_found plan [] all = tt
 are_found plan (side ∷ sides) all = (all 0 side (omega arith), are_found plan sides (λ k d lt. all (suc k) d (omega arith)))
 
--- the places of the side packets that are handed in
+-- the places of the user-supplied side packets
 abbrev pub places : List PlainSide → List ℕ
 places sides = filter_map (λ side. handed_place side.value) sides
 
@@ -152,7 +152,7 @@ sides_are_lines plan given (side ∷ sides) found told =
     AreLines-append (said side.name (side_handed_in given side.value)) (side_lines given sides)
     (said_is_line side.name (side_handed_in given side.value) found.0.0 (handed_is_told given side.value told)) (sides_are_lines plan given sides found.1 told)
 
--- what some side packets hand in, those before them being there
+-- what some side packets give, after those before them came
 abbrev HandAll : Plan → List PlainSide → Type 0
 HandAll plan sides = (given : State) (first slots : List (Option Plain)) → places sides ≡ range_with_len (length first) (length slots)
     → given.sides ≡ first ++ replicate (length slots) None → Hands (inputs_of plan) given (side_lines (first ++ slots) sides) (first ++ slots)

@@ -42,9 +42,9 @@ number_is (negative (pos n)) h = absurd h
 number_is (negative (negsuc n)) h = IsNumber-signed_decimal (negsuc n) (omega arith)
 number_is (float x) h = absurd h
 
--- The members go in one behind the other --
+-- The members go in one after the other --
 
--- members behind others
+-- members after other members
 abbrev behind : Members → Members → Members
 behind no_members ms = ms
 behind (member k d found) ms = member k d (behind found ms)

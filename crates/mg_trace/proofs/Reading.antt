@@ -1,4 +1,4 @@
--- Which event a line is: what stands behind its word is read as the numbers of that event, and of no other.
+-- Which event a line is: what stands after its word is read as the numbers of that event, and of no other event.
 use Rattle.std.proofs.Common.{◌≡◌, ◌<◌, ◌≤◌, ◌^◌, ◌↔◌, ℕ, List, [], ◌∷◌, ◌++◌, length, drop, get_or, codes, decimal, Option, Some, None, IsNone, option_map, refl, sym, ap, subst, ◌∙◌, arith}
 use Rattle.std.proofs.lemmas.Fmt.{decimal_injective}
 use Rattle.std.proofs.lemmas.List.{append_cancel_right}
@@ -20,7 +20,8 @@ IsTextRead plan text r = (event : Event) → (r ≡ Some event) ↔ (IsEventOf p
 at : (k : ℕ) (xs ys : List ℕ) → xs ≡ ys → get_or xs k 0 ≡ get_or ys k 0
 at k xs ys e = ap (λ l. get_or l k 0) e
 
--- What a line is read as, by what the part behind its word is read as: each event with that word that the line is has a part.
+-- What a line is read as, by what the part after its word is read as. If the line is that of an event with this word, the event has
+-- such a part.
 read_as : {X : Type 0} (plan : Plan) (line : List ℕ) (make : X → Event) (r : Option X)
     → ((x : X) → r ≡ Some x → IsEventOf plan (make x) × (line ≡ event_line (make x)))
     → ((event : Event) → IsEventOf plan event → line ≡ event_line event → (x : X) × (r ≡ Some x) × (make x ≡ event))
@@ -112,7 +113,7 @@ read-fed plan line text r is read event = (
   λ p. (read event).1 (p.0, append_cancel_right line (event_line event) (10 ∷ []) (sym is ∙ p.1)),
 )
 
--- nothing is read exactly where the text is that of no event
+-- nothing is read exactly if the text is that of no event
 pub none_is : (plan : Plan) (text : List ℕ) (r : Option Event) → IsTextRead plan text r → IsNone r ↔ ((event : Event) → ¬ (IsEventOf plan event × (text ≡ event_text event)))
 none_is plan text None read = (λ _ event p. (let no : None ≡ Some event = (read event).1 p in absurd (cc)), λ _. refl)
 none_is plan text (Some x) read = (λ no. absurd (cc), λ none. absurd (none x ((read x).0 refl)))

@@ -314,7 +314,7 @@ end_says graph given name first rest s place is prefix told = elim (cases_Bool (
     greater : time_or_none (time_data s.bound) ≡ s.bound → max (bound_after s.packets) (time_or_none (time_data s.bound)) ≡ s.bound
     greater e = rw e (let low = left_below s prefix in omega (arith, low))
 
--- what the lines of a stream give: where the input ended well, its packets alone
+-- what the lines of a stream give: if the input ended well, its packets alone
 abbrev pub left_of : Bool → StreamPrefix Plain → StreamPrefix Plain
 left_of true s = of_packets s.packets
 left_of false s = s

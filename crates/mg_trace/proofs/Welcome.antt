@@ -136,7 +136,7 @@ packets_welcome graph given name first rest s (p ∷ ps) kind place at is follow
       (packet_says graph given name first rest s p place is follow.0.allowed).are follow.1 (λ k d lt. told (suc k) d (omega arith)) (λ k d lt. taken (suc k) d (omega arith)),
 )
 
--- all packets of a prefix may follow, one behind the other
+-- all packets of a prefix may follow, one after the other
 prefix_follows : (s : StreamPrefix Plain) → IsPrefix s → MayAllFollow empty_prefix s.packets
 prefix_follows s is = first_follows s.packets is.allowed is.ascends is.alone
   where

@@ -1,5 +1,5 @@
--- The texts of events. An event is a line: its word, and behind it the edge, or the node and where there is one the number of
--- the work, each in decimal without leading zeros and after a single space.
+-- The texts of events. An event is a line. It has the event's word, and after it the edge, or the node and the number of the work
+-- if there is one. Each number is in decimal without leading zeros, and after a single space.
 use Rattle.std.specs.Prelude.{ℕ, ◌<◌, ◌^◌, List, ◌++◌, codes, decimal, length, ⊤}
 use Rattle.mg_calc.specs.declared.event.Event.{Event}
 use Rattle.mg_calc.specs.declared.event.Event.TheVariants.{Deliver, Advance, Claim, Perform, Commit, Relax}

@@ -28,12 +28,12 @@ bound_data name time = object (member (codes "bound") (time_data time) (member (
 abbrev pub close_data : List ℕ → Data
 close_data name = object (member (codes "close") (boolean true) (member (codes "stream") (string name) no_members))
 
--- the side packet that was handed in, if this is one and it was
+-- the value of a side packet, if the side packet is user-supplied and its value came
 abbrev pub side_handed_in : List (Option Plain) → PlainSideValue → Option Plain
 side_handed_in given (given_at place) = unwrap_or (slice_get given place) None
 side_handed_in given (fixed value) = None
 
--- what is said of a side packet: its value, where it was handed in
+-- what is said of a side packet: its value, if the value came
 abbrev pub said : List ℕ → Option Plain → List Data
 said name None = []
 said name (Some value) = side_data name value ∷ []
@@ -42,15 +42,15 @@ said name (Some value) = side_data name value ∷ []
 abbrev pub side_lines : List (Option Plain) → List PlainSide → List Data
 side_lines given sides = flat_map (λ side. said side.name (side_handed_in given side.value)) sides
 
--- the bound that packets alone leave: what may follow the last of them, and PreStream where there is none
+-- the bound that packets alone leave: what may follow the last of them, and PreStream if there is none
 abbrev pub bound_after : List (Stamped Plain) → ℕ
 bound_after ps = (all_appended empty_prefix ps).bound
 
--- what is said of a stream behind its packets: that it is closed, or its bound, where that isn't the one that they leave
+-- what is said of a stream after its packets: that it is closed, or its bound if the packets leave another bound
 abbrev pub end_lines : List ℕ → StreamPrefix Plain → List Data
 end_lines name s = if s.bound == done then close_data name ∷ [] else (if s.bound == bound_after s.packets then [] else bound_data name s.bound ∷ [])
 
--- what is said of a stream. Where the input ended well all streams are closed, and no line says so
+-- what is said of a stream. If the input ended well, all streams are closed, and no line says so
 abbrev pub stream_lines : Bool → List ℕ → StreamPrefix Plain → List Data
 stream_lines ended name s = map (packet_data name) s.packets ++ (if ended then [] else end_lines name s)
 

@@ -1,12 +1,12 @@
--- JSON values that a text can hold as they are: whole numbers of 64 bits, texts that are UTF-8, and objects whose keys ascend
--- in byte order. What is written of such a value is read as that value.
+-- JSON values that a text can hold as they are. Their numbers are whole and have 64 bits, their texts are UTF-8, and the keys of
+-- their objects ascend in byte order. The text of such a value is read as that value.
 use Rattle.std.specs.Prelude.{◌≡◌, ◌<◌, ◌^◌, ℕ, pos, negsuc, List, IsUtf8, ⊤}
 use Rattle.std.specs.Ordering.{nat_cmp}
 use Rattle.std.specs.declared.cmp.Ordering.TheVariants.{Less}
 use Rattle.std.specs.Cmp.Lexicographic.{slice_cmp}
 use Rattle.serde_json.specs.Data.{Num, unsigned, negative, float, Data, null, boolean, number, string, array, object, Items, no_items, item, Members, no_members, member}
 
--- a whole number from -2^63 to 2^64 - 1, held as a signed one where it is negative
+-- a whole number from -2^63 to 2^64 - 1, held as a signed number if it is negative
 abbrev pub IsReadableNumber : Num → Type 0
 IsReadableNumber (unsigned n) = n < 2 ^ 64
 IsReadableNumber (negative (pos n)) = ⊥

@@ -17,14 +17,14 @@ use Rattle.mg_feed.specs.Value.{takes}
 use Rattle.mg_feed.specs.Accepted.{longest_line, most_lines}
 use Rattle.mg_trace.specs.Job.{input_names, bound_after, job_lines}
 
--- a payload that lines can tell: its JSON value is readable, its whole numbers have 64 signed bits, and it nests no deeper than a packet
--- line's may
+-- a payload that lines can tell. Its JSON value is readable, its whole numbers have 64 signed bits, and it nests no deeper than the
+-- payload of a packet line may
 pub record IsTellable (value : Plain) : Type 0 where
   pub readable : IsReadable (json_of value)
   pub numbers : NumbersFit value
   pub shallow : depth value ≤ 16
 
--- the name of a side packet that is handed in leads to its place
+-- the name of a user-supplied side packet leads to its place
 abbrev pub IsFound : Plan → List ℕ → PlainSideValue → Type 0
 IsFound plan name (given_at place) = place_of (inputs_of plan).sides name ≡ Some place
 IsFound plan name (fixed value) = ⊤
@@ -36,11 +36,11 @@ pub record HasNames (plan : Plan) : Type 0 where
   pub sides : All (λ side. IsUtf8 side.name × IsFound plan side.name side.value) plan.sides
   pub places : given_places plan ≡ numbers (length (given_places plan))
 
--- a bound that lines can tell: that of a closed stream, the one that the packets leave, or one that a line may have
+-- a bound that lines can tell: that of a closed stream, the bound that the packets leave, or a bound that a line may have
 abbrev pub IsToldBound : StreamPrefix Plain → Type 0
 IsToldBound s = (s.bound ≡ done) ⊎ ((s.bound ≡ bound_after s.packets) ⊎ IsAllowed s.bound)
 
--- a stream that lines can tell. Where the input ended well, it is closed
+-- a stream that lines can tell. If the input ended well, it is closed
 pub record IsToldStream (ended : Bool) (s : StreamPrefix Plain) : Type 0 where
   pub prefix : IsPrefix s
   pub bound : IsToldBound s
@@ -58,7 +58,7 @@ pub record IsTold (plan : Plan) (inputs : Inputs) : Type 0 where
 abbrev pub kind_of : Plan → ℕ → Kind
 kind_of plan input = unwrap_or (slice_get (inputs_of plan).kinds input) Any
 
--- the canonical lines of a job are no longer and no more than those of an input may be, and each packet is of its stream's kind
+-- the canonical lines of a job are no longer and no more than those of an input may be. Each packet is of its stream's kind
 pub record FitsInput (plan : Plan) (inputs : Inputs) : Type 0 where
   pub short : All (λ line. length line ≤ longest_line) (job_lines plan inputs)
   pub few : length (job_lines plan inputs) ≤ most_lines

@@ -1,4 +1,4 @@
--- The text of a recorded run: the lines of its job, then a line for each event that it made, in their order, and a last line.
+-- The text of a recorded run: the lines of its job, a line for each event that it made, in order, and a last line.
 use Rattle.std.specs.Prelude.{ℕ, List, ◌++◌, flat_map, codes}
 use Rattle.mg_calc.specs.declared.event.Event.{Event}
 use Rattle.mg_calc.specs.declared.inputs.Inputs.{Inputs}

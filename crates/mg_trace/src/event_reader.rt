@@ -6,8 +6,8 @@ ghost use Rattle.mg_trace.specs.Event.{IsEventOf, event_line, event_text};
 use itoa::Buffer;
 use mg_calc::{Event, Plan};
 
-/// Returns the event of a plan whose line this is, with its line feed. None where the text has none of the six forms, names
-/// an edge or a node that isn't there, or has a number past 2^64 - 1.
+/// Returns the event of a plan whose line this is, with its line feed. Returns None if the text has none of the six forms, or names
+/// an edge or a node that isn't there. Returns None too if it has a number past 2^64 - 1.
 pub fn read_event(text: &[u8], plan: &Plan) -> Option<Event>
     ensures read { (event : AnEvent) → (result ≡ Some event) ↔ (IsEventOf plan.now event × (text.now ≡ event_text event)) }
     ensures none { IsNone result ↔ ((event : AnEvent) → ¬ (IsEventOf plan.now event × (text.now ≡ event_text event))) }
@@ -51,7 +51,7 @@ pub fn event_of(line: &[u8], plan: &Plan) -> Option<Event>
     }
 }
 
-// Returns what stands behind a word, where the line begins with it.
+// Returns what stands after a word, if the line begins with this word.
 fn behind<'a>(line: &'a [u8], word: &[u8]) -> Option<&'a [u8]>
     ensures some { IfSome result (λ rest. line.now ≡ word.now ++ rest.now) }
     ensures none { IsNone result → (rest : List ℕ) → line.now ≢ word.now ++ rest }
@@ -63,7 +63,7 @@ fn behind<'a>(line: &'a [u8], word: &[u8]) -> Option<&'a [u8]>
     }
 }
 
-// Reads a decimal number, where it is below `count`.
+// Reads a decimal number, if it is below `count`.
 fn number_below(text: &[u8], count: u32) -> Option<u32>
     ensures { (n : ℕ) → (result ≡ Some n) ↔ ((n < count) × (text.now ≡ decimal n)) }
 {
@@ -75,7 +75,7 @@ fn number_below(text: &[u8], count: u32) -> Option<u32>
     }
 }
 
-// Reads two decimal numbers with a space between, where the first is below `count`.
+// Reads two decimal numbers with a space between them, if the first is below `count`.
 fn pair_below(text: &[u8], count: u32) -> Option<(u32, u64)>
     ensures { (m n : ℕ) → (result ≡ Some (m, n)) ↔ ((m < count) × (n < 2 ^ 64) × (text.now ≡ decimal m ++ 32 ∷ decimal n)) }
 {

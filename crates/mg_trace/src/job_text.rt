@@ -17,7 +17,7 @@ use serde_json::Value;
 use std::alloc::{AllocError, Global};
 use std::sync::Arc;
 
-/// Returns the packet lines of a job in canonical form, and a last line: `ended`, or `frozen` where its input didn't end well.
+/// Returns the packet lines of a job in canonical form, and a last line: `ended`, or `frozen` if its input didn't end well.
 pub fn write_job(alloc: Global, plan: &Plan, inputs: &Inputs) -> Result<Vec<u8>, AllocError>
     ensures { IfOk result (λ text. text.items ≡ job_text plan.now inputs.now) }
 {
@@ -62,7 +62,7 @@ fn stream_of(plan: &Plan, input: u32) -> Option<&PlanStream>
     plan.streams.get(number)
 }
 
-// Puts the lines of the side packets that were handed in at the end of a text.
+// Puts the lines of the user-supplied side packets at the end of a text.
 fn push_sides(text: &mut Vec<u8>, sides: &SideList, given: &GivenList) -> Result<(), AllocError>
     ensures { OnOk result (text.new.items ≡ text.old.items ++ data_text (side_lines given.now sides.now)) }
 {
@@ -72,7 +72,7 @@ fn push_sides(text: &mut Vec<u8>, sides: &SideList, given: &GivenList) -> Result
     Ok(())
 }
 
-// Puts the line of a side packet at the end of a text, where it was handed in.
+// Puts the line of a side packet at the end of a text, if the side packet is user-supplied and came.
 fn push_side(text: &mut Vec<u8>, side: &Side, given: &GivenList) -> Result<(), AllocError>
     ensures { OnOk result (text.new.items ≡ text.old.items ++ data_text (said side.now.name (side_handed_in given.now side.now.value))) }
 {
@@ -82,7 +82,7 @@ fn push_side(text: &mut Vec<u8>, side: &Side, given: &GivenList) -> Result<(), A
     }
 }
 
-// Puts the line of a side packet at the end of a text, where one is at its place.
+// Puts the line of a side packet at the end of a text, if there is one at its place.
 fn push_given(
     text: &mut Vec<u8>,
     name: &MgText,
@@ -145,7 +145,7 @@ fn push_packets(text: &mut Vec<u8>, name: &MgText, packets: &[Packet]) -> Result
     Ok(())
 }
 
-// Puts what is said of a stream behind its packets at the end of a text.
+// Puts what is said of a stream after its packets at the end of a text.
 fn push_stream_end(text: &mut Vec<u8>, name: &MgText, stream: &Prefix) -> Result<(), AllocError>
     ensures { OnOk result (text.new.items ≡ text.old.items ++ data_text (end_lines name.now stream.now)) }
 {

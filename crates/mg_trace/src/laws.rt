@@ -31,8 +31,8 @@ pub fn canonical_lines_give_the_job()
     ensures sides { (plan : Plan) (inputs : Inputs) → IsTold plan inputs → (given_by (inputs_of plan) (job_lines plan inputs)).sides ≡ inputs.sides }
 {}
 
-/// The canonical lines of a job are good, each after the lines before it, where they are no longer and no more than those of an
-/// input may be.
+/// The canonical lines of a job are good, each after the lines before it. They have to be no longer and no more than those of an
+/// input may be. Each packet has to be of its stream's kind.
 pub fn canonical_lines_are_good()
     ensures { (plan : Plan) (inputs : Inputs) → IsTold plan inputs → FitsInput plan inputs → AllGood (inputs_of plan) [] (job_lines plan inputs) }
 {}

@@ -5,7 +5,7 @@ use Rattle.mg_value.specs.Packet.{Stamped}
 use Rattle.mg_answer.specs.Summary.{addend, total_line}
 use Rattle.mg_answer.specs.declared.total.Total.{Total}
 
--- the totals of an output with one more packet, or as they were where there is none
+-- the totals of an output with one more packet, or as they were if there is none
 abbrev pub with_place : Total → Option (Stamped Plain) → Total
 with_place total None = total
 with_place total (Some p) = record {
@@ -21,8 +21,8 @@ with_set [] set = []
 with_set (total ∷ totals) [] = total ∷ totals
 with_set (total ∷ totals) (place ∷ places) = with_place total place ∷ with_set totals places
 
--- The totals of an output after so many sets are in range: it has no more packets than there were sets, and its sum is no further from 0
--- than 2^63 times their number.
+-- The totals of an output after so many sets are in range. The output has no more packets than there were sets. Its sum is no
+-- further from 0 than 2^63 times the number of sets.
 abbrev pub IsWithin : ℕ → Total → Type 0
 IsWithin sets total =
     (total.packets ≤ sets) × (neg_ℤ (pos (9223372036854775808 * sets)) ≤ℤ total.sum) × (total.sum ≤ℤ pos (9223372036854775808 * sets))

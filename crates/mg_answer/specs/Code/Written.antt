@@ -10,7 +10,8 @@ pub record Pours (first now : SinkTold) (view : TextView) (whole rest : List ℕ
   pub has : HasPut first now view so_far
   pub is : whole ≡ so_far ++ rest
 
--- What a sink took of a text, of which `left` is still to be written: all but that where no write failed, and else a front.
+-- What a sink took of a text. If no write failed, it took all of the text but `left`, and `left` is still to be written. If a write
+-- failed, it took a prefix of the text.
 abbrev pub HandedOn : Bool → SinkTold → SinkTold → List ℕ → List ℕ → Type 0
 HandedOn true before now text left = (sent : List ℕ) × SentAll before now sent × (text ≡ sent ++ left)
 HandedOn false before now text left = SentPart before now text

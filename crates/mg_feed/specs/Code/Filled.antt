@@ -9,7 +9,7 @@ use Rattle.mg_feed.specs.Fed.{Reading}
 use Rattle.mg_feed.specs.Ran.{EndCame, Unfailed, ReadFailed}
 use Rattle.mg_feed.specs.Once.{longest_block}
 
--- The read gave bytes, which stand behind those that were kept.
+-- The read gave bytes, which stand after the bytes that were kept.
 pub record GotBytes (old new : Reading) (before now : SourceTold) : Type 0 where
   pub bytes : List ℕ
   pub some : 1 ≤ length bytes
@@ -21,7 +21,7 @@ pub record GotBytes (old new : Reading) (before now : SourceTold) : Type 0 where
   pub counted : CountsOne before.reads now.reads
   pub unfailed : Unfailed before now
 
--- The source has ended, and the line feed that the last line may lack stands behind it.
+-- The source has ended. If the last line lacks its line feed, a line feed was put after it.
 pub record GotEnd (old new : Reading) (before now : SourceTold) : Type 0 where
   pub kept : new.kept ≡ with_feed old.kept old.kept
   pub ended : new.ended ≡ true

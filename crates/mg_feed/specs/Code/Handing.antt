@@ -20,7 +20,7 @@ LacksLine TooLong read = NoFeed read.kept × (longest_line < length read.kept)
 LacksLine Ended read = (read.ended ≡ true) × NoFeed read.kept
 LacksLine Failed read = (read.ended ≡ false) × NoFeed read.kept
 
--- The search for a line stops, and what was read is as it was.
+-- The search for a line stops, and the kept bytes are as they were.
 pub record SearchStops (next : NextLine) (before now : SourceTold) (old new : Reading) : Type 0 where
   pub same : new ≡ old
   pub gave : Gave before.left now.left []
@@ -28,7 +28,7 @@ pub record SearchStops (next : NextLine) (before now : SourceTold) (old new : Re
   pub reads : EndsReads next before now
   pub lacks : LacksLine next old
 
--- a measure of what was read: how many bytes are kept, and one more where the source has ended
+-- a measure of what was read: how many bytes are kept, and one more if the source has ended
 abbrev pub weight_of : Reading → ℕ
 weight_of read = length read.kept + late read.ended
 
@@ -44,7 +44,7 @@ pub record StopsLater (next : NextLine) (before now : SourceTold) (old new : Rea
   pub moves : MovesOn before between old read
   pub stops : SearchStops next between now read new
 
--- what a search came to: the line feed is at this place of what is left in the block, or the search stopped
+-- the result of a search: the line feed is at this place of what is left in the block, or the search stopped
 abbrev pub Finds : Found → List ℕ → SourceTold → SourceTold → Reading → Reading → Type 0
 Finds (At end) left before now old new = MovesOn before now old new × EndsLine left end
 Finds (Stop next) left before now old new = StopsLater next before now old new

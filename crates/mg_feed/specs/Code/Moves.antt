@@ -39,7 +39,7 @@ pub record NextLine (fault : LineFault) (old : Fed) : Type 0 where
   pub none : NoFeed line
   pub bad : line_refusal (before_seen old.view) line ≡ Some fault
 
--- What the next line came to. Where it isn't good the feed stays.
+-- The result of the next line. If the line isn't taken, the feed stays as it was.
 abbrev pub TookNext : Result Bool LineFault → Fed → Fed → Type 0
 TookNext (Ok named) old new = TookLine named old new
 TookNext (Err fault) old new = (new ≡ old) × (fault ≢ no_memory → NextLine fault old)
@@ -51,7 +51,7 @@ abbrev pub Grows : Fed → Fed → List ℕ → List (List ℕ) → Type 0
 Grows old new came taken = (first : List (List ℕ)) (past : List ℕ) (lines : List (List ℕ)) (gone : List (List (Stamped Plain)))
     → Came first past lines gone old → Came first (past ++ came) (lines ++ taken) gone new
 
--- what a feed and its source did so far, no read having failed
+-- what a feed and its source did so far; no read failed
 pub record Moved (before now : SourceTold) (old new : Fed) (came : List ℕ) (taken : List (List ℕ)) : Type 0 where
   pub gave : Gave before.left now.left came
   pub grows : Grows old new came taken
@@ -88,13 +88,13 @@ pub record Stopped (end : FeedEnd) (before now : SourceTold) (old new : Fed) : T
 abbrev pub StopsBy : LineFault → ℕ → FeedEnd → Type 0
 StopsBy fault lines end = ((fault ≡ no_memory) × (end ≡ OutOfMemory)) ⊎ ((fault ≢ no_memory) × (end ≡ Refused (lines + 1) fault))
 
--- what a step that takes a line came to
+-- the result of a step that takes a line
 abbrev pub SteppedLine : Step → Fed → Fed → Type 0
 SteppedLine (Line named) old new = TookLine named old new
 SteppedLine Read old new = ⊥
 SteppedLine (Stop end) old new = (source : SourceTold) → Stopped end source source old new
 
--- what any step of the reading came to
+-- the result of any step of the reading
 abbrev pub Stepped : Step → SourceTold → SourceTold → Fed → Fed → Type 0
 Stepped (Line named) before now old new = (now ≡ before) × TookLine named old new
 Stepped Read before now old new = (came : List ℕ) × Moved before now old new came [] × (weight old < weight new)

@@ -22,11 +22,11 @@ scalar_of (boolean b) = Some (json.boolean b)
 scalar_of null = Some json.null
 scalar_of bad = None
 
--- the value that these tokens begin with, as it lies in the line's object, and the tokens behind it
+-- the value that these tokens begin with, as it lies in the line's object, and the tokens after it
 abbrev pub value_at : List Token → Option (json.Data × List Token)
 value_at ts = converted of_json (value 126 ts)
 
--- the tokens of a packet line of the usual form up to its value: a stream's name and a timestamp, and these tokens behind them
+-- the tokens of a packet line of the usual form up to its value: a stream's name and a timestamp, and these tokens after them
 abbrev pub packet_line_tokens : List ℕ → List ℕ → List Token → List Token
 packet_line_tokens name time rest =
     begin_object ∷ key (codes "stream") ∷ string name ∷ key (codes "ts") ∷ number time ∷ key (codes "value") ∷ rest

@@ -44,7 +44,8 @@ pub record StandsForPlan (laws : Laws) (plan : Plan) (net : NetView) : Type 0 wh
   pub plan_is : job.job.plan ≡ plan
   pub stands : StandsFor job net
 
--- each calculator that a node uses comes back with first calls of that node in a solution of a job, and closed where it was opened
+-- each calculator that a node uses comes back with first calls of that node in a solution of a job. It comes back closed if it was
+-- opened
 pub record ClosedAllOf {laws : Laws} (job : LoggedJob laws) (net : NetView) : Type 0 where
   pub streams : List (StreamPrefix Plain)
   pub solution : IsSolution job.job streams
@@ -65,7 +66,7 @@ pub record NetReplayed (laws : Laws) (report : Reporting) (plan : Plan) (inputs 
   pub had : HadBy end (job_of laws plan inputs boxes) net
   pub stood : StoodFor (job_of laws plan inputs boxes) net
 
--- What the output took where memory ran out: nothing, or a front of the text of a run that is accepted.
+-- What the output took if memory ran out: nothing, or a prefix of the text of a run that is accepted.
 abbrev pub TookOf : Laws → Plan → Inputs → List BoxTold → RunDevices → Type 0
 TookOf laws plan inputs boxes devices =
     Untouched devices.output ⊎ (WasRead laws plan boxes devices.input (Some inputs) Accepted

@@ -35,28 +35,28 @@ use Rattle.mg_replay.specs.declared.opening.Opened.{Opened}
 use Rattle.mg_replay.specs.declared.opening.Opened.TheVariants.{Job, Stopped}
 use Rattle.mg_replay.specs.Reading.{IsReading, IsOpening, Opens, IsMaking}
 
--- Bytes came, and whatever comes behind them, the lines that were handed out before are the first of all lines.
+-- Bytes came. Whatever bytes come after them, the lines that were handed out before are the first of all lines.
 pub record ComesBehind (before now : SourceTold) (old new : Reading) : Type 0 where
   pub came : List ℕ
   pub gave : Gave before.left now.left came
   pub met : MetEnd old.ended new.ended before now
   pub in_front : (past : List ℕ) (lines : List (List ℕ)) → HasHanded past lines old → (more : List ℕ) → (new.ended ≡ true → more ≡ []) → (rest : List (List ℕ)) × (all_lines ((past ++ came) ++ more) ≡ lines ++ rest)
 
--- how the reading stops behind this number of lines, where the next one is too long, the lines end or a read fails; else it goes on
+-- how the reading stops after this number of lines, if the next line is too long, the lines end or a read fails. Else it goes on
 abbrev pub StopsBy : NextLine → ℕ → TraceFault → Option TraceEnd → Type 0
 StopsBy Line lines long stop = stop ≡ None
 StopsBy TooLong lines long stop = stop ≡ Some (Refused (lines + 1) long)
 StopsBy Ended lines long stop = stop ≡ Some (Refused (lines + 1) NoEnd)
 StopsBy Failed lines long stop = stop ≡ Some (Failed_at lines)
 
--- what a line that doesn't end the packet lines came to
+-- the result of a line that doesn't end the packet lines
 abbrev pub TakesOther : Option Opened → List ℕ → ℕ → View → View → Type 0
 TakesOther None line number old new = TakesPackets None line old new
 TakesOther (Some (Job ended)) line number old new = ⊥
 TakesOther (Some (Stopped end)) line number old new = (cause : TraceFault) × (end ≡ Refused number cause) × TakesPackets (Some cause) line old new
 
--- what a line that was handed out came to: it was taken as a packet line; or it ends the packet lines, and the feed is as it was; or
--- it isn't good, and the reading stops
+-- the result of a line that was handed out. `None`: it was taken as a packet line. `Job`: it ends the packet lines, and the feed is
+-- as it was. `Stopped`: it isn't good, and the reading stops
 abbrev pub TakesLine : Option Opened → List ℕ → ℕ → View → View → Type 0
 TakesLine None line number old new = (is_end_word line ≡ false) × TakesPackets None line old new
 TakesLine (Some (Job ended)) line number old new = (line ≡ end_word ended) × (new ≡ old)
@@ -67,43 +67,44 @@ abbrev pub OpensOn : Laws → Option Opened → Plan → SourceTold → SourceTo
 OpensOn laws None plan first now read number old view = IsOpening plan first now read number view × (view.lines ≡ old.lines + 1) × (view.lines ≤ most_lines)
 OpensOn laws (Some opened) plan first now read number old view = Opens laws opened plan first now read number view
 
--- The lines of a job were read, which has these inputs.
+-- The lines of a job that has these inputs were read.
 pub record HasReadInputs (plan : Plan) (inputs : Inputs) (first now : SourceTold) (read : Reading) (number : ℕ) : Type 0 where
   pub given : List (List ℕ)
   pub reading : IsReading first now read number (given ++ end_word inputs.ended ∷ [])
   pub packets : ArePackets (inputs_of plan) [] given
   pub inputs_are : inputs ≡ inputs_with plan given inputs.ended
 
--- one line more behind a job was read: its event was made, or the reading ended
+-- one line more after a job was read: its event was made, or the reading ended
 abbrev pub MakesOn : Laws → Option TraceEnd → Plan → List BoxTold → Inputs → SourceTold → SourceTold → Reading → ℕ → NetView → Type 0
 MakesOn laws None plan boxes inputs first now read number net = IsMaking laws plan boxes inputs first now read number net
 MakesOn laws (Some end) plan boxes inputs first now read number net = WasRead laws plan boxes (device first now) (Some inputs) end
 
--- what the next line of a run, which has this number, came to: its event was made, or it is refused
+-- the result of the next line of a run, which has this number: its event was made, or the line is refused
 abbrev pub MakesLine : Laws → Option TraceEnd → Plan → List ℕ → ℕ → NetView → NetView → Type 0
 MakesLine laws None plan line number before now = (event : Event) × IsEventOf plan event × (line ≡ event_line event) × Acts laws event Did before now
 MakesLine laws (Some end) plan line number before now =
     (((event : Event) → ¬ (IsEventOf plan event × (line ≡ event_line event))) × (end ≡ Refused number BadEvent)) ⊎ IsIdleEvent laws plan before number line end
 
--- how the reading ends behind the last line of a run, by what comes next
+-- how the reading ends after the last line of a run, by what comes next
 abbrev pub StopsBehind : NextLine → ℕ → TraceEnd → Type 0
 StopsBehind Line number end = end ≡ Refused (number + 1) AfterEnd
 StopsBehind TooLong number end = end ≡ Refused (number + 1) AfterEnd
 StopsBehind Ended number end = end ≡ Accepted
 StopsBehind Failed number end = end ≡ Failed_at number
 
--- how the reading ends at the last line of a run, which has this number: the net isn't at rest; or it is, and what comes next decides
+-- how the reading ends at the last line of a run, which has this number. If the net isn't at rest, the line is refused. If the net
+-- is at rest, what comes next decides
 abbrev pub EndsRun : Laws → TraceEnd → SourceTold → SourceTold → Reading → Reading → ℕ → NetView → NetView → Type 0
 EndsRun laws end before now old new number net net_now =
     (MayGoOn laws net × (end ≡ Refused number NotAtRest) × (now ≡ before) × (new ≡ old))
     ⊎ (IsAtRest laws net × (net_now ≡ net) × ((next : NextLine) × (line : List ℕ) × NextComes next line before now old new × StopsBehind next number end))
 
--- what making an event comes to: it did something; or it did nothing, and its line is refused
+-- the result of making an event: it did something; or it did nothing, and its line is refused
 abbrev pub MakesEvent : Laws → Option TraceEnd → Event → ℕ → NetView → NetView → Type 0
 MakesEvent laws None event number before now = Acts laws event Did before now
 MakesEvent laws (Some end) event number before now = Acts laws event Idle before before × (end ≡ Refused number IdleEvent)
 
--- what a line behind those of the job comes to: it ends the run; or its event is made, or it is refused
+-- the result of a line after those of the job: it ends the run; or its event is made, or the line is refused
 abbrev pub TakesEvent : Laws → Option TraceEnd → Plan → List ℕ → ℕ → SourceTold → SourceTold → Reading → Reading → ℕ → NetView → NetView → Type 0
 TakesEvent laws stop plan line number before now old new count net net_now =
     ((line ≡ codes "end") × ((end : TraceEnd) × (stop ≡ Some end) × EndsRun laws end before now old new number net net_now))

@@ -11,7 +11,7 @@ decreases-push_payload l = 2 * depth (plain l.payload.now)
 abbrev pub decreases-push_items : goal.decreases-push_items
 decreases-push_items l = 2 * items_depth (items_of (map plain l.payloads.now)) + 1
 
--- with the items that are left the text comes to the same
+-- the text so far, with the text of the items that are left, is the whole text
 abbrev pub invariant-push_items-loop-payload : goal.invariant-push_items-loop-payload
 invariant-push_items-loop-payload l =
     (l.text.items ++ left_text l.later (drop l.payload-index l.payloads) ≡ l.fn.text.items ++ 91 ∷ left_text false l.payloads) × With l.fn.text.items l.text.items

@@ -21,7 +21,7 @@ decreases-items_by l = 4 * l.depth + 3
 abbrev pub decreases-members_by : goal.decreases-members_by
 decreases-members_by l = 4 * l.depth + 3
 
--- with the items so far what is left comes to the same
+-- the items so far, with the items read from what is left, are the items read from all
 abbrev pub invariant-items_by-items : goal.invariant-items_by-items
 invariant-items_by-items l =
     (n : ℕ) × (length l.reader ≤ n)

@@ -1,4 +1,4 @@
--- With the bytes that are left it comes to the same.
+-- The answer for the bytes that are left is the answer for the line.
 use Rattle.std.proofs.Common.{◌≡◌, drop}
 use Rattle.mg_replay.specs.Opening.{may_say_packet}
 use Rattle.mg_replay.proofs.packets.may_say_packet.Given as goal

@@ -5,7 +5,7 @@ use Rattle.mg_feed.specs.Code.Moves.{Moved, weight, heaviest}
 use Rattle.mg_feed.proofs.Moving.{IsShort}
 use Rattle.mg_feed.proofs.feed.Feed.read_batch.Given as goal
 
--- bytes came, and lines were taken, of which so many name a stream
+-- bytes came, and lines were taken; so many of these lines name a stream
 abbrev pub invariant-lines : goal.invariant-lines
 invariant-lines g l =
     record {
