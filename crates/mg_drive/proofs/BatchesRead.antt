@@ -71,7 +71,7 @@ reads_on (End end) plan first before now mid fed graph past came lines taken som
 
 -- a batch has lines if more may come after it
 cut_some : (early : Bool) (end : BatchEnd) (most : ℕ) (taken : List (List ℕ)) → 0 < most → CutsAt early end most taken → IsMore end → 0 < naming taken
-cut_some true More most taken some cut more = cut some
+cut_some true More most taken some cut more = cut.1 some
 cut_some false More most taken some cut more = subst (λ (n : ℕ). 0 < n) (sym cut.0) some
 cut_some early (End end) most taken some cut more = absurd more
 

@@ -28,8 +28,8 @@ use std::thread::Threads;
 /// The most lines that name a stream in one batch. If batches don't end early, each but the last has so many.
 pub const BATCH: u32 = 4096;
 
-/// The lines of a feed, in batches that end early. A batch ends also when the source has nothing more for now, so that the results of its
-/// lines are written then. How lines are split into batches changes no answer of a graph without free nodes.
+/// The lines of a feed, in batches that end early. A batch ends also when the last read gave fewer bytes than were asked for, so that the
+/// results of its lines are written then. How lines are split into batches changes no answer of a graph without free nodes.
 pub struct Promptly {
     pub feed: Feed,
 }

@@ -200,11 +200,11 @@ short-push most taken line few = inr (rw (but_last-push taken line) few)
 
 -- a full batch is cut as it may be
 full-cut : (early : Bool) (most : ℕ) (taken : List (List ℕ)) → naming taken ≡ most → IsShort most taken → CutsAt early More most taken
-full-cut true most taken full short = λ some. subst (λ (n : ℕ). 0 < n) (sym full) some
+full-cut true most taken full short = (omega (arith, full), λ some. subst (λ (n : ℕ). 0 < n) (sym full) some)
 full-cut false most taken full short = (full, short)
 
 end-cut : (early : Bool) (end : FeedEnd) (most : ℕ) (taken : List (List ℕ)) → naming taken < most → CutsAt early (End end) most taken
-end-cut true end most taken few = tt
+end-cut true end most taken few = few
 end-cut false end most taken few = few
 
 batch-cut : (early : Bool) (most : ℕ) (first now : SourceTold) (a b : Fed) (came : List ℕ) (taken : List (List ℕ)) → Moved first now a b came taken → CutsAt early More most taken
@@ -223,10 +223,10 @@ pub batch-more : (early : Bool) (most : ℕ) (first now : SourceTold) (a b : Fed
 batch-more early most first now a b came taken m full short = batch-cut early most first now a b came taken m (full-cut early most taken full short)
 
 -- a batch that ends early has a line that names a stream
-pub batch-early : (early : Bool) (most : ℕ) (first now : SourceTold) (a b : Fed) (came : List ℕ) (taken : List (List ℕ)) → Moved first now a b came taken → early ≡ true → 0 < naming taken
+pub batch-early : (early : Bool) (most : ℕ) (first now : SourceTold) (a b : Fed) (came : List ℕ) (taken : List (List ℕ)) → Moved first now a b came taken → early ≡ true → naming taken ≤ most → 0 < naming taken
     → HasReadBatch early most More first now a b
-batch-early early most first now a b came taken m is some =
-    batch-cut early most first now a b came taken m (subst (λ (e : Bool). CutsAt e More most taken) (sym is) (λ _. some))
+batch-early early most first now a b came taken m is few some =
+    batch-cut early most first now a b came taken m (subst (λ (e : Bool). CutsAt e More most taken) (sym is) (few, λ _. some))
 
 pub batch-stop : (early : Bool) (most : ℕ) (end : FeedEnd) (first before now : SourceTold) (a b c : Fed) (came : List ℕ) (taken : List (List ℕ))
     → Moved first before a b came taken → Stopped end before now b c → naming taken < most → HasReadBatch early most (End end) first now a c

@@ -1,5 +1,5 @@
 -- What a call that reads lines from a source leaves, by how it ended.
-use Rattle.std.specs.Prelude.{◌≡◌, ◌≢◌, ◌<◌, ◌⊎◌, ◌+◌, ⊤, ℕ, List, [], ◌++◌, length, count_by, Bool, true, false, None, Some}
+use Rattle.std.specs.Prelude.{◌≡◌, ◌≢◌, ◌<◌, ◌≤◌, ◌⊎◌, ◌+◌, ⊤, ℕ, List, [], ◌++◌, length, count_by, Bool, true, false, None, Some}
 use Rattle.mg_value.specs.Payload.{Plain}
 use Rattle.mg_value.specs.Packet.{Stamped}
 use Rattle.mg_edge.specs.Edge.{SourceTold}
@@ -63,11 +63,12 @@ abbrev pub Fills : BatchEnd → ℕ → List (List ℕ) → Type 0
 Fills More most taken = (naming taken ≡ most) × ((taken ≡ []) ⊎ (naming (but_last taken) < most))
 Fills (End end) most taken = naming taken < most
 
--- How a batch is cut: it has as many lines as it may. If it may end early, a line that names a stream is enough.
+-- How a batch is cut: it has as many lines that name a stream as it may. If it may end early, one such line is enough. It has no more of
+-- them than it may in any case.
 abbrev pub CutsAt : Bool → BatchEnd → ℕ → List (List ℕ) → Type 0
 CutsAt false end most taken = Fills end most taken
-CutsAt true More most taken = 0 < most → 0 < naming taken
-CutsAt true (End end) most taken = ⊤
+CutsAt true More most taken = (naming taken ≤ most) × (0 < most → 0 < naming taken)
+CutsAt true (End end) most taken = naming taken < most
 
 -- what the end of a batch says of all bytes that came, and of the lines that were accepted of these bytes
 abbrev pub BatchEndsAs : BatchEnd → GraphInputs → List (List ℕ) → List ℕ → List (List ℕ) → Bool → Type 0

@@ -58,7 +58,7 @@ returns-clause-reads g c =
 pub returns-then-is_drained-clause-read : goal.returns-then-is_drained-clause-read
 returns-then-is_drained-clause-read g c =
     let (came, taken, moved, count, short) = c.lines.invariant.moved in
-    batch-early c.args.early c.args.most _ _ _ _ came taken moved c.if-early.true (omega (arith, count, c.if-naming-gt0.true))
+    batch-early c.args.early c.args.most _ _ _ _ came taken moved c.if-early.true (omega (arith, count, c.lines.invariant.within)) (omega (arith, count, c.if-naming-gt0.true))
 
 pub returns-then-is_drained-clause-reads : goal.returns-then-is_drained-clause-reads
 returns-then-is_drained-clause-reads g c =
