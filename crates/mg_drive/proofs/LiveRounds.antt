@@ -353,11 +353,5 @@ same_frees_read net frees now takers same read = subst (λ (fs : List FreeNode).
 pub same_frees_taken : (frees now : List FreeNode) (takens : List Taken) (takers : List Taker) → now ≡ frees → HaveTaken frees takens takers → HaveTaken now takens takers
 same_frees_taken frees now takens takers same h = subst (λ (fs : List FreeNode). HaveTaken fs takens takers) (sym same) h
 
--- what was handed on, by the nodes as they were
-pub pieces_as : (pieces : List (StreamPrefix Plain)) (handed was : List ℕ) (frees now : List FreeNode) (takens : List Taken) → pieces ≡ pieces_behind handed (outputs_so_far now takens) → handed ≡ was → now ≡ frees
-    → pieces ≡ pieces_behind was (outputs_so_far frees takens)
-pieces_as pieces handed was frees now takens is one two =
-    is ∙ ap (λ (ns : List ℕ). pieces_behind ns (outputs_so_far now takens)) one ∙ ap (λ (fs : List FreeNode). pieces_behind was (outputs_so_far fs takens)) two
-
 pub handed_as : (handed : List ℕ) (frees now : List FreeNode) (takens : List Taken) → handed ≡ map (λ (s : StreamPrefix Plain). length s.packets) (outputs_so_far now takens) → now ≡ frees → handed ≡ map (λ (s : StreamPrefix Plain). length s.packets) (outputs_so_far frees takens)
 handed_as handed frees now takens is same = is ∙ ap (λ (fs : List FreeNode). map (λ (s : StreamPrefix Plain). length s.packets) (outputs_so_far fs takens)) same

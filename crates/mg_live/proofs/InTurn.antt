@@ -1,5 +1,5 @@
 -- Free nodes have their turns, one after the other.
-use Rattle.std.proofs.Common.{◌≡◌, ℕ, zero, suc, ◌+◌, ◌<◌, ◌≤◌, Bool, true, false, ◌||◌, List, [], ◌∷◌, ◌++◌, map, length, length-append, get_or, set, Some, slice_get, inl, inr, refl, sym, ap, ap₂, ◌∙◌, subst, arith, replicate}
+use Rattle.std.proofs.Common.{◌≡◌, ℕ, zero, suc, ◌+◌, ◌<◌, ◌≤◌, false, List, [], ◌∷◌, ◌++◌, map, length, length-append, get_or, set, Some, slice_get, inl, inr, refl, sym, ap, ap₂, ◌∙◌, subst, arith, replicate}
 use Rattle.std.proofs.lemmas.Bool.{cases_eq}
 use Rattle.std.proofs.lemmas.List.{map-append}
 use Rattle.std.proofs.lemmas.Option.{same_Some, none-some, slice_get_within, slice_get-get_or}
@@ -8,17 +8,12 @@ use Rattle.mg_settled.specs.Prefix.{StreamPrefix}
 use Rattle.mg_free.specs.declared.node.FreeNode.{FreeNode}
 use Rattle.mg_free.specs.Rounds.{Taken, turn}
 use Rattle.mg_live.specs.declared.taker.Taker.{Taker}
-use Rattle.mg_live.specs.Takes.{told, HasTaken, HaveTaken, MayTurnIn, MayRound, Did, turns_of, nothing_taken, handed_of}
+use Rattle.mg_live.specs.Takes.{told, HasTaken, HaveTaken, MayTurnIn, MayRound, turns_of, nothing_taken, handed_of}
 
 -- the first nodes, a number of them, have had their turns
 abbrev pub HadTurns : List (StreamPrefix Plain) → List FreeNode → List Taken → ℕ → List Taker → Type 0
 HadTurns streams frees takens upto takers = (place : ℕ) (free : FreeNode) (taken : Taken) (taker : Taker) → place < upto → slice_get frees place ≡ Some free → slice_get takens place ≡ Some taken → slice_get takers place ≡ Some taker
     → HasTaken free (turn streams free taken) taker
-
--- one of them did something, or none did
-abbrev pub DidSome : List (StreamPrefix Plain) → List FreeNode → List Taken → ℕ → Bool → Type 0
-DidSome streams frees takens upto true = (place : ℕ) × (free : FreeNode) × (taken : Taken) × (slice_get frees place ≡ Some free) × (slice_get takens place ≡ Some taken) × ¬ (turn streams free taken ≡ taken)
-DidSome streams frees takens upto false = (place : ℕ) (free : FreeNode) (taken : Taken) → place < upto → slice_get frees place ≡ Some free → slice_get takens place ≡ Some taken → turn streams free taken ≡ taken
 
 -- One more.
 
@@ -50,18 +45,6 @@ one_turn streams frees takens takers place free taken now at at_taken has within
     put_there [] i x y within e = absurd (omega (arith, within))
     put_there (z ∷ xs) zero x y within e = sym (same_Some x y e)
     put_there (z ∷ xs) (suc i) x y within e = put_there xs i x y (omega (arith, within)) e
-
-pub one_did : (streams : List (StreamPrefix Plain)) (frees : List FreeNode) (takens : List Taken) (place : ℕ) (free : FreeNode) (taken : Taken) (some did : Bool) → slice_get frees place ≡ Some free → slice_get takens place ≡ Some taken
-    → Did did taken (turn streams free taken) → DidSome streams frees takens place some → DidSome streams frees takens (place + 1) (some || did)
-one_did streams frees takens place free taken true did at at_taken d s = s
-one_did streams frees takens place free taken false true at at_taken d s = (place, free, taken, at, at_taken, d)
-one_did streams frees takens place free taken false false at at_taken d s = λ k f t less f_at t_at. elim (cases_eq k place) [
-  | inl here ↦
-      (let free_is : f ≡ free = same_Some f free (sym f_at ∙ ap (slice_get frees) here ∙ at) in
-      let taken_is : t ≡ taken = same_Some t taken (sym t_at ∙ ap (slice_get takens) here ∙ at_taken) in
-      subst (λ (x : FreeNode). turn streams x t ≡ t) (sym free_is) (subst (λ (x : Taken). turn streams free x ≡ x) (sym taken_is) d))
-  | inr other ↦ s k f t (omega (arith, less, other)) f_at t_at
-]
 
 -- All of them.
 
@@ -108,12 +91,6 @@ differs streams (f ∷ frees) (t ∷ takens) zero free taken at at_taken same =
 differs streams (f ∷ frees) (t ∷ takens) (suc i) free taken at at_taken same =
     differs streams frees takens i free taken at at_taken (ap (λ (l : List Taken). (elim l [ [] ↦ [] | x ∷ xs ↦ xs ])) same)
 
-pub did_all : (streams : List (StreamPrefix Plain)) (frees : List FreeNode) (takens : List Taken) (count : ℕ) (some : Bool) → length takens ≡ length frees → length frees ≤ count → DidSome streams frees takens count some
-    → Did some takens (turns_of streams frees takens)
-did_all streams frees takens count true long all s = λ same. s.5 (differs streams frees takens s.0 s.1 s.2 s.3 s.4 same)
-did_all streams frees takens count false long all s =
-    same_all streams frees takens long (λ place free taken at at_taken. s place free taken (let within = slice_get_within frees place free at in omega (arith, within, all)) at at_taken)
-
 -- the node of a place has its turn in what all may do theirs in
 pub taken_there : (frees : List FreeNode) (takens : List Taken) (takers : List Taker) (place : ℕ) → HaveTaken frees takens takers → place < length frees → (taken : Taken) × (slice_get takens place ≡ Some taken)
 taken_there frees takens takers place h within = get_there takens place (let long = h.takens_long in omega (arith, within, long))
@@ -157,14 +134,6 @@ pub had_then : (streams : List (StreamPrefix Plain)) (frees : List FreeNode) (ta
 had_then streams frees takens before takers place free taker now h at at_taker same turned had =
     let taken = taken_there frees takens before place h (slice_get_within frees place free at) in
     one_turn streams frees takens takers place free taken.0 now at taken.1 (turned taken.0 (h.each place free taken.0 taker at taken.1 (sym same ∙ at_taker))) (slice_get_within takers place taker at_taker) had
-
-pub did_then : (streams : List (StreamPrefix Plain)) (frees : List FreeNode) (takens : List Taken) (before takers : List Taker) (place : ℕ) (free : FreeNode) (taker : Taker) (some did : Bool) → HaveTaken frees takens before
-    → slice_get frees place ≡ Some free → slice_get takers place ≡ Some taker → slice_get takers place ≡ slice_get before place
-    → ((taken : Taken) → HasTaken free taken taker → Did did taken (turn streams free taken))
-    → DidSome streams frees takens place some → DidSome streams frees takens (place + 1) (some || did)
-did_then streams frees takens before takers place free taker some did h at at_taker same dids s =
-    let taken = taken_there frees takens before place h (slice_get_within frees place free at) in
-    one_did streams frees takens place free taken.0 some did at taken.1 (dids taken.0 (h.each place free taken.0 taker at taken.1 (sym same ∙ at_taker))) s
 
 pub rest_then : (before takers : List Taker) (place : ℕ) (now : Taker) → ((k : ℕ) → place ≤ k → slice_get takers k ≡ slice_get before k) → (k : ℕ) → place + 1 ≤ k → slice_get (set takers place now) k ≡ slice_get before k
 rest_then before takers place now rest k le = get_other takers place k now (λ same. omega (arith, same, le)) ∙ rest k (omega (arith, le))
