@@ -63,6 +63,11 @@ impl Board {
         }
     }
 
+    /// Whether some worker has nothing to do.
+    pub(crate) fn has_idle(&self) -> bool {
+        self.idle.load(SeqCst) > 0
+    }
+
     /// Notes that a worker has nothing to do. Returns whether the worker is to look over all nodes. It is if all workers that
     /// have begun are idle, and no other worker is looking or has looked in vain.
     pub(crate) fn rest(&self) -> bool {

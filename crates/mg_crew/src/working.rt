@@ -17,27 +17,61 @@ use mg_node::{Claimed, Delivered, Work};
 use mg_turns::{NetSeat, SharedNet, Tried};
 use std::sync::Wait;
 
-// How many works of a node are done under one pair of turns, at most.
+// How many works of a node are done in one visit, at most.
 const WORKS: u32 = 64;
+
+// How many works of a node whose calls may take long are done before the worker looks whether another one is idle.
+const STEP: u32 = 2;
 
 // How many packets are brought along an edge under one pair of turns, at most. `try_append` has this number.
 const PACKETS: u32 = 256;
 
-// Does works of a node under one pair of turns, and returns what came of it.
-fn run<C: NodeCalculator, G: Gate>(shop: &Shop<'_, C, G>, seat: &mut NetSeat<C>, node: u32) -> Came
+// Does at most `most` works of a node under one pair of turns, and returns what came of it.
+fn run<C: NodeCalculator, G: Gate>(
+    shop: &Shop<'_, C, G>,
+    seat: &mut NetSeat<C>,
+    node: u32,
+    most: u32,
+) -> Came
     requires shared { IsShared C.laws shop.now.net.now seat.old }
     requires node { node < nodes_in (key_of shop.now.net.now) }
     ensures { StaysShared C.laws shop.now.net.now seat.old seat.new }
 {
-    let tried = shop.net.try_run(shop.alloc, seat, node, WORKS, shop.gate);
+    let tried = shop.net.try_run(shop.alloc, seat, node, most, shop.gate);
     match tried {
         Tried::Done(done) => Came {
             did: done > 0,
-            more: done >= WORKS,
+            more: done >= most,
             left: None,
         },
         Tried::Busy { word } => Came::left_to(word),
     }
+}
+
+// Does works of a node whose calls may take long, a few under each pair of turns. Ends early if another worker is idle, which may then do
+// what comes of these works. It also ends early if another worker has a turn of the node. Returns what came of it.
+#[tactic(auto, using(crate::proofs::Sharing::stays_on))]
+fn run_in_steps<C: NodeCalculator, G: Gate>(
+    shop: &Shop<'_, C, G>,
+    seat: &mut NetSeat<C>,
+    node: u32,
+) -> Came
+    requires shared { IsShared C.laws shop.now.net.now seat.old }
+    requires node { node < nodes_in (key_of shop.now.net.now) }
+    ensures { StaysShared C.laws shop.now.net.now seat.old seat.new }
+{
+    let mut came = run(shop, seat, node, STEP);
+    'steps: for _ in 1..WORKS / STEP {
+        if !came.more || shop.tools.board.has_idle() {
+            return came;
+        }
+        let further = run(shop, seat, node, STEP);
+        if further.left.is_some() {
+            return came;
+        }
+        came.more = further.more;
+    }
+    came
 }
 
 // Claims the next work of a node. If none is claimed the error says what came of the try.
@@ -115,8 +149,10 @@ fn try_work<C: NodeCalculator, R: Wait, G: Gate>(
 {
     if shop.tools.chart.flies(node) {
         fly(rt, shop, seat, place, node)
+    } else if shop.tools.chart.is_slow(node) {
+        run_in_steps(shop, seat, node)
     } else {
-        run(shop, seat, node)
+        run(shop, seat, node, WORKS)
     }
 }
 

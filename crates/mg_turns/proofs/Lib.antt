@@ -15,6 +15,7 @@ pub mod Backs
 pub mod ArrivesWithin
 pub mod Appends
 pub mod Rounds
+pub mod AtOnce
 pub mod Giving
 pub mod Bringing
 pub mod Standings

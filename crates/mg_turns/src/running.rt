@@ -10,7 +10,7 @@ ghost use Rattle.mg_turns.specs.Code.Running.{Returned, CellSteps, IsCommitted, 
 
 use mg_calc::NodeCalculator;
 use mg_edge::Gate;
-use mg_node::{Claimed, Engine, Intake, Outcome, Work, perform};
+use mg_node::{AtOnce, Claimed, Engine, Intake, Outcome, Work, perform};
 use std::alloc::Global;
 
 /// Commits a work, or puts it back into its window if there is no memory. Returns whether the work is committed.
@@ -53,8 +53,8 @@ fn run_work<C: NodeCalculator, G: Gate>(
     }
 }
 
-/// Does the next work of a cell, and returns whether there was one and it is committed.
-fn run_set<C: NodeCalculator, G: Gate>(
+/// Claims the next work of a cell, performs it and commits it. Returns whether there was one and it is committed.
+fn run_claimed<C: NodeCalculator, G: Gate>(
     alloc: Global,
     engine: &mut Engine<C>,
     intake: &mut Intake,
@@ -73,6 +73,28 @@ fn run_set<C: NodeCalculator, G: Gate>(
         Claimed::Draining => false,
         Claimed::Ended => false,
         Claimed::OutOfMemory => false,
+    }
+}
+
+/// Does the next work of a cell, and returns whether there was one and it is committed. A set is shown to the node's calculator where that
+/// lies, if no work is under way.
+fn run_set<C: NodeCalculator, G: Gate>(
+    alloc: Global,
+    engine: &mut Engine<C>,
+    intake: &mut Intake,
+    gate: &G,
+) -> bool
+    requires { AreCell C.laws engine.old intake.old }
+    ensures steps { CellSteps C.laws engine.old engine.new intake.old intake.new }
+    ensures ran { MatchBool result (SomeRound C.laws engine.old engine.new intake.old intake.new) (Stops C.laws engine.old engine.new intake.old intake.new) }
+    ensures counts { MatchBool result (committed_in engine.new ≡ committed_in engine.old + 1) ((committed_in engine.new ≡ committed_in engine.old) × RunEnds engine.new intake.new) }
+{
+    match engine.work_at_once(intake, gate) {
+        AtOnce::Other => run_claimed(alloc, engine, intake, gate),
+        AtOnce::NotReady => false,
+        AtOnce::Claimed(work) => run_work(alloc, engine, work, gate),
+        AtOnce::Performed(_) => false,
+        AtOnce::Committed(_) => true,
     }
 }
 

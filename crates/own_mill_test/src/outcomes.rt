@@ -1,6 +1,7 @@
 //! What comes out of mills that compute for about a microsecond or a millisecond is the same for each number of workers.
-use crate::running::{Job, output_of};
-use std::alloc::{AllocError, Global};
+use crate::running::{Job, lines, lines_in, output_of};
+use mg_edge::StillGate;
+use std::alloc::Global;
 use std::sync::Wait;
 use std::test::Fail;
 use std::thread::Threads;
@@ -14,18 +15,6 @@ node { calculator: "MillCalculator" input_stream: "b" output_stream: "c" }
 node { calculator: "MillCalculator" input_stream: "a" output_stream: "x" }
 node { calculator: "MillCalculator" input_stream: "a" output_stream: "y" }
 node { calculator: "MillCalculator" input_stream: "a" output_stream: "z" }"#
-}
-
-// Returns so many packet lines.
-fn lines(alloc: Global, count: u32) -> Result<String, AllocError> {
-    let mut text = String::new(alloc);
-    for number in 0..count {
-        write!(
-            text,
-            "{{\"stream\":\"in\",\"ts\":{number},\"value\":{number}}}\n"
-        )?;
-    }
-    Ok(text)
 }
 
 // Runs mills of so many turns over so many lines. Expects the output with workers to be the same as on one thread, and to have four lines
@@ -42,14 +31,14 @@ fn expect_same<R: Threads + Wait + Sync>(
         lines: lines.as_str(),
         turns,
     };
-    let wanted = output_of(rt, alloc, job, "0")?;
+    let wanted = output_of(rt, alloc, job, "0", &StillGate)?;
     for workers in ["1", "2", "4"] {
-        let got = output_of(rt, alloc, job, workers)?;
+        let got = output_of(rt, alloc, job, workers, &StillGate)?;
         if got.as_slice() != wanted.as_slice() {
             return Err(Fail::new(format_args!("{workers} workers differ")));
         }
     }
-    let came = wanted.iter().filter(|byte| **byte == b'\n').count();
+    let came = lines_in(wanted.as_slice());
     if came != 4 * count as usize {
         return Err(Fail::new(format_args!("{came} lines")));
     }
