@@ -10,11 +10,6 @@ use Rattle.mg_free.specs.Rounds.{Taken, turn}
 use Rattle.mg_live.specs.declared.taker.Taker.{Taker}
 use Rattle.mg_live.specs.Takes.{told, HasTaken, HaveTaken, MayTurnIn, MayRound, turns_of, nothing_taken, handed_of}
 
--- the first nodes, a number of them, have had their turns
-abbrev pub HadTurns : List (StreamPrefix Plain) → List FreeNode → List Taken → ℕ → List Taker → Type 0
-HadTurns streams frees takens upto takers = (place : ℕ) (free : FreeNode) (taken : Taken) (taker : Taker) → place < upto → slice_get frees place ≡ Some free → slice_get takens place ≡ Some taken → slice_get takers place ≡ Some taker
-    → HasTaken free (turn streams free taken) taker
-
 -- One more.
 
 pub get_other : {X : Type 0} (xs : List X) (i k : ℕ) (x : X) → (k ≡ i → ⊥) → slice_get (set xs i x) k ≡ slice_get xs k
@@ -28,23 +23,6 @@ pub get_there : {X : Type 0} (xs : List X) (i : ℕ) → i < length xs → (x : 
 get_there [] i less = absurd (omega (arith, less))
 get_there (x ∷ xs) zero less = (x, refl)
 get_there (x ∷ xs) (suc i) less = get_there xs i (omega (arith, less))
-
-pub one_turn : (streams : List (StreamPrefix Plain)) (frees : List FreeNode) (takens : List Taken) (takers : List Taker) (place : ℕ) (free : FreeNode) (taken : Taken) (now : Taker) → slice_get frees place ≡ Some free → slice_get takens place ≡ Some taken
-    → HasTaken free (turn streams free taken) now → place < length takers → HadTurns streams frees takens place takers → HadTurns streams frees takens (place + 1) (set takers place now)
-one_turn streams frees takens takers place free taken now at at_taken has within had k f t r less f_at t_at r_at = elim (cases_eq k place) [
-  | inl here ↦
-      (let own : r ≡ now = put_there takers place now r within (ap (λ (n : ℕ). slice_get (set takers place now) n) (sym here) ∙ r_at) in
-      let free_is : f ≡ free = same_Some f free (sym f_at ∙ ap (slice_get frees) here ∙ at) in
-      let taken_is : t ≡ taken = same_Some t taken (sym t_at ∙ ap (slice_get takens) here ∙ at_taken) in
-      subst (λ (v : Taker). HasTaken f (turn streams f t) v) (sym own)
-      (subst (λ (x : FreeNode). HasTaken x (turn streams x t) now) (sym free_is) (subst (λ (x : Taken). HasTaken free (turn streams free x) now) (sym taken_is) has)))
-  | inr other ↦ had k f t r (omega (arith, less, other)) f_at t_at (sym (get_other takers place k now other) ∙ r_at)
-]
-  where
-    put_there : {X : Type 0} (xs : List X) (i : ℕ) (x y : X) → i < length xs → slice_get (set xs i x) i ≡ Some y → y ≡ x
-    put_there [] i x y within e = absurd (omega (arith, within))
-    put_there (z ∷ xs) zero x y within e = sym (same_Some x y e)
-    put_there (z ∷ xs) (suc i) x y within e = put_there xs i x y (omega (arith, within)) e
 
 -- All of them.
 
@@ -61,17 +39,6 @@ turn_at streams (f ∷ frees) [] i free now at at_now = absurd (none-some now at
 turn_at streams (f ∷ frees) (t ∷ takens) zero free now at at_now =
     (t, refl, sym (same_Some (turn streams f t) now at_now) ∙ ap (λ (x : FreeNode). turn streams x t) (same_Some f free at))
 turn_at streams (f ∷ frees) (t ∷ takens) (suc i) free now at at_now = turn_at streams frees takens i free now at at_now
-
-pub all_turned : (streams : List (StreamPrefix Plain)) (frees : List FreeNode) (takens : List Taken) (before now : List Taker) (count : ℕ) → HaveTaken frees takens before → length now ≡ length before → length frees ≤ count → HadTurns streams frees takens count now
-    → HaveTaken frees (turns_of streams frees takens) now
-all_turned streams frees takens before now count h long all had = record {
-  takers_long = long ∙ h.takers_long;
-  takens_long = turns_long streams frees takens h.takens_long;
-  each = λ place free taken taker at at_taken at_taker.
-      let old = turn_at streams frees takens place free taken at at_taken in
-      let within = slice_get_within frees place free at in
-      subst (λ (t : Taken). HasTaken free t taker) (sym old.2) (had place free old.0 taker (omega (arith, within, all)) at old.1 at_taker);
-}
 
 pub same_all : (streams : List (StreamPrefix Plain)) (frees : List FreeNode) (takens : List Taken) → length takens ≡ length frees
     → ((place : ℕ) (free : FreeNode) (taken : Taken) → slice_get frees place ≡ Some free → slice_get takens place ≡ Some taken → turn streams free taken ≡ taken) → turns_of streams frees takens ≡ takens
@@ -126,17 +93,6 @@ may_there are has_from read frees before takers place free taker r at at_taker s
       may = r.may place free taken.0 at taken.1;
       can_read = r.can_read place free taken.0 at taken.1;
     }
-
-pub had_then : (streams : List (StreamPrefix Plain)) (frees : List FreeNode) (takens : List Taken) (before takers : List Taker) (place : ℕ) (free : FreeNode) (taker now : Taker) → HaveTaken frees takens before
-    → slice_get frees place ≡ Some free → slice_get takers place ≡ Some taker → slice_get takers place ≡ slice_get before place
-    → ((taken : Taken) → HasTaken free taken taker → HasTaken free (turn streams free taken) now)
-    → HadTurns streams frees takens place takers → HadTurns streams frees takens (place + 1) (set takers place now)
-had_then streams frees takens before takers place free taker now h at at_taker same turned had =
-    let taken = taken_there frees takens before place h (slice_get_within frees place free at) in
-    one_turn streams frees takens takers place free taken.0 now at taken.1 (turned taken.0 (h.each place free taken.0 taker at taken.1 (sym same ∙ at_taker))) (slice_get_within takers place taker at_taker) had
-
-pub rest_then : (before takers : List Taker) (place : ℕ) (now : Taker) → ((k : ℕ) → place ≤ k → slice_get takers k ≡ slice_get before k) → (k : ℕ) → place + 1 ≤ k → slice_get (set takers place now) k ≡ slice_get before k
-rest_then before takers place now rest k le = get_other takers place k now (λ same. omega (arith, same, le)) ∙ rest k (omega (arith, le))
 
 -- what was read at a place is found there
 pub read_there : {X : Type 0} (xs : List X) (i : ℕ) (x : X) → i < length xs → x ≡ get_or xs i x → slice_get xs i ≡ Some x

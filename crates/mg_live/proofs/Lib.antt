@@ -5,5 +5,7 @@ pub mod Following
 pub mod InTurn
 pub mod HandedOn
 pub mod Places
+pub mod Turned
+pub mod Sights
 pub mod RestTaken
 pub mod Endings

@@ -14,17 +14,17 @@ use Rattle.mg_live.proofs.HandedOn.{put_taken, out_at, map_at, outs_long, put_th
 
 -- One more number after some numbers.
 
-pushed_at : (xs : List ℕ) (x i y : ℕ) → slice_get (xs ++ x ∷ []) i ≡ Some y → (slice_get xs i ≡ Some y) ⊎ ((i ≡ length xs) × (y ≡ x))
+pub pushed_at : (xs : List ℕ) (x i y : ℕ) → slice_get (xs ++ x ∷ []) i ≡ Some y → (slice_get xs i ≡ Some y) ⊎ ((i ≡ length xs) × (y ≡ x))
 pushed_at [] x zero y e = inr (refl, sym (same_Some x y e))
 pushed_at [] x (suc i) y e = absurd (none-some y e)
 pushed_at (z ∷ xs) x zero y e = inl e
 pushed_at (z ∷ xs) x (suc i) y e = elim (pushed_at xs x i y e) [ inl a ↦ inl a | inr b ↦ inr (ap suc b.0, b.1) ]
 
-new_at : {X : Type 0} (xs : List X) (x : X) → slice_get (xs ++ x ∷ []) (length xs) ≡ Some x
+pub new_at : {X : Type 0} (xs : List X) (x : X) → slice_get (xs ++ x ∷ []) (length xs) ≡ Some x
 new_at [] x = refl
 new_at (z ∷ xs) x = new_at xs x
 
-kept_at : {X : Type 0} (xs : List X) (x : X) (i : ℕ) (y : X) → slice_get xs i ≡ Some y → slice_get (xs ++ x ∷ []) i ≡ Some y
+pub kept_at : {X : Type 0} (xs : List X) (x : X) (i : ℕ) (y : X) → slice_get xs i ≡ Some y → slice_get (xs ++ x ∷ []) i ≡ Some y
 kept_at xs x i y e = early_there xs x i (slice_get_within xs i y e) ∙ e
 
 -- the number at a place of a list
@@ -49,104 +49,6 @@ find (m ∷ ns) n = elim (cases_eq m n) [
     nowhere other none (suc i) e = none i e
 
 -- Rounds.
-
--- of the first nodes, a number of them, the nodes at these places did something
-pub record DidPlaces (streams : List (StreamPrefix Plain)) (frees : List FreeNode) (takens : List Taken) (upto : ℕ) (places : List ℕ) : Type 0 where
-  pub rising : AreRising places
-  pub below : (i place : ℕ) → slice_get places i ≡ Some place → place < upto
-  pub did : (i place : ℕ) (free : FreeNode) (taken : Taken) → slice_get places i ≡ Some place → slice_get frees place ≡ Some free → slice_get takens place ≡ Some taken → ¬ (turn streams free taken ≡ taken)
-  pub others : (place : ℕ) (free : FreeNode) (taken : Taken) → place < upto → IsNoneOf places place → slice_get frees place ≡ Some free → slice_get takens place ≡ Some taken → turn streams free taken ≡ taken
-
-pub none_did : (streams : List (StreamPrefix Plain)) (frees : List FreeNode) (takens : List Taken) (places : List ℕ) → places ≡ [] → DidPlaces streams frees takens 0 places
-none_did streams frees takens places none = subst (λ (ps : List ℕ). DidPlaces streams frees takens 0 ps) (sym none) (record {
-  rising = λ i j n m less a b. absurd (none-some n a);
-  below = λ i place a. absurd (none-some place a);
-  did = λ i place free taken a. absurd (none-some place a);
-  others = λ place free taken less. absurd (omega (arith, less));
-})
-
-same_node : (frees : List FreeNode) (takens : List Taken) (place k : ℕ) (free f : FreeNode) (taken t : Taken) → k ≡ place → slice_get frees place ≡ Some free → slice_get takens place ≡ Some taken → slice_get frees k ≡ Some f → slice_get takens k ≡ Some t → (f ≡ free) × (t ≡ taken)
-same_node frees takens place k free f taken t here at at_taken f_at t_at =
-    (same_Some f free (sym f_at ∙ ap (slice_get frees) here ∙ at), same_Some t taken (sym t_at ∙ ap (slice_get takens) here ∙ at_taken))
-
-idle_more : (streams : List (StreamPrefix Plain)) (frees : List FreeNode) (takens : List Taken) (upto : ℕ) (places : List ℕ) (free : FreeNode) (taken : Taken) → slice_get frees upto ≡ Some free → slice_get takens upto ≡ Some taken → turn streams free taken ≡ taken
-    → DidPlaces streams frees takens upto places → DidPlaces streams frees takens (upto + 1) places
-idle_more streams frees takens upto places free taken at at_taken idle h = record {
-  rising = h.rising;
-  below = λ i place a. (let less = h.below i place a in omega (arith, less));
-  did = h.did;
-  others = λ place f t less none f_at t_at. elim (cases_eq place upto) [
-    | inl here ↦
-        (let same = same_node frees takens upto place free f taken t here at at_taken f_at t_at in
-        ap₂ (λ (x : FreeNode) (y : Taken). turn streams x y) same.0 same.1 ∙ idle ∙ sym same.1)
-    | inr other ↦ h.others place f t (omega (arith, less, other)) none f_at t_at
-  ];
-}
-
-did_more : (streams : List (StreamPrefix Plain)) (frees : List FreeNode) (takens : List Taken) (upto : ℕ) (places : List ℕ) (free : FreeNode) (taken : Taken) → slice_get frees upto ≡ Some free → slice_get takens upto ≡ Some taken → ¬ (turn streams free taken ≡ taken)
-    → DidPlaces streams frees takens upto places → DidPlaces streams frees takens (upto + 1) (places ++ upto ∷ [])
-did_more streams frees takens upto places free taken at at_taken did h = record {
-  rising = λ i j n m less a b. elim (pushed_at places upto j m b) [
-    | inl early ↦ elim (pushed_at places upto i n a) [
-      | inl first ↦ h.rising i j n m less first early
-      | inr last ↦ (let within = slice_get_within places j m early in let is = last.0 in absurd (omega (arith, less, within, is)))
-    ]
-    | inr late ↦ elim (pushed_at places upto i n a) [
-      | inl first ↦ (let low = h.below i n first in let is = late.1 in omega (arith, low, is))
-      | inr last ↦ (let one = late.0 in let two = last.0 in absurd (omega (arith, less, one, two)))
-    ]
-  ];
-  below = λ i place a. elim (pushed_at places upto i place a) [
-    | inl early ↦ (let low = h.below i place early in omega (arith, low))
-    | inr late ↦ (let is = late.1 in omega (arith, is))
-  ];
-  did = λ i place f t a f_at t_at. elim (pushed_at places upto i place a) [
-    | inl early ↦ h.did i place f t early f_at t_at
-    | inr late ↦
-        (let same = same_node frees takens upto place free f taken t late.1 at at_taken f_at t_at in
-        λ e. did (ap₂ (λ (x : FreeNode) (y : Taken). turn streams x y) (sym same.0) (sym same.1) ∙ e ∙ same.1))
-  ];
-  others = λ place f t less none f_at t_at. elim (cases_eq place upto) [
-    | inl here ↦ absurd (none (length places) (new_at places upto ∙ ap (λ (k : ℕ). Some k) (sym here)))
-    | inr other ↦ h.others place f t (omega (arith, less, other)) (λ i e. none i (kept_at places upto i place e)) f_at t_at
-  ];
-}
-
--- one more node has had its turn, and did nothing
-pub idle_then : (streams : List (StreamPrefix Plain)) (frees : List FreeNode) (takens : List Taken) (before takers : List Taker) (upto : ℕ) (places : List ℕ) (free : FreeNode) (taker : Taker) (did : Bool) → did ≡ false → HaveTaken frees takens before → slice_get frees upto ≡ Some free
-    → slice_get takers upto ≡ Some taker → slice_get takers upto ≡ slice_get before upto → ((taken : Taken) → HasTaken free taken taker → Did did taken (turn streams free taken)) → DidPlaces streams frees takens upto places → DidPlaces streams frees takens (upto + 1) places
-idle_then streams frees takens before takers upto places free taker did is h at at_taker same dids p =
-    let taken = taken_there frees takens before upto h (slice_get_within frees upto free at) in
-    idle_more streams frees takens upto places free taken.0 at taken.1
-    (subst (λ (b : Bool). Did b taken.0 (turn streams free taken.0)) is (dids taken.0 (h.each upto free taken.0 taker at taken.1 (sym same ∙ at_taker)))) p
-
--- or did something
-pub did_then : (streams : List (StreamPrefix Plain)) (frees : List FreeNode) (takens : List Taken) (before takers : List Taker) (upto : ℕ) (places now : List ℕ) (free : FreeNode) (taker : Taker) (did : Bool) → did ≡ true → HaveTaken frees takens before → slice_get frees upto ≡ Some free
-    → slice_get takers upto ≡ Some taker → slice_get takers upto ≡ slice_get before upto → ((taken : Taken) → HasTaken free taken taker → Did did taken (turn streams free taken)) → now ≡ places ++ upto ∷ [] → DidPlaces streams frees takens upto places
-    → DidPlaces streams frees takens (upto + 1) now
-did_then streams frees takens before takers upto places now free taker did is h at at_taker same dids now_is p =
-    let taken = taken_there frees takens before upto h (slice_get_within frees upto free at) in
-    subst (λ (ps : List ℕ). DidPlaces streams frees takens (upto + 1) ps) (sym now_is)
-    (did_more streams frees takens upto places free taken.0 at taken.1
-    (subst (λ (b : Bool). Did b taken.0 (turn streams free taken.0)) is (dids taken.0 (h.each upto free taken.0 taker at taken.1 (sym same ∙ at_taker)))) p)
-
-pub all_did : (streams : List (StreamPrefix Plain)) (frees : List FreeNode) (takens : List Taken) (upto : ℕ) (places : List ℕ) → length takens ≡ length frees → upto ≡ length frees → DidPlaces streams frees takens upto places → DidAt places takens (turns_of streams frees takens)
-all_did streams frees takens upto places long all h = record {
-  rising = h.rising;
-  within = λ i place a. (let low = h.below i place a in omega (arith, low, long, all));
-  did = λ i place x y a at_x at_y.
-      (let low = h.below i place a in
-      let free = get_there frees place (omega (arith, low, all)) in
-      let old = turn_at streams frees takens place free.0 y free.1 at_y in
-      let same : x ≡ old.0 = same_Some x old.0 (sym at_x ∙ old.1) in
-      λ e. h.did i place free.0 old.0 a free.1 old.1 (sym old.2 ∙ e ∙ same));
-  others = λ place x y none at_x at_y.
-      (let within = slice_get_within takens place x at_x in
-      let free = get_there frees place (omega (arith, within, long)) in
-      let old = turn_at streams frees takens place free.0 y free.1 at_y in
-      let same : x ≡ old.0 = same_Some x old.0 (sym at_x ∙ old.1) in
-      old.2 ∙ h.others place free.0 old.0 (omega (arith, within, long, all)) none free.1 old.1 ∙ sym same);
-}
 
 turned_at : (streams : List (StreamPrefix Plain)) (frees : List FreeNode) (takens : List Taken) (i : ℕ) (free : FreeNode) (taken : Taken) → slice_get frees i ≡ Some free → slice_get takens i ≡ Some taken → slice_get (turns_of streams frees takens) i ≡ Some (turn streams free taken)
 turned_at streams [] takens i free taken at at_taken = absurd (none-some free at)

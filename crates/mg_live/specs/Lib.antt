@@ -1,3 +1,4 @@
 pub mod Takes
+pub mod Due
 pub mod SoFar
 pub mod Code

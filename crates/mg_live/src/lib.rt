@@ -3,12 +3,14 @@
 #![tactic(auto)]
 
 mod arrived;
+mod due;
 pub mod laws;
 mod live_nodes;
 mod streams;
 mod taker;
 
 pub use arrived::Arrived;
+pub use due::Due;
 pub use live_nodes::LiveNodes;
 pub use streams::Streams;
 pub use taker::Taker;

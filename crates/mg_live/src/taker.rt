@@ -103,6 +103,7 @@ impl Taker {
         ensures did { (ss : List (StreamPrefix Plain)) (taken : Taken) → S.are streams.now ss → HasTaken free.now taken self.old
             → IfOk result (λ did. Did did taken (turn ss free.now taken)) }
         ensures handed { self.new.state.rest.handed ≡ self.old.state.rest.handed }
+        ensures idle { IfOk result (λ did. did ≡ false → self.new ≡ self.old) }
     {
         let Some(port) = self.last_port(free, streams) else {
             return Ok(self.close_at_end(free, streams));
@@ -188,6 +189,7 @@ impl Taker {
         ensures did { (ss : List (StreamPrefix Plain)) (taken : Taken) → S.are streams.now ss → HasTaken free.now taken self.old
             → last_of (next_arrivals ss free.now taken) ≡ None → Did result taken (turn ss free.now taken) }
         ensures handed { self.new.state.rest.handed ≡ self.old.state.rest.handed }
+        ensures idle { result ≡ false → self.new ≡ self.old }
     {
         if self.closed || !has_ended(free, streams) {
             return false;

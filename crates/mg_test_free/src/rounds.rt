@@ -6,7 +6,7 @@ ghost use Rattle.mg_free.specs.Free.{ports_of as the_ports};
 ghost use Rattle.mg_test_free.specs.Ready.{IsReady, IsOneNode};
 
 use mg_free::{FreeLaw, FreeNode, FreeNodeList};
-use mg_live::{LiveNodes, Streams};
+use mg_live::{Due, LiveNodes, Streams};
 use mg_settled::{Prefix, PrefixList, are_prefixes};
 use mg_tables::{Calls, assert_rows, packet_of, text_of, time_of};
 use mg_time::Timestamp;
@@ -110,13 +110,15 @@ fn ready(alloc: Global, law: FreeLaw, given: &Given) -> Result<LiveNodes, Fail>
     Ok(LiveNodes::new(alloc, frees)?)
 }
 
-// Makes rounds until one does nothing, and fails after ten.
+// Makes rounds until one does nothing, and fails after ten. At first the node is due. The streams don't grow, so it is due in a further
+// round if it did something in the one before.
 fn run(alloc: Global, live: &mut LiveNodes, given: &Given) -> Result<(), Fail>
     requires { IsReady live.old.free live.old.takers.items given.now.streams }
     ensures { OnOk result (IsReady live.new.free live.new.takers.items given.now.streams) }
 {
+    let mut due = Due::new(alloc);
     'rounds: for _ in 0..10 {
-        if live.round(alloc, given)?.is_empty() {
+        if live.round(alloc, &mut due, given)?.is_empty() {
             return Ok(());
         }
     }
