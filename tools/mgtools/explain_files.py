@@ -15,7 +15,7 @@ COMMANDS = ("run", "solve", "check", "expand", "generate", "trace", "replay")
 # Those that read packet lines.
 READING = ("run", "solve", "trace", "replay")
 OPTIONS = {"--workers": (0, 64), "--max-queue-size": (1, 1000000), "--number": (0, 1000000), "--no-queue-limit": None, "--report": None,
-           "--no-arrivals": None}
+           "--no-arrivals": None, "--unbuffered": None}
 SPELLINGS = {"BadTag": "a tag is `[A-Z_][A-Z0-9_]*`, in capital letters", "BadIndex": "an index is 0 to 63, without leading zeros",
              "BadName": "a name is `[a-z_][a-z0-9_]*`, in small letters, and a text has at most two colons"}
 

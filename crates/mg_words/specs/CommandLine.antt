@@ -41,7 +41,11 @@ with_numbers app = with_rule (with_rule (with_rule app
     (number_option (codes "number") (pos 0) (pos 1000000))
 
 abbrev pub with_flags : App → App
-with_flags app = with_rule (with_rule (with_rule app (flag (codes "no-queue-limit"))) (flag (codes "report"))) (flag (codes "no-arrivals"))
+with_flags app = with_rule (with_rule (with_rule (with_rule app
+    (flag (codes "no-queue-limit")))
+    (flag (codes "report")))
+    (flag (codes "no-arrivals")))
+    (flag (codes "unbuffered"))
 
 abbrev pub command_with : Bor (List (Bor Text)) → App
 command_with names = with_flags (with_numbers (with_words names plain_app))

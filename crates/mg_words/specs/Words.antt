@@ -44,6 +44,7 @@ options_of rows = record {
   no_queue_limit = flag_of (codes "no-queue-limit") rows;
   report = flag_of (codes "report") rows;
   no_arrivals = flag_of (codes "no-arrivals") rows;
+  unbuffered = flag_of (codes "unbuffered") rows;
 }
 
 -- the words that were taken for the argument of a name
@@ -81,7 +82,15 @@ limit_in options = if options.no_queue_limit then Some (negsuc 0) else option_ma
 
 -- what a command does and how, by its options and its verb
 abbrev pub instruction_in : Options → Verb → Instruction
-instruction_in options verb = record { verb = verb; limit = limit_in options; workers = options.workers; number = unwrap_or options.number 0; report = options.report; arrivals = not options.no_arrivals }
+instruction_in options verb = record {
+  verb = verb;
+  limit = limit_in options;
+  workers = options.workers;
+  number = unwrap_or options.number 0;
+  report = options.report;
+  arrivals = not options.no_arrivals;
+  unbuffered = options.unbuffered;
+}
 
 -- the command that words stand for, if they keep the rules and COMMAND is one of its words
 abbrev pub command_in : Line → Option Command

@@ -50,7 +50,8 @@ fn with_flags<'a>(alloc: Global, command: Command<'a>) -> Result<Command<'a>, Al
     command
         .arg(flag(alloc, "no-queue-limit"))?
         .arg(flag(alloc, "report"))?
-        .arg(flag(alloc, "no-arrivals"))
+        .arg(flag(alloc, "no-arrivals"))?
+        .arg(flag(alloc, "unbuffered"))
 }
 
 // Returns an argument that is a word which has to be there.

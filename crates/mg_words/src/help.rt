@@ -29,7 +29,7 @@ pub fn usage_text() -> &'static [u8]
 const VERSION: &[u8] = b"mg 0.1.0\n";
 
 const USAGE: &[u8] =
-    b"usage: mg run|solve|check|expand|generate|trace|replay [--workers N] [--max-queue-size N] [--no-queue-limit] [--number N] [--report] [--no-arrivals] GRAPH [SUBGRAPH...]\n";
+    b"usage: mg run|solve|check|expand|generate|trace|replay [--workers N] [--max-queue-size N] [--no-queue-limit] [--number N] [--report] [--no-arrivals] [--unbuffered] GRAPH [SUBGRAPH...]\n";
 
 const HELP: &[u8] = b"\
 mg runs MediaPipe calculator graphs: packet lines in, output lines out.\n\
@@ -56,6 +56,7 @@ options:\n\
 \x20 --number N           packets that generate makes, 0 to 1000000; it needs this\n\
 \x20 --report             note what each node and each stream did\n\
 \x20 --no-arrivals        note no packets that arrived at free nodes\n\
+\x20 --unbuffered         run free nodes as soon as no more lines have come\n\
 \x20 -h, --help           write this text\n\
 \x20 -V, --version        write the version\n\
 \n\

@@ -23,6 +23,8 @@ pub struct Options {
     pub report: bool,
     /// Whether the notes tell no arrivals at free nodes.
     pub no_arrivals: bool,
+    /// Whether a batch also ends where the input has nothing more for now, in a graph with free nodes.
+    pub unbuffered: bool,
 }
 
 impl Options {
@@ -37,6 +39,7 @@ impl Options {
             no_queue_limit: flag_of(matches, "no-queue-limit"),
             report: flag_of(matches, "report"),
             no_arrivals: flag_of(matches, "no-arrivals"),
+            unbuffered: flag_of(matches, "unbuffered"),
         }
     }
 

@@ -53,6 +53,8 @@ pub struct Instruction {
     pub report: bool,
     /// Whether the notes of a run tell the arrivals at free nodes.
     pub arrivals: bool,
+    /// Whether a batch of lines also ends where the input has nothing more for now, in a graph with free nodes. Only `run` uses it.
+    pub unbuffered: bool,
 }
 
 /// What the words of a command line ask for.
@@ -153,6 +155,7 @@ fn ordered(verb: Option<Verb>, options: Options) -> Option<Instruction>
             number: options.number.unwrap_or(0),
             report: options.report,
             arrivals: !options.no_arrivals,
+            unbuffered: options.unbuffered,
         }),
         None => None,
     }
