@@ -87,6 +87,7 @@ log_was {laws} job boxes place node told same has there =
 -- each calculator that a node uses had the calls of its node
 all_had : {laws : Laws} (job : LoggedJob laws) (boxes : List BoxTold) (net : NetView) → BoxesFit job.job.plan boxes → job.boxes ≡ boxes → HadAllOf job net → HadCallsOf job.job (device boxes (given_back net))
 all_had {laws} job boxes net fit same had = record {
+  is_job = had.is_job;
   streams = had.streams;
   solution = had.solution;
   each = λ number place node there has.

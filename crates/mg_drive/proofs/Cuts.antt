@@ -1,9 +1,9 @@
--- Lines have a cut into batches, and only one.
+-- Lines have a cut into batches, and only one if batches don't end early.
 use Rattle.std.proofs.Common.{◌≡◌, ◌<◌, ◌≤◌, ◌+◌, ◌⊎◌, inl, inr, ℕ, zero, suc, List, [], ◌∷◌, ◌++◌, length, drop, slice_index_or, Bool, true, false, refl, sym, ap, ◌∙◌, subst, arith}
 use Rattle.std.proofs.lemmas.List.Sums.{sum_by-append}
 use Rattle.mg_feed.specs.Accepted.{names_stream}
 use Rattle.mg_feed.specs.Lines.{but_last}
-use Rattle.mg_feed.specs.Batch.{Fills, naming}
+use Rattle.mg_feed.specs.Batch.{Fills, CutsAt, naming}
 use Rattle.mg_feed.specs.declared.feed_end.BatchEnd.TheVariants.{More}
 use Rattle.mg_drive.specs.InBatches.{batch_size, InBatches, last, more}
 
@@ -43,14 +43,14 @@ naming_front : (xs ys : List (List ℕ)) → naming xs ≤ naming (xs ++ ys)
 naming_front xs ys = omega (arith, naming_parts xs ys)
 
 -- a full batch that is a prefix of lines is the first of their batches
-pub cut_front : (batch rest lines : List (List ℕ)) (cut : List (List (List ℕ))) → Fills More batch_size batch → lines ≡ batch ++ rest → InBatches lines cut → (later : List (List (List ℕ))) × (cut ≡ batch ∷ later) × InBatches rest later
+cut_front : (batch rest lines : List (List ℕ)) (cut : List (List (List ℕ))) → Fills More batch_size batch → lines ≡ batch ++ rest → InBatches false lines cut → (later : List (List (List ℕ))) × (cut ≡ batch ∷ later) × InBatches false rest later
 cut_front batch rest lines cut full same (last few) = absurd (omega (arith, full.0, naming_front batch rest, ap naming same, few))
 cut_front batch rest lines cut full same (more {batch = one} {rest = others} {batches = batches} filled behind) =
     let only = one_front batch_size one batch others rest filled full same in
-    (batches, ap (λ (b : List (List ℕ)). b ∷ batches) only.0, subst (λ (ls : List (List ℕ)). InBatches ls batches) only.1 behind)
+    (batches, ap (λ (b : List (List ℕ)). b ∷ batches) only.0, subst (λ (ls : List (List ℕ)). InBatches false ls batches) only.1 behind)
 
--- lines are cut in one way
-pub one_cut : (lines other : List (List ℕ)) (a b : List (List (List ℕ))) → lines ≡ other → InBatches lines a → InBatches other b → a ≡ b
+-- if batches don't end early, lines are cut in one way
+pub one_cut : (lines other : List (List ℕ)) (a b : List (List (List ℕ))) → lines ≡ other → InBatches false lines a → InBatches false other b → a ≡ b
 one_cut lines other a b same (more {batch = one} {rest = rest} {batches = batches} filled behind) is =
     let front = cut_front one rest other b filled (sym same) is in
     ap (λ (bs : List (List (List ℕ))). one ∷ bs) (one_cut rest rest batches front.0 refl behind front.2) ∙ sym front.1
@@ -105,14 +105,19 @@ fills most (x ∷ xs) = by (λ n. fills n xs) (names_stream x) most refl
       | inr front ↦ inr (subst (λ (k : ℕ). Front k (x ∷ xs)) (let same : 1 + suc n ≡ suc (suc n) = omega arith in same) (with_line 1 n x xs (named_once x is) front))
     ]
 
-cut_by : (fuel : ℕ) (lines : List (List ℕ)) → length lines < fuel → (cut : List (List (List ℕ))) × InBatches lines cut
-cut_by zero lines less = absurd (omega (arith, less))
-cut_by (suc fuel) lines less = elim (fills 4095 lines) [
+-- a full batch is one also where batches may end early
+full_cuts : (early : Bool) (batch : List (List ℕ)) → Fills More batch_size batch → CutsAt early More batch_size batch
+full_cuts false batch full = full
+full_cuts true batch full = (omega (arith, full.0), λ some. omega (arith, full.0, some))
+
+cut_by : (early : Bool) (fuel : ℕ) (lines : List (List ℕ)) → length lines < fuel → (cut : List (List (List ℕ))) × InBatches early lines cut
+cut_by early zero lines less = absurd (omega (arith, less))
+cut_by early (suc fuel) lines less = elim (fills 4095 lines) [
   | inl few ↦ (lines ∷ [], last few)
-  | inr front ↦ (let rest = cut_by fuel front.rest (let fewer = front.fewer in omega (arith, less, fewer)) in
-      (front.batch ∷ rest.0, subst (λ (ls : List (List ℕ)). InBatches ls (front.batch ∷ rest.0)) (sym front.same) (more front.full rest.1)))
+  | inr front ↦ (let rest = cut_by early fuel front.rest (let fewer = front.fewer in omega (arith, less, fewer)) in
+      (front.batch ∷ rest.0, subst (λ (ls : List (List ℕ)). InBatches early ls (front.batch ∷ rest.0)) (sym front.same) (more (full_cuts early front.batch front.full) rest.1)))
 ]
 
 -- there is a cut
-pub some_cut : (lines : List (List ℕ)) → (cut : List (List (List ℕ))) × InBatches lines cut
-some_cut lines = cut_by (suc (length lines)) lines (omega arith)
+pub some_cut : (early : Bool) (lines : List (List ℕ)) → (cut : List (List (List ℕ))) × InBatches early lines cut
+some_cut early lines = cut_by early (suc (length lines)) lines (omega arith)

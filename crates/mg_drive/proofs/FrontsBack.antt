@@ -71,6 +71,7 @@ pub kept_fronts : {laws : Laws} (boxes : List BoxTold) (job later : LoggedJob la
 kept_fronts {laws} boxes job later net fit handed stood same more is =
     let found = solved later is in
     record {
+      is_job = is;
       streams = found.0;
       solution = found.1.solution;
       each = λ number place node there has. kept_front boxes job later net found.0 number place node fit handed stood more ((knows_back job net stood).plan ∙ same) found.1 there has;
@@ -91,6 +92,7 @@ pub none_had : (job : Job) (boxes : List BoxTold) → IsJob job → BoxesFit job
 none_had job boxes is fit =
     let found = solved (record { job = job; boxes = []; same = refl }) is in
     record {
+      is_job = is;
       streams = found.0;
       solution = found.1.solution;
       each = λ number place node there has.
@@ -134,6 +136,7 @@ all_first job streams node =
 -- so calculators that had all calls had a prefix of them
 pub all_are_fronts : (job : Job) (boxes : Device (List BoxTold)) → BoxesFit job.plan boxes.before → HadCallsOf job boxes → HadFronts job boxes
 all_are_fronts job boxes fit had = record {
+  is_job = had.is_job;
   streams = had.streams;
   solution = had.solution;
   each = λ number place node there has.

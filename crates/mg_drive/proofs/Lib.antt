@@ -19,9 +19,12 @@ pub mod TracesRan
 pub mod Working
 pub mod StillThere
 pub mod Looking
+pub mod Moving
+pub mod Reading
 pub mod Piecewise
 pub mod LiveBatches
 pub mod LiveWants
+pub mod Idling
 pub mod LiveMade
 pub mod LiveRounds
 pub mod RoundComes

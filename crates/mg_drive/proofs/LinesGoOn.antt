@@ -9,7 +9,7 @@ use Rattle.mg_settled.specs.Extension.{AreExtendedBy}
 use Rattle.mg_calc.specs.declared.inputs.Inputs.{Inputs}
 use Rattle.mg_calc.specs.declared.plan.Plan.{Plan}
 use Rattle.mg_calc.specs.Plan.{IsValidWithFree, InputsFit}
-use Rattle.mg_feed.specs.Batch.{Fills}
+use Rattle.mg_feed.specs.Batch.{CutsAt}
 use Rattle.mg_feed.specs.Graph.{GraphInputs, inputs_of as graph_of}
 use Rattle.mg_feed.specs.Accepted.{given_by}
 use Rattle.mg_feed.specs.Given.{ended_stream, ended_streams}
@@ -24,7 +24,7 @@ use Rattle.mg_answer.specs.Answer.{Read, inputs_by}
 use Rattle.mg_answer.proofs.Fitting.{inputs-fit}
 use Rattle.mg_node.specs.Extending.{joined}
 use Rattle.mg_drive.specs.Batches.{IsMore, IsFirst, InputsGoOn, BatchesGoOn}
-use Rattle.mg_drive.specs.Code.Lines.{has_ended, inputs_at, batch_size, HasBatch, LinesGave, lines_of, given_after, LinesCame, NewestGave, lines_left}
+use Rattle.mg_drive.specs.Code.Lines.{has_ended, inputs_at, batch_size, HasBatch, LinesGave, lines_of, given_after, LinesCame, lines_left}
 use Rattle.mg_drive.proofs.BatchesRead.{first_read, first_inputs}
 
 -- What lines give --
@@ -116,23 +116,26 @@ more_lines early plan first before now end inputs so_far old fed valid gave batc
 
 -- Batches in turn --
 
-pub first_lines_came : (plan : Plan) (before now : SourceTold) (end : BatchEnd) (inputs : Inputs) (fed : Fed) → IsValidWithFree plan → HasBatch false plan before end inputs now fed [] []
-    → IsFirst (λ end inputs. LinesGave fed plan before now end inputs × LinesCame fed plan before now end (inputs ∷ [])) plan end inputs
-first_lines_came plan before now end inputs fed valid batch =
-    let first = first_lines false plan before now end inputs fed valid batch in
+pub first_lines_came : (early : Bool) (plan : Plan) (before now : SourceTold) (end : BatchEnd) (inputs : Inputs) (fed : Fed) → IsValidWithFree plan → HasBatch early plan before end inputs now fed [] []
+    → IsFirst (λ end inputs. LinesGave fed plan before now end inputs × ((early ≡ early) × LinesCame early fed plan before now end (inputs ∷ []))) plan end inputs
+first_lines_came early plan before now end inputs fed valid batch =
+    let first = first_lines early plan before now end inputs fed valid batch in
     record {
       given = (
         first.given,
-        record {
-          past = batch.came;
-          newest = batch.more;
-          earlier = [];
-          is_read = batch.is_read;
-          history_is = ap (λ (i : Inputs). i ∷ []) (first_inputs false plan before end inputs now fed batch);
-          filled = batch.filled;
-          all_filled = All-from_recursion (Fills More batch_size) [] tt;
-          named = batch.named;
-        },
+        (
+          refl,
+          record {
+            past = batch.came;
+            newest = batch.more;
+            earlier = [];
+            is_read = batch.is_read;
+            history_is = ap (λ (i : Inputs). i ∷ []) (first_inputs early plan before end inputs now fed batch);
+            filled = batch.filled;
+            all_filled = All-from_recursion (CutsAt early More batch_size) [] tt;
+            named = batch.named;
+          },
+        ),
       );
       fits = first.fits;
     }
@@ -140,10 +143,13 @@ first_lines_came plan before now end inputs fed valid batch =
 same_head : (a b : Inputs) (xs ys : List Inputs) → a ∷ xs ≡ b ∷ ys → (a ≡ b) × (xs ≡ ys)
 same_head a b xs ys same = (ap (λ (l : List Inputs). slice_index_or l 0 a) same, ap (λ (l : List Inputs). drop 1 l) same)
 
-pub more_lines_came : (plan : Plan) (first before now : SourceTold) (end : BatchEnd) (inputs so_far : Inputs) (earlier : List Inputs) (old fed : Fed) → IsValidWithFree plan → (came : LinesCame old plan first before More (so_far ∷ earlier))
-    → HasBatch false plan first end inputs now fed came.past (lines_of (came.newest ∷ came.earlier)) → BatchesGoOn (λ all. LinesGave fed plan first now end all × LinesCame fed plan first now end (all ∷ so_far ∷ earlier)) plan so_far inputs
-more_lines_came plan first before now end inputs so_far earlier old fed valid came batch =
+-- a batch more, where batches end as they did when the run began
+pub more_lines_came : (kept early : Bool) (plan : Plan) (first before now : SourceTold) (end : BatchEnd) (inputs so_far : Inputs) (earlier : List Inputs) (old fed : Fed) → IsValidWithFree plan
+    → (both : (kept ≡ early) × LinesCame early old plan first before More (so_far ∷ earlier)) → HasBatch kept plan first end inputs now fed both.1.past (lines_of (both.1.newest ∷ both.1.earlier))
+    → BatchesGoOn (λ all. LinesGave fed plan first now end all × ((kept ≡ early) × LinesCame early fed plan first now end (all ∷ so_far ∷ earlier))) plan so_far inputs
+more_lines_came kept early plan first before now end inputs so_far earlier old fed valid (same, came) kept_batch =
     let lines = lines_of (came.newest ∷ came.earlier) in
+    let batch = subst (λ (b : Bool). HasBatch b plan first end inputs now fed came.past lines) same kept_batch in
     let heads = same_head so_far (inputs_at (graph_of plan) lines false) earlier (given_after (graph_of plan) came.earlier) came.history_is in
     record {
       all = inputs_at (graph_of plan) (lines ++ batch.more) (has_ended end);
@@ -155,34 +161,23 @@ more_lines_came plan first before now end inputs so_far earlier old fed valid ca
           inputs_are = refl;
           named = batch.named;
         },
-        record {
-          past = came.past ++ batch.came;
-          newest = batch.more;
-          earlier = came.newest ∷ came.earlier;
-          is_read = batch.is_read;
-          history_is = ap (λ (l : List Inputs). inputs_at (graph_of plan) (lines ++ batch.more) (has_ended end) ∷ l) came.history_is;
-          filled = batch.filled;
-          all_filled = All-from_recursion (Fills More batch_size) (came.newest ∷ came.earlier) (came.filled, recursion_from_All (Fills More batch_size) came.earlier came.all_filled);
-          named = batch.named;
-        },
+        (
+          same,
+          record {
+            past = came.past ++ batch.came;
+            newest = batch.more;
+            earlier = came.newest ∷ came.earlier;
+            is_read = batch.is_read;
+            history_is = ap (λ (l : List Inputs). inputs_at (graph_of plan) (lines ++ batch.more) (has_ended end) ∷ l) came.history_is;
+            filled = batch.filled;
+            all_filled = All-from_recursion (CutsAt early More batch_size) (came.newest ∷ came.earlier) (came.filled, recursion_from_All (CutsAt early More batch_size) came.earlier came.all_filled);
+            named = batch.named;
+          },
+        ),
       );
       goes_on = subst (λ (i : Inputs). InputsGoOn plan i inputs (inputs_at (graph_of plan) (lines ++ batch.more) (has_ended end))) (sym heads.0)
-          (goes_on false plan first now end inputs fed came.past lines valid (came.named tt) batch);
+          (goes_on early plan first now end inputs fed came.past lines valid (came.named tt) batch);
     }
-
--- Batches in turn, if only the newest is told --
-
-pub first_newest : (plan : Plan) (before now : SourceTold) (end : BatchEnd) (inputs : Inputs) (fed : Fed) → IsValidWithFree plan → HasBatch true plan before end inputs now fed [] []
-    → IsFirst (λ end inputs. LinesGave fed plan before now end inputs × NewestGave fed plan before now end (inputs ∷ [])) plan end inputs
-first_newest plan before now end inputs fed valid batch =
-    let first = first_lines true plan before now end inputs fed valid batch in
-    record { given = (first.given, first.given); fits = first.fits }
-
-pub more_newest : (plan : Plan) (first before now : SourceTold) (end : BatchEnd) (inputs so_far : Inputs) (earlier : List Inputs) (old fed : Fed) → IsValidWithFree plan → (gave : LinesGave old plan first before More so_far)
-    → HasBatch true plan first end inputs now fed gave.past gave.lines → BatchesGoOn (λ all. LinesGave fed plan first now end all × NewestGave fed plan first now end (all ∷ so_far ∷ earlier)) plan so_far inputs
-more_newest plan first before now end inputs so_far earlier old fed valid gave batch =
-    let more = more_lines true plan first before now end inputs so_far old fed valid gave batch in
-    record { all = more.all; given = (more.given, more.given); goes_on = more.goes_on }
 
 -- a batch more leaves fewer lines to come
 pub fewer_lines : (early : Bool) (plan : Plan) (first before now : SourceTold) (end : BatchEnd) (inputs so_far : Inputs) (old fed : Fed) (gave : LinesGave old plan first before More so_far)

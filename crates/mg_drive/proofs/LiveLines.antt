@@ -1,5 +1,5 @@
 -- The lines of an input in batches, as a feed took them one after the other.
-use Rattle.std.proofs.Common.{◌≡◌, ◌<◌, ◌⊎◌, inl, inr, ℕ, List, [], ◌∷◌, ◌++◌, reverse, All, false, Option, None, Some, refl, sym, ap, ◌∙◌, subst, append-nil}
+use Rattle.std.proofs.Common.{◌≡◌, ◌⊎◌, inl, inr, ℕ, List, [], ◌∷◌, ◌++◌, reverse, All, Bool, true, false, Option, None, Some, refl, sym, ap, ◌∙◌, subst, append-nil}
 use Rattle.std.specs.List.{AllByRecursion}
 use Rattle.std.proofs.lemmas.List.{append_assoc, reverse-append}
 use Rattle.std.proofs.lemmas.List.Elements.{recursion_from_All}
@@ -12,7 +12,7 @@ use Rattle.mg_calc.specs.declared.plan.Plan.{Plan}
 use Rattle.mg_calc.specs.Equations.{IsJob, IsSolution}
 use Rattle.mg_calc.specs.Told.{BoxTold}
 use Rattle.mg_feed.specs.Graph.{GraphInputs, inputs_of}
-use Rattle.mg_feed.specs.Batch.{Fills, naming}
+use Rattle.mg_feed.specs.Batch.{CutsAt}
 use Rattle.mg_feed.specs.Fed.{Fed}
 use Rattle.mg_feed.specs.Ran.{EndCame}
 use Rattle.mg_feed.specs.declared.feed_end.FeedEnd.{FeedEnd}
@@ -35,15 +35,15 @@ use Rattle.mg_drive.specs.Told.{HasLines}
 use Rattle.mg_drive.specs.Code.Running.{IsToldSome, FrontIn}
 use Rattle.mg_drive.specs.Code.Live.{end_by}
 use Rattle.mg_drive.specs.Code.Lines.{has_ended, ReadsOn, LinesGave, LinesCame, lines_of, given_after}
-use Rattle.mg_drive.proofs.Cuts.{cut_front}
+use Rattle.mg_drive.proofs.Cuts.{some_cut}
 use Rattle.mg_drive.proofs.LinesRan.{came_at, lines_in_front, read_on, end_came, front_lines}
 
-in_batches_from : (batches : List (List (List ℕ))) (lines : List (List ℕ)) (later : List (List (List ℕ))) → AllByRecursion (λ (b : List (List ℕ)). Fills More batch_size b) batches → InBatches lines later
-    → InBatches (lines_of batches ++ lines) (reverse batches ++ later)
-in_batches_from [] lines later all rest = rest
-in_batches_from (batch ∷ batches) lines later all rest =
-    subst (λ (bs : List (List (List ℕ))). InBatches ((lines_of batches ++ batch) ++ lines) bs) (sym (ap (λ (bs : List (List (List ℕ))). bs ++ later) (reverse-append (batch ∷ []) batches) ∙ append_assoc (reverse batches) (batch ∷ []) later))
-    (subst (λ (ls : List (List ℕ)). InBatches ls (reverse batches ++ batch ∷ later)) (sym (append_assoc (lines_of batches) batch lines)) (in_batches_from batches (batch ++ lines) (batch ∷ later) all.1 (more all.0 rest)))
+in_batches_from : (early : Bool) (batches : List (List (List ℕ))) (lines : List (List ℕ)) (later : List (List (List ℕ))) → AllByRecursion (λ (b : List (List ℕ)). CutsAt early More batch_size b) batches → InBatches early lines later
+    → InBatches early (lines_of batches ++ lines) (reverse batches ++ later)
+in_batches_from early [] lines later all rest = rest
+in_batches_from early (batch ∷ batches) lines later all rest =
+    subst (λ (bs : List (List (List ℕ))). InBatches early ((lines_of batches ++ batch) ++ lines) bs) (sym (ap (λ (bs : List (List (List ℕ))). bs ++ later) (reverse-append (batch ∷ []) batches) ∙ append_assoc (reverse batches) (batch ∷ []) later))
+    (subst (λ (ls : List (List ℕ)). InBatches early ls (reverse batches ++ batch ∷ later)) (sym (append_assoc (lines_of batches) batch lines)) (in_batches_from early batches (batch ++ lines) (batch ∷ later) all.1 (more all.0 rest)))
 
 come_from : (graph : GraphInputs) (end : FeedEnd) (batches : List (List (List ℕ))) (next : List (List ℕ)) (later : List (List (List ℕ)))
     → come_after graph end [] (reverse batches ++ next ∷ later) ≡ reverse (given_after graph batches) ++ come_after graph end (lines_of batches) (next ∷ later)
@@ -56,8 +56,9 @@ come_from graph end (batch ∷ batches) next later =
     ∙ sym (ap (λ (is : List Inputs). is ++ rest) (reverse-append (here ∷ []) (given_after graph batches)) ∙ append_assoc (reverse (given_after graph batches)) (here ∷ []) rest)
 
 -- the last batch
-last_of : {lines : List (List ℕ)} → naming lines < batch_size → InBatches lines (lines ∷ [])
-last_of few = last few
+last_of : (early : Bool) (end : FeedEnd) (lines : List (List ℕ)) → CutsAt early (End end) batch_size lines → InBatches early lines (lines ∷ [])
+last_of false end lines few = last few
+last_of true end lines few = last few
 
 -- what batches had given is what has come after each of them
 came_after_all : (graph : GraphInputs) (end : FeedEnd) (newest : List (List ℕ)) (earlier : List (List (List ℕ))) (history : List Inputs) → history ≡ inputs_at graph (lines_of earlier ++ newest) (is_ended end) ∷ given_after graph earlier
@@ -65,26 +66,32 @@ came_after_all : (graph : GraphInputs) (end : FeedEnd) (newest : List (List ℕ)
 came_after_all graph end newest earlier history are =
     come_from graph end earlier newest [] ∙ sym (reverse-append (inputs_at graph (lines_of earlier ++ newest) (is_ended end) ∷ []) (given_after graph earlier)) ∙ ap reverse (sym are)
 
-all_full : (earlier : List (List (List ℕ))) → All (λ (b : List (List ℕ)). Fills More batch_size b) earlier → AllByRecursion (λ (b : List (List ℕ)). Fills More batch_size b) earlier
-all_full earlier all = recursion_from_All (λ (b : List (List ℕ)). Fills More batch_size b) earlier all
+all_cut : (early : Bool) (earlier : List (List (List ℕ))) → All (λ (b : List (List ℕ)). CutsAt early More batch_size b) earlier → AllByRecursion (λ (b : List (List ℕ)). CutsAt early More batch_size b) earlier
+all_cut early earlier all = recursion_from_All (λ (b : List (List ℕ)). CutsAt early More batch_size b) earlier all
 
-abbrev gave_as : (whole : Plan) (first at : SourceTold) (fed : Fed) (end : BatchEnd) (base : Inputs) (earlier : List Inputs) → (came : LinesCame fed whole first at end (base ∷ earlier))
+-- the lines of the batches that came, up to the last batch
+all_in_batches : (early : Bool) (whole : Plan) (first at : SourceTold) (fed : Fed) (end : FeedEnd) (history : List Inputs) → (came : LinesCame early fed whole first at (End end) history)
+    → InBatches early (lines_of came.earlier ++ came.newest) (reverse came.earlier ++ came.newest ∷ [])
+all_in_batches early whole first at fed end history came =
+    in_batches_from early came.earlier came.newest (came.newest ∷ []) (all_cut early came.earlier came.all_filled) (last_of early end came.newest came.filled)
+
+abbrev gave_as : (early : Bool) (whole : Plan) (first at : SourceTold) (fed : Fed) (end : BatchEnd) (base : Inputs) (earlier : List Inputs) → (came : LinesCame early fed whole first at end (base ∷ earlier))
     → LinesGave fed whole first at end (inputs_at (inputs_of whole) (lines_of came.earlier ++ came.newest) (has_ended end))
-gave_as whole first at fed end base earlier came = record { past = came.past; lines = lines_of came.earlier ++ came.newest; is_read = came.is_read; inputs_are = refl; named = came.named }
+gave_as early whole first at fed end base earlier came = record { past = came.past; lines = lines_of came.earlier ++ came.newest; is_read = came.is_read; inputs_are = refl; named = came.named }
 
-pub live_lines : {laws : Laws} (report : Reporting) (whole : Plan) (status : Status) (devices : RunDevices) (boxes : Device (List BoxTold)) (fed : Fed) (end : FeedEnd) (base : Inputs) (earlier : List Inputs) (first : Inputs) (later : List Inputs)
-    → LinesCame fed whole devices.input.before devices.input.now (End end) (base ∷ earlier) → reverse (base ∷ earlier) ≡ first ∷ later → OneLive laws packet_lines report whole first later end status devices.output devices.notes boxes
-    → OneLiveReading laws report whole status devices boxes
-live_lines {laws} report whole status devices boxes fed end base earlier first later came order run =
+pub live_lines : {laws : Laws} (report : Reporting) (early : Bool) (whole : Plan) (status : Status) (devices : RunDevices) (boxes : Device (List BoxTold)) (fed : Fed) (end : FeedEnd) (base : Inputs) (earlier : List Inputs) (first : Inputs) (later : List Inputs)
+    → LinesCame early fed whole devices.input.before devices.input.now (End end) (base ∷ earlier) → reverse (base ∷ earlier) ≡ first ∷ later → OneLive laws packet_lines report whole first later end status devices.output devices.notes boxes
+    → OneLiveReading laws report early whole status devices boxes
+live_lines {laws} report early whole status devices boxes fed end base earlier first later came order run =
     let graph = inputs_of whole in
     record {
       read = record { lines = lines_of came.earlier ++ came.newest; end = end };
-      came = came_at whole devices.input.before devices.input.now fed end (inputs_at graph (lines_of came.earlier ++ came.newest) (is_ended end)) (gave_as whole devices.input.before devices.input.now fed (End end) base earlier came);
+      came = came_at whole devices.input.before devices.input.now fed end (inputs_at graph (lines_of came.earlier ++ came.newest) (is_ended end)) (gave_as early whole devices.input.before devices.input.now fed (End end) base earlier came);
       first = first;
       later = later;
       batches = record {
         lines = reverse came.earlier ++ came.newest ∷ [];
-        in_batches = in_batches_from came.earlier came.newest (came.newest ∷ []) (all_full came.earlier came.all_filled) (last_of came.filled);
+        in_batches = all_in_batches early whole devices.input.before devices.input.now fed end (base ∷ earlier) came;
         are = came_after_all graph end came.newest came.earlier (base ∷ earlier) came.history_is ∙ order;
       };
       run = run;
@@ -92,30 +99,12 @@ live_lines {laws} report whole status devices boxes fed end base earlier first l
 
 -- More lines --
 
-cut_all : (batches : List (List (List ℕ))) (rest lines : List (List ℕ)) (cut : List (List (List ℕ))) → AllByRecursion (λ (b : List (List ℕ)). Fills More batch_size b) batches → lines ≡ lines_of batches ++ rest → InBatches lines cut
-    → (later : List (List (List ℕ))) × (cut ≡ reverse batches ++ later) × InBatches rest later
-cut_all [] rest lines cut all same is = (cut, refl, subst (λ (ls : List (List ℕ)). InBatches ls cut) same is)
-cut_all (batch ∷ batches) rest lines cut all same is =
-    let before = cut_all batches (batch ++ rest) lines cut all.1 (same ∙ append_assoc (lines_of batches) batch rest) is in
-    let here = cut_front batch rest (batch ++ rest) before.0 all.0 refl before.2 in (
-      here.0,
-      before.1 ∙ ap (λ (l : List (List (List ℕ))). reverse batches ++ l) here.1
-          ∙ sym (ap (λ (bs : List (List (List ℕ))). bs ++ here.0) (reverse-append (batch ∷ []) batches) ∙ append_assoc (reverse batches) (batch ∷ []) here.0),
-      here.2,
-    )
-
 -- what had come by some batches is a prefix of what comes by all batches
-come_of : (graph : GraphInputs) (end : FeedEnd) (batches : List (List (List ℕ))) (rest : List (List ℕ)) (later cut : List (List (List ℕ))) → cut ≡ reverse batches ++ later → InBatches rest later
+come_of : (early : Bool) (graph : GraphInputs) (end : FeedEnd) (batches : List (List (List ℕ))) (rest : List (List ℕ)) (later cut : List (List (List ℕ))) → cut ≡ reverse batches ++ later → InBatches early rest later
     → (behind : List Inputs) × (come_after graph end [] cut ≡ reverse (given_after graph batches) ++ behind)
-come_of graph end batches rest later cut front (last {lines = some} few) = (come_after graph end (lines_of batches) (some ∷ []), ap (come_after graph end []) front ∙ come_from graph end batches some [])
-come_of graph end batches rest later cut front (more {batch = one} {batches = others} filled behind) =
+come_of early graph end batches rest later cut front (last {lines = some} few) = (come_after graph end (lines_of batches) (some ∷ []), ap (come_after graph end []) front ∙ come_from graph end batches some [])
+come_of early graph end batches rest later cut front (more {batch = one} {batches = others} filled behind) =
     (come_after graph end (lines_of batches) (one ∷ others), ap (come_after graph end []) front ∙ come_from graph end batches one others)
-
-first_come : (graph : GraphInputs) (end : FeedEnd) (batches : List (List (List ℕ))) (rest lines : List (List ℕ)) (cut : List (List (List ℕ))) → AllByRecursion (λ (b : List (List ℕ)). Fills More batch_size b) batches → lines ≡ lines_of batches ++ rest
-    → InBatches lines cut → (later : List Inputs) × (come_after graph end [] cut ≡ reverse (given_after graph batches) ++ later)
-first_come graph end batches rest lines cut all same is =
-    let all_of = cut_all batches rest lines cut all same is in
-    come_of graph end batches rest all_of.0 cut all_of.1 all_of.2
 
 -- Memory ran out --
 
@@ -130,19 +119,20 @@ short_of {laws} whole output boxes base earlier takens streams so_far is_job sol
   first = first;
   takens = takens;
   so_far = so_far;
+  is_job = is_job;
   streams = streams;
   solution = solution;
   front = front_lines (logged laws (split_of whole).core (core_inputs (split_of whole) base takens) []) output.before output.now is_job front streams solution;
   had = had;
 }
 
-short_lines : {laws : Laws} (whole : Plan) (input : Device SourceTold) (output : Device SinkTold) (boxes : Device (List BoxTold)) (fed : Fed) (ended : Option FeedEnd) (at : SourceTold) (base : Inputs) (earlier : List Inputs) → LinesCame fed whole input.before at (end_by ended) (base ∷ earlier)
+short_lines : {laws : Laws} (early : Bool) (whole : Plan) (input : Device SourceTold) (output : Device SinkTold) (boxes : Device (List BoxTold)) (fed : Fed) (ended : Option FeedEnd) (at : SourceTold) (base : Inputs) (earlier : List Inputs) → LinesCame early fed whole input.before at (end_by ended) (base ∷ earlier)
     → (at ≡ input.now) ⊎ (IsMore (end_by ended) × ReadsOn fed whole input.before at input.now) → ((later batches : List Inputs) → batches ≡ reverse (base ∷ earlier) ++ later → LiveShort laws packet_lines whole batches output boxes)
-    → LiveShortAtEnd laws whole input output boxes ⊎ LiveShortBefore laws whole input output boxes
-short_lines {laws} whole input output boxes fed None at base earlier came read_last short =
+    → LiveShortAtEnd laws early whole input output boxes ⊎ LiveShortBefore laws early whole input output boxes
+short_lines {laws} early whole input output boxes fed None at base earlier came read_last short =
     let graph = inputs_of whole in
     let given = inputs_at graph (lines_of came.earlier ++ came.newest) false in
-    let gave : LinesGave fed whole input.before at More given = gave_as whole input.before at fed More base earlier came in
+    let gave : LinesGave fed whole input.before at More given = gave_as early whole input.before at fed More base earlier came in
     let on = read_on whole input fed at given gave read_last in
     inr (record {
       read = on.read;
@@ -154,36 +144,47 @@ short_lines {laws} whole input output boxes fed None at base earlier came read_l
         subst (λ (s : SourceTold). EndCame input.before s) (sym (on.none is).0) (end_came fed.read.ended input.before at came.is_read.met is),
         (on.none is).1,
       );
-      short = λ rest fits batches are.
+      short = λ rest fits.
           (let front = lines_in_front whole input.before at fed given gave rest fits in
-          let some = first_come graph (ended_input graph (came.past ++ rest)).end (came.newest ∷ came.earlier) front.0 (ended_input graph (came.past ++ rest)).lines are.lines (came.filled, all_full came.earlier came.all_filled) front.1 are.in_batches in
-          short some.0 batches (sym are.are ∙ some.1 ∙ ap (λ (l : List Inputs). reverse l ++ some.0) (sym came.history_is)));
+          let end = (ended_input graph (came.past ++ rest)).end in
+          let so_far = came.newest ∷ came.earlier in
+          let cut = some_cut early front.0 in
+          let some = come_of early graph end so_far front.0 cut.0 (reverse so_far ++ cut.0) refl cut.1 in (
+            come_after graph end [] (reverse so_far ++ cut.0),
+            record {
+              lines = reverse so_far ++ cut.0;
+              in_batches = subst (λ (ls : List (List ℕ)). InBatches early ls (reverse so_far ++ cut.0)) (sym front.1)
+                  (in_batches_from early so_far front.0 cut.0 (came.filled, all_cut early came.earlier came.all_filled) cut.1);
+              are = refl;
+            },
+            short some.0 (come_after graph end [] (reverse so_far ++ cut.0)) (some.1 ∙ ap (λ (l : List Inputs). reverse l ++ some.0) (sym came.history_is)),
+          ));
     })
-short_lines {laws} whole input output boxes fed (Some end) at base earlier came (inr further) short = absurd further.0
-short_lines {laws} whole input output boxes fed (Some end) at base earlier came (inl same) short =
+short_lines {laws} early whole input output boxes fed (Some end) at base earlier came (inr further) short = absurd further.0
+short_lines {laws} early whole input output boxes fed (Some end) at base earlier came (inl same) short =
     let graph = inputs_of whole in
     let read : Read = record { lines = lines_of came.earlier ++ came.newest; end = end } in
     let cut = reverse came.earlier ++ came.newest ∷ [] in
     inl (record {
       read = read;
       came = subst (λ (s : SourceTold). CameTo graph (device input.before s) read) same
-          (came_at whole input.before at fed end (inputs_at graph (lines_of came.earlier ++ came.newest) (is_ended end)) (gave_as whole input.before at fed (End end) base earlier came));
+          (came_at whole input.before at fed end (inputs_at graph (lines_of came.earlier ++ came.newest) (is_ended end)) (gave_as early whole input.before at fed (End end) base earlier came));
       batches = come_after graph end [] cut;
       are = record {
         lines = cut;
-        in_batches = in_batches_from came.earlier came.newest (came.newest ∷ []) (all_full came.earlier came.all_filled) (last_of came.filled);
+        in_batches = all_in_batches early whole input.before at fed end (base ∷ earlier) came;
         are = refl;
       };
       short = short [] (come_after graph end [] cut) (came_after_all graph end came.newest came.earlier (base ∷ earlier) came.history_is ∙ sym (append-nil (reverse (base ∷ earlier))));
     })
 
-pub live_lines_short : {laws : Laws} (whole : Plan) (input : Device SourceTold) (output : Device SinkTold) (boxes : Device (List BoxTold)) (fed : Fed) (ended : Option FeedEnd) (at : SourceTold) (base : Inputs) (earlier : List Inputs) (takens : List Taken) (streams : List (StreamPrefix Plain))
-    → LinesCame fed whole input.before at (end_by ended) (base ∷ earlier) → (at ≡ input.now) ⊎ (IsMore (end_by ended) × ReadsOn fed whole input.before at input.now) → SoFar laws (split_of whole) (base ∷ earlier) takens
+pub live_lines_short : {laws : Laws} (early : Bool) (whole : Plan) (input : Device SourceTold) (output : Device SinkTold) (boxes : Device (List BoxTold)) (fed : Fed) (ended : Option FeedEnd) (at : SourceTold) (base : Inputs) (earlier : List Inputs) (takens : List Taken) (streams : List (StreamPrefix Plain))
+    → LinesCame early fed whole input.before at (end_by ended) (base ∷ earlier) → (at ≡ input.now) ⊎ (IsMore (end_by ended) × ReadsOn fed whole input.before at input.now) → SoFar laws (split_of whole) (base ∷ earlier) takens
     → IsJob (core_job laws (split_of whole) base takens) → IsSolution (core_job laws (split_of whole) base takens) streams
     → IsToldSome HasLines (core_job laws (split_of whole) base takens) output.before output.now ⊎ FrontIn packet_lines output.before output.now (core_job laws (split_of whole) base takens)
-    → AllHad (split_of whole).core (KeepsAFront (core_job laws (split_of whole) base takens) streams) boxes → LiveShortAtEnd laws whole input output boxes ⊎ LiveShortBefore laws whole input output boxes
-live_lines_short {laws} whole input output boxes fed ended at base earlier takens streams came read_last so_far is_job solution front had =
-    short_lines whole input output boxes fed ended at base earlier came read_last (short_of whole output boxes base earlier takens streams so_far is_job solution front had)
+    → AllHad (split_of whole).core (KeepsAFront (core_job laws (split_of whole) base takens) streams) boxes → LiveShortAtEnd laws early whole input output boxes ⊎ LiveShortBefore laws early whole input output boxes
+live_lines_short {laws} early whole input output boxes fed ended at base earlier takens streams came read_last so_far is_job solution front had =
+    short_lines early whole input output boxes fed ended at base earlier came read_last (short_of whole output boxes base earlier takens streams so_far is_job solution front had)
 
 -- what a further call reads, if it may come
 pub may_read : (whole : Plan) (input : Device SourceTold) (fed : Fed) (ended : Option FeedEnd) (at : SourceTold) (allowed : Type 0) → allowed → (at ≡ input.now) ⊎ (IsMore (end_by ended) × (allowed → ReadsOn fed whole input.before at input.now))

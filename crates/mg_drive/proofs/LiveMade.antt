@@ -62,6 +62,7 @@ short_made {laws} whole number most now m output boxes ended base earlier takens
       ∙ ap (λ (i : Inputs). i ∷ []) (whole_made whole number m (end_by ended) came.inputs came.given (came.at_once le).1));
   takens = takens;
   so_far = so_far;
+  is_job = is_job;
   streams = streams;
   solution = solution;
   front = front_sums (logged laws (split_of whole).core (core_inputs (split_of whole) base takens) []) output.before output.now is_job front streams solution;

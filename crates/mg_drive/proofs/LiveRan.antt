@@ -120,6 +120,7 @@ live_ran {laws} {B} gives came is_due form report began live core status devices
           tells = subst (λ (fs : List FreeNode). LiveTells report live.whole (core_job laws split (last_batch first later) l.takens) w.streams fs l.takens w.live) l.of.frees_are
               (subst (λ (j : Job). LiveTells report live.whole j w.streams live.frees l.takens w.live) same (w.tells l.takens l.taken));
         };
+        is_job = subst IsJob same had.is_job;
         wrote = subst (λ (p : Plan). WroteBy status (told_answer report live.whole end w.live (output_in form p w.streams)) (told_failed report live.whole end w.live) devices.output devices.notes) l.of.core_is w.by;
         had = subst (HadIn boxes w.streams) same (had_in (job_in laws core inputs) w.streams boxes w.solution back had);
       };

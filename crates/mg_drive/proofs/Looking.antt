@@ -54,12 +54,12 @@ has_output {laws} job net stream stands less =
     (output.0, is)
 
 -- only sets were taken since the net came to rest, so its outputs are the same
-at_rest : {laws : Laws} (net : NetView) (streams : List (StreamPrefix Plain)) (are : AreRested laws net streams) (stream : ℕ) (output : Backlog Plain) → IsOutputOf net stream output → IsOutputOf are.has_rested.rested stream output
+pub at_rest : {laws : Laws} (net : NetView) (streams : List (StreamPrefix Plain)) (are : AreRested laws net streams) (stream : ℕ) (output : Backlog Plain) → IsOutputOf net stream output → IsOutputOf are.has_rested.rested stream output
 at_rest {laws} net streams are stream output is =
     subst (λ (es : List EngineView). IsOutputAmong are.has_rested.rested.plan es stream output) (ap (λ (v : NetView). v.engines) are.has_rested.since)
     (subst (λ (p : Plan). IsOutputAmong p net.engines stream output) (ap (λ (v : NetView). v.plan) are.has_rested.since) is)
 
-there_at_rest : {laws : Laws} (net : NetView) (streams : List (StreamPrefix Plain)) (are : AreRested laws net streams) (stream number : ℕ) → HasFrom net stream number → HasFrom are.has_rested.rested stream number
+pub there_at_rest : {laws : Laws} (net : NetView) (streams : List (StreamPrefix Plain)) (are : AreRested laws net streams) (stream number : ℕ) → HasFrom net stream number → HasFrom are.has_rested.rested stream number
 there_at_rest {laws} net streams are stream number has =
     leaves_keep net are.has_rested.rested stream number (sym (ap (λ (v : NetView). v.plan) are.has_rested.since)) (sym (ap (λ (v : NetView). v.engines) are.has_rested.since)) has
 

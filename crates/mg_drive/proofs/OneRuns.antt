@@ -21,6 +21,7 @@ EachHad job boxes streams = (number place : ℕ) (node : PlanNode) → slice_get
 pub one_run : (telling : Telling) (job : Job) (end : FeedEnd) (status : Status) (output notes : Device SinkTold) (boxes : Device (List BoxTold)) → CalculatorsCameBack job.plan boxes.before boxes.now → Wrote telling job end status output notes → HadCallsOf job boxes
     → OneRun telling job end status output notes boxes
 one_run telling job end status output notes boxes back wrote had = record {
+  is_job = had.is_job;
   streams = wrote.streams;
   solution = wrote.solution;
   wrote = wrote.by;
@@ -31,6 +32,7 @@ one_run telling job end status output notes boxes back wrote had = record {
 pub one_short : (form : OutputForm) (job : Job) (output : Device SinkTold) (boxes : Device (List BoxTold)) → CalculatorsCameBack job.plan boxes.before boxes.now → HadFronts job boxes
     → ((streams : List (StreamPrefix Plain)) → IsSolution job streams → TookFront output (output_in form job.plan streams)) → OneShort form job output boxes
 one_short form job output boxes back had front = record {
+  is_job = had.is_job;
   streams = had.streams;
   solution = had.solution;
   front = front had.streams had.solution;

@@ -95,8 +95,10 @@ front_whole form first sink job text whole = λ streams solution. put-front text
 -- each calculator that a node uses comes back with all its calls
 pub had_of : {laws : Laws} (job : LoggedJob laws) (net wound : NetView) → StandsFor job net → HasRested job net → WindsUpNet laws net wound → wound.wound ≡ length net.plan.nodes → HadAllOf job wound
 had_of {laws} job net wound stands h winds all =
-    let found = solved job (valid_plan job net stands) in
+    let is = valid_plan job net stands in
+    let found = solved job is in
     record {
+      is_job = is;
       streams = found.0;
       solution = found.1.solution;
       each = λ number place node there has outer.

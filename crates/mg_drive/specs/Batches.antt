@@ -1,5 +1,5 @@
 -- Batches, what they hand to a graph, and how a run goes on after each.
-use Rattle.std.specs.Prelude.{◌≡◌, ◌⊎◌, ◌<◌, ◌^◌, ℕ, List, All, length, slice_index_or, ⊤, refl}
+use Rattle.std.specs.Prelude.{◌≡◌, ◌⊎◌, ◌<◌, ◌+◌, ◌^◌, ℕ, List, All, Some, length, slice_get, slice_index_or, ⊤, refl}
 use Rattle.mg_edge.specs.Edge.{SourceTold, SinkTold}
 use Rattle.mg_value.specs.Payload.{Plain}
 use Rattle.mg_settled.specs.Prefix.{StreamPrefix, empty_prefix}
@@ -22,7 +22,8 @@ use Rattle.mg_answer.specs.Answer.{OutputForm, output_in}
 use Rattle.mg_answer.specs.Outcomes.{TellsOf}
 use Rattle.mg_answer.specs.Put.{TextView, HasPut}
 use Rattle.mg_answer.specs.declared.outcomes.Outcomes.{Outcomes}
-use Rattle.mg_drive.specs.Nets.{HasRested, Wanted, AreRead}
+use Rattle.mg_drive.specs.Nets.{HasRested, Wanted, AreRead, IsUnmoved}
+use Rattle.mg_drive.specs.declared.moved.Moved.{Moved}
 use Rattle.mg_drive.specs.declared.batches.Onward.{Onward}
 use Rattle.mg_drive.specs.declared.batches.Onward.TheVariants.{Round, Next, End as Over}
 
@@ -111,6 +112,12 @@ GoesOnward gives is_due wants began plan first source last so_far net now (Round
     (last ≡ More) × SomeComes (gives began now plan first source More) plan so_far inputs pieces
 GoesOnward gives is_due wants began plan first source last so_far net now Next = NextIsDue gives is_due wants began plan first source last so_far net now
 GoesOnward gives is_due wants began plan first source last so_far net now (Over end) = gives began now plan first source (End end) so_far
+
+-- the engines of the graph inputs that get pieces are noted
+abbrev pub InputsAreNoted : Onward → Moved → NetView → Type 0
+InputsAreNoted (Round inputs pieces) moved net = (i input : ℕ) → slice_get inputs i ≡ Some input → ¬ IsUnmoved moved (length net.plan.nodes + input)
+InputsAreNoted Next moved net = ⊤
+InputsAreNoted (Over end) moved net = ⊤
 
 -- the bound on the batches and rounds that may still come falls with each round, and stays otherwise
 abbrev pub RoundLeaves : Onward → ℕ → ℕ → Type 0

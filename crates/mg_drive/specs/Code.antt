@@ -6,4 +6,5 @@ pub mod InPieces
 pub mod Tracing
 pub mod Nothing
 pub mod Live
+pub mod Readers
 pub mod LiveRunning

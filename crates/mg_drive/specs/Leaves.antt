@@ -10,7 +10,7 @@ use Rattle.mg_calc.specs.declared.call.Call.TheVariants.{Begun, Shown, Finished}
 use Rattle.mg_calc.specs.declared.plan.Plan.{Plan}
 use Rattle.mg_calc.specs.declared.plan_node.PlanNode.{PlanNode}
 use Rattle.mg_calc.specs.Outcome.{Outcome, shown_all}
-use Rattle.mg_calc.specs.Equations.{Job, IsSolution, sides_of, inputs_of as ports_of, outcome_of, rules_at}
+use Rattle.mg_calc.specs.Equations.{Job, IsJob, IsSolution, sides_of, inputs_of as ports_of, outcome_of, rules_at}
 use Rattle.mg_calc.specs.Meaning.{count_of, shown_sets, log_of}
 use Rattle.mg_calc.specs.Told.{BoxTold}
 use Rattle.mg_feed.specs.Graph.{inputs_of}
@@ -44,8 +44,10 @@ pub record IsRelatedAt (place : ℕ) (P : BoxTold → BoxTold → Type 0) (boxes
   pub is : slice_get boxes.now place ≡ Some now
   pub holds : P before now
 
--- Each calculator that a node uses had all the calls that its node has in the solution of a job.
+-- Each calculator that a node uses had all the calls that its node has in the solution of a job. The job has a valid plan, and inputs that
+-- fit it.
 pub record HadCallsOf (job : Job) (boxes : Device (List BoxTold)) : Type 0 where
+  pub is_job : IsJob job
   pub streams : List (StreamPrefix Plain)
   pub solution : IsSolution job streams
   pub each : (number place : ℕ) (node : PlanNode) → slice_get job.plan.nodes number ≡ Some node → node.box_number ≡ Some place
@@ -85,7 +87,9 @@ pub record KeepsAFront (job : Job) (streams : List (StreamPrefix Plain)) (node :
   pub state : (shown : ℕ) → front.count ≡ suc shown → now.state ≡ kept_by job streams node shown front.close
 
 -- Each calculator that a node uses had a prefix of the calls that its node has in the solution of a job. It keeps what these calls leave.
+-- The job has a valid plan, and inputs that fit it.
 pub record HadFronts (job : Job) (boxes : Device (List BoxTold)) : Type 0 where
+  pub is_job : IsJob job
   pub streams : List (StreamPrefix Plain)
   pub solution : IsSolution job streams
   pub each : (number place : ℕ) (node : PlanNode) → slice_get job.plan.nodes number ≡ Some node → node.box_number ≡ Some place

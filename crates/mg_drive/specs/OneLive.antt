@@ -9,7 +9,7 @@ use Rattle.mg_settled.specs.Prefix.{StreamPrefix}
 use Rattle.mg_calc.specs.Rules.{Laws}
 use Rattle.mg_calc.specs.declared.inputs.Inputs.{Inputs}
 use Rattle.mg_calc.specs.declared.plan.Plan.{Plan}
-use Rattle.mg_calc.specs.Equations.{IsSolution}
+use Rattle.mg_calc.specs.Equations.{IsJob, IsSolution}
 use Rattle.mg_calc.specs.Told.{BoxTold}
 use Rattle.mg_free.specs.Core.{split_of}
 use Rattle.mg_free.specs.Logs.{output_of}
@@ -54,18 +54,19 @@ pub record IsLiveAnswer (laws : Laws) (form : OutputForm) (report : Reporting) (
   pub comes : ComesTo laws report whole first later
   pub is : answer ≡ told_answer report whole end comes.live (output_in form (split_of whole).core comes.streams)
 
--- A run over batches, by how its input ended. The output, the status and the notes are those of the core's solution, by the plan's numbers.
--- If the arrivals are asked for, the notes have a line for each. Each user-supplied calculator had exactly the calls that its node has in
--- that solution.
+-- A run over batches, by how its input ended. The core is a job for what the free nodes took: its plan is valid, and its inputs fit it. The
+-- output, the status and the notes are those of the core's solution, by the plan's numbers. If the arrivals are asked for, the notes have a
+-- line for each. Each user-supplied calculator had exactly the calls that its node has in that solution.
 pub record OneLive (laws : Laws) (form : OutputForm) (report : Reporting) (whole : Plan) (first : Inputs) (later : List Inputs) (end : FeedEnd) (status : Status) (output notes : Device SinkTold) (boxes : Device (List BoxTold)) : Type 0 where
   pub comes : ComesTo laws report whole first later
+  pub is_job : IsJob (core_job laws (split_of whole) (last_batch first later) comes.takens)
   pub wrote : WroteBy status (told_answer report whole end comes.live (output_in form (split_of whole).core comes.streams)) (told_failed report whole end comes.live) output notes
   pub had : AllHad (split_of whole).core (HadItsCalls (core_job laws (split_of whole) (last_batch first later) comes.takens) comes.streams) boxes
 
 -- A run over batches in which memory ran out. By then a prefix of the batches had come: the last of these is `base`, and those before it
--- are `earlier`, the newest first. Rounds over these had given logs. For what the free nodes had taken, there is a solution of the core. By
--- this solution the output took a prefix of the text, and each calculator had a prefix of its calls. Each calculator keeps what these calls
--- leave.
+-- are `earlier`, the newest first. Rounds over these had given logs. For what the free nodes had taken the core is a job, and this has a
+-- solution. By this solution the output took a prefix of the text, and each calculator had a prefix of its calls. Each calculator keeps what
+-- these calls leave.
 pub record LiveShort (laws : Laws) (form : OutputForm) (whole : Plan) (batches : List Inputs) (output : Device SinkTold) (boxes : Device (List BoxTold)) : Type 0 where
   pub base : Inputs
   pub earlier : List Inputs
@@ -73,6 +74,7 @@ pub record LiveShort (laws : Laws) (form : OutputForm) (whole : Plan) (batches :
   pub first : batches ≡ reverse (base ∷ earlier) ++ later
   pub takens : List Taken
   pub so_far : SoFar laws (split_of whole) (base ∷ earlier) takens
+  pub is_job : IsJob (core_job laws (split_of whole) base takens)
   pub streams : List (StreamPrefix Plain)
   pub solution : IsSolution (core_job laws (split_of whole) base takens) streams
   pub front : TookFront output (output_in form (split_of whole).core streams)
@@ -80,61 +82,63 @@ pub record LiveShort (laws : Laws) (form : OutputForm) (whole : Plan) (batches :
 
 -- Over packet lines --
 
--- the batches of the lines that were read of an input: what all batches up to each one have given together
-pub record AreBatchesOf (whole : Plan) (read : Read) (batches : List Inputs) : Type 0 where
+-- Batches of the lines that were read of an input: what all batches up to each one have given together. `early` says whether a batch may
+-- end early. If not, there is one way to split the lines.
+pub record AreBatchesOf (early : Bool) (whole : Plan) (read : Read) (batches : List Inputs) : Type 0 where
   pub lines : List (List (List ℕ))
-  pub in_batches : InBatches read.lines lines
+  pub in_batches : InBatches early read.lines lines
   pub are : come_after (inputs_of whole) read.end [] lines ≡ batches
 
 -- The input was read to its end, its first line that isn't good or its first failed read. The batches of its lines were run.
-pub record OneLiveReading (laws : Laws) (report : Reporting) (whole : Plan) (status : Status) (devices : RunDevices) (boxes : Device (List BoxTold)) : Type 0 where
+pub record OneLiveReading (laws : Laws) (report : Reporting) (early : Bool) (whole : Plan) (status : Status) (devices : RunDevices) (boxes : Device (List BoxTold)) : Type 0 where
   pub read : Read
   pub came : CameTo (inputs_of whole) devices.input read
   pub first : Inputs
   pub later : List Inputs
-  pub batches : AreBatchesOf whole read (first ∷ later)
+  pub batches : AreBatchesOf early whole read (first ∷ later)
   pub run : OneLive laws packet_lines report whole first later read.end status devices.output devices.notes boxes
 
 -- Memory ran out once the whole input had been read, to its end, its first line that isn't good or its first failed read.
-pub record LiveShortAtEnd (laws : Laws) (whole : Plan) (input : Device SourceTold) (output : Device SinkTold) (boxes : Device (List BoxTold)) : Type 0 where
+pub record LiveShortAtEnd (laws : Laws) (early : Bool) (whole : Plan) (input : Device SourceTold) (output : Device SinkTold) (boxes : Device (List BoxTold)) : Type 0 where
   pub read : Read
   pub came : CameTo (inputs_of whole) input read
   pub batches : List Inputs
-  pub are : AreBatchesOf whole read batches
+  pub are : AreBatchesOf early whole read batches
   pub short : LiveShort laws packet_lines whole batches output boxes
 
 -- Memory ran out while the input went on. The input was read once, and `first` are the first of the bytes that came. More bytes may follow
--- these, unless the source had ended with them. Whatever bytes follow, what was written and called is a prefix of what belongs to the
--- batches of the whole input.
-pub record LiveShortBefore (laws : Laws) (whole : Plan) (input : Device SourceTold) (output : Device SinkTold) (boxes : Device (List BoxTold)) : Type 0 where
+-- these, unless the source had ended with them. Whatever bytes follow, there are batches of the whole input, and what was written and called
+-- is a prefix of what belongs to these.
+pub record LiveShortBefore (laws : Laws) (early : Bool) (whole : Plan) (input : Device SourceTold) (output : Device SinkTold) (boxes : Device (List BoxTold)) : Type 0 where
   pub read : ReadSome (inputs_of whole) input
   pub first : List ℕ
   pub later : List ℕ
   pub split : read.came ≡ first ++ later
   pub ended : Bool
   pub met : ended ≡ true → EndCame input.before input.now × (later ≡ [])
-  pub short : (rest : List ℕ) → (ended ≡ true → rest ≡ []) → (batches : List Inputs) → AreBatchesOf whole (ended_input (inputs_of whole) (first ++ rest)) batches
-      → LiveShort laws packet_lines whole batches output boxes
+  pub short : (rest : List ℕ) → (ended ≡ true → rest ≡ []) → (batches : List Inputs) × AreBatchesOf early whole (ended_input (inputs_of whole) (first ++ rest)) batches
+      × LiveShort laws packet_lines whole batches output boxes
 
 -- memory ran out before anything was written or called, once the input had been read, or while it went on
-abbrev pub LiveShortIn : Laws → Plan → Device SourceTold → Device SinkTold → Device (List BoxTold) → Type 0
-LiveShortIn laws whole input output boxes = ShortAtOnce whole input output boxes ⊎ (LiveShortAtEnd laws whole input output boxes ⊎ LiveShortBefore laws whole input output boxes)
+abbrev pub LiveShortIn : Laws → Bool → Plan → Device SourceTold → Device SinkTold → Device (List BoxTold) → Type 0
+LiveShortIn laws early whole input output boxes =
+    ShortAtOnce whole input output boxes ⊎ (LiveShortAtEnd laws early whole input output boxes ⊎ LiveShortBefore laws early whole input output boxes)
 
 -- A run over packet lines ended because memory ran out, and the notes say only that.
-pub record LiveShortReading (laws : Laws) (whole : Plan) (status : Status) (devices : RunDevices) (boxes : Device (List BoxTold)) : Type 0 where
+pub record LiveShortReading (laws : Laws) (early : Bool) (whole : Plan) (status : Status) (devices : RunDevices) (boxes : Device (List BoxTold)) : Type 0 where
   pub is : status ≡ OutOfMemory
   pub noted : TookNotes devices.notes memory_note
-  pub by : LiveShortIn laws whole devices.input devices.output boxes
+  pub by : LiveShortIn laws early whole devices.input devices.output boxes
 
--- a run over packet lines ended with this status: over the whole input, or because memory ran out
-abbrev pub RanLive : Laws → Reporting → Plan → Status → RunDevices → Device (List BoxTold) → Type 0
-RanLive laws report whole status devices boxes = OneLiveReading laws report whole status devices boxes ⊎ LiveShortReading laws whole status devices boxes
+-- A run over packet lines, whose batches may end early or not, ended with this status: over the whole input, or because memory ran out.
+abbrev pub RanLive : Laws → Reporting → Bool → Plan → Status → RunDevices → Device (List BoxTold) → Type 0
+RanLive laws report early whole status devices boxes = OneLiveReading laws report early whole status devices boxes ⊎ LiveShortReading laws early whole status devices boxes
 
--- the answer of a graph with free nodes over an input that ended after these bytes
-pub record AnswersLive (laws : Laws) (report : Reporting) (whole : Plan) (bytes : List ℕ) (answer : RunAnswer) : Type 0 where
+-- An answer of a graph with free nodes over an input that ended after these bytes. If batches may not end early, there is one.
+pub record AnswersLive (laws : Laws) (report : Reporting) (early : Bool) (whole : Plan) (bytes : List ℕ) (answer : RunAnswer) : Type 0 where
   pub first : Inputs
   pub later : List Inputs
-  pub batches : AreBatchesOf whole (ended_input (inputs_of whole) bytes) (first ∷ later)
+  pub batches : AreBatchesOf early whole (ended_input (inputs_of whole) bytes) (first ∷ later)
   pub answers : IsLiveAnswer laws packet_lines report whole first later (ended_input (inputs_of whole) bytes).end answer
 
 -- Over packets that are made, all in one batch --

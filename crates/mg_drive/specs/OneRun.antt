@@ -7,7 +7,7 @@ use Rattle.mg_settled.specs.Prefix.{StreamPrefix}
 use Rattle.mg_calc.specs.Rules.{Laws}
 use Rattle.mg_calc.specs.declared.plan.Plan.{Plan}
 use Rattle.mg_calc.specs.declared.plan_node.PlanNode.{PlanNode}
-use Rattle.mg_calc.specs.Equations.{Job, IsSolution}
+use Rattle.mg_calc.specs.Equations.{Job, IsJob, IsSolution}
 use Rattle.mg_calc.specs.Told.{BoxTold}
 use Rattle.mg_feed.specs.Graph.{inputs_of}
 use Rattle.mg_feed.specs.Ran.{EndCame}
@@ -33,17 +33,20 @@ pub record AllHad (plan : Plan) (had : PlanNode → BoxTold → BoxTold → Type
   pub back : CalculatorsCameBack plan boxes.before boxes.now
   pub used : (number place : ℕ) (node : PlanNode) → slice_get plan.nodes number ≡ Some node → node.box_number ≡ Some place → IsRelatedAt place (had node) boxes
 
--- A run of a job, by how its input ended. There is one solution, and the output, the notes and the status are those of this solution. Each
--- user-supplied calculator had exactly the calls that its node has in the solution: Open, each of the node's settled sets, and Close.
+-- A run of a job, by how its input ended. The job has a valid plan, and inputs that fit it. There is one solution, and the output, the notes
+-- and the status are those of this solution. Each user-supplied calculator had exactly the calls that its node has in the solution: Open,
+-- each of the node's settled sets, and Close.
 pub record OneRun (telling : Telling) (job : Job) (end : FeedEnd) (status : Status) (output notes : Device SinkTold) (boxes : Device (List BoxTold)) : Type 0 where
+  pub is_job : IsJob job
   pub streams : List (StreamPrefix Plain)
   pub solution : IsSolution job streams
   pub wrote : WroteBy status (answer_of telling job end streams) (failed_notes telling job end streams) output notes
   pub had : AllHad job.plan (HadItsCalls job streams) boxes
 
--- A run of a job in which memory ran out. By the one solution the output took a prefix of the text, and each calculator had a prefix of its
--- calls. Each calculator keeps what these calls leave.
+-- A run of a job in which memory ran out. The job has a valid plan, and inputs that fit it. By the one solution the output took a prefix of
+-- the text, and each calculator had a prefix of its calls. Each calculator keeps what these calls leave.
 pub record OneShort (form : OutputForm) (job : Job) (output : Device SinkTold) (boxes : Device (List BoxTold)) : Type 0 where
+  pub is_job : IsJob job
   pub streams : List (StreamPrefix Plain)
   pub solution : IsSolution job streams
   pub front : TookFront output (output_in form job.plan streams)

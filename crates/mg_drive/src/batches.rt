@@ -5,6 +5,7 @@ ghost use Rattle.mg_calc.specs.declared.plan.Plan.{Plan};
 ghost use Rattle.mg_calc.specs.declared.inputs.Inputs.{Inputs as Given};
 ghost use Rattle.mg_calc.specs.Plan.{IsValidWithFree};
 ghost use Rattle.mg_calc.specs.Equations.{Job};
+ghost use Rattle.mg_sched.specs.Views.{NetView};
 ghost use Rattle.mg_feed.specs.declared.feed_end.BatchEnd.{BatchEnd as Ending};
 ghost use Rattle.mg_feed.specs.declared.feed_end.FeedEnd.{FeedEnd as FeedEnding};
 ghost use Rattle.mg_answer.specs.Answer.{OutputForm};
@@ -12,10 +13,10 @@ ghost use Rattle.mg_answer.specs.Put.{HasPut};
 ghost use Rattle.mg_answer.specs.Devices.{Device, device, TookFront};
 ghost use Rattle.mg_answer.specs.declared.status.Status.{Status as Stands};
 ghost use Rattle.mg_answer.specs.declared.run.Reporting.{Reporting};
-ghost use Rattle.mg_drive.specs.Nets.{Wanted, AreThere};
-ghost use Rattle.mg_drive.specs.Batches.{IsMore, MayRead, IsFirst, BatchesGoOn, GoesOnward, RoundLeaves, SomeGiven, IsAsGiven, OutcomesFit, AreOfGiven, TellsSolution};
+ghost use Rattle.mg_drive.specs.Nets.{Wanted, AreThere, KnowsSince};
+ghost use Rattle.mg_drive.specs.Batches.{IsMore, MayRead, IsFirst, BatchesGoOn, GoesOnward, InputsAreNoted, RoundLeaves, SomeGiven, IsAsGiven, OutcomesFit, AreOfGiven, TellsSolution};
 
-use crate::Driven;
+use crate::{Driven, Moved};
 use mg_answer::{Outcomes, OutputText, Run, Status};
 use mg_calc::Inputs;
 use mg_edge::{Sink, Source};
@@ -68,6 +69,10 @@ pub trait Batches: Drop {
     /// Which packets of a net's streams it still has to read. The net mustn't give them up.
     ghost wants: { Self → List Wanted };
 
+    /// What it knows of a net that it saw at rest, by the rules of the net's stated laws. It knows this of the net still, as far as no engine
+    /// has changed since.
+    ghost knows: { Laws → Self → NetView → Type 0 };
+
     /// What a further call of `next` reads of its source for a plan, whatever that call returns. The source told the first `SourceTold`
     /// when the run began, the second before the call, and the third after it.
     ghost reads_on: { Self → Plan → SourceTold → SourceTold → SourceTold → Type 0 };
@@ -98,13 +103,24 @@ pub trait Batches: Drop {
             → gives laws began self.old plan first (S.told input.old) BatchEnd.More so_far → is_due self.old plan so_far
             → IfOk result (λ b. IsMore b.end → left self.new < left self.old) }
         ensures wants { wants self.new ≡ wants self.old }
+        ensures knows { OnOk result ((laws : Laws) (net : NetView) → knows laws self.old net → knows laws self.new net) }
+        ensures knows_first { OnOk result ((laws : Laws) (plan : Plan) (net : NetView) → is_fresh self.old plan → net.plan ≡ plan → knows laws self.new net) }
         ensures further { (plan : Plan) (first : SourceTold) → MayRead is_fresh is_due self.old plan → reads_on self.old plan first (S.told input.old) (S.told input.new) }
         ensures unread { reads ≡ false → S.told input.new ≡ S.told input.old };
 
-    /// Returns how the run goes on, once its net has come to rest over all that was given. `last` tells how the last batch ended.
-    fn onward<N: Driven>(&mut self, last: BatchEnd, net: &N) -> Result<Onward, AllocError>
+    /// Returns how the run goes on, once its net has come to rest over all that was given. `last` tells how the last batch ended. `moved` has
+    /// the engines that may have changed since the net was last seen here. Then it has those that change if the run goes on so.
+    fn onward<N: Driven>(
+        &mut self,
+        last: BatchEnd,
+        net: &N,
+        moved: &mut Moved,
+    ) -> Result<Onward, AllocError>
         requires given { SomeGiven N.laws (gives N.laws) last (N.net net.now) self.old }
         requires there { AreThere (wants self.old) (N.net net.now) }
+        requires knows { KnowsSince (knows N.laws self.old) moved.old (N.net net.now) }
+        ensures knows { OnOk result (KnowsSince (knows N.laws self.new) moved.new (N.net net.now)) }
+        ensures noted { IfOk result (λ onward. InputsAreNoted onward moved.new (N.net net.now)) }
         ensures onward { (began : Self) (plan : Plan) (first source : SourceTold) (so_far : Given) → IsAsGiven N.laws (gives N.laws) began plan first source last so_far (N.net net.now) self.old
             → IfOk result (GoesOnward (gives N.laws) is_due wants began plan first source last so_far (N.net net.now) self.new) }
         ensures there { OnOk result (AreThere (wants self.new) (N.net net.now)) }

@@ -1,4 +1,4 @@
-ghost use Rattle.std.specs.Prelude.{◌≡◌, ◌<◌, ◌≤◌, ℕ, List, None, length, option_copied, IfOk, OnOk, OnErr};
+ghost use Rattle.std.specs.Prelude.{◌≡◌, ◌<◌, ◌≤◌, ℕ, List, None, length, slice_get, option_copied, IfOk, OnOk, OnErr};
 ghost use Rattle.std.specs.Bool.{OnTrue};
 ghost use Rattle.mg_value.specs.Payload.{Plain};
 ghost use Rattle.mg_settled.specs.Prefix.{StreamPrefix};
@@ -16,8 +16,9 @@ ghost use Rattle.mg_sched.specs.Taking.{TakesOut, taken_out};
 ghost use Rattle.mg_sched.specs.Looks.{IsOutputOf, HasFrom};
 ghost use Rattle.mg_sched.specs.Reports.{report_of};
 ghost use Rattle.mg_sched.specs.WindsUp.{MayWindUp, WindsUpNet};
-ghost use Rattle.mg_drive.specs.Nets.{Keeps, GaveNothingUp, HasAtMost};
+ghost use Rattle.mg_drive.specs.Nets.{Keeps, GaveNothingUp, HasAtMost, NotesMoves, IsNoInput};
 
+use crate::Moved;
 use mg_calc::Inputs;
 use mg_sched::Report;
 use mg_settled::{InputSet, PrefixList};
@@ -43,11 +44,12 @@ pub trait Driven {
         ensures taken { taken_out (net self.new) ≡ taken_out (net self.old) }
         ensures stands { (job : LoggedJob laws) → StandsFor job (net self.old) → StandsFor job (net self.new) };
 
-    /// Sweeps the net until no node can go further. It takes no set of the outputs.
-    fn to_rest(&mut self) -> Result<(), AllocError>
+    /// Sweeps the net until no node can go further. It takes no set of the outputs. It notes the engines that may have changed.
+    fn to_rest(&mut self, moved: &mut Moved) -> Result<(), AllocError>
         requires running { IsRunning (net self.old) }
         requires stands { StandsForSome laws (net self.old) }
         ensures rest { OnOk result (IsAtRest laws (net self.new)) }
+        ensures moved { OnOk result (NotesMoves moved.old moved.new (net self.old) (net self.new)) }
         ensures running { IsRunning (net self.new) }
         ensures keeps { Keeps (net self.old) (net self.new) }
         ensures whole { GaveNothingUp (net self.old) (net self.new) }
@@ -64,10 +66,11 @@ pub trait Driven {
         ensures unchanged { OnErr result (net self.new ≡ net self.old) }
         ensures stands { (first later : LoggedJob laws) → GoesOnWith more.now first later → StandsFor first (net self.old) → OnOk result (StandsFor later (net self.new)) };
 
-    /// Takes in further input at some graph inputs alone, by their rising numbers, a piece for each of them. An `Err` means that memory ran
-    /// out, and leaves the net as it was.
+    /// Takes in further input at some graph inputs alone, by their rising numbers, a piece for each of them. All other engines stay as they
+    /// are. An `Err` means that memory ran out, and leaves the net as it was.
     fn extend_some(&mut self, inputs: &NumberList, pieces: &PrefixList) -> Result<(), AllocError>
         requires may { MayGoOnAt laws inputs.now pieces.now (net self.old) }
+        ensures others { OnOk result ((place : ℕ) → IsNoInput (length (net self.old).plan.nodes) inputs.now place → slice_get (net self.new).engines place ≡ slice_get (net self.old).engines place) }
         ensures running { IsRunning (net self.old) → IsRunning (net self.new) }
         ensures keeps { Keeps (net self.old) (net self.new) }
         ensures whole { GaveNothingUp (net self.old) (net self.new) }

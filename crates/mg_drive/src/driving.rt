@@ -7,13 +7,14 @@ ghost use Rattle.mg_calc.specs.declared.plan.Plan.{Plan};
 ghost use Rattle.mg_value.specs.Payload.{Plain};
 ghost use Rattle.mg_settled.specs.Prefix.{StreamPrefix};
 ghost use Rattle.mg_node.specs.Job.{LoggedJob, Solves};
+ghost use Rattle.mg_sched.specs.Views.{NetView};
 ghost use Rattle.mg_sched.specs.StandsFor.{StandsFor, IsRunning};
 ghost use Rattle.mg_sched.specs.Taking.{taken_out, settled_outputs, HasAllOutputs, LeavesNodes};
-ghost use Rattle.mg_drive.specs.Nets.{Keeps, GaveNothingUp, AreThere, AreRead};
+ghost use Rattle.mg_drive.specs.Nets.{Keeps, GaveNothingUp, AreThere, AreRead, NotesMoves, KnowsSince};
 ghost use Rattle.mg_drive.specs.Batches.{IsMore};
 ghost use Rattle.mg_drive.specs.Code.Running.{Start, job_with, IsTold, IsToldSome, IsSomeTold, IsUnderWay, IsSomeRun, IsSomeMore, WentOn, HasRested, IsAllTaken, RunIsOver, HasStepped, LeavesFewer, IsShort};
 
-use crate::{Batches, Driven, ManyThreads, NetEnds, Onward, Telling};
+use crate::{Batches, Driven, ManyThreads, Moved, NetEnds, Onward, Telling};
 use mg_calc::NodeCalculator;
 use mg_edge::{Gate, Sink, Source};
 use mg_feed::{BatchEnd, FeedEnd};
@@ -34,6 +35,7 @@ fn next_batch<N: Driven, B: Batches, S: Source>(
         → B.is_due batches.old start.plan inputs → StandsFor (job_with N.laws start inputs) (N.net net.old) → WentOn N.laws (B.gives N.laws) start end (S.told input.new) batches.new inputs (N.net net.new)) }
     ensures fewer { IfOk result (λ end. IsMore end → B.left batches.new < B.left batches.old) }
     ensures there { AreThere (B.wants batches.new) (N.net net.new) }
+    ensures knows { OnOk result ((seen : NetView) → B.knows N.laws batches.old seen → B.knows N.laws batches.new seen) }
     ensures same { OnErr result ((job : LoggedJob N.laws) → StandsFor job (N.net net.old) → StandsFor job (N.net net.new)) }
     ensures taken { taken_out (N.net net.new) ≡ taken_out (N.net net.old) }
     ensures running { IsRunning (N.net net.old) → IsRunning (N.net net.new) }
@@ -75,9 +77,10 @@ pub fn take_all<N: Driven, T: Telling, K: Sink>(
     Ok(())
 }
 
-// Brings a net to rest, and tells all sets that its outputs then have.
+// Brings a net to rest, notes the engines that may have changed, and tells all sets that the net's outputs then have.
 fn advance<N: Driven, T: Telling, K: Sink>(
     net: &mut N,
+    moved: &mut Moved,
     set: &mut InputSet,
     telling: &mut T,
     output: &mut K,
@@ -94,9 +97,10 @@ fn advance<N: Driven, T: Telling, K: Sink>(
         → IsTold T.has_told job.job first (K.told output.new) (taken_out (N.net net.new)) telling.new) }
     ensures front { OnErr result ((job : LoggedJob N.laws) (first : SinkTold) → StandsFor job (N.net net.old) → IsTold T.has_told job.job first (K.told output.old) (taken_out (N.net net.old)) telling.old
         → IsToldSome T.has_told job.job first (K.told output.new)) }
+    ensures moved { OnOk result (NotesMoves moved.old moved.new (N.net net.old) (N.net net.new)) }
     ensures rested { OnOk result ((job : LoggedJob N.laws) → StandsFor job (N.net net.old) → HasRested job (N.net net.new) × IsAllTaken job (N.net net.new)) }
 {
-    net.to_rest()?;
+    net.to_rest(moved)?;
     take_all(net, set, telling, output)?;
     Ok(())
 }
@@ -122,6 +126,7 @@ pub fn make_step<N: Driven, B: Batches, T: Telling, S: Source, K: Sink>(
     requires under_way { (plan : Plan) × IsSomeRun N.laws (B.gives N.laws) T.has_told plan last (S.told input.old) (K.told output.old) ends.old.batches ends.old.telling (N.net net.old) }
     requires running { IsRunning (N.net net.old) }
     requires there { AreThere (B.wants ends.old.batches) (N.net net.old) }
+    requires knows { KnowsSince (B.knows N.laws ends.old.batches) ends.old.moved (N.net net.old) }
     requires places { length ends.old.set ≡ length (N.net net.old).plan.outputs }
     ensures stepped { IfOk result (λ step. (start : Start B) → IsUnderWay N.laws (B.gives N.laws) T.has_told start last (S.told input.old) (K.told output.old) ends.old.batches ends.old.telling (N.net net.old)
         → HasStepped N.laws (B.gives N.laws) T.has_told start step (S.told input.new) (K.told output.new) ends.new.batches ends.new.telling (N.net net.new)) }
@@ -130,12 +135,19 @@ pub fn make_step<N: Driven, B: Batches, T: Telling, S: Source, K: Sink>(
     ensures fewer { IfOk result (λ step. LeavesFewer step last (B.left ends.old.batches) (B.left ends.new.batches)) }
     ensures running { OnOk result (IsRunning (N.net net.new)) }
     ensures there { OnOk result (AreThere (B.wants ends.new.batches) (N.net net.new)) }
+    ensures knows { OnOk result (KnowsSince (B.knows N.laws ends.new.batches) ends.new.moved (N.net net.new)) }
     ensures places { OnOk result (length ends.new.set ≡ length (N.net net.new).plan.outputs) }
     ensures keeps { Keeps (N.net net.old) (N.net net.new) }
     ensures unread { B.reads ≡ false → S.told input.new ≡ S.told input.old }
 {
-    advance(net, &mut ends.set, &mut ends.telling, output)?;
-    let onward = ends.batches.onward(last, net)?;
+    advance(
+        net,
+        &mut ends.moved,
+        &mut ends.set,
+        &mut ends.telling,
+        output,
+    )?;
+    let onward = ends.batches.onward(last, net, &mut ends.moved)?;
     match onward {
         Onward::Round(inputs, pieces) => {
             net.extend_some(&inputs, &pieces)?;
@@ -144,6 +156,7 @@ pub fn make_step<N: Driven, B: Batches, T: Telling, S: Source, K: Sink>(
         Onward::Next => {
             ends.telling.pass_on(output);
             let end = next_batch(net, &mut ends.batches, input)?;
+            ends.moved.note_all();
             Ok(Step::On(end))
         }
         Onward::End(end) => Ok(Step::Over(end)),
@@ -161,6 +174,7 @@ pub fn drive_alone<N: Driven, B: Batches, T: Telling, S: Source, K: Sink>(
 ) -> Result<FeedEnd, AllocError>
     requires under_way { (plan : Plan) × IsSomeRun N.laws (B.gives N.laws) T.has_told plan first (S.told input.old) (K.told output.old) ends.old.batches ends.old.telling (N.net net.old) }
     requires there { AreThere (B.wants ends.old.batches) (N.net net.old) }
+    requires knows { KnowsSince (B.knows N.laws ends.old.batches) ends.old.moved (N.net net.old) }
     requires places { length ends.old.set ≡ length (N.net net.old).plan.outputs }
     ensures over { IfOk result (λ end. (start : Start B) → IsUnderWay N.laws (B.gives N.laws) T.has_told start first (S.told input.old) (K.told output.old) ends.old.batches ends.old.telling (N.net net.old)
         → RunIsOver N.laws (B.gives N.laws) T.has_told start end (S.told input.new) (K.told output.new) ends.new.batches ends.new.telling (N.net net.new)) }
@@ -170,6 +184,7 @@ pub fn drive_alone<N: Driven, B: Batches, T: Telling, S: Source, K: Sink>(
     ensures unread { B.reads ≡ false → S.told input.new ≡ S.told input.old }
 {
     net.begin()?;
+    ends.moved.note_all();
     let mut last = first;
     'steps: loop {
         let stepped = make_step(net, ends, last, input, output)?;
@@ -198,6 +213,7 @@ pub fn drive<
 ) -> Result<FeedEnd, AllocError>
     requires under_way { (plan : Plan) × IsSomeRun C.laws (B.gives C.laws) T.has_told plan first (S.told input.old) (K.told output.old) ends.old.batches ends.old.telling net.old.one.net }
     requires there { AreThere (B.wants ends.old.batches) net.old.one.net }
+    requires knows { KnowsSince (B.knows C.laws ends.old.batches) ends.old.moved net.old.one.net }
     requires places { length ends.old.set ≡ length net.old.one.net.plan.outputs }
     ensures over { IfOk result (λ end. (start : Start B) → IsUnderWay C.laws (B.gives C.laws) T.has_told start first (S.told input.old) (K.told output.old) ends.old.batches ends.old.telling net.old.one.net
         → RunIsOver C.laws (B.gives C.laws) T.has_told start end (S.told input.new) (K.told output.new) ends.new.batches ends.new.telling net.new.one.net) }
@@ -207,9 +223,10 @@ pub fn drive<
     ensures unread { B.reads ≡ false → S.told input.new ≡ S.told input.old }
 {
     net.begin()?;
+    ends.moved.note_all();
     let mut last = first;
     'steps: loop {
-        net.work();
+        net.work(&mut ends.moved);
         let stepped = make_step(net, ends, last, input, output)?;
         match stepped {
             Step::On(end) => last = end,

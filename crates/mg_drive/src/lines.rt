@@ -11,10 +11,10 @@ ghost use Rattle.mg_answer.specs.Wrote.{Wrote};
 ghost use Rattle.mg_answer.specs.Held.{told_by, SameDevices};
 ghost use Rattle.mg_sched.specs.Made.{BoxesFit};
 ghost use Rattle.mg_drive.specs.OneRun.{OneReading, ShortIn, RanOverLines};
-ghost use Rattle.mg_drive.specs.Code.Lines.{has_ended as the_end, HadMemory, IsRead, HasBatch, ReadsOn, IsNew, LinesGave, LinesCame, NewestGave, lines_left};
+ghost use Rattle.mg_drive.specs.Code.Lines.{has_ended as the_end, HadMemory, IsRead, HasBatch, ReadsOn, IsNew, LinesGave, LinesCame, lines_left};
 
 use crate::onward::plain_onward;
-use crate::{Batch, Batches, Closing, Crew, Driven, Onward, run_batches, run_batches_alone};
+use crate::{Batch, Batches, Closing, Crew, Driven, Moved, Onward, run_batches, run_batches_alone};
 use mg_answer::{
     Devices, Outcomes, OutputText, Run, Status, conclude, is_ended, note_out_of_memory, ran_out,
 };
@@ -28,16 +28,18 @@ use std::thread::Threads;
 /// The most lines that name a stream in one batch. If batches don't end early, each but the last has so many.
 pub const BATCH: u32 = 4096;
 
-/// The lines of a feed, in batches that end early. A batch ends also when the last read gave fewer bytes than were asked for, so that the
-/// results of its lines are written then. How lines are split into batches changes no answer of a graph without free nodes.
-pub struct Promptly {
+/// The lines of a feed, in batches.
+pub struct LineBatches {
     pub feed: Feed,
+    /// Whether batches end early. A batch then also ends if the last read gave fewer bytes than were asked for. So the results of its lines
+    /// are written at once.
+    pub early: bool,
 }
 
 // Written out, so that a proof about code that drops it needn't open the feed.
-impl Drop for Promptly {
+impl Drop for LineBatches {
     fn drop(self) {
-        let Promptly { feed } = self;
+        let LineBatches { feed, early: _ } = self;
         drop(feed);
     }
 }
@@ -76,74 +78,40 @@ fn read_on<S: Source>(feed: &mut Feed, input: &mut S, early: bool) -> Result<Bat
     Ok(Batch { end, inputs })
 }
 
-impl Batches for Feed {
-    ghost is_fresh = { λ f plan. IsNew (fed f) plan };
+impl Batches for LineBatches {
+    ghost is_fresh = { λ l plan. IsNew (fed l.feed) plan };
 
-    ghost gives = { λ laws began f plan first now end inputs. LinesGave (fed f) plan first now end inputs };
+    ghost gives = { λ laws began l plan first now end inputs. LinesGave (fed l.feed) plan first now end inputs };
 
-    ghost came = { λ laws began f plan first now end history. LinesCame (fed f) plan first now end history };
+    ghost came = { λ laws began l plan first now end history. (l.early ≡ began.early) × LinesCame began.early (fed l.feed) plan first now end history };
 
-    ghost is_due = { λ f plan so_far. Unit {0} };
+    ghost is_due = { λ l plan so_far. Unit {0} };
 
-    ghost wants = { λ f. [] };
+    ghost wants = { λ l. [] };
 
-    ghost reads_on = { λ f plan first at now. ReadsOn (fed f) plan first at now };
+    ghost knows = { λ laws l net. Unit {0} };
 
-    ghost left = { λ f. lines_left (fed f) };
+    ghost reads_on = { λ l plan first at now. ReadsOn (fed l.feed) plan first at now };
 
-    ghost reads = { true };
-
-    ghost wrote = { λ f form report job end status output notes. Wrote (record { form = form; report = report }) job end status output notes };
-
-    fn next<S: Source>(&mut self, input: &mut S) -> Result<Batch, AllocError> {
-        let batch = read_on(self, input, false)?;
-        Ok(batch)
-    }
-
-    fn onward<N: Driven>(&mut self, last: BatchEnd, net: &N) -> Result<Onward, AllocError> {
-        let _ = net;
-        Ok(plain_onward(last))
-    }
-
-    fn conclude<K: Sink, E: Sink>(
-        &self,
-        run: &Run<'_>,
-        closing: Closing,
-        outcomes: Outcomes,
-        output: &mut K,
-        notes: &mut E,
-    ) -> Result<Status, AllocError> {
-        let status = conclude(run, closing.end, &outcomes, closing.text, output, notes)?;
-        Ok(status)
-    }
-}
-
-impl Batches for Promptly {
-    ghost is_fresh = { λ p plan. IsNew (fed p.feed) plan };
-
-    ghost gives = { λ laws began p plan first now end inputs. LinesGave (fed p.feed) plan first now end inputs };
-
-    ghost came = { λ laws began p plan first now end history. NewestGave (fed p.feed) plan first now end history };
-
-    ghost is_due = { λ p plan so_far. Unit {0} };
-
-    ghost wants = { λ p. [] };
-
-    ghost reads_on = { λ p plan first at now. ReadsOn (fed p.feed) plan first at now };
-
-    ghost left = { λ p. lines_left (fed p.feed) };
+    ghost left = { λ l. lines_left (fed l.feed) };
 
     ghost reads = { true };
 
-    ghost wrote = { λ p form report job end status output notes. Wrote (record { form = form; report = report }) job end status output notes };
+    ghost wrote = { λ l form report job end status output notes. Wrote (record { form = form; report = report }) job end status output notes };
 
     fn next<S: Source>(&mut self, input: &mut S) -> Result<Batch, AllocError> {
-        let batch = read_on(&mut self.feed, input, true)?;
+        let batch = read_on(&mut self.feed, input, self.early)?;
         Ok(batch)
     }
 
-    fn onward<N: Driven>(&mut self, last: BatchEnd, net: &N) -> Result<Onward, AllocError> {
+    fn onward<N: Driven>(
+        &mut self,
+        last: BatchEnd,
+        net: &N,
+        moved: &mut Moved,
+    ) -> Result<Onward, AllocError> {
         let _ = net;
+        let _ = moved.all;
         Ok(plain_onward(last))
     }
 
@@ -258,13 +226,14 @@ fn run_whole_alone<G: Gate, C: NodeCalculator, S: Source, K: Sink, E: Sink>(
     Ok(status)
 }
 
-// Returns the lines of a feed and a text for a plan. No line is read yet, and nothing is put into the text.
-fn ends_of(run: &Run<'_>) -> Result<(Promptly, OutputText), AllocError>
+// Returns the lines of a feed and a text for a plan. No line is read yet, and nothing is put into the text. Batches end early, as how lines
+// are split into batches changes no answer of a graph without free nodes.
+fn ends_of(run: &Run<'_>) -> Result<(LineBatches, OutputText), AllocError>
     requires { IsValid run.now.plan.now }
     ensures feed { IfOk result (λ ends. IsNew (fed ends.0.feed) run.now.plan.now) }
     ensures text { IfOk result (λ ends. ends.1 ≡ nothing_put (output_names run.now.plan.now)) }
 {
     let feed = Feed::new(run.alloc, run.plan)?;
     let text = OutputText::new(run.alloc, run.plan)?;
-    Ok((Promptly { feed }, text))
+    Ok((LineBatches { feed, early: true }, text))
 }

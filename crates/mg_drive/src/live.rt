@@ -2,16 +2,18 @@
 ghost use Rattle.std.specs.Prelude.{◌≡◌, ◌+◌, ◌++◌, true, None, map, replicate, IfOk};
 ghost use Rattle.mg_settled.specs.Prefix.{empty_prefix};
 ghost use Rattle.mg_drive.specs.Code.LiveRunning.{ReadsWhere, IsWidened};
+ghost use Rattle.mg_drive.specs.Code.Readers.{AreReaders, KnowsIdle};
 ghost use Rattle.mg_drive.specs.Code.Live.{IsFreshLive, LiveGives, LiveCame, LiveWrote, wanted_by, rounds_left, ended_of, batches_left};
 
 use crate::in_plan::InPlan;
 use crate::looked::Looked;
-use crate::{Batch, Batches, Closing, Driven, Onward};
+use crate::readers::Readers;
+use crate::{Batch, Batches, Closing, Driven, Moved, Onward};
 use mg_answer::{Outcomes, Run, Status, conclude};
 use mg_calc::Inputs;
 use mg_edge::{Sink, Source};
 use mg_feed::{BatchEnd, FeedEnd};
-use mg_live::LiveNodes;
+use mg_live::{Due, LiveNodes};
 use mg_settled::{Prefix, PrefixList};
 use mg_time::Timestamp;
 use mg_value::{NumberList, PacketList};
@@ -24,6 +26,10 @@ pub struct Live<'p, B> {
     pub batches: B,
     /// The free nodes of the plan, with what they have taken.
     pub nodes: LiveNodes,
+    // Which of the free nodes are due.
+    pub(crate) due: Due,
+    // For each engine of the core the free nodes that read what it lays.
+    pub(crate) readers: Readers,
     /// The plan with free nodes, and the numbers of its core.
     pub whole: InPlan<'p>,
     pub alloc: Global,
@@ -96,7 +102,7 @@ fn with_open(alloc: Global, inputs: Inputs, count: usize) -> Result<Inputs, Allo
 }
 
 impl<'p, B: Batches> Batches for Live<'p, B> {
-    ghost is_fresh = { λ l core. IsFreshLive B.is_fresh B.is_due core (record { batches = l.batches; plan = l.whole.plan.now; whole = l.whole.plan.now; nodes = l.whole.nodes.now; streams = l.whole.streams.now; ended = l.end; rested = l.rested; frees = l.nodes.free; takers = l.nodes.takers.items }) };
+    ghost is_fresh = { λ l core. IsFreshLive B.is_fresh B.is_due core (record { batches = l.batches; plan = l.whole.plan.now; whole = l.whole.plan.now; nodes = l.whole.nodes.now; streams = l.whole.streams.now; ended = l.end; rested = l.rested; frees = l.nodes.free; takers = l.nodes.takers.items }) × AreReaders core l.nodes.free l.readers };
 
     ghost gives = { λ laws began l core first now end inputs. LiveGives laws (B.gives laws) (B.came laws) B.is_due began.batches (record { batches = l.batches; plan = began.whole.plan.now; whole = l.whole.plan.now; nodes = l.whole.nodes.now; streams = l.whole.streams.now; ended = l.end; rested = l.rested; frees = l.nodes.free; takers = l.nodes.takers.items }) core first now end inputs };
 
@@ -105,6 +111,8 @@ impl<'p, B: Batches> Batches for Live<'p, B> {
     ghost is_due = { λ l core inputs. (l.end ≡ None) × (l.rested ≡ true) };
 
     ghost wants = { λ l. wanted_by l.nodes.free l.nodes.takers.items };
+
+    ghost knows = { λ laws l net. KnowsIdle laws l.readers l.nodes.free l.due l.nodes.takers.items net };
 
     ghost reads_on = { λ l core first at now. (l.end ≡ None) × ReadsWhere B.is_fresh B.is_due B.reads_on l.batches l.whole.plan.now first at now };
 
@@ -120,26 +128,37 @@ impl<'p, B: Batches> Batches for Live<'p, B> {
         let inputs = with_open(self.alloc, batch.inputs, count)?;
         self.end = ended_by(batch.end);
         self.rested = false;
+        self.due.wake_all();
         Ok(Batch {
             end: BatchEnd::More,
             inputs,
         })
     }
 
-    fn onward<N: Driven>(&mut self, last: BatchEnd, net: &N) -> Result<Onward, AllocError> {
+    fn onward<N: Driven>(
+        &mut self,
+        last: BatchEnd,
+        net: &N,
+        moved: &mut Moved,
+    ) -> Result<Onward, AllocError> {
         match last {
             BatchEnd::End(end) => return Ok(Onward::End(end)),
             BatchEnd::More => {}
         }
-        let places = self.nodes.round(self.alloc, &Looked { net })?;
+        self.readers.wake(&mut self.due, moved);
+        moved.clear();
+        let places = self
+            .nodes
+            .round(self.alloc, &mut self.due, &Looked { net })?;
         let none = places.is_empty();
         self.rested = none;
         let did = !none;
         if did {
-            let moved = places.as_slice();
+            let did_at = places.as_slice();
             let first = self.whole.plan.inputs.len();
-            let inputs = inputs_at(self.alloc, first, moved)?;
-            let pieces = self.nodes.hand_on(self.alloc, moved)?;
+            let inputs = inputs_at(self.alloc, first, did_at)?;
+            moved.note_inputs(self.readers.first, inputs.as_slice());
+            let pieces = self.nodes.hand_on(self.alloc, did_at)?;
             return Ok(Onward::Round(inputs, pieces));
         }
         match self.end {

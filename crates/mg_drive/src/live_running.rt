@@ -12,22 +12,24 @@ ghost use Rattle.mg_drive.specs.OneLive.{OneLiveMade, OneLiveReading, LiveShortI
 ghost use Rattle.mg_drive.specs.Code.LiveRunning.{HasRunLive, HasRunLiveShort, ReadsWhere};
 
 use crate::in_plan::InPlan;
+use crate::lines::LineBatches;
 use crate::pieces::Pieces;
+use crate::readers::Readers;
 use crate::{Batches, Crew, Live, Telling, run_batches, run_batches_alone};
 use mg_answer::{Devices, OutputSummary, OutputText, Run, Status, note_out_of_memory};
 use mg_calc::NodeCalculator;
 use mg_edge::{Gate, Sink, Source};
 use mg_feed::Feed;
 use mg_free::{FreePlan, split};
-use mg_live::LiveNodes;
+use mg_live::{Due, LiveNodes};
 use std::alloc::AllocError;
 use std::sync::Wait;
 use std::thread::Threads;
 
 /// Runs the graph of a plan with free nodes over packet lines. With each batch of lines it brings the net of the graph's core to rest. Then
 /// each free node takes a packet or closes its output, and the core goes on with what these laid. This repeats until no free node does
-/// anything; then the next batch comes. All else is as in `run_lines`. If the arrivals are asked for, the notes have a line for each
-/// arrival at a free node.
+/// anything; then the next batch comes. `early` says whether batches end early: what arrives at free nodes depends on batches. All else is
+/// as in `run_lines`. If the arrivals are asked for, the notes have a line for each arrival at a free node.
 pub fn run_live_lines<
     R: Threads + Wait + Sync,
     G: Gate + Sync,
@@ -37,6 +39,7 @@ pub fn run_live_lines<
     E: Sink,
 >(
     run: &Run<'_>,
+    early: bool,
     crew: &Crew<'_, R, G>,
     boxes: &mut Vec<C>,
     devices: &mut Devices<'_, '_, '_, S, K, E>,
@@ -46,10 +49,10 @@ pub fn run_live_lines<
 
     // Unless memory ran out, there is one reading of the input, its batches, the free nodes' logs, and one solution. The logs are those
     // that the free nodes' rounds over the batches give. All that is seen of the run belongs to these.
-    ensures ran { RanLive C.laws run.now.report run.now.plan.now result (told_by S.told K.told E.told devices.old devices.new) (device (map C.told boxes.old.items) (map C.told boxes.new.items)) }
+    ensures ran { RanLive C.laws run.now.report early run.now.plan.now result (told_by S.told K.told E.told devices.old devices.new) (device (map C.told boxes.old.items) (map C.told boxes.new.items)) }
     ensures same { SameDevices devices.old devices.new }
 {
-    match lines_whole(run, crew, boxes, devices) {
+    match lines_whole(run, early, crew, boxes, devices) {
         Ok(status) => status,
         Err(_) => note_out_of_memory(devices.notes),
     }
@@ -65,21 +68,23 @@ fn lines_whole<
     E: Sink,
 >(
     run: &Run<'_>,
+    early: bool,
     crew: &Crew<'_, R, G>,
     boxes: &mut Vec<C>,
     devices: &mut Devices<'_, '_, '_, S, K, E>,
 ) -> Result<Status, AllocError>
     requires valid { IsValidWithFree run.now.plan.now }
     requires boxes { BoxesFit (split_of run.now.plan.now).core (map C.told boxes.old.items) }
-    ensures ran { IfOk result (λ status. OneLiveReading C.laws run.now.report run.now.plan.now status (told_by S.told K.told E.told devices.old devices.new) (device (map C.told boxes.old.items) (map C.told boxes.new.items))) }
-    ensures short { OnErr result (LiveShortIn C.laws run.now.plan.now (told_by S.told K.told E.told devices.old devices.new).input (told_by S.told K.told E.told devices.old devices.new).output (device (map C.told boxes.old.items) (map C.told boxes.new.items))) }
+    ensures ran { IfOk result (λ status. OneLiveReading C.laws run.now.report early run.now.plan.now status (told_by S.told K.told E.told devices.old devices.new) (device (map C.told boxes.old.items) (map C.told boxes.new.items))) }
+    ensures short { OnErr result (LiveShortIn C.laws early run.now.plan.now (told_by S.told K.told E.told devices.old devices.new).input (told_by S.told K.told E.told devices.old devices.new).output (device (map C.told boxes.old.items) (map C.told boxes.new.items))) }
     ensures unnoted { OnErr result (E.told devices.new.notes.now ≡ E.told devices.old.notes.now) }
     ensures same { SameDevices devices.old devices.new }
 {
     let parts = split(run.alloc, run.plan)?;
     let feed = Feed::new(run.alloc, run.plan)?;
     let text = OutputText::new(run.alloc, &parts.core)?;
-    let status = run_live(run, crew, boxes, parts, (feed, text), devices)?;
+    let batches = LineBatches { feed, early };
+    let status = run_live(run, crew, boxes, parts, (batches, text), devices)?;
     Ok(status)
 }
 
@@ -182,10 +187,13 @@ fn run_live<
         free,
     } = parts;
     let (batches, telling) = ends;
+    let readers = Readers::new(run.alloc, &core, &free)?;
     let nodes = LiveNodes::new(run.alloc, free)?;
     let live = Live {
         batches,
         nodes,
+        due: Due::new(run.alloc),
+        readers,
         whole: InPlan {
             plan: run.plan,
             nodes: &numbers,
@@ -208,6 +216,7 @@ fn run_live<
 /// runtime, so it returns.
 pub fn run_live_lines_alone<G: Gate, C: NodeCalculator, S: Source, K: Sink, E: Sink>(
     run: &Run<'_>,
+    early: bool,
     gate: &G,
     boxes: &mut Vec<C>,
     devices: &mut Devices<'_, '_, '_, S, K, E>,
@@ -217,10 +226,10 @@ pub fn run_live_lines_alone<G: Gate, C: NodeCalculator, S: Source, K: Sink, E: S
 
     // Unless memory ran out, there is one reading of the input, its batches, the free nodes' logs, and one solution. The logs are those
     // that the free nodes' rounds over the batches give. All that is seen of the run belongs to these.
-    ensures ran { RanLive C.laws run.now.report run.now.plan.now result (told_by S.told K.told E.told devices.old devices.new) (device (map C.told boxes.old.items) (map C.told boxes.new.items)) }
+    ensures ran { RanLive C.laws run.now.report early run.now.plan.now result (told_by S.told K.told E.told devices.old devices.new) (device (map C.told boxes.old.items) (map C.told boxes.new.items)) }
     ensures same { SameDevices devices.old devices.new }
 {
-    match lines_whole_alone(run, gate, boxes, devices) {
+    match lines_whole_alone(run, early, gate, boxes, devices) {
         Ok(status) => status,
         Err(_) => note_out_of_memory(devices.notes),
     }
@@ -228,21 +237,23 @@ pub fn run_live_lines_alone<G: Gate, C: NodeCalculator, S: Source, K: Sink, E: S
 
 fn lines_whole_alone<G: Gate, C: NodeCalculator, S: Source, K: Sink, E: Sink>(
     run: &Run<'_>,
+    early: bool,
     gate: &G,
     boxes: &mut Vec<C>,
     devices: &mut Devices<'_, '_, '_, S, K, E>,
 ) -> Result<Status, AllocError>
     requires valid { IsValidWithFree run.now.plan.now }
     requires boxes { BoxesFit (split_of run.now.plan.now).core (map C.told boxes.old.items) }
-    ensures ran { IfOk result (λ status. OneLiveReading C.laws run.now.report run.now.plan.now status (told_by S.told K.told E.told devices.old devices.new) (device (map C.told boxes.old.items) (map C.told boxes.new.items))) }
-    ensures short { OnErr result (LiveShortIn C.laws run.now.plan.now (told_by S.told K.told E.told devices.old devices.new).input (told_by S.told K.told E.told devices.old devices.new).output (device (map C.told boxes.old.items) (map C.told boxes.new.items))) }
+    ensures ran { IfOk result (λ status. OneLiveReading C.laws run.now.report early run.now.plan.now status (told_by S.told K.told E.told devices.old devices.new) (device (map C.told boxes.old.items) (map C.told boxes.new.items))) }
+    ensures short { OnErr result (LiveShortIn C.laws early run.now.plan.now (told_by S.told K.told E.told devices.old devices.new).input (told_by S.told K.told E.told devices.old devices.new).output (device (map C.told boxes.old.items) (map C.told boxes.new.items))) }
     ensures unnoted { OnErr result (E.told devices.new.notes.now ≡ E.told devices.old.notes.now) }
     ensures same { SameDevices devices.old devices.new }
 {
     let parts = split(run.alloc, run.plan)?;
     let feed = Feed::new(run.alloc, run.plan)?;
     let text = OutputText::new(run.alloc, &parts.core)?;
-    let status = run_live_alone(run, gate, boxes, parts, (feed, text), devices)?;
+    let batches = LineBatches { feed, early };
+    let status = run_live_alone(run, gate, boxes, parts, (batches, text), devices)?;
     Ok(status)
 }
 
@@ -319,10 +330,13 @@ fn run_live_alone<G: Gate, C: NodeCalculator, B: Batches, T: Telling, S: Source,
         free,
     } = parts;
     let (batches, telling) = ends;
+    let readers = Readers::new(run.alloc, &core, &free)?;
     let nodes = LiveNodes::new(run.alloc, free)?;
     let live = Live {
         batches,
         nodes,
+        due: Due::new(run.alloc),
+        readers,
         whole: InPlan {
             plan: run.plan,
             nodes: &numbers,

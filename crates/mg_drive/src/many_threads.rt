@@ -1,9 +1,10 @@
 ghost use Rattle.mg_sched.specs.StandsFor.{StandsForSome, IsRunning};
 ghost use Rattle.mg_workers.specs.Became.{Became};
+ghost use Rattle.mg_drive.specs.Nets.{NotesMoves};
 
 use crate::crew::packets_in;
 use crate::nothing::net_of_nothing;
-use crate::{Driven, OneThread};
+use crate::{Driven, Moved, OneThread};
 use mg_calc::{Inputs, NodeCalculator};
 use mg_crew::run_workers;
 use mg_edge::Gate;
@@ -38,17 +39,19 @@ impl<'a, C: NodeCalculator + Send, R: Threads + Wait + Sync, G: Gate + Sync> Man
     G,
 > {
     /// Lets workers run the net, if enough packets have come or `fresh` is set. Meanwhile a net of no node stands in its place. Nothing
-    /// else that drives a net gets the runtime.
-    pub fn work(&mut self)
+    /// else that drives a net gets the runtime. Once workers had the net, any engine may have changed.
+    pub fn work(&mut self, moved: &mut Moved)
         requires running { IsRunning self.old.one.net }
         requires stands { StandsForSome C.laws self.old.one.net }
         ensures running { IsRunning self.new.one.net }
         ensures became { Became C.laws self.old.one.net self.new.one.net }
+        ensures moved { NotesMoves moved.old moved.new self.old.one.net self.new.one.net }
     {
         if self.workers == 0 || !self.fresh && self.came < self.least {
             return;
         }
         self.fresh = false;
+        moved.note_all();
         let Ok(nothing) = net_of_nothing(self.alloc) else {
             return;
         };
@@ -68,8 +71,8 @@ impl<'a, C: NodeCalculator, R, G: Gate> Driven for ManyThreads<'a, C, R, G> {
         Ok(())
     }
 
-    fn to_rest(&mut self) -> Result<(), AllocError> {
-        self.one.to_rest()?;
+    fn to_rest(&mut self, moved: &mut Moved) -> Result<(), AllocError> {
+        self.one.to_rest(moved)?;
         self.came = 0;
         Ok(())
     }

@@ -1,7 +1,15 @@
-use crate::Driven;
+ghost use Rattle.std.specs.Prelude.{◌≡◌, OnOk};
+ghost use Rattle.mg_node.specs.Job.{LoggedJob};
+ghost use Rattle.mg_sched.specs.StandsFor.{StandsFor, StandsForSome, IsRunning};
+ghost use Rattle.mg_sched.specs.AtRest.{IsAtRest};
+ghost use Rattle.mg_sched.specs.Heard.{Heard};
+ghost use Rattle.mg_sched.specs.Taking.{taken_out};
+ghost use Rattle.mg_drive.specs.Nets.{Keeps, GaveNothingUp};
+
+use crate::{Driven, Moved};
 use mg_calc::{Inputs, NodeCalculator};
 use mg_edge::Gate;
-use mg_sched::{Deaf, Net, Report};
+use mg_sched::{Deaf, Hears, Net, Report};
 use mg_settled::{InputSet, PrefixList};
 use mg_time::Timestamp;
 use mg_value::{NumberList, Packet};
@@ -11,6 +19,24 @@ use std::alloc::{AllocError, Global};
 pub struct OneThread<'a, C: NodeCalculator, G: Gate> {
     pub net: Net<C>,
     pub gate: &'a G,
+}
+
+impl<'a, C: NodeCalculator, G: Gate> OneThread<'a, C, G> {
+    // Sweeps the net until no node can go further, and lets a hearer hear the events.
+    fn sweep<H: Hears>(&mut self, hearer: &mut H) -> Result<(), AllocError>
+        requires running { IsRunning self.old.net }
+        requires stands { StandsForSome C.laws self.old.net }
+        ensures rest { OnOk result (IsAtRest C.laws self.new.net) }
+        ensures heard { OnOk result (Heard C.laws H.has_heard hearer.old hearer.new self.old.net self.new.net) }
+        ensures running { IsRunning self.new.net }
+        ensures keeps { Keeps self.old.net self.new.net }
+        ensures whole { GaveNothingUp self.old.net self.new.net }
+        ensures taken { taken_out self.new.net ≡ taken_out self.old.net }
+        ensures stands { (job : LoggedJob C.laws) → StandsFor job self.old.net → StandsFor job self.new.net }
+    {
+        self.net.sweep(self.gate, hearer)?;
+        Ok(())
+    }
 }
 
 impl<'a, C: NodeCalculator, G: Gate> Driven for OneThread<'a, C, G> {
@@ -23,8 +49,12 @@ impl<'a, C: NodeCalculator, G: Gate> Driven for OneThread<'a, C, G> {
         Ok(())
     }
 
-    fn to_rest(&mut self) -> Result<(), AllocError> {
-        self.net.sweep(self.gate, &mut Deaf)?;
+    fn to_rest(&mut self, moved: &mut Moved) -> Result<(), AllocError> {
+        if moved.all {
+            self.sweep(&mut Deaf)?;
+            return Ok(());
+        }
+        self.sweep(moved)?;
         Ok(())
     }
 

@@ -5,7 +5,7 @@ ghost use Rattle.mg_answer.specs.Wrote.{Wrote};
 ghost use Rattle.mg_drive.specs.Code.InPieces.{piece_end, AreToCome, WereMade, HaveComeInPieces, packets_left};
 
 use crate::onward::plain_onward;
-use crate::{Batch, Batches, Closing, Driven, Onward};
+use crate::{Batch, Batches, Closing, Driven, Moved, Onward};
 use mg_answer::{Outcomes, Run, Status, conclude};
 use mg_calc::Plan;
 use mg_edge::{Sink, Source};
@@ -83,6 +83,8 @@ impl Batches for Pieces {
 
     ghost wants = { λ p. [] };
 
+    ghost knows = { λ laws p net. Unit {0} };
+
     ghost reads_on = { λ p plan first at now. now ≡ at };
 
     ghost left = { λ p. packets_left (making p.generator) };
@@ -98,8 +100,14 @@ impl Batches for Pieces {
         Ok(Batch { end, inputs })
     }
 
-    fn onward<N: Driven>(&mut self, last: BatchEnd, net: &N) -> Result<Onward, AllocError> {
+    fn onward<N: Driven>(
+        &mut self,
+        last: BatchEnd,
+        net: &N,
+        moved: &mut Moved,
+    ) -> Result<Onward, AllocError> {
         let _ = net;
+        let _ = moved.all;
         Ok(plain_onward(last))
     }
 

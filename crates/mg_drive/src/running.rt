@@ -8,14 +8,15 @@ ghost use Rattle.mg_calc.specs.Told.{BoxTold};
 ghost use Rattle.mg_answer.specs.Devices.{device, run_devices};
 ghost use Rattle.mg_answer.specs.Held.{told_by, SameDevices};
 ghost use Rattle.mg_sched.specs.Made.{BoxesFit, IsMade};
-ghost use Rattle.mg_drive.specs.Nets.{Keeps, AreThere};
+ghost use Rattle.mg_drive.specs.Nets.{Keeps, AreThere, KnowsSince};
 ghost use Rattle.mg_drive.specs.Code.Running.{Start, start_of, IsUnderWay, RunIsOver, IsDriven, IsShort, SomeRestedOf};
 ghost use Rattle.mg_drive.specs.Code.Ending.{CalculatorsCameBack, HasEnded, HasRunBatches, ReadFirst, RanOutOfMemory, WasMade, WasShort};
 
 use crate::crew::{has_sources, least_for, packets_in, workers_for};
 use crate::finishing::finish_batches;
 use crate::{
-    Batches, Closing, Crew, Driven, ManyThreads, NetEnds, OneThread, Telling, drive, drive_alone,
+    Batches, Closing, Crew, Driven, ManyThreads, Moved, NetEnds, OneThread, Telling, drive,
+    drive_alone,
 };
 use mg_answer::{Devices, Run, Status};
 use mg_calc::{Inputs, NodeCalculator};
@@ -72,6 +73,7 @@ fn begin_run<C: NodeCalculator, B: Batches, T: Telling, S: Source>(
     ensures begun { IfOk result (λ begun. (sink : SinkTold) → IsUnderWay C.laws (B.gives C.laws) T.has_told (start_of run.now.plan.now (map C.told boxes.old.items) (S.told input.old) sink batches) begun.first (S.told input.new) sink
         begun.ends.batches begun.ends.telling begun.net) }
     ensures there { IfOk result (λ begun. AreThere (B.wants begun.ends.batches) begun.net) }
+    ensures knows { IfOk result (λ begun. KnowsSince (B.knows C.laws begun.ends.batches) begun.ends.moved begun.net) }
     ensures set { IfOk result (λ begun. length begun.ends.set ≡ length run.now.plan.now.outputs) }
     ensures made { IfOk result (λ begun. WasMade C.laws run.now.plan.now (map C.told boxes.old.items) begun.net) }
     ensures short { OnErr result (ReadFirst (B.gives C.laws) B.reads_on batches run.now.plan.now (device (S.told input.old) (S.told input.new))) }
@@ -83,6 +85,7 @@ fn begin_run<C: NodeCalculator, B: Batches, T: Telling, S: Source>(
         batches,
         telling,
         set,
+        moved: Moved::new(run.alloc),
     };
     let first = ends.batches.next(input)?;
     let net = make_net(run, &first.inputs, boxes)?;

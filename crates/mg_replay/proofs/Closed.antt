@@ -56,8 +56,10 @@ back_running before back engines work_queues is running = ap (λ (v : NetView). 
 pub closed_where : {laws : Laws} (job : LoggedJob laws) (before back wound : NetView) (engines : List EngineView) (work_queues : List WorkQueueView) → IsRunning before → back ≡ record before { engines = engines; work_queues = work_queues } → StandsFor job back → NoneOnWorkQueues back
     → WindsUpNet laws back wound → wound.wound ≡ length back.plan.nodes → ClosedAllOf job wound
 closed_where {laws} job before back wound engines work_queues running is stands none winds all =
-    let found = solved job (valid_plan job back stands) in
+    let is_job = valid_plan job back stands in
+    let found = solved job is_job in
     record {
+      is_job = is_job;
       streams = found.0;
       solution = found.1.solution;
       each = λ number place node there has outer.
@@ -100,6 +102,7 @@ closed_at {laws} plan inputs boxes net streams number place node fit there has c
 all_closed : {laws : Laws} (plan : Plan) (inputs : Inputs) (boxes now : List BoxTold) (net : NetView) → BoxesFit plan boxes → now ≡ given_back net → ClosedAllOf (job_of laws plan inputs boxes) net → HadCloses (job_over laws plan inputs) (device boxes now)
 all_closed {laws} plan inputs boxes now net fit back c = subst (λ (bs : List BoxTold). HadCloses (job_over laws plan inputs) (device boxes bs)) (sym back)
     (record {
+      is_job = c.is_job;
       streams = c.streams;
       solution = c.solution;
       each = λ number place node there has. closed_at plan inputs boxes net c.streams number place node fit there has (c.each number place node there has);

@@ -232,6 +232,7 @@ pub of_short : {laws : Laws} (plan : Plan) (inputs : Inputs) (devices : RunDevic
 of_short {laws} plan inputs devices boxes h = inr (record {
   inputs = inputs;
   opened = h.opened;
+  is_job = h.fronts.is_job;
   streams = h.fronts.streams;
   solution = h.fronts.solution;
   took = elim h.took [

@@ -3,7 +3,7 @@ use Rattle.std.specs.Prelude.{◌≡◌, ◌⊎◌, ℕ, ◌≤◌, true, false,
 use Rattle.mg_value.specs.Payload.{Plain}
 use Rattle.mg_settled.specs.Prefix.{StreamPrefix}
 use Rattle.mg_calc.specs.declared.plan_node.PlanNode.{PlanNode}
-use Rattle.mg_calc.specs.Equations.{Job, IsSolution}
+use Rattle.mg_calc.specs.Equations.{Job, IsJob, IsSolution}
 use Rattle.mg_calc.specs.Told.{BoxTold}
 use Rattle.mg_answer.specs.Devices.{Device}
 use Rattle.mg_node.specs.Had.{FailsToOpen}
@@ -17,8 +17,9 @@ pub record HadAClose (job : Job) (streams : List (StreamPrefix Plain)) (node : P
   pub begun : 1 ≤ keeps.front.count
   pub closed : ((keeps.front.close ≡ true) × ¬ FailsToOpen job streams node) ⊎ ((keeps.front.close ≡ false) × FailsToOpen job streams node)
 
--- Each calculator that a node uses was opened and closed, in the solution of a job.
+-- Each calculator that a node uses was opened and closed, in the solution of a job. The job has a valid plan, and inputs that fit it.
 pub record HadCloses (job : Job) (boxes : Device (List BoxTold)) : Type 0 where
+  pub is_job : IsJob job
   pub streams : List (StreamPrefix Plain)
   pub solution : IsSolution job streams
   pub each : (number place : ℕ) (node : PlanNode) → slice_get job.plan.nodes number ≡ Some node → node.box_number ≡ Some place

@@ -7,7 +7,7 @@ use Rattle.mg_calc.specs.Rules.{Laws}
 use Rattle.mg_calc.specs.declared.inputs.Inputs.{Inputs}
 use Rattle.mg_calc.specs.declared.plan.Plan.{Plan}
 use Rattle.mg_calc.specs.declared.plan_node.PlanNode.{PlanNode}
-use Rattle.mg_calc.specs.Equations.{Job, IsSolution}
+use Rattle.mg_calc.specs.Equations.{Job, IsJob, IsSolution}
 use Rattle.mg_calc.specs.Told.{BoxTold}
 use Rattle.mg_feed.specs.declared.feed_end.FeedEnd.TheVariants.{Ended}
 use Rattle.mg_answer.specs.Text.{output_text_of}
@@ -94,12 +94,13 @@ pub record Replayed (laws : Laws) (report : Reporting) (plan : Plan) (status : S
 abbrev pub TookOutput : Laws → Plan → Inputs → List (StreamPrefix Plain) → List BoxTold → Device SourceTold → Device SinkTold → Type 0
 TookOutput laws plan inputs streams boxes input output = WasRead laws plan boxes input (Some inputs) Accepted × TookFront output (output_text_of plan streams)
 
--- Memory ran out once the lines of a job were read. The rest is said of one solution of that job. The output took nothing, or a
--- prefix of the solution's text if the run is accepted. Each calculator had a prefix of its calls, and keeps what its node has
--- reached after these calls.
+-- Memory ran out once the lines of a job were read. The job has a valid plan, and inputs that fit it. The rest is said of one
+-- solution of that job. The output took nothing, or a prefix of the solution's text if the run is accepted. Each calculator had a
+-- prefix of its calls, and keeps what its node has reached after these calls.
 pub record ReplayedShort (laws : Laws) (plan : Plan) (input : Device SourceTold) (output : Device SinkTold) (boxes : Device (List BoxTold)) : Type 0 where
   pub inputs : Inputs
   pub opened : BeginsWithJob plan input inputs
+  pub is_job : IsJob (job_over laws plan inputs)
   pub streams : List (StreamPrefix Plain)
   pub solution : IsSolution (job_over laws plan inputs) streams
   pub took : Untouched output ⊎ TookOutput laws plan inputs streams boxes.before input output

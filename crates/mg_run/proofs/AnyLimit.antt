@@ -69,7 +69,7 @@ way_same laws Trace instruction plan boxes input a unrecorded given answers = ab
 way_same laws Replay instruction plan boxes input a unrecorded given answers = absurd (given tt)
 
 way_same_live : (laws : Laws) (way : Way) (instruction : Instruction) (first : ℕ) (plan : Plan) → Answers laws (live_action way instruction first plan) (live_action way (free instruction) first plan)
-way_same_live laws Run instruction first plan boxes input a unrecorded given answers = live_asked laws (reporting instruction) instruction.limit instruction.workers plan input a answers
+way_same_live laws Run instruction first plan boxes input a unrecorded given answers = live_asked laws (reporting instruction) instruction.unbuffered instruction.limit instruction.workers plan input a answers
 way_same_live laws Solve instruction first plan boxes input a unrecorded given answers = answers
 way_same_live laws Generate instruction first plan boxes input a unrecorded given answers = live_made_asked laws (reporting instruction) instruction.number instruction.limit instruction.workers plan a answers
 way_same_live laws Trace instruction first plan boxes input a unrecorded given answers = answers

@@ -69,7 +69,7 @@ did-store : (laws : Laws) (action : Action) (all : CallDevices) → DidAction la
 did-store laws (refuse note) all did = let e = did.ended in cc
 did-store laws (show text) all did = not-shown text StoreFault all (λ e. cc) (λ e. cc) did
 did-store laws (run_plan report plan) all did = lines-no-store laws report plan (run_devices_of all) all.boxes did
-did-store laws (run_live report plan) all did = live-no-other laws report plan StoreFault (run_devices_of all) all.boxes (inl refl) did
+did-store laws (run_live report early plan) all did = live-no-other laws report early plan StoreFault (run_devices_of all) all.boxes (inl refl) did
 did-store laws (solve report plan) all did = not-ran laws report plan StoreFault (run_devices_of all) (inl refl) did.ran
 did-store laws (generate report number plan) all did = packets-no-store laws report plan number all.output all.notes all.boxes did.ran
 did-store laws (generate_live report number plan) all did = live-made-no-other laws report plan number StoreFault all.output all.notes all.boxes (inl refl) did.ran
@@ -80,7 +80,7 @@ did-usage : (laws : Laws) (action : Action) (all : CallDevices) → DidAction la
 did-usage laws (refuse note) all did = let e = did.ended in cc
 did-usage laws (show text) all did = not-shown text Usage all (λ e. cc) (λ e. cc) did
 did-usage laws (run_plan report plan) all did = lines-no-usage laws report plan (run_devices_of all) all.boxes did
-did-usage laws (run_live report plan) all did = live-no-other laws report plan Usage (run_devices_of all) all.boxes (inr refl) did
+did-usage laws (run_live report early plan) all did = live-no-other laws report early plan Usage (run_devices_of all) all.boxes (inr refl) did
 did-usage laws (solve report plan) all did = not-ran laws report plan Usage (run_devices_of all) (inr refl) did.ran
 did-usage laws (generate report number plan) all did = packets-no-usage laws report plan number all.output all.notes all.boxes did.ran
 did-usage laws (generate_live report number plan) all did = live-made-no-other laws report plan number Usage all.output all.notes all.boxes (inr refl) did.ran
@@ -94,7 +94,7 @@ did-noted laws (refuse note) all did = let e = did.ended in absurd (differ e)
     differ e = cc
 did-noted laws (show text) all did = absurd (not-shown text OutOfMemory all (λ e. cc) (λ e. cc) did)
 did-noted laws (run_plan report plan) all did = lines-noted laws report plan (run_devices_of all) all.boxes did
-did-noted laws (run_live report plan) all did = live-noted laws report plan (run_devices_of all) all.boxes did
+did-noted laws (run_live report early plan) all did = live-noted laws report early plan (run_devices_of all) all.boxes did
 did-noted laws (solve report plan) all did = did.ran.1
 did-noted laws (generate report number plan) all did = packets-noted laws report plan number all.output all.notes all.boxes did.ran
 did-noted laws (generate_live report number plan) all did = live-made-noted laws report plan number all.output all.notes all.boxes did.ran
@@ -153,8 +153,8 @@ did-answer laws (show text) status all did none some =
     if-any all.input.before.left (λ r. MetAnswer laws (show text) r status all) (λ r. (show_answer text, refl, shown-answer text status all did none))
 did-answer laws (run_plan report plan) status all did none some =
     lines-answered laws report plan status (run_devices_of all) all.boxes did (none-run all none) some
-did-answer laws (run_live report plan) status all did none some =
-    live-answered laws report plan status (run_devices_of all) all.boxes did (none-run all none) some
+did-answer laws (run_live report early plan) status all did none some =
+    live-answered laws report early plan status (run_devices_of all) all.boxes did (none-run all none) some
 did-answer laws (solve report plan) status all did none some =
     ran-answered laws report plan status (run_devices_of all) did.ran (none-run all none) some
 did-answer laws (generate report number plan) status all did none some =

@@ -187,7 +187,7 @@ did-boxes : (laws : Laws) (action : Action) (status : Status) (all : CallDevices
 did-boxes laws (refuse note) status all did = ap length did.uncalled
 did-boxes laws (show text) status all did = ap length did.uncalled
 did-boxes laws (run_plan report plan) status all did = lines-boxes laws report plan status (run_devices_of all) all.boxes did
-did-boxes laws (run_live report plan) status all did = live-boxes laws report plan status (run_devices_of all) all.boxes did
+did-boxes laws (run_live report early plan) status all did = live-boxes laws report early plan status (run_devices_of all) all.boxes did
 did-boxes laws (solve report plan) status all did = ap length did.uncalled
 did-boxes laws (generate report number plan) status all did = packets-boxes laws report plan number status all.output all.notes all.boxes did.ran
 did-boxes laws (generate_live report number plan) status all did = live-made-boxes laws report plan number status all.output all.notes all.boxes did.ran
@@ -224,7 +224,7 @@ abbrev IsRun : Action → Type 0
 IsRun (refuse note) = ⊥
 IsRun (show text) = ⊥
 IsRun (run_plan report plan) = Unit {0}
-IsRun (run_live report plan) = Unit {0}
+IsRun (run_live report early plan) = Unit {0}
 IsRun (solve report plan) = ⊥
 IsRun (generate report number plan) = Unit {0}
 IsRun (generate_live report number plan) = Unit {0}
@@ -275,7 +275,7 @@ did-uncalled : (laws : Laws) (action : Action) (status : Status) (all : CallDevi
 did-uncalled laws (refuse note) status all none did = did.uncalled
 did-uncalled laws (show text) status all none did = did.uncalled
 did-uncalled laws (run_plan report plan) status all none did = absurd (none tt)
-did-uncalled laws (run_live report plan) status all none did = absurd (none tt)
+did-uncalled laws (run_live report early plan) status all none did = absurd (none tt)
 did-uncalled laws (solve report plan) status all none did = did.uncalled
 did-uncalled laws (generate report number plan) status all none did = absurd (none tt)
 did-uncalled laws (generate_live report number plan) status all none did = absurd (none tt)

@@ -37,7 +37,7 @@ abbrev MayRead : Action → Type 0
 MayRead (refuse note) = ⊥
 MayRead (show text) = ⊥
 MayRead (run_plan report plan) = Unit {0}
-MayRead (run_live report plan) = Unit {0}
+MayRead (run_live report early plan) = Unit {0}
 MayRead (solve report plan) = Unit {0}
 MayRead (generate report number plan) = ⊥
 MayRead (generate_live report number plan) = ⊥
@@ -85,7 +85,7 @@ did-unread : (laws : Laws) (action : Action) (status : Status) (all : CallDevice
 did-unread laws (refuse note) status all none did = did.unread
 did-unread laws (show text) status all none did = did.unread
 did-unread laws (run_plan report plan) status all none did = absurd (none tt)
-did-unread laws (run_live report plan) status all none did = absurd (none tt)
+did-unread laws (run_live report early plan) status all none did = absurd (none tt)
 did-unread laws (solve report plan) status all none did = absurd (none tt)
 did-unread laws (generate report number plan) status all none did = did.unread
 did-unread laws (generate_live report number plan) status all none did = did.unread
@@ -116,7 +116,7 @@ abbrev NeedsNone : Action → Type 0
 NeedsNone (refuse note) = ⊥
 NeedsNone (show text) = Unit {0}
 NeedsNone (run_plan report plan) = ⊥
-NeedsNone (run_live report plan) = ⊥
+NeedsNone (run_live report early plan) = ⊥
 NeedsNone (solve report plan) = ⊥
 NeedsNone (generate report number plan) = Unit {0}
 NeedsNone (generate_live report number plan) = Unit {0}
@@ -185,8 +185,8 @@ did-ended laws invocation contents (refuse note) status all due did reads one = 
 did-ended laws invocation contents (show text) status all due did reads one = absurd (due-reads invocation contents (show text) due reads tt)
 did-ended laws invocation contents (run_plan report plan) status all due did reads one =
     end-came all.input (lines-ended laws report plan status (run_devices_of all) all.boxes did (short-ended status) one)
-did-ended laws invocation contents (run_live report plan) status all due did reads one =
-    end-came all.input (live-ended laws report plan status (run_devices_of all) all.boxes did (short-ended status) one)
+did-ended laws invocation contents (run_live report early plan) status all due did reads one =
+    end-came all.input (live-ended laws report early plan status (run_devices_of all) all.boxes did (short-ended status) one)
 did-ended laws invocation contents (solve report plan) status all due did reads one =
     end-came all.input (ran-ended laws report plan status (run_devices_of all) did.ran one)
 did-ended laws invocation contents (generate report number plan) status all due did reads one = absurd (due-reads invocation contents (generate report number plan) due reads tt)

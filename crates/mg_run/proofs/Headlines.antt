@@ -1,5 +1,5 @@
 -- A run or a run over packets that are made, as one thing.
-use Rattle.std.proofs.Common.{◌≡◌, ◌≢◌, ◌⊎◌, inl, inr, ℕ, ℤ, List, [], ◌∷◌, All, Option, None, Some, IfSome, Result, Ok, Err, refl, sym, ap, ◌∙◌, subst}
+use Rattle.std.proofs.Common.{◌≡◌, ◌≢◌, ◌⊎◌, inl, inr, ℕ, ℤ, List, [], ◌∷◌, All, Option, None, Some, IfSome, Result, Ok, Err, refl, sym, ap, ◌∙◌, subst, arith}
 use Rattle.mg_edge.specs.Edge.{SourceTold, SinkTold, StoreTold}
 use Rattle.mg_config.specs.Config.{GraphView}
 use Rattle.mg_calc.specs.Rules.{Laws}
@@ -135,18 +135,18 @@ bare_run laws instruction plan from status output notes boxes run =
   where
     by : (from : Origin) → OneRun (telling_from (reporting instruction) from) (job_from laws (limited_plan (bare plan) (as_asked instruction plan).limit (as_asked instruction plan).workers) from) (end_from from) status output notes boxes
         → OneRun (telling_from (reporting instruction) from) (job_from laws (bare plan) from) (end_from from) status output notes boxes
-    by (from_input read) run = unlimited_run (by_lines (reporting instruction)) (answers.job_of laws (bare plan) read) (as_asked instruction plan).limit (as_asked instruction plan).workers read.end status output notes boxes run
-    by (from_number number) run = unlimited_run (by_summary (reporting instruction)) (generated_job laws (bare plan) number) (as_asked instruction plan).limit (as_asked instruction plan).workers Ended status output notes boxes run
+    by (from_input read) run = unlimited_run (by_lines (reporting instruction)) (answers.job_of laws (bare plan) read) (as_asked instruction plan).limit (as_asked instruction plan).workers read.end status output notes boxes (λ e. cc) (omega arith) run
+    by (from_number number) run = unlimited_run (by_summary (reporting instruction)) (generated_job laws (bare plan) number) (as_asked instruction plan).limit (as_asked instruction plan).workers Ended status output notes boxes (λ e. cc) (omega arith) run
 
 bare_live : (laws : Laws) (instruction : Instruction) (plan : Plan) (from : Origin) (first : Inputs) (later : List Inputs) (status : Status) (output notes : Device SinkTold) (boxes : Device (List BoxTold))
     → OneLive laws (form_from from) (reporting instruction) (as_asked instruction plan) first later (end_from from) status output notes boxes → OneLive laws (form_from from) (reporting instruction) (bare plan) first later (end_from from) status output notes boxes
 bare_live laws instruction plan from first later status output notes boxes run =
-    unlimited_live laws (form_from from) (reporting instruction) (bare plan) (as_asked instruction plan).limit (as_asked instruction plan).workers first later (end_from from) status output notes boxes
+    unlimited_live laws (form_from from) (reporting instruction) (bare plan) (as_asked instruction plan).limit (as_asked instruction plan).workers first later (end_from from) status output notes boxes (λ e. cc) (omega arith)
     (subst (λ (p : Plan). OneLive laws (form_from from) (reporting instruction) p first later (end_from from) status output notes boxes) (request_is instruction instruction.limit instruction.workers plan) run)
 
-bare_batches : (instruction : Instruction) (plan : Plan) (read : Read) (batches : List Inputs) → AreBatchesOf (as_asked instruction plan) read batches → AreBatchesOf (bare plan) read batches
+bare_batches : (instruction : Instruction) (plan : Plan) (read : Read) (batches : List Inputs) → AreBatchesOf instruction.unbuffered (as_asked instruction plan) read batches → AreBatchesOf instruction.unbuffered (bare plan) read batches
 bare_batches instruction plan read batches are =
-    batches_same (bare plan) (as_asked instruction plan).limit (as_asked instruction plan).workers read batches (subst (λ (p : Plan). AreBatchesOf p read batches) (request_is instruction instruction.limit instruction.workers plan) are)
+    batches_same instruction.unbuffered (bare plan) (as_asked instruction plan).limit (as_asked instruction plan).workers read batches (subst (λ (p : Plan). AreBatchesOf instruction.unbuffered p read batches) (request_is instruction instruction.limit instruction.workers plan) are)
 
 -- what is made for a plan doesn't depend on its limit and workers
 made_asked : (laws : Laws) (limit : Option ℤ) (workers : Option ℕ) (plan : Plan) (number : ℕ) → (generated_job laws (with_workers workers (with_limit limit plan)) number).inputs ≡ (generated_job laws (bare plan) number).inputs
@@ -189,7 +189,7 @@ packets_headline laws invocation contents plan status all verb some loaded graph
 packets_headline laws invocation contents plan status all verb some loaded graph unread (inr short) = absurd (some short.is)
 
 live_lines_headline : (laws : Laws) (invocation : Invocation) (contents : List (List ℕ)) (plan : Plan) (status : Status) (all : CallDevices) → invocation.instruction.verb ≡ Use Run → status ≢ OutOfMemory → LoadedAll invocation.files contents all.store → IsLiveGraph invocation contents plan
-    → RanLive laws (reporting invocation.instruction) (as_asked invocation.instruction plan) status (run_devices_of all) all.boxes → LiveHeadline laws invocation status all
+    → RanLive laws (reporting invocation.instruction) invocation.instruction.unbuffered (as_asked invocation.instruction plan) status (run_devices_of all) all.boxes → LiveHeadline laws invocation status all
 live_lines_headline laws invocation contents plan status all verb some loaded graph (inl one) = record {
   contents = contents;
   loaded = loaded;
@@ -232,7 +232,7 @@ did_headline laws invocation status all called way (inr is) verb good some (inr 
     let d : GeneratedGraph laws (reporting invocation.instruction) invocation.instruction.number (as_asked invocation.instruction found.plan) status all = subst (λ (j : Action). DidAction laws j status all) same called.did in
     inl (packets_headline laws invocation called.contents found.plan status all (verb ∙ ap Use is) some called.loaded found.graph d.unread d.ran)
 did_headline laws invocation status all called way (inl is) verb good some (inr (inr found)) =
-    let same : called.action ≡ run_live (reporting invocation.instruction) (as_asked invocation.instruction found.plan) = found.is ∙ ap (λ (w : Way). live_action w invocation.instruction found.graph.first found.plan) is in
+    let same : called.action ≡ run_live (reporting invocation.instruction) invocation.instruction.unbuffered (as_asked invocation.instruction found.plan) = found.is ∙ ap (λ (w : Way). live_action w invocation.instruction found.graph.first found.plan) is in
     inr (live_lines_headline laws invocation called.contents found.plan status all (verb ∙ ap Use is) some called.loaded found.graph (subst (λ (j : Action). DidAction laws j status all) same called.did))
 did_headline laws invocation status all called way (inr is) verb good some (inr (inr found)) =
     let same : called.action ≡ generate_live (reporting invocation.instruction) invocation.instruction.number (as_asked invocation.instruction found.plan) = found.is ∙ ap (λ (w : Way). live_action w invocation.instruction found.graph.first found.plan) is in

@@ -18,3 +18,4 @@ pub mod AnyLimit
 pub mod Headlines
 pub mod LiveHeadlines
 pub mod Begins
+pub mod SolutionLaws

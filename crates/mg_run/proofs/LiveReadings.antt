@@ -1,5 +1,5 @@
 -- What follows of a run of a graph with free nodes as one thing, by its status.
-use Rattle.std.proofs.Common.{◌≡◌, ◌≢◌, ◌⊎◌, inl, inr, ℕ, List, [], ◌∷◌, ◌++◌, length, Option, None, Some, IfSome, refl, ap, subst}
+use Rattle.std.proofs.Common.{◌≡◌, ◌≢◌, ◌⊎◌, inl, inr, ℕ, Bool, List, [], ◌∷◌, length, Option, None, Some, IfSome, refl, ap, subst}
 use Rattle.mg_edge.specs.Edge.{SourceTold, SinkTold}
 use Rattle.mg_calc.specs.Rules.{Laws}
 use Rattle.mg_calc.specs.declared.inputs.Inputs.{Inputs}
@@ -10,7 +10,7 @@ use Rattle.mg_feed.specs.Graph.{inputs_of}
 use Rattle.mg_feed.specs.Ran.{EndCame}
 use Rattle.mg_feed.specs.declared.feed_end.FeedEnd.{FeedEnd}
 use Rattle.mg_feed.specs.declared.feed_end.FeedEnd.TheVariants.{Ended}
-use Rattle.mg_answer.specs.Answer.{OutputForm, packet_lines, totals, Read, RunAnswer, output_in, ended_input, generated_job}
+use Rattle.mg_answer.specs.Answer.{OutputForm, packet_lines, totals, Read, RunAnswer, output_in, generated_job}
 use Rattle.mg_answer.specs.Devices as answers
 use Rattle.mg_answer.specs.Outcomes.{told_answer, told_failed}
 use Rattle.mg_answer.specs.Notes.{memory_note}
@@ -21,9 +21,7 @@ use Rattle.mg_answer.specs.declared.status.Status.{Status}
 use Rattle.mg_answer.specs.declared.status.Status.TheVariants.{Good, StoreFault, Usage, GraphRefused, LineRefused, NodeFault, Stalled, ReadFault, WriteFault, OutOfMemory}
 use Rattle.mg_answer.proofs.Answering.{no-want, end-by, no-one, failed-by, steady-risen, rose-unrisen, whole-read}
 use Rattle.mg_answer.specs.declared.run.Reporting.{Reporting}
-use Rattle.mg_drive.specs.InBatches.{come_after}
 use Rattle.mg_drive.specs.OneLive.{OneLive, OneLiveReading, OneLiveMade, AreBatchesOf, IsLiveAnswer, LiveShortIn, LiveShortInMade, RanLive, RanLiveMade, AnswersLive, AnswersLiveMade}
-use Rattle.mg_drive.proofs.Cuts.{some_cut}
 use Rattle.mg_run.specs.Devices.{Device, RunDevices, HasRisen, TookNotes}
 use Rattle.mg_run.specs.Call.{IsOneOf}
 use Rattle.mg_run.proofs.Readings.{no-status, no_memory}
@@ -54,9 +52,9 @@ ended_so laws form report whole first later end status output notes boxes run =
     either_wrote status (told_answer report whole end run.comes.live (output_in form (split_of whole).core run.comes.streams)) (told_failed report whole end run.comes.live) output notes run.wrote
 
 -- over an input, and over packets that are made
-read_so : (laws : Laws) (report : Reporting) (whole : Plan) (status : Status) (all : RunDevices) (boxes : Device (List BoxTold)) → (one : OneLiveReading laws report whole status all boxes)
+read_so : (laws : Laws) (report : Reporting) (early : Bool) (whole : Plan) (status : Status) (all : RunDevices) (boxes : Device (List BoxTold)) → (one : OneLiveReading laws report early whole status all boxes)
     → Ended_so report whole one.read.end one.run.comes.live (output_in packet_lines (split_of whole).core one.run.comes.streams) status all.output all.notes
-read_so laws report whole status all boxes one = ended_so laws packet_lines report whole one.first one.later one.read.end status all.output all.notes boxes one.run
+read_so laws report early whole status all boxes one = ended_so laws packet_lines report whole one.first one.later one.read.end status all.output all.notes boxes one.run
 
 made_so : (laws : Laws) (report : Reporting) (whole : Plan) (number : ℕ) (status : Status) (output notes : Device SinkTold) (boxes : Device (List BoxTold)) → (one : OneLiveMade laws report whole number status output notes boxes)
     → Ended_so report whole Ended one.comes.live (output_in totals (split_of whole).core one.comes.streams) status output notes
@@ -76,10 +74,10 @@ not_short : (status : Status) → (status ≡ StoreFault) ⊎ (status ≡ Usage)
 not_short status (inl store) is = cc
 not_short status (inr usage) is = cc
 
-pub live-no-other : (laws : Laws) (report : Reporting) (whole : Plan) (status : Status) (all : RunDevices) (boxes : Device (List BoxTold)) → (status ≡ StoreFault) ⊎ (status ≡ Usage) → RanLive laws report whole status all boxes → ⊥
-live-no-other laws report whole status all boxes other (inl one) =
-    no_other report whole one.read.end one.run.comes.live (output_in packet_lines (split_of whole).core one.run.comes.streams) status all.output all.notes other (read_so laws report whole status all boxes one)
-live-no-other laws report whole status all boxes other (inr short) = not_short status other short.is
+pub live-no-other : (laws : Laws) (report : Reporting) (early : Bool) (whole : Plan) (status : Status) (all : RunDevices) (boxes : Device (List BoxTold)) → (status ≡ StoreFault) ⊎ (status ≡ Usage) → RanLive laws report early whole status all boxes → ⊥
+live-no-other laws report early whole status all boxes other (inl one) =
+    no_other report whole one.read.end one.run.comes.live (output_in packet_lines (split_of whole).core one.run.comes.streams) status all.output all.notes other (read_so laws report early whole status all boxes one)
+live-no-other laws report early whole status all boxes other (inr short) = not_short status other short.is
 
 pub live-made-no-other : (laws : Laws) (report : Reporting) (whole : Plan) (number : ℕ) (status : Status) (output notes : Device SinkTold) (boxes : Device (List BoxTold)) → (status ≡ StoreFault) ⊎ (status ≡ Usage) → RanLiveMade laws report whole number status output notes boxes → ⊥
 live-made-no-other laws report whole number status output notes boxes other (inl one) =
@@ -87,9 +85,9 @@ live-made-no-other laws report whole number status output notes boxes other (inl
 live-made-no-other laws report whole number status output notes boxes other (inr short) = not_short status other short.is
 
 -- If memory ran out, the notes say so.
-pub live-noted : (laws : Laws) (report : Reporting) (whole : Plan) (all : RunDevices) (boxes : Device (List BoxTold)) → RanLive laws report whole OutOfMemory all boxes → TookNotes all.notes memory_note
-live-noted laws report whole all boxes (inr short) = short.noted
-live-noted laws report whole all boxes (inl one) = absurd (by (read_so laws report whole OutOfMemory all boxes one))
+pub live-noted : (laws : Laws) (report : Reporting) (early : Bool) (whole : Plan) (all : RunDevices) (boxes : Device (List BoxTold)) → RanLive laws report early whole OutOfMemory all boxes → TookNotes all.notes memory_note
+live-noted laws report early whole all boxes (inr short) = short.noted
+live-noted laws report early whole all boxes (inl one) = absurd (by (read_so laws report early whole OutOfMemory all boxes one))
   where
     by : Ended_so report whole one.read.end one.run.comes.live (output_in packet_lines (split_of whole).core one.run.comes.streams) OutOfMemory all.output all.notes → ⊥
     by (inl met) = no-want whole all.input one.read.end one.run.comes.live.faults (open_numbers one.run.comes.live.ends.items) one.came.came one.read one.came.by met.told
@@ -105,17 +103,14 @@ live-made-noted laws report whole number output notes boxes (inl one) = absurd (
 
 -- The calculators --
 
-short_count : (laws : Laws) (whole : Plan) (input : Device SourceTold) (output : Device SinkTold) (boxes : Device (List BoxTold)) → LiveShortIn laws whole input output boxes → length boxes.now ≡ length boxes.before
-short_count laws whole input output boxes (inl short) = ap length short.nothing.uncalled
-short_count laws whole input output boxes (inr (inl short)) = short.short.had.back.count
-short_count laws whole input output boxes (inr (inr short)) =
-    let read = ended_input (inputs_of whole) (short.first ++ []) in
-    let cut = some_cut read.lines in
-    (short.short [] (λ ended. refl) (come_after (inputs_of whole) read.end [] cut.0) (record { lines = cut.0; in_batches = cut.1; are = refl })).had.back.count
+short_count : (laws : Laws) (early : Bool) (whole : Plan) (input : Device SourceTold) (output : Device SinkTold) (boxes : Device (List BoxTold)) → LiveShortIn laws early whole input output boxes → length boxes.now ≡ length boxes.before
+short_count laws early whole input output boxes (inl short) = ap length short.nothing.uncalled
+short_count laws early whole input output boxes (inr (inl short)) = short.short.had.back.count
+short_count laws early whole input output boxes (inr (inr short)) = (short.short [] (λ ended. refl)).2.had.back.count
 
-pub live-boxes : (laws : Laws) (report : Reporting) (whole : Plan) (status : Status) (all : RunDevices) (boxes : Device (List BoxTold)) → RanLive laws report whole status all boxes → length boxes.now ≡ length boxes.before
-live-boxes laws report whole status all boxes (inl one) = one.run.had.back.count
-live-boxes laws report whole status all boxes (inr short) = short_count laws whole all.input all.output boxes short.by
+pub live-boxes : (laws : Laws) (report : Reporting) (early : Bool) (whole : Plan) (status : Status) (all : RunDevices) (boxes : Device (List BoxTold)) → RanLive laws report early whole status all boxes → length boxes.now ≡ length boxes.before
+live-boxes laws report early whole status all boxes (inl one) = one.run.had.back.count
+live-boxes laws report early whole status all boxes (inr short) = short_count laws early whole all.input all.output boxes short.by
 
 made_count : (laws : Laws) (whole : Plan) (number : ℕ) (output : Device SinkTold) (boxes : Device (List BoxTold)) → LiveShortInMade laws whole number output boxes → length boxes.now ≡ length boxes.before
 made_count laws whole number output boxes (inl nothing) = ap length nothing.uncalled
@@ -135,15 +130,15 @@ met_then : (report : Reporting) (whole : Plan) (end : FeedEnd) (live : Outcomes)
 met_then report whole end live text status output notes one two (inl met) = met
 met_then report whole end live text status output notes one two (inr short) = absurd (no_short (told_answer report whole end live text) (told_failed report whole end live) output notes short.1 one two)
 
-abbrev MetLive : Laws → Reporting → Plan → Status → RunDevices → List ℕ → Type 0
-MetLive laws report whole status all bytes = (answer : RunAnswer) × AnswersLive laws report whole bytes answer × Meets answer status all.output all.notes
+abbrev MetLive : Laws → Reporting → Bool → Plan → Status → RunDevices → List ℕ → Type 0
+MetLive laws report early whole status all bytes = (answer : RunAnswer) × AnswersLive laws report early whole bytes answer × Meets answer status all.output all.notes
 
-pub live-answered : (laws : Laws) (report : Reporting) (whole : Plan) (status : Status) (all : RunDevices) (boxes : Device (List BoxTold)) → RanLive laws report whole status all boxes → answers.NoneFailed all → status ≢ OutOfMemory
-    → IfSome all.input.before.left (MetLive laws report whole status all)
-live-answered laws report whole status all boxes (inr short) none some = absurd (some short.is)
-live-answered laws report whole status all boxes (inl one) none some = by all.input.before.left refl
+pub live-answered : (laws : Laws) (report : Reporting) (early : Bool) (whole : Plan) (status : Status) (all : RunDevices) (boxes : Device (List BoxTold)) → RanLive laws report early whole status all boxes → answers.NoneFailed all → status ≢ OutOfMemory
+    → IfSome all.input.before.left (MetLive laws report early whole status all)
+live-answered laws report early whole status all boxes (inr short) none some = absurd (some short.is)
+live-answered laws report early whole status all boxes (inl one) none some = by all.input.before.left refl
   where
-    by : (o : Option (List ℕ)) → all.input.before.left ≡ o → IfSome o (MetLive laws report whole status all)
+    by : (o : Option (List ℕ)) → all.input.before.left ≡ o → IfSome o (MetLive laws report early whole status all)
     by None is = tt
     by (Some bytes) is =
         let same = whole-read (inputs_of whole) all.input one.read bytes one.came is none.input in
@@ -153,10 +148,10 @@ live-answered laws report whole status all boxes (inl one) none some = by all.in
           record {
             first = one.first;
             later = one.later;
-            batches = subst (λ (r : Read). AreBatchesOf whole r (one.first ∷ one.later)) same one.batches;
+            batches = subst (λ (r : Read). AreBatchesOf early whole r (one.first ∷ one.later)) same one.batches;
             answers = subst (λ (r : Read). IsLiveAnswer laws packet_lines report whole one.first one.later r.end answer) same (record { comes = one.run.comes; is = refl });
           },
-          met_then report whole one.read.end one.run.comes.live text status all.output all.notes none.output none.notes (read_so laws report whole status all boxes one),
+          met_then report whole one.read.end one.run.comes.live text status all.output all.notes none.output none.notes (read_so laws report early whole status all boxes one),
         )
 
 pub live-made-answered : (laws : Laws) (report : Reporting) (whole : Plan) (number : ℕ) (status : Status) (all : RunDevices) (boxes : Device (List BoxTold)) → RanLiveMade laws report whole number status all.output all.notes boxes → answers.NoneFailed all → status ≢ OutOfMemory
@@ -169,19 +164,19 @@ live-made-answered laws report whole number status all boxes (inl one) none some
       met_then report whole Ended one.comes.live text status all.output all.notes none.output none.notes (made_so laws report whole number status all.output all.notes boxes one),
     )
 
-pub live-ended : (laws : Laws) (report : Reporting) (whole : Plan) (status : Status) (all : RunDevices) (boxes : Device (List BoxTold)) → RanLive laws report whole status all boxes → (status ≡ OutOfMemory → IsOneOf status (Good ∷ NodeFault ∷ Stalled ∷ []) → ⊥)
+pub live-ended : (laws : Laws) (report : Reporting) (early : Bool) (whole : Plan) (status : Status) (all : RunDevices) (boxes : Device (List BoxTold)) → RanLive laws report early whole status all boxes → (status ≡ OutOfMemory → IsOneOf status (Good ∷ NodeFault ∷ Stalled ∷ []) → ⊥)
     → IsOneOf status (Good ∷ NodeFault ∷ Stalled ∷ []) → EndCame all.input.before all.input.now
-live-ended laws report whole status all boxes (inr out) short one_of = absurd (short out.is one_of)
-live-ended laws report whole status all boxes (inl one) short one_of = by (read_so laws report whole status all boxes one)
+live-ended laws report early whole status all boxes (inr out) short one_of = absurd (short out.is one_of)
+live-ended laws report early whole status all boxes (inl one) short one_of = by (read_so laws report early whole status all boxes one)
   where
     by : Ended_so report whole one.read.end one.run.comes.live (output_in packet_lines (split_of whole).core one.run.comes.streams) status all.output all.notes → EndCame all.input.before all.input.now
     by (inl met) = end-by one.read.end status one.run.comes.live.faults (open_numbers one.run.comes.live.ends.items) (inputs_of whole) all.input one.came.came one.read met.told one_of one.came.by
     by (inr failed) = absurd (no-one status (inl failed.0) one_of)
 
-pub live-read-risen : (laws : Laws) (report : Reporting) (whole : Plan) (status : Status) (all : RunDevices) (boxes : Device (List BoxTold)) → RanLive laws report whole status all boxes → HasRisen all.input.before.faults all.input.now.faults
+pub live-read-risen : (laws : Laws) (report : Reporting) (early : Bool) (whole : Plan) (status : Status) (all : RunDevices) (boxes : Device (List BoxTold)) → RanLive laws report early whole status all boxes → HasRisen all.input.before.faults all.input.now.faults
     → IsOneOf status (ReadFault ∷ WriteFault ∷ OutOfMemory ∷ [])
-live-read-risen laws report whole status all boxes (inr short) risen = inr (inr (inl short.is))
-live-read-risen laws report whole status all boxes (inl one) risen = by (read_so laws report whole status all boxes one)
+live-read-risen laws report early whole status all boxes (inr short) risen = inr (inr (inl short.is))
+live-read-risen laws report early whole status all boxes (inl one) risen = by (read_so laws report early whole status all boxes one)
   where
     by : Ended_so report whole one.read.end one.run.comes.live (output_in packet_lines (split_of whole).core one.run.comes.streams) status all.output all.notes → IsOneOf status (ReadFault ∷ WriteFault ∷ OutOfMemory ∷ [])
     by (inl met) = failed-by one.read.end status one.run.comes.live.faults (open_numbers one.run.comes.live.ends.items) all.input.before all.input.now (inputs_of whole) all.input one.came.came one.read met.told one.came.faults one.came.by risen
@@ -195,10 +190,10 @@ write_so report whole end live text status all (inl risen) (inl met) = absurd (s
 write_so report whole end live text status all (inr risen) (inl met) = absurd (steady-risen _ _ met.noted.steady risen)
 write_so report whole end live text status all risen (inr failed) = inl failed.0
 
-pub live-write-risen : (laws : Laws) (report : Reporting) (whole : Plan) (status : Status) (all : RunDevices) (boxes : Device (List BoxTold)) → RanLive laws report whole status all boxes → EitherRisen all → IsOneOf status (WriteFault ∷ OutOfMemory ∷ [])
-live-write-risen laws report whole status all boxes (inl one) risen =
-    write_so report whole one.read.end one.run.comes.live (output_in packet_lines (split_of whole).core one.run.comes.streams) status all risen (read_so laws report whole status all boxes one)
-live-write-risen laws report whole status all boxes (inr short) risen = inr (inl short.is)
+pub live-write-risen : (laws : Laws) (report : Reporting) (early : Bool) (whole : Plan) (status : Status) (all : RunDevices) (boxes : Device (List BoxTold)) → RanLive laws report early whole status all boxes → EitherRisen all → IsOneOf status (WriteFault ∷ OutOfMemory ∷ [])
+live-write-risen laws report early whole status all boxes (inl one) risen =
+    write_so report whole one.read.end one.run.comes.live (output_in packet_lines (split_of whole).core one.run.comes.streams) status all risen (read_so laws report early whole status all boxes one)
+live-write-risen laws report early whole status all boxes (inr short) risen = inr (inl short.is)
 
 pub live-made-write-risen : (laws : Laws) (report : Reporting) (whole : Plan) (number : ℕ) (status : Status) (all : RunDevices) (boxes : Device (List BoxTold)) → RanLiveMade laws report whole number status all.output all.notes boxes → EitherRisen all
     → IsOneOf status (WriteFault ∷ OutOfMemory ∷ [])

@@ -1,5 +1,5 @@
 -- What a graph with free nodes gives depends neither on the limit of its plan's queues nor on the number of its workers.
-use Rattle.std.proofs.Common.{◌≡◌, ℕ, ℤ, min, List, [], ◌∷◌, ◌++◌, map, length, Option, None, Some, ap, ◌∙◌, subst}
+use Rattle.std.proofs.Common.{◌≡◌, ◌≢◌, ◌≤◌, ℕ, ℤ, pos, min, Bool, List, [], ◌∷◌, ◌++◌, map, length, Option, None, Some, ap, ◌∙◌, subst}
 use Rattle.std.specs.List.{flat_map}
 use Rattle.mg_edge.specs.Edge.{SinkTold}
 use Rattle.mg_value.specs.Payload.{Plain}
@@ -30,7 +30,7 @@ use Rattle.mg_drive.specs.Live.{renumbered_fault, sets_by, LiveTells}
 use Rattle.mg_drive.specs.OneLive.{ComesTo, IsLiveAnswer, OneLive, AreBatchesOf, AnswersLive, AnswersLiveMade}
 use Rattle.mg_run.specs.Answer.{with_limit, with_workers, limit_or}
 use Rattle.mg_words.specs.declared.limits.TheConstants.{MOST_WORKERS}
-use Rattle.mg_run.proofs.Unlimited.{limited_plan, unlimited, faults_same, counts_same, output_same, notes_same, had_same}
+use Rattle.mg_run.proofs.Unlimited.{limited_plan, unlimited_job, unlimited, faults_same, counts_same, output_same, notes_same, had_same}
 
 -- The rounds --
 
@@ -92,22 +92,22 @@ live_same laws form report plan limit workers first later end a is = record {
   is = is.is ∙ answer_same form report plan limit workers end is.comes.live is.comes.streams;
 }
 
-pub batches_same : (plan : Plan) (limit : ℤ) (workers : ℕ) (read : Read) (batches : List Inputs) → AreBatchesOf (limited_plan plan limit workers) read batches → AreBatchesOf plan read batches
-batches_same plan limit workers read batches b = record { lines = b.lines; in_batches = b.in_batches; are = b.are }
+pub batches_same : (early : Bool) (plan : Plan) (limit : ℤ) (workers : ℕ) (read : Read) (batches : List Inputs) → AreBatchesOf early (limited_plan plan limit workers) read batches → AreBatchesOf early plan read batches
+batches_same early plan limit workers read batches b = record { lines = b.lines; in_batches = b.in_batches; are = b.are }
 
-lines_same : (laws : Laws) (report : Reporting) (plan : Plan) (limit : ℤ) (workers : ℕ) (input : List ℕ) (a : RunAnswer) → AnswersLive laws report (limited_plan plan limit workers) input a → AnswersLive laws report plan input a
-lines_same laws report plan limit workers input a is = record {
+lines_same : (laws : Laws) (report : Reporting) (early : Bool) (plan : Plan) (limit : ℤ) (workers : ℕ) (input : List ℕ) (a : RunAnswer) → AnswersLive laws report early (limited_plan plan limit workers) input a → AnswersLive laws report early plan input a
+lines_same laws report early plan limit workers input a is = record {
   first = is.first;
   later = is.later;
-  batches = batches_same plan limit workers (ended_input (inputs_of plan) input) (is.first ∷ is.later) is.batches;
+  batches = batches_same early plan limit workers (ended_input (inputs_of plan) input) (is.first ∷ is.later) is.batches;
   answers = live_same laws packet_lines report plan limit workers is.first is.later (ended_input (inputs_of plan) input).end a is.answers;
 }
 
-pub live_asked : (laws : Laws) (report : Reporting) (limit : Option ℤ) (workers : Option ℕ) (plan : Plan) (input : List ℕ) (a : RunAnswer) → AnswersLive laws report (with_workers workers (with_limit limit plan)) input a → AnswersLive laws report plan input a
-live_asked laws report None None plan input a is = is
-live_asked laws report (Some limit) None plan input a is = lines_same laws report plan (limit_or limit plan.limit) plan.workers input a is
-live_asked laws report None (Some workers) plan input a is = lines_same laws report plan plan.limit (min workers MOST_WORKERS) input a is
-live_asked laws report (Some limit) (Some workers) plan input a is = lines_same laws report plan (limit_or limit plan.limit) (min workers MOST_WORKERS) input a is
+pub live_asked : (laws : Laws) (report : Reporting) (early : Bool) (limit : Option ℤ) (workers : Option ℕ) (plan : Plan) (input : List ℕ) (a : RunAnswer) → AnswersLive laws report early (with_workers workers (with_limit limit plan)) input a → AnswersLive laws report early plan input a
+live_asked laws report early None None plan input a is = is
+live_asked laws report early (Some limit) None plan input a is = lines_same laws report early plan (limit_or limit plan.limit) plan.workers input a is
+live_asked laws report early None (Some workers) plan input a is = lines_same laws report early plan plan.limit (min workers MOST_WORKERS) input a is
+live_asked laws report early (Some limit) (Some workers) plan input a is = lines_same laws report early plan (limit_or limit plan.limit) (min workers MOST_WORKERS) input a is
 
 made_same : (laws : Laws) (report : Reporting) (number : ℕ) (plan : Plan) (limit : ℤ) (workers : ℕ) (a : RunAnswer) → AnswersLiveMade laws report (limited_plan plan limit workers) number a → AnswersLiveMade laws report plan number a
 made_same laws report number plan limit workers a is = live_same laws totals report plan limit workers (generated_job laws plan number).inputs [] Ended a is
@@ -127,12 +127,13 @@ failed_same report plan limit workers end live =
     ++ live.arrivals.items ++ asked_report report (report_by plan live.sets live.ends.items)
 
 pub unlimited_live : (laws : Laws) (form : OutputForm) (report : Reporting) (plan : Plan) (limit : ℤ) (workers : ℕ) (first : Inputs) (later : List Inputs) (end : FeedEnd) (status : Status) (output notes : Device SinkTold) (boxes : Device (List BoxTold))
-    → OneLive laws form report (limited_plan plan limit workers) first later end status output notes boxes → OneLive laws form report plan first later end status output notes boxes
+    → plan.limit ≢ pos 0 → plan.workers ≤ 64 → OneLive laws form report (limited_plan plan limit workers) first later end status output notes boxes → OneLive laws form report plan first later end status output notes boxes
 unfolding comes_same
-unlimited_live laws form report plan limit workers first later end status output notes boxes r =
+unlimited_live laws form report plan limit workers first later end status output notes boxes some few r =
     let job = core_job laws (split_of plan) (last_batch first later) r.comes.takens in
     record {
       comes = comes_same laws report plan limit workers first later r.comes;
+      is_job = unlimited_job job limit workers some few r.is_job;
       wrote = subst (λ (a : RunAnswer). WroteBy status a (told_failed report plan end r.comes.live) output notes) (answer_same form report plan limit workers end r.comes.live r.comes.streams)
           (subst (λ (f : List ℕ). WroteBy status (told_answer report (limited_plan plan limit workers) end r.comes.live (output_in form (split_of (limited_plan plan limit workers)).core r.comes.streams)) f output notes)
           (failed_same report plan limit workers end r.comes.live) r.wrote);

@@ -1,5 +1,5 @@
 -- A run of a graph with free nodes has one answer.
-use Rattle.std.proofs.Common.{◌≡◌, ℕ, List, [], ◌∷◌, ◌++◌, map, length, drop, slice_index_or, refl, sym, ap, ◌∙◌, subst}
+use Rattle.std.proofs.Common.{◌≡◌, ℕ, Bool, false, List, [], ◌∷◌, ◌++◌, map, length, drop, slice_index_or, refl, sym, ap, ◌∙◌, subst}
 use Rattle.mg_value.specs.Payload.{Plain}
 use Rattle.mg_settled.specs.Prefix.{StreamPrefix}
 use Rattle.mg_calc.specs.Rules.{Laws}
@@ -61,15 +61,17 @@ one-of-live laws form report whole first later end a b one two =
     let streams = one_solution (core_job laws split base two.comes.takens) one.comes.streams two.comes.streams solution two.comes.solution in
     answer_told laws form report whole first later end a one ∙ (λ i. answer_in laws form report whole base end (logs i) (streams i)) ∙ sym (answer_told laws form report whole first later end b two)
 
--- the batches of an input are one thing
-pub one-batches : (whole : Plan) (read : Read) (batches other : List Inputs) → AreBatchesOf whole read batches → AreBatchesOf whole read other → batches ≡ other
-one-batches whole read batches other a b =
-    sym a.are ∙ ap (come_after (inputs_of whole) read.end []) (one_cut read.lines read.lines a.lines b.lines refl a.in_batches b.in_batches) ∙ b.are
+-- the batches of an input are one thing if they may not end early
+pub one-batches : (early : Bool) (whole : Plan) (read : Read) (batches other : List Inputs) → early ≡ false → AreBatchesOf early whole read batches → AreBatchesOf early whole read other → batches ≡ other
+one-batches early whole read batches other is one two = by (subst (λ (e : Bool). AreBatchesOf e whole read batches) is one) (subst (λ (e : Bool). AreBatchesOf e whole read other) is two)
+  where
+    by : AreBatchesOf false whole read batches → AreBatchesOf false whole read other → batches ≡ other
+    by a b = sym a.are ∙ ap (come_after (inputs_of whole) read.end []) (one_cut read.lines read.lines a.lines b.lines refl a.in_batches b.in_batches) ∙ b.are
 
-pub one-of-lines : (laws : Laws) (report : Reporting) (whole : Plan) (input : List ℕ) (a b : RunAnswer) → AnswersLive laws report whole input a → AnswersLive laws report whole input b → a ≡ b
-one-of-lines laws report whole input a b one two =
+pub one-of-lines : (laws : Laws) (report : Reporting) (early : Bool) (whole : Plan) (input : List ℕ) (a b : RunAnswer) → early ≡ false → AnswersLive laws report early whole input a → AnswersLive laws report early whole input b → a ≡ b
+one-of-lines laws report early whole input a b is one two =
     let end = (ended_input (inputs_of whole) input).end in
-    let same = one-batches whole (ended_input (inputs_of whole) input) (one.first ∷ one.later) (two.first ∷ two.later) one.batches two.batches in
+    let same = one-batches early whole (ended_input (inputs_of whole) input) (one.first ∷ one.later) (two.first ∷ two.later) is one.batches two.batches in
     let first : one.first ≡ two.first = ap (λ (l : List Inputs). slice_index_or l 0 one.first) same in
     let later : one.later ≡ two.later = ap (λ (l : List Inputs). drop 1 l) same in
     one-of-live laws packet_lines report whole two.first two.later end a b

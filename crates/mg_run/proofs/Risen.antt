@@ -44,7 +44,7 @@ read-did : (laws : Laws) (action : Action) (status : Status) (all : CallDevices)
 read-did laws (refuse note) status all did risen = absurd (risen-unread all.input risen did.unread)
 read-did laws (show text) status all did risen = absurd (risen-unread all.input risen did.unread)
 read-did laws (run_plan report plan) status all did risen = lines-read-risen laws report plan status (run_devices_of all) all.boxes did risen
-read-did laws (run_live report plan) status all did risen = live-read-risen laws report plan status (run_devices_of all) all.boxes did risen
+read-did laws (run_live report early plan) status all did risen = live-read-risen laws report early plan status (run_devices_of all) all.boxes did risen
 read-did laws (solve report plan) status all did risen = run-read-risen laws report plan status (run_devices_of all) did.ran risen
 read-did laws (generate report number plan) status all did risen = absurd (risen-unread all.input risen did.unread)
 read-did laws (generate_live report number plan) status all did risen = absurd (risen-unread all.input risen did.unread)
@@ -85,7 +85,7 @@ write-did : (laws : Laws) (action : Action) (status : Status) (all : CallDevices
 write-did laws (refuse note) status all did risen = inr (inl did.ended)
 write-did laws (show text) status all did risen = write-shown text status all did risen
 write-did laws (run_plan report plan) status all did risen = write-status status (lines-write-risen laws report plan status (run_devices_of all) all.boxes did risen)
-write-did laws (run_live report plan) status all did risen = write-status status (live-write-risen laws report plan status (run_devices_of all) all.boxes did risen)
+write-did laws (run_live report early plan) status all did risen = write-status status (live-write-risen laws report early plan status (run_devices_of all) all.boxes did risen)
 write-did laws (solve report plan) status all did risen = write-status status (run-write-risen laws report plan status (run_devices_of all) did.ran risen)
 write-did laws (generate report number plan) status all did risen =
     write-status status (packets-write-risen laws report plan number status (run_devices_of all) all.boxes did.ran risen)

@@ -1,5 +1,5 @@
 -- The equations, and what is told of their solution, depend neither on the limit of a plan's queues nor on the number of its workers.
-use Rattle.std.proofs.Common.{◌≡◌, ℕ, ℤ, zero, suc, Bool, if◌then◌else◌, List, ◌∷◌, ◌++◌, map, take, option_map, refl, sym, ap, subst, ◌∙◌}
+use Rattle.std.proofs.Common.{◌≡◌, ◌≢◌, ◌≤◌, ℕ, ℤ, pos, zero, suc, Bool, if◌then◌else◌, List, ◌∷◌, ◌++◌, map, take, option_map, refl, sym, ap, subst, ◌∙◌}
 use Rattle.std.specs.List.{flat_map, filter_map}
 use Rattle.mg_value.specs.Payload.{Plain}
 use Rattle.mg_settled.specs.Prefix.{StreamPrefix}
@@ -11,7 +11,7 @@ use Rattle.mg_calc.specs.declared.plan.Plan.{Plan}
 use Rattle.mg_calc.specs.declared.plan_node.PlanNode.{PlanNode}
 use Rattle.mg_calc.specs.declared.call.Call.{Call}
 use Rattle.mg_calc.specs.declared.call.Call.TheVariants.{Begun, Shown}
-use Rattle.mg_calc.specs.Equations.{Job, rules_at, inputs_of, outcome_by, outcome_of, next_round, round, IsSolution, MeetsEquations}
+use Rattle.mg_calc.specs.Equations.{Job, IsJob, rules_at, inputs_of, outcome_by, outcome_of, next_round, round, IsSolution, MeetsEquations}
 use Rattle.mg_calc.specs.Meaning.{numbered, faults, count_of, counts, stalled, last_call, log_of}
 use Rattle.mg_calc.specs.Outcome.{Outcome}
 use Rattle.mg_calc.specs.Told.{BoxTold}
@@ -38,6 +38,44 @@ limited_plan plan limit workers = record plan { limit = limit; workers = workers
 
 abbrev pub limited : Job → ℤ → ℕ → Job
 limited job limit workers = record { plan = limited_plan job.plan limit workers; inputs = job.inputs; laws = job.laws }
+
+-- a job with other limits is a job, if these are limits that a plan may have
+pub unlimited_job : (job : Job) (limit : ℤ) (workers : ℕ) → job.plan.limit ≢ pos 0 → job.plan.workers ≤ 64 → IsJob (limited job limit workers) → IsJob job
+unlimited_job job limit workers some few is =
+    let valid = is.plan in
+    let ranges = valid.ranges in
+    let fit = is.inputs in
+    record {
+      plan = record {
+        ranges = record {
+          nodes = ranges.nodes;
+          edges = ranges.edges;
+          outputs = ranges.outputs;
+          workers = few;
+          read = ranges.read;
+          shown = ranges.shown;
+          taken = ranges.taken;
+          given = ranges.given;
+          limit = some;
+        };
+        streams = valid.streams;
+        inputs = valid.inputs;
+        producers = valid.producers;
+        edges = valid.edges;
+        ports = valid.ports;
+        parameters = valid.parameters;
+        shapes = valid.shapes;
+        flights = valid.flights;
+        policies = valid.policies;
+        stated = valid.stated;
+        boxes = valid.boxes;
+        order = valid.order;
+        forward = valid.forward;
+        back = valid.back;
+        laws = valid.laws;
+      };
+      inputs = record { streams = fit.streams; prefixes = fit.prefixes; sides = fit.sides };
+    }
 
 -- what becomes of a node
 outcome_by_same : (law : Law) (job : Job) (limit : ℤ) (workers : ℕ) (xs : List (StreamPrefix Plain)) (node : PlanNode) → outcome_by law (limited job limit workers) xs node ≡ outcome_by law job xs node
@@ -150,8 +188,9 @@ had_same job limit workers xs node before now h = record {
 }
 
 pub unlimited_run : (telling : Telling) (job : Job) (limit : ℤ) (workers : ℕ) (end : FeedEnd) (status : Status) (output notes : Device SinkTold) (boxes : Device (List BoxTold))
-    → OneRun telling (limited job limit workers) end status output notes boxes → OneRun telling job end status output notes boxes
-unlimited_run telling job limit workers end status output notes boxes r = record {
+    → job.plan.limit ≢ pos 0 → job.plan.workers ≤ 64 → OneRun telling (limited job limit workers) end status output notes boxes → OneRun telling job end status output notes boxes
+unlimited_run telling job limit workers end status output notes boxes some few r = record {
+  is_job = unlimited_job job limit workers some few r.is_job;
   streams = r.streams;
   solution = unlimited job limit workers r.streams r.solution;
   wrote = subst (λ (a : RunAnswer). WroteBy status a (failed_notes telling job end r.streams) output notes) (answer_same telling job limit workers end r.streams)

@@ -38,12 +38,13 @@ use Rattle.mg_answer.specs.declared.run.Reporting.{Reporting}
 -- What a command has to do. It refuses a file, the expansion or the graph with a note, or it writes a text, or it uses the graph of a plan.
 -- It may run the graph, without free nodes or with, or solve it. It may run the graph over a number of packets that are made, without free
 -- nodes or with. It may run the graph and record the run, or make a recorded run of the graph again. If a graph is used, `Reporting` says
--- what the notes tell beside what went wrong.
+-- what the notes tell beside what went wrong. If a graph with free nodes is run over lines, a truth value says whether batches of these may
+-- end early.
 pub data Action : Type 0 where
   refuse : List ℕ → Action
   show : List ℕ → Action
   run_plan : Reporting → Plan → Action
-  run_live : Reporting → Plan → Action
+  run_live : Reporting → Bool → Plan → Action
   solve : Reporting → Plan → Action
   generate : Reporting → ℕ → Plan → Action
   generate_live : Reporting → ℕ → Plan → Action
@@ -113,7 +114,7 @@ way_action Replay instruction plan = replay (reporting instruction) (with_limit 
 -- The action of using a graph with free nodes in a way. `first` is its first free node. The graph is run over the input or over packets
 -- that are made, and refused in each other way.
 abbrev pub live_action : Way → Instruction → ℕ → Plan → Action
-live_action Run instruction first plan = run_live (reporting instruction) (as_asked instruction plan)
+live_action Run instruction first plan = run_live (reporting instruction) instruction.unbuffered (as_asked instruction plan)
 live_action Solve instruction first plan = refuse (free_note (way_word Solve) first)
 live_action Generate instruction first plan = generate_live (reporting instruction) instruction.number (as_asked instruction plan)
 live_action Trace instruction first plan = refuse (free_note (way_word Trace) first)
@@ -163,12 +164,13 @@ action_of invocation files = files_action invocation.instruction invocation.oute
 -- The answer of an action, if an input of these bytes ends well and the caller supplies these calculators. Running a graph without free
 -- nodes and solving it have the same answer. Recording a run has that answer, too, but the output is a trace of any run of the graph over
 -- that input. Making a recorded run again has the answer of its graph's run if the input's lines are such a run to rest. Otherwise it
--- refuses a line. If packets are made, the input doesn't matter.
+-- refuses a line. If packets are made, the input doesn't matter. If a graph with free nodes is run and batches may end early, there may be
+-- many answers.
 abbrev pub AnswersAction : Laws → Action → List BoxTold → List ℕ → RunAnswer → Type 0
 AnswersAction laws (refuse note) boxes input given = given ≡ record { output = []; notes = note; status = GraphRefused }
 AnswersAction laws (show text) boxes input given = given ≡ record { output = text; notes = []; status = Good }
 AnswersAction laws (run_plan report plan) boxes input given = AnswersEnded laws report plan input given
-AnswersAction laws (run_live report plan) boxes input given = AnswersLive laws report plan input given
+AnswersAction laws (run_live report early plan) boxes input given = AnswersLive laws report early plan input given
 AnswersAction laws (solve report plan) boxes input given = AnswersEnded laws report plan input given
 AnswersAction laws (generate report number plan) boxes input given = AnswersGenerated laws report plan number given
 AnswersAction laws (generate_live report number plan) boxes input given = AnswersLiveMade laws report plan number given
@@ -180,19 +182,31 @@ abbrev pub Records : Action → Type 0
 Records (refuse note) = ⊥
 Records (show text) = ⊥
 Records (run_plan report plan) = ⊥
-Records (run_live report plan) = ⊥
+Records (run_live report early plan) = ⊥
 Records (solve report plan) = ⊥
 Records (generate report number plan) = ⊥
 Records (generate_live report number plan) = ⊥
 Records (trace report plan) = Unit {0}
 Records (replay report plan) = ⊥
 
+-- a graph with free nodes is run over lines whose batches may end early, and there may be many answers
+abbrev pub EndsEarly : Action → Type 0
+EndsEarly (refuse note) = ⊥
+EndsEarly (show text) = ⊥
+EndsEarly (run_plan report plan) = ⊥
+EndsEarly (run_live report early plan) = early ≡ true
+EndsEarly (solve report plan) = ⊥
+EndsEarly (generate report number plan) = ⊥
+EndsEarly (generate_live report number plan) = ⊥
+EndsEarly (trace report plan) = ⊥
+EndsEarly (replay report plan) = ⊥
+
 -- an action makes a recorded run again, and the input's lines tell its events
 abbrev pub Replays : Action → Type 0
 Replays (refuse note) = ⊥
 Replays (show text) = ⊥
 Replays (run_plan report plan) = ⊥
-Replays (run_live report plan) = ⊥
+Replays (run_live report early plan) = ⊥
 Replays (solve report plan) = ⊥
 Replays (generate report number plan) = ⊥
 Replays (generate_live report number plan) = ⊥

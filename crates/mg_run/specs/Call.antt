@@ -108,7 +108,7 @@ abbrev pub DidAction : Laws → Action → Status → CallDevices → Type 0
 DidAction laws (refuse note) status devices = WasRefused note status devices
 DidAction laws (show text) status devices = WasShown text status devices
 DidAction laws (run_plan report plan) status devices = RanOverLines laws report plan status (run_devices_of devices) devices.boxes
-DidAction laws (run_live report plan) status devices = RanLive laws report plan status (run_devices_of devices) devices.boxes
+DidAction laws (run_live report early plan) status devices = RanLive laws report early plan status (run_devices_of devices) devices.boxes
 DidAction laws (solve report plan) status devices = SolvedGraph laws report plan status devices
 DidAction laws (generate report number plan) status devices = GeneratedGraph laws report number plan status devices
 DidAction laws (generate_live report number plan) status devices = GeneratedLive laws report number plan status devices

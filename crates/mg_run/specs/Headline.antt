@@ -110,17 +110,18 @@ pub record IsLiveGraph (invocation : Invocation) (contents : List (List ℕ)) (p
   pub free : first_free plan ≡ Some first
 
 -- The batches over which a graph was run, each with what had come by its end. They are batches of the lines that were read, or all packets
--- that are made as one batch.
-abbrev pub AreBatchesFrom : Laws → Plan → Origin → List Inputs → Type 0
-AreBatchesFrom laws plan (from_input read) batches = AreBatchesOf plan read batches
-AreBatchesFrom laws plan (from_number number) batches = batches ≡ (generated_job laws plan number).inputs ∷ []
+-- that are made as one batch. Batches of lines may end early if the instruction says so.
+abbrev pub AreBatchesFrom : Laws → Instruction → Plan → Origin → List Inputs → Type 0
+AreBatchesFrom laws instruction plan (from_input read) batches = AreBatchesOf instruction.unbuffered plan read batches
+AreBatchesFrom laws instruction plan (from_number number) batches = batches ≡ (generated_job laws plan number).inputs ∷ []
 
 abbrev pub form_from : Origin → OutputForm
 form_from (from_input read) = packet_lines
 form_from (from_number number) = totals
 
 -- A call ran its graph, which has free nodes. There is one content of each file, one plan, and one thing that the graph was run over. There
--- are the logs that the free nodes' rounds over the batches give, and one solution of the core for these.
+-- are batches of it, the logs that the free nodes' rounds over the batches give, and one solution of the core for these. Unless batches of
+-- lines may end early, there is one way to split lines into batches.
 pub record LiveHeadline (laws : Laws) (invocation : Invocation) (status : Status) (devices : CallDevices) : Type 0 where
   pub contents : List (List ℕ)
   pub loaded : LoadedAll invocation.files contents devices.store
@@ -130,7 +131,7 @@ pub record LiveHeadline (laws : Laws) (invocation : Invocation) (status : Status
   pub origin : IsOrigin invocation.instruction plan devices.input from
   pub first : Inputs
   pub later : List Inputs
-  pub batches : AreBatchesFrom laws (bare plan) from (first ∷ later)
+  pub batches : AreBatchesFrom laws invocation.instruction (bare plan) from (first ∷ later)
   pub run : OneLive laws (form_from from) (reporting invocation.instruction) (bare plan) first later (end_from from) status devices.output devices.notes devices.boxes
 
 -- a call ran its graph, without free nodes or with

@@ -29,8 +29,8 @@ use std::alloc::{AllocError, Global};
 pub enum Use {
     /// The graph is run over the input.
     Run,
-    /// The graph, which has free nodes, is run over the input.
-    RunLive,
+    /// The graph, which has free nodes, is run over the input. The value says whether batches of lines end early.
+    RunLive(bool),
     /// The graph's equations are solved for the input.
     Solve,
     /// The graph is run over so many packets that are made.

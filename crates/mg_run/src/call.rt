@@ -200,7 +200,7 @@ fn use_plan<
 {
     match used {
         Use::Run => run_lines(run, crew, boxes, devices),
-        Use::RunLive => run_live_lines(run, crew, boxes, devices),
+        Use::RunLive(early) => run_live_lines(run, early, crew, boxes, devices),
         Use::Solve => solve_input(run, devices),
         Use::Generate(number) => run_made(run, number, crew, boxes, devices),
         Use::GenerateLive(number) => run_live_made(run, number, crew, boxes, devices),
@@ -225,7 +225,7 @@ fn use_plan_alone<G: Gate, C: NodeCalculator, S: Source, K: Sink, E: Sink>(
 {
     match used {
         Use::Run => run_lines_alone(run, gate, boxes, devices),
-        Use::RunLive => run_live_lines_alone(run, gate, boxes, devices),
+        Use::RunLive(early) => run_live_lines_alone(run, early, gate, boxes, devices),
         Use::Solve => solve_input(run, devices),
         Use::Generate(number) => run_made_alone(run, number, gate, boxes, devices),
         Use::GenerateLive(number) => run_live_made_alone(run, number, gate, boxes, devices),

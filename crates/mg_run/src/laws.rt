@@ -1,7 +1,18 @@
 //! Laws of the definitions: each function does nothing, and its contract is the law.
-ghost use Rattle.std.specs.Prelude.{◌≡◌, ◌∷◌, ℕ, ℤ, List, Option, None, Some};
+ghost use Rattle.std.specs.Prelude.{◌≡◌, ◌∷◌, ℕ, ℤ, false, List, map, take, length, All, Option, None, Some};
+ghost use Rattle.std.specs.List.Sorted.{IsStrictlyIncreasing};
+ghost use Rattle.mg_value.specs.Payload.{Plain};
+ghost use Rattle.mg_settled.specs.Prefix.{StreamPrefix, IsPrefix};
+ghost use Rattle.mg_settled.specs.Extension.{AreExtendedBy};
+ghost use Rattle.mg_settled.specs.Settled.{settled_sets, IsBelowBounds};
 ghost use Rattle.mg_calc.specs.Rules.{Laws};
 ghost use Rattle.mg_calc.specs.declared.plan.Plan.{Plan};
+ghost use Rattle.mg_calc.specs.declared.plan_node.PlanNode.{PlanNode};
+ghost use Rattle.mg_calc.specs.Equations.{MeetsEquations, inputs_of as ports_of};
+ghost use Rattle.mg_calc.specs.Meaning.{shown_sets};
+ghost use Rattle.mg_free.specs.Core.{split_of};
+ghost use Rattle.mg_free.specs.Rounds.{core_job};
+ghost use Rattle.mg_free.specs.Turns.{last_batch};
 ghost use Rattle.mg_calc.specs.Told.{BoxTold};
 ghost use Rattle.mg_files.specs.Files.{Files};
 ghost use Rattle.mg_edge.specs.Edge.{SourceTold, StoreTold};
@@ -13,15 +24,17 @@ ghost use Rattle.mg_answer.specs.declared.run.Reporting.{Reporting};
 ghost use Rattle.mg_run.specs.Invocation.{Invocation};
 ghost use Rattle.mg_run.specs.Devices.{Device, CallDevices, Unrisen};
 ghost use Rattle.mg_files.specs.Loads.{LoadedAll, loads_of};
-ghost use Rattle.mg_run.specs.Headline.{Headline, LiveHeadline};
-ghost use Rattle.mg_run.specs.Answer.{RunAnswer, Action, run_plan, solve, trace, action_of, with_limit, AnswersAction, Records, Replays};
+ghost use Rattle.mg_run.specs.Headline.{Headline, LiveHeadline, bare, job_from};
+ghost use Rattle.mg_words.specs.declared.words.Verb.TheVariants.{Use};
+ghost use Rattle.mg_words.specs.declared.words.Way.TheVariants.{Run};
+ghost use Rattle.mg_run.specs.Answer.{RunAnswer, Action, run_plan, solve, trace, action_of, with_limit, AnswersAction, Records, Replays, EndsEarly};
 
 /// The program has at most one answer to the bytes of an input. Only the events of a run that it records may differ: they are those of any
 /// run of the action. A recorded run, too, has one status and one text of notes, which are those of the run. A recorded run that is made
-/// again isn't part of this law.
+/// again isn't part of this law. Nor is a run of a graph with free nodes if its batches may end early.
 pub fn one_answer()
-    ensures one { (laws : Laws) (action : Action) (boxes : List BoxTold) (input : List ℕ) (a b : RunAnswer) → ¬ Records action → ¬ Replays action → AnswersAction laws action boxes input a → AnswersAction laws action boxes input b → a ≡ b }
-    ensures ends { (laws : Laws) (action : Action) (boxes : List BoxTold) (input : List ℕ) (a b : RunAnswer) → ¬ Replays action → AnswersAction laws action boxes input a → AnswersAction laws action boxes input b → (a.notes ≡ b.notes) × (a.status ≡ b.status) }
+    ensures one { (laws : Laws) (action : Action) (boxes : List BoxTold) (input : List ℕ) (a b : RunAnswer) → ¬ Records action → ¬ Replays action → ¬ EndsEarly action → AnswersAction laws action boxes input a → AnswersAction laws action boxes input b → a ≡ b }
+    ensures ends { (laws : Laws) (action : Action) (boxes : List BoxTold) (input : List ℕ) (a b : RunAnswer) → ¬ Replays action → ¬ EndsEarly action → AnswersAction laws action boxes input a → AnswersAction laws action boxes input b → (a.notes ≡ b.notes) × (a.status ≡ b.status) }
     ensures as_run { (laws : Laws) (report : Reporting) (plan : Plan) (boxes : List BoxTold) (input : List ℕ) (a b : RunAnswer) → AnswersAction laws (trace report plan) boxes input a → AnswersAction laws (run_plan report plan) boxes input b
         → (a.notes ≡ b.notes) × (a.status ≡ b.status) }
 {}
@@ -62,12 +75,55 @@ pub fn one_headline()
 {}
 
 /// Two calls have the same headline if some node is free. Suppose that they have the same words and boxes, that their stores and inputs
-/// tell the same, and that no read of an input failed. Then they have the same plan, reading and batches, the same logs of the free nodes,
-/// and the same solution of the core.
+/// tell the same, and that no read of an input failed. Suppose also that batches of lines may not end early. Then they have the same plan,
+/// reading and batches, the same logs of the free nodes, and the same solution of the core.
 pub fn one_live_headline()
     ensures { (laws : Laws) (invocation : Invocation) (status other_status : Status) (devices other : CallDevices) (contents : List (List ℕ)) (bytes : List ℕ) (a : LiveHeadline laws invocation status devices) (b : LiveHeadline laws invocation other_status other)
+        → (invocation.instruction.verb ≡ Use Run → invocation.instruction.unbuffered ≡ false)
         → loads_of devices.store.before.content invocation.files ≡ Some contents → loads_of other.store.before.content invocation.files ≡ Some contents
         → devices.input.before.left ≡ Some bytes → other.input.before.left ≡ Some bytes
         → Unrisen devices.input.before.faults devices.input.now.faults → Unrisen other.input.before.faults other.input.now.faults
         → (a.plan ≡ b.plan) × (a.from ≡ b.from) × (a.first ∷ a.later ≡ b.first ∷ b.later) × (a.run.comes.takens ≡ b.run.comes.takens) × (a.run.comes.streams ≡ b.run.comes.streams) }
+{}
+
+/// The streams of a headline are the least solution of its job. They are prefixes by the rule of streams, and they meet the equations. All
+/// prefixes that meet the equations extend them.
+pub fn a_headline_has_the_least_solution()
+    ensures prefixes { (laws : Laws) (invocation : Invocation) (status : Status) (devices : CallDevices) (h : Headline laws invocation status devices) → All IsPrefix h.run.streams }
+    ensures meets { (laws : Laws) (invocation : Invocation) (status : Status) (devices : CallDevices) (h : Headline laws invocation status devices) → MeetsEquations (job_from laws (bare h.plan) h.from) h.run.streams }
+    ensures least { (laws : Laws) (invocation : Invocation) (status : Status) (devices : CallDevices) (h : Headline laws invocation status devices) (others : List (StreamPrefix Plain))
+        → All IsPrefix others → MeetsEquations (job_from laws (bare h.plan) h.from) others → AreExtendedBy h.run.streams others }
+{}
+
+/// The sets that a node is shown in a headline ascend in time, so each comes once. They are settled. Each is below the bounds that the
+/// node's policy asks for, and all stay as they are, however the streams may go on.
+pub fn a_headline_shows_settled_sets()
+    ensures ascend { (laws : Laws) (invocation : Invocation) (status : Status) (devices : CallDevices) (h : Headline laws invocation status devices) (node : PlanNode)
+        → IsStrictlyIncreasing (map (λ e. e.at) (shown_sets (job_from laws (bare h.plan) h.from) h.run.streams node)) }
+    ensures bounds { (laws : Laws) (invocation : Invocation) (status : Status) (devices : CallDevices) (h : Headline laws invocation status devices) (node : PlanNode)
+        → All (λ e. IsBelowBounds node.policy (ports_of h.run.streams node) e.at) (shown_sets (job_from laws (bare h.plan) h.from) h.run.streams node) }
+    ensures stay { (laws : Laws) (invocation : Invocation) (status : Status) (devices : CallDevices) (h : Headline laws invocation status devices) (node : PlanNode) (further : List (StreamPrefix Plain))
+        → let sets = shown_sets (job_from laws (bare h.plan) h.from) h.run.streams node in
+        AreExtendedBy h.run.streams further → take (length sets) (settled_sets node.policy (ports_of further node)) ≡ sets }
+{}
+
+/// The same holds if some node is free: the streams are the least solution of the core's job, for what the free nodes took.
+pub fn a_live_headline_has_the_least_solution()
+    ensures prefixes { (laws : Laws) (invocation : Invocation) (status : Status) (devices : CallDevices) (h : LiveHeadline laws invocation status devices) → All IsPrefix h.run.comes.streams }
+    ensures meets { (laws : Laws) (invocation : Invocation) (status : Status) (devices : CallDevices) (h : LiveHeadline laws invocation status devices)
+        → MeetsEquations (core_job laws (split_of (bare h.plan)) (last_batch h.first h.later) h.run.comes.takens) h.run.comes.streams }
+    ensures least { (laws : Laws) (invocation : Invocation) (status : Status) (devices : CallDevices) (h : LiveHeadline laws invocation status devices) (others : List (StreamPrefix Plain))
+        → All IsPrefix others → MeetsEquations (core_job laws (split_of (bare h.plan)) (last_batch h.first h.later) h.run.comes.takens) others → AreExtendedBy h.run.comes.streams others }
+{}
+
+/// The same holds of the sets that the core's nodes are shown if some node is free.
+pub fn a_live_headline_shows_settled_sets()
+    ensures ascend { (laws : Laws) (invocation : Invocation) (status : Status) (devices : CallDevices) (h : LiveHeadline laws invocation status devices) (node : PlanNode)
+        → IsStrictlyIncreasing (map (λ e. e.at) (shown_sets (core_job laws (split_of (bare h.plan)) (last_batch h.first h.later) h.run.comes.takens) h.run.comes.streams node)) }
+    ensures bounds { (laws : Laws) (invocation : Invocation) (status : Status) (devices : CallDevices) (h : LiveHeadline laws invocation status devices) (node : PlanNode)
+        → All (λ e. IsBelowBounds node.policy (ports_of h.run.comes.streams node) e.at)
+        (shown_sets (core_job laws (split_of (bare h.plan)) (last_batch h.first h.later) h.run.comes.takens) h.run.comes.streams node) }
+    ensures stay { (laws : Laws) (invocation : Invocation) (status : Status) (devices : CallDevices) (h : LiveHeadline laws invocation status devices) (node : PlanNode) (further : List (StreamPrefix Plain))
+        → let sets = shown_sets (core_job laws (split_of (bare h.plan)) (last_batch h.first h.later) h.run.comes.takens) h.run.comes.streams node in
+        AreExtendedBy h.run.comes.streams further → take (length sets) (settled_sets node.policy (ports_of further node)) ≡ sets }
 {}

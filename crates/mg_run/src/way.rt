@@ -87,7 +87,10 @@ pub fn live_action(
 {
     let report = reporting(instruction);
     match way {
-        Way::Run => Ok(Action::Graph(Use::RunLive, report, as_asked(instruction, plan))),
+        Way::Run => {
+            let run = Use::RunLive(instruction.unbuffered);
+            Ok(Action::Graph(run, report, as_asked(instruction, plan)))
+        }
         Way::Generate => {
             let made = Use::GenerateLive(instruction.number);
             Ok(Action::Graph(made, report, as_asked(instruction, plan)))

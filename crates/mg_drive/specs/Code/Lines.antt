@@ -12,7 +12,7 @@ use Rattle.mg_feed.specs.Stands.{HasAccepted, nothing_taken, packets_of}
 use Rattle.mg_feed.specs.Fed.{Fed}
 use Rattle.mg_feed.specs.Came.{Came}
 use Rattle.mg_feed.specs.Ran.{MetEnd, Spends, Unfailed, FailedBy}
-use Rattle.mg_feed.specs.Batch.{EndsAs, Fills, CutsAt, idle_by}
+use Rattle.mg_feed.specs.Batch.{EndsAs, CutsAt, idle_by}
 use Rattle.mg_feed.specs.declared.feed_end.FeedEnd.TheVariants.{OutOfMemory}
 use Rattle.mg_feed.specs.declared.feed_end.BatchEnd.{BatchEnd}
 use Rattle.mg_feed.specs.declared.feed_end.BatchEnd.TheVariants.{More, End}
@@ -102,21 +102,17 @@ abbrev pub given_after : GraphInputs → List (List (List ℕ)) → List Inputs
 given_after graph [] = []
 given_after graph (batch ∷ batches) = inputs_at graph (lines_of (batch ∷ batches)) false ∷ given_after graph batches
 
--- A feed read batches, one after the other, and the history has all that it had handed on by the end of each.
-pub record LinesCame (fed : Fed) (plan : Plan) (first source : SourceTold) (end : BatchEnd) (history : List Inputs) : Type 0 where
+-- A feed read batches, one after the other, and the history has all that it had handed on by the end of each. The batches may have ended
+-- early or not.
+pub record LinesCame (early : Bool) (fed : Fed) (plan : Plan) (first source : SourceTold) (end : BatchEnd) (history : List Inputs) : Type 0 where
   pub past : List ℕ
   pub newest : List (List ℕ)
   pub earlier : List (List (List ℕ))
   pub is_read : IsRead plan first end source fed past (lines_of (newest ∷ earlier))
   pub history_is : history ≡ inputs_at (inputs_of plan) (lines_of (newest ∷ earlier)) (has_ended end) ∷ given_after (inputs_of plan) earlier
-  pub filled : Fills end batch_size newest
-  pub all_filled : All (λ batch. Fills More batch_size batch) earlier
+  pub filled : CutsAt early end batch_size newest
+  pub all_filled : All (λ batch. CutsAt early More batch_size batch) earlier
   pub named : IsMore end → (given_by (inputs_of plan) (lines_of (newest ∷ earlier))).named ≡ true
-
--- a feed read batches, and the newest of a history is all that the lines that it accepted gave
-abbrev pub NewestGave : Fed → Plan → SourceTold → SourceTold → BatchEnd → List Inputs → Type 0
-NewestGave fed plan first source end [] = ⊥
-NewestGave fed plan first source end (all ∷ earlier) = LinesGave fed plan first source end all
 
 -- how many lines may still come
 abbrev pub lines_left : Fed → ℕ

@@ -8,7 +8,7 @@ use Rattle.mg_calc.specs.declared.inputs.Inputs.{Inputs}
 use Rattle.mg_calc.specs.declared.plan.Plan.{Plan}
 use Rattle.mg_calc.specs.declared.plan_node.PlanNode.{PlanNode}
 use Rattle.mg_calc.specs.Shape.{IsOuter}
-use Rattle.mg_calc.specs.Equations.{IsSolution}
+use Rattle.mg_calc.specs.Equations.{IsJob, IsSolution}
 use Rattle.mg_calc.specs.Told.{BoxTold}
 use Rattle.mg_sched.specs.Views.{NetView}
 use Rattle.mg_node.specs.Job.{LoggedJob}
@@ -47,6 +47,7 @@ pub record StandsForPlan (laws : Laws) (plan : Plan) (net : NetView) : Type 0 wh
 -- each calculator that a node uses comes back with first calls of that node in a solution of a job. It comes back closed if it was
 -- opened
 pub record ClosedAllOf {laws : Laws} (job : LoggedJob laws) (net : NetView) : Type 0 where
+  pub is_job : IsJob job.job
   pub streams : List (StreamPrefix Plain)
   pub solution : IsSolution job.job streams
   pub each : (number place : ℕ) (node : PlanNode) → slice_get job.job.plan.nodes number ≡ Some node → node.box_number ≡ Some place → IsOuter node.law

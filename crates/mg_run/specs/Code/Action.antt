@@ -20,7 +20,7 @@ use Rattle.mg_answer.specs.declared.run.Reporting.{Reporting}
 -- the action of using a plan in a way of the code, with a report or without
 abbrev pub use_action : Use → Reporting → Plan → Action
 use_action Run report plan = run_plan report plan
-use_action RunLive report plan = run_live report plan
+use_action (RunLive early) report plan = run_live report early plan
 use_action Solve report plan = solve report plan
 use_action (Generate number) report plan = generate report number plan
 use_action (GenerateLive number) report plan = generate_live report number plan
@@ -39,7 +39,7 @@ abbrev pub CanBeDone : List OuterShape → Action → Type 0
 CanBeDone outers (refuse note) = Unit {0}
 CanBeDone outers (show text) = Unit {0}
 CanBeDone outers (run_plan report plan) = IsValid plan × OutersFit plan outers
-CanBeDone outers (run_live report plan) = IsValidWithFree plan × OutersFit plan outers
+CanBeDone outers (run_live report early plan) = IsValidWithFree plan × OutersFit plan outers
 CanBeDone outers (solve report plan) = IsValid plan × All (λ node. IsStated node.law → ⊥) plan.nodes
 CanBeDone outers (generate report number plan) = IsValid plan × OutersFit plan outers
 CanBeDone outers (generate_live report number plan) = IsValidWithFree plan × OutersFit plan outers

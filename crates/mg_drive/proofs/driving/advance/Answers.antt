@@ -5,6 +5,7 @@ use Rattle.mg_sched.specs.Taking.{taken_out}
 use Rattle.mg_drive.proofs.TakingSets.{told_same, told_some, told_stands}
 use Rattle.mg_drive.proofs.Looping.{takings_keep, takings_run, keeps_on, rested_at}
 use Rattle.mg_drive.proofs.StillThere.{given_on}
+use Rattle.mg_drive.proofs.Moving.{notes_on, takings_noted}
 use Rattle.mg_drive.proofs.driving.advance.Goals as goal
 
 pub to_rest-requires-clause-stands : goal.to_rest-requires-clause-stands
@@ -76,3 +77,8 @@ returns-in_err-take_all-clause-whole g c = given_on (g.N.Driven.net c.args.net.n
 
 pub returns-clause-whole : goal.returns-clause-whole
 returns-clause-whole g c = given_on (g.N.Driven.net c.args.net.now) (g.N.Driven.net c.to_rest.new.self) (g.N.Driven.net c.take_all.new.net) c.in_ok-to_rest.ensures.whole c.in_ok-take_all.ensures.whole
+
+pub returns-clause-moved : goal.returns-clause-moved
+returns-clause-moved g c =
+    notes_on c.args.moved.now c.to_rest.new.moved c.to_rest.new.moved (g.N.Driven.net c.args.net.now) (g.N.Driven.net c.to_rest.new.self) (g.N.Driven.net c.take_all.new.net) c.in_ok-to_rest.ensures.moved
+    (takings_noted c.to_rest.new.moved (g.N.Driven.net c.to_rest.new.self) (g.N.Driven.net c.take_all.new.net) c.in_ok-take_all.ensures.left)

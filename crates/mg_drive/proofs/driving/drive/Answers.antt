@@ -4,6 +4,7 @@ use Rattle.mg_calc.specs.declared.plan.Plan.{Plan}
 use Rattle.mg_drive.proofs.TakingSets.{told_stands}
 use Rattle.mg_drive.proofs.Looping.{keeps_on, run_told, still_under_way, short_here, stepped_on, stepped_over, fewer_on}
 use Rattle.mg_drive.proofs.StillThere.{still_there}
+use Rattle.mg_drive.proofs.Moving.{all_noted, known_on}
 use Rattle.mg_drive.proofs.Working.{became_keeps}
 use Rattle.mg_drive.proofs.driving.drive.Goals as goal
 
@@ -23,6 +24,7 @@ steps-init g c = record {
   running = c.in_ok-begin.ensures.running;
   keeps = c.in_ok-begin.ensures.keeps;
   there = still_there (g.B.Batches.wants c.args.ends.now.batches) c.args.net.now.one.net c.begin.new.self.one.net c.in_ok-begin.ensures.whole c.requires.there;
+  knows = known_on (g.B.Batches.knows g.C.NodeCalculator.laws c.args.ends.now.batches) c.args.ends.now.moved c.note_all.new.self c.args.net.now.one.net c.begin.new.self.one.net (all_noted c.args.ends.now.moved c.note_all.new.self c.args.net.now.one.net c.begin.new.self.one.net c.note_all.ensures c.in_ok-begin.ensures.keeps.plan) c.requires.knows;
   unread = λ none. refl;
   under_way = λ start u. still_under_way (g.B.Batches.gives g.C.NodeCalculator.laws) g.T.Telling.has_told start c.args.first (g.S.Source.told c.args.input.now) (g.K.Sink.told c.args.output.now) c.args.ends.now.batches c.args.ends.now.telling c.args.net.now.one.net c.begin.new.self.one.net c.in_ok-begin.ensures.stands c.in_ok-begin.ensures.taken u;
 }
@@ -63,6 +65,7 @@ steps-preserved g c = record {
   running = c.in_ok-stepped.ensures.running;
   keeps = keeps_on c.args.net.now.one.net c.work.new.self.one.net c.make_step.new.net.one.net (keeps_on c.args.net.now.one.net c.steps.net.one.net c.work.new.self.one.net c.steps.invariant.keeps (became_keeps c.steps.net.one.net c.work.new.self.one.net c.work.ensures.became)) c.in_ok-stepped.ensures.keeps;
   there = c.in_ok-stepped.ensures.there;
+  knows = c.in_ok-stepped.ensures.knows;
   unread = λ none. c.in_ok-stepped.ensures.unread none ∙ c.steps.invariant.unread none;
   under_way = λ start u.
       stepped_on (g.B.Batches.gives g.C.NodeCalculator.laws) g.T.Telling.has_told start c.in_ok-stepped.stepped c.in-On.end (g.S.Source.told c.make_step.new.input) (g.K.Sink.told c.make_step.new.output) c.make_step.new.ends.batches c.make_step.new.ends.telling c.make_step.new.net.one.net c.in-On.is (c.in_ok-stepped.ensures.stepped start (still_under_way (g.B.Batches.gives g.C.NodeCalculator.laws) g.T.Telling.has_told start c.steps.last (g.S.Source.told c.steps.input) (g.K.Sink.told c.steps.output) c.steps.ends.batches c.steps.ends.telling c.steps.net.one.net c.work.new.self.one.net c.work.ensures.became.stands c.work.ensures.became.taken (c.steps.invariant.under_way start u)));
@@ -77,3 +80,6 @@ returns-in-Over-clause-keeps g c = keeps_on c.args.net.now.one.net c.work.new.se
 
 pub returns-in-Over-clause-unread : goal.returns-in-Over-clause-unread
 returns-in-Over-clause-unread g c = λ none. c.in_ok-stepped.ensures.unread none ∙ c.steps.invariant.unread none
+
+pub make_step-requires-clause-knows : goal.make_step-requires-clause-knows
+make_step-requires-clause-knows g c = known_on (g.B.Batches.knows g.C.NodeCalculator.laws c.steps.ends.batches) c.steps.ends.moved c.work.new.moved c.steps.net.one.net c.work.new.self.one.net c.work.ensures.moved c.steps.invariant.knows

@@ -4,6 +4,7 @@ use Rattle.mg_calc.specs.declared.plan.Plan.{Plan}
 use Rattle.mg_drive.proofs.TakingSets.{told_stands}
 use Rattle.mg_drive.proofs.Looping.{keeps_on, run_told, still_under_way, short_here, stepped_on, stepped_over, fewer_on}
 use Rattle.mg_drive.proofs.StillThere.{still_there}
+use Rattle.mg_drive.proofs.Moving.{all_noted, known_on}
 use Rattle.mg_drive.proofs.driving.drive_alone.Goals as goal
 
 pub begin-requires : goal.begin-requires
@@ -22,6 +23,7 @@ steps-init g c = record {
   running = c.in_ok-begin.ensures.running;
   keeps = c.in_ok-begin.ensures.keeps;
   there = still_there (g.B.Batches.wants c.args.ends.now.batches) (g.N.Driven.net c.args.net.now) (g.N.Driven.net c.begin.new.self) c.in_ok-begin.ensures.whole c.requires.there;
+  knows = known_on (g.B.Batches.knows g.N.Driven.laws c.args.ends.now.batches) c.args.ends.now.moved c.note_all.new.self (g.N.Driven.net c.args.net.now) (g.N.Driven.net c.begin.new.self) (all_noted c.args.ends.now.moved c.note_all.new.self (g.N.Driven.net c.args.net.now) (g.N.Driven.net c.begin.new.self) c.note_all.ensures c.in_ok-begin.ensures.keeps.plan) c.requires.knows;
   unread = λ none. refl;
   under_way = λ start u. still_under_way (g.B.Batches.gives g.N.Driven.laws) g.T.Telling.has_told start c.args.first (g.S.Source.told c.args.input.now) (g.K.Sink.told c.args.output.now) c.args.ends.now.batches c.args.ends.now.telling (g.N.Driven.net c.args.net.now) (g.N.Driven.net c.begin.new.self) c.in_ok-begin.ensures.stands c.in_ok-begin.ensures.taken u;
 }
@@ -51,6 +53,7 @@ steps-preserved g c = record {
   running = c.in_ok-stepped.ensures.running;
   keeps = keeps_on (g.N.Driven.net c.args.net.now) (g.N.Driven.net c.steps.net) (g.N.Driven.net c.make_step.new.net) c.steps.invariant.keeps c.in_ok-stepped.ensures.keeps;
   there = c.in_ok-stepped.ensures.there;
+  knows = c.in_ok-stepped.ensures.knows;
   unread = λ none. c.in_ok-stepped.ensures.unread none ∙ c.steps.invariant.unread none;
   under_way = λ start u.
       stepped_on (g.B.Batches.gives g.N.Driven.laws) g.T.Telling.has_told start c.in_ok-stepped.stepped c.in-On.end (g.S.Source.told c.make_step.new.input) (g.K.Sink.told c.make_step.new.output) c.make_step.new.ends.batches c.make_step.new.ends.telling (g.N.Driven.net c.make_step.new.net) c.in-On.is (c.in_ok-stepped.ensures.stepped start (c.steps.invariant.under_way start u));

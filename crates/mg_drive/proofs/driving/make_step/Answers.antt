@@ -3,12 +3,13 @@ use Rattle.std.proofs.lemmas.Result.{err_from_is_err_and}
 use Rattle.mg_calc.specs.declared.plan.Plan.{Plan}
 use Rattle.mg_sched.specs.Views.{NetView}
 use Rattle.mg_sched.specs.Taking.{taken_out}
-use Rattle.mg_drive.specs.Batches.{RoundLeaves}
+use Rattle.mg_drive.specs.Batches.{RoundLeaves, InputsAreNoted}
 use Rattle.mg_drive.specs.declared.batches.Onward.{Onward}
 use Rattle.mg_drive.specs.Code.Running.{IsShort}
 use Rattle.mg_drive.proofs.TakingSets.{told_some}
 use Rattle.mg_drive.proofs.Looping.{fewer_batches, fewer_rounds, keeps_on, run_told, some_given, run_more, went_on, short_told, short_more, over_at, round_may, round_is_more, round_goes_on, next_is_due}
 use Rattle.mg_drive.proofs.StillThere.{still_there}
+use Rattle.mg_drive.proofs.Moving.{all_noted, inputs_noted, known_on, known_by}
 use Rattle.mg_drive.proofs.driving.make_step.Goals as goal
 
 pub advance-requires-clause-told : goal.advance-requires-clause-told
@@ -126,3 +127,19 @@ returns-in_ok-end-in-Next-clause-running g c = c.in_ok-end-in-Next.ensures.runni
 pub returns-in-End-clause-stepped : goal.returns-in-End-clause-stepped
 returns-in-End-clause-stepped g c = λ start u.
     over_at (g.B.Batches.gives g.N.Driven.laws) g.B.Batches.is_due g.B.Batches.wants g.T.Telling.has_told start c.args.last c.in-End.end (g.S.Source.told c.args.input.now) (g.K.Sink.told c.args.output.now) (g.K.Sink.told c.advance.new.output) c.args.ends.now.batches c.onward.new.self c.args.ends.now.telling c.advance.new.telling (g.N.Driven.net c.args.net.now) (g.N.Driven.net c.advance.new.net) c.in_ok-onward.onward c.in-End.is c.in_ok-advance.ensures.stands c.in_ok-advance.ensures.told c.in_ok-advance.ensures.rested c.in_ok-onward.ensures.onward u
+
+pub onward-requires-clause-knows : goal.onward-requires-clause-knows
+onward-requires-clause-knows g c = known_on (g.B.Batches.knows g.N.Driven.laws c.args.ends.now.batches) c.args.ends.now.moved c.advance.new.moved (g.N.Driven.net c.args.net.now) (g.N.Driven.net c.advance.new.net) c.in_ok-advance.ensures.moved c.requires.knows
+
+pub returns-in_ok-extend_some-in-Round-clause-knows : goal.returns-in_ok-extend_some-in-Round-clause-knows
+returns-in_ok-extend_some-in-Round-clause-knows g c =
+    known_on (g.B.Batches.knows g.N.Driven.laws c.onward.new.self) c.onward.new.moved c.onward.new.moved (g.N.Driven.net c.advance.new.net) (g.N.Driven.net c.extend_some.new.self)
+    (inputs_noted c.onward.new.moved (g.N.Driven.net c.advance.new.net) (g.N.Driven.net c.extend_some.new.self) c.in-Round.inputs
+    (subst (λ (o : Onward). InputsAreNoted o c.onward.new.moved (g.N.Driven.net c.advance.new.net)) c.in-Round.is c.in_ok-onward.ensures.noted)
+    c.in_ok-extend_some-in-Round.ensures.others c.in_ok-extend_some-in-Round.ensures.keeps.plan) c.in_ok-onward.ensures.knows
+
+pub returns-in_ok-end-in-Next-clause-knows : goal.returns-in_ok-end-in-Next-clause-knows
+returns-in_ok-end-in-Next-clause-knows g c =
+    known_on (g.B.Batches.knows g.N.Driven.laws c.next_batch.new.batches) c.onward.new.moved c.note_all.new.self (g.N.Driven.net c.advance.new.net) (g.N.Driven.net c.next_batch.new.net)
+    (all_noted c.onward.new.moved c.note_all.new.self (g.N.Driven.net c.advance.new.net) (g.N.Driven.net c.next_batch.new.net) c.note_all.ensures c.in_ok-end-in-Next.ensures.keeps.plan)
+    (known_by (g.B.Batches.knows g.N.Driven.laws c.onward.new.self) (g.B.Batches.knows g.N.Driven.laws c.next_batch.new.batches) c.onward.new.moved (g.N.Driven.net c.advance.new.net) c.in_ok-end-in-Next.ensures.knows c.in_ok-onward.ensures.knows)

@@ -39,16 +39,16 @@ returns-in_err-status-clause-short g c =
           | inl same ↦ unread_yet whole devices.input same
           | inr read ↦ elim read [
             | inl further ↦ first_call whole devices.input (fed c.in_ok-feed.feed) new (further (inl new))
-            | inr given ↦ first_given whole devices.input (fed given.batches) given.end given.inputs given.given
+            | inr given ↦ first_given whole devices.input (fed given.batches.feed) given.end given.inputs given.given
           ]
         ];
         nothing = nothing.1;
       })
-      | inr was ↦ inr (live_lines_short whole devices.input devices.output boxes (fed was.batches) was.ended was.at was.base was.earlier was.takens was.streams was.in_turn
-          (may_read whole devices.input (fed was.batches) was.ended was.at (IsNew (fed was.batches) whole ⊎ (Inputs × Unit {0})) (inr (was.base, tt)) was.last) was.so_far was.is_job was.solution was.front was.had)
+      | inr was ↦ inr (live_lines_short c.args.early whole devices.input devices.output boxes (fed was.batches.feed) was.ended was.at was.base was.earlier was.takens was.streams was.in_turn.1
+          (may_read whole devices.input (fed was.batches.feed) was.ended was.at (IsNew (fed was.batches.feed) whole ⊎ (Inputs × Unit {0})) (inr (was.base, tt)) was.last) was.so_far was.is_job was.solution was.front was.had)
     ])
 
 pub returns-clause-ran : goal.returns-clause-ran
 returns-clause-ran g c =
     let h = c.in_ok-status.ensures.ran in
-    live_lines c.args.run.now.report c.args.run.now.plan.now c.in_ok-status.status (told_by g.S.Source.told g.K.Sink.told g.E.Sink.told c.args.devices.now c.run_live.new.devices) (device (map g.C.NodeCalculator.told c.args.boxes.now.items) (map g.C.NodeCalculator.told c.run_live.new.boxes.items)) (fed h.batches) h.end h.base h.earlier h.first h.later h.in_turn h.in_order h.run
+    live_lines c.args.run.now.report c.args.early c.args.run.now.plan.now c.in_ok-status.status (told_by g.S.Source.told g.K.Sink.told g.E.Sink.told c.args.devices.now c.run_live.new.devices) (device (map g.C.NodeCalculator.told c.args.boxes.now.items) (map g.C.NodeCalculator.told c.run_live.new.boxes.items)) (fed h.batches.feed) h.end h.base h.earlier h.first h.later h.in_turn.1 h.in_order h.run

@@ -11,9 +11,14 @@ use Rattle.mg_drive.specs.Code.LiveRunning.{HasRunLive, CoreShort, ReadsWhere}
 use Rattle.mg_drive.proofs.LiveRan.{live_ran, live_short, live_given}
 use Rattle.mg_drive.proofs.live_running.run_live.Goals as goal
 
+pub returns-in_err-readers-clause-short : goal.returns-in_err-readers-clause-short
+returns-in_err-readers-clause-short g c =
+    let is = err_from_is_err_and c.from_residual.result c.from_residual.ensures.1 in
+    rw is.1 (inl (inl refl, record { unwritten = refl; uncalled = refl }))
+
 pub returns-in_err-nodes-clause-short : goal.returns-in_err-nodes-clause-short
 returns-in_err-nodes-clause-short g c =
-    let is = err_from_is_err_and c.from_residual.result c.from_residual.ensures.1 in
+    let is = err_from_is_err_and c.from_residual-in_err-nodes.result c.from_residual-in_err-nodes.ensures.1 in
     rw is.1 (inl (inl refl, record { unwritten = refl; uncalled = refl }))
 
 pub run_batches-requires-clause-valid : goal.run_batches-requires-clause-valid

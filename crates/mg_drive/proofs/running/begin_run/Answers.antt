@@ -4,6 +4,8 @@ use Rattle.mg_calc.proofs.FreeNodes.{with_none}
 use Rattle.mg_drive.proofs.RunsEnd.{begins}
 use Rattle.mg_drive.proofs.BoxesBack.{just_made}
 use Rattle.mg_drive.proofs.StillThere.{made_there}
+use Rattle.mg_drive.proofs.Jobs.{plan_stood}
+use Rattle.mg_drive.proofs.Moving.{known_now}
 use Rattle.mg_drive.proofs.running.begin_run.Goals as goal
 
 pub returns-in_err-set-clause-short : goal.returns-in_err-set-clause-short
@@ -48,3 +50,8 @@ returns-clause-there g c = made_there (g.B.Batches.wants c.next.new.self) c.in_o
 
 pub returns-clause-made : goal.returns-clause-made
 returns-clause-made g c = just_made c.args.run.now.plan.now c.in_ok-first.first.inputs (map g.C.NodeCalculator.told c.args.boxes.now.items) c.in_ok-net.net c.in_ok-net.ensures.made
+
+pub returns-clause-knows : goal.returns-clause-knows
+returns-clause-knows g c =
+    known_now (g.B.Batches.knows g.C.NodeCalculator.laws c.next.new.self) _ c.in_ok-net.net
+    (c.in_ok-first.ensures.knows_first g.C.NodeCalculator.laws c.args.run.now.plan.now c.in_ok-net.net c.requires.fresh (plan_stood _ c.in_ok-net.net c.in_ok-net.ensures.made.stands))

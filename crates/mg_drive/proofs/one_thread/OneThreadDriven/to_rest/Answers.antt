@@ -1,15 +1,8 @@
-use Rattle.mg_drive.proofs.Looping.{becomes_keeps}
-use Rattle.mg_sched.proofs.NothingGone.{steps_keep}
+use Rattle.mg_drive.proofs.Moving.{heard_notes, all_noted}
 use Rattle.mg_drive.proofs.one_thread.OneThreadDriven.to_rest.Goals as goal
 
-pub returns-in_err-sweep-clause-keeps : goal.returns-in_err-sweep-clause-keeps
-returns-in_err-sweep-clause-keeps g c = becomes_keeps c.args.self.now.net c.sweep.new.self c.in_err-sweep.ensures.becomes
+pub returns-then-moved-clause-moved : goal.returns-then-moved-clause-moved
+returns-then-moved-clause-moved g c = all_noted c.args.moved.now c.args.moved.now c.args.self.now.net c.sweep.new.self.net c.if-moved.true c.in_ok-sweep.ensures.keeps.plan
 
-pub returns-clause-keeps : goal.returns-clause-keeps
-returns-clause-keeps g c = becomes_keeps c.args.self.now.net c.sweep.new.self c.in_ok-sweep.ensures.becomes
-
-pub returns-in_err-sweep-clause-whole : goal.returns-in_err-sweep-clause-whole
-returns-in_err-sweep-clause-whole g c = λ stream number. steps_keep c.args.self.now.net c.sweep.new.self stream number c.in_err-sweep.ensures.becomes
-
-pub returns-clause-whole : goal.returns-clause-whole
-returns-clause-whole g c = λ stream number. steps_keep c.args.self.now.net c.sweep.new.self stream number c.in_ok-sweep.ensures.becomes
+pub returns-clause-moved : goal.returns-clause-moved
+returns-clause-moved g c = heard_notes c.args.moved.now c.sweep-2.new.hearer c.args.self.now.net c.sweep-2.new.self.net c.in_ok-sweep-2.ensures.heard
