@@ -7,16 +7,17 @@ use Rattle.mg_value.specs.Packet.{Stamped}
 use Rattle.mg_settled.specs.Prefix.{StreamPrefix}
 use Rattle.mg_settled.specs.Settled.{packet_at, set_at}
 use Rattle.mg_calc.specs.declared.law.Law.{Law}
-use Rattle.mg_calc.specs.declared.law.Law.TheVariants.{Pass, Map, Filter}
+use Rattle.mg_calc.specs.declared.law.Law.TheVariants.{Pass, Compute, Filter}
 use Rattle.mg_calc.specs.declared.emission.Laid.{Laid}
 use Rattle.mg_calc.specs.declared.cause.Cause.TheVariants.{WrongKind, Overflow}
 use Rattle.mg_calc.specs.declared.plan_node.PlanNode.{PlanNode}
 use Rattle.mg_calc.specs.Answer.{Answer, emission_of}
 use Rattle.mg_calc.specs.Values.{fits, number_of}
 use Rattle.mg_calc.specs.Kinds.{has_wrong_kind}
-use Rattle.mg_calc.specs.IntMap.{mapped}
+use Rattle.mg_calc.specs.Row.{Row, each, sets, keeping, answer}
+use Rattle.mg_calc.specs.Computations.{row_of}
 use Rattle.mg_calc.specs.Law.{is_kept, filtered, emits_number, rule, step}
-use Rattle.mg_batch.specs.Loop.{IsInner, image, images}
+use Rattle.mg_batch.specs.Loop.{IsInner, IsMap, mapped_by, image, images}
 use Rattle.mg_batch.proofs.Runs.{Runs, emitted}
 use Rattle.mg_batch.proofs.SetsOf.{found_at}
 
@@ -46,14 +47,22 @@ filter_given true false t p = (refl, refl)
 filter_given false true t p = (refl, refl)
 filter_given false false t p = (refl, refl)
 
+-- a map
+map_given : (row : Row) (t : ℕ) (o : Option (Stamped Plain)) → IsMap row → ((p : Stamped Plain) → o ≡ Some p → p.at ≡ t)
+    → Gives (option_and_then (λ p. option_map (λ v. record { at = p.at; value = v }) (mapped_by row p.value)) o) (answer row [] t (o ∷ []))
+map_given (each f) t None inner at = (refl, refl)
+map_given (each f) t (Some p) inner at =
+    subst (λ (u : ℕ). Gives (Some (record { at = u; value = int (f (number_of p.value)) })) (emits_number [] t (f (number_of p.value)))) (sym (at p refl))
+    (number_given t (f (number_of p.value)) (fits (f (number_of p.value))))
+map_given (sets f) t o inner at = absurd inner
+map_given (keeping f) t o inner at = absurd inner
+
 inner_given : (law : Law) (t : ℕ) (o : Option (Stamped Plain)) → IsInner law → ((p : Stamped Plain) → o ≡ Some p → p.at ≡ t) → Gives (option_and_then (image_of law) o) (step law [] t (o ∷ []))
 inner_given Pass t None inner at = (refl, refl)
 inner_given Pass t (Some p) inner at = (refl, refl)
-inner_given (Map op operand) t None inner at = (refl, refl)
-inner_given (Map op operand) t (Some p) inner at =
-    wrong (image_of (Map op operand) p) (has_wrong_kind (Map op operand) (Some p ∷ [])) (rule (Map op operand) [] t (Some p ∷ []))
-    (subst (λ (u : ℕ). Gives (Some (record { at = u; value = int (mapped op operand (number_of p.value)) })) (emits_number [] t (mapped op operand (number_of p.value)))) (sym (at p refl))
-    (number_given t (mapped op operand (number_of p.value)) (fits (mapped op operand (number_of p.value)))))
+inner_given (Compute computation) t o inner at =
+    wrong (option_and_then (image_of (Compute computation)) o) (has_wrong_kind (Compute computation) (o ∷ [])) (rule (Compute computation) [] t (o ∷ []))
+    (map_given (row_of computation.formula) t o inner at)
 inner_given (Filter keep raises) t None inner at = (refl, refl)
 inner_given (Filter keep raises) t (Some p) inner at =
     wrong (image_of (Filter keep raises) p) (has_wrong_kind (Filter keep raises) (Some p ∷ [])) (rule (Filter keep raises) [] t (Some p ∷ [])) (filter_given (is_kept keep (number_of p.value)) raises t p)

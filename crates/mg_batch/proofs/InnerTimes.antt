@@ -1,11 +1,13 @@
 -- Payloads at inner times, one more at a time.
-use Rattle.std.proofs.Common.{◌≡◌, ℕ, ◌+◌, ◌<◌, List, [], ◌∷◌, ◌++◌, map, take, length, replicate, get_or, Some, refl, sym, ap, ap₂, ◌∙◌, arith}
-use Rattle.std.proofs.lemmas.List.{take_more, map-append, length-map, length-take-le, length-replicate}
+use Rattle.std.proofs.Common.{◌≡◌, ℕ, ◌+◌, ◌<◌, List, [], ◌∷◌, ◌++◌, map, take, length, replicate, get_or, Option, Some, refl, sym, ap, ap₂, ◌∙◌, arith}
+use Rattle.std.proofs.lemmas.List.{append_assoc, take_more, map-append, length-map, length-take-le, length-replicate}
 use Rattle.std.proofs.lemmas.Grind.{replicate_next}
+use Rattle.std.proofs.lemmas.List.FromFn.{map-range_with_len_more}
 use Rattle.mg_value.specs.Plain.{Plain, items_of}
-use Rattle.mg_calc.specs.Values.{listed}
+use Rattle.mg_calc.specs.declared.emission.Laid.{Laid}
+use Rattle.mg_calc.specs.Values.{listed, place_at}
 use Rattle.mg_value.specs.Packet.{Stamped}
-use Rattle.mg_calc.specs.Batch.{inner_time, at_inner_times, copies}
+use Rattle.mg_calc.specs.Batch.{inner_time, at_inner_times, laid_up_to, copies, clones_laid}
 
 pub at_inner_times-append : (c : ℕ) (xs ys : List Plain) → at_inner_times c (xs ++ ys) ≡ at_inner_times c xs ++ at_inner_times (c + length xs) ys
 at_inner_times-append c [] ys = ap (λ n. at_inner_times n ys) (omega arith)
@@ -43,3 +45,11 @@ copies-more c i at p v ps same timed so_far =
     ∙ ap (λ l. at_inner_times c (replicate i p.value) ++ l) (sym last)
     ∙ sym (at_inner_times-append c (replicate i p.value) (p.value ∷ []))
     ∙ ap (at_inner_times c) (sym (replicate_next i p.value))
+
+-- what is laid at one more output CLONE
+pub one_more_clone : (before out new : List Laid) (c last count i : ℕ) (set : List (Option (Stamped Plain))) (o : Option (Stamped Plain)) (laid : Laid) → new ≡ out ++ laid ∷ [] → laid ≡ laid_up_to last (copies c count o) → o ≡ place_at set i
+    → out ≡ before ++ clones_laid i c last count set → new ≡ before ++ clones_laid (i + 1) c last count set
+one_more_clone before out new c last count i set o laid put is at known =
+    put ∙ ap₂ (λ (l : List Laid) (x : Laid). l ++ x ∷ []) known (is ∙ ap (λ (q : Option (Stamped Plain)). laid_up_to last (copies c count q)) at)
+    ∙ append_assoc before (clones_laid i c last count set) (laid_up_to last (copies c count (place_at set i)) ∷ [])
+    ∙ sym (ap (λ (l : List Laid). before ++ l) (map-range_with_len_more (λ k. laid_up_to last (copies c count (place_at set k))) 0 i i (omega arith)))

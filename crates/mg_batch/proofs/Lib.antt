@@ -8,4 +8,5 @@ pub mod BeginRuns
 pub mod EndRuns
 pub mod Gathering
 pub mod LoopStreams
+pub mod Settles
 pub mod LoopLaw

@@ -1,93 +1,94 @@
 -- A loop over lists: each list comes out as the list of its images, at its own time.
-use Rattle.std.proofs.Common.{◌≡◌, ℕ, zero, suc, Bool, List, [], ◌∷◌, ◌++◌, length, map, All, Option, Some, None, slice_get, Ok, ap, ap₂, sym, refl, subst, ◌∙◌}
+use Rattle.std.proofs.Common.{◌≡◌, ℕ, zero, suc, ◌+◌, ◌<◌, arith, Bool, true, false, inl, inr, List, [], ◌∷◌, ◌++◌, length, map, All, Option, Some, None, slice_get, Ok, ap, ap₂, sym, refl, subst, ◌∙◌}
 use Rattle.std.specs.List.{AllByRecursion, filter_map}
 use Rattle.std.proofs.lemmas.List.Elements.{recursion_from_All}
 use Rattle.std.proofs.lemmas.Option.{slice_get_within}
-use Rattle.mg_time.specs.Time.{done}
+use Rattle.mg_time.specs.Time.{done, IsAllowed, place_of}
 use Rattle.mg_value.specs.Payload.{Plain}
 use Rattle.mg_value.specs.Packet.{Stamped}
 use Rattle.mg_value.specs.declared.policy.Policy.{Policy}
 use Rattle.mg_value.specs.declared.policy.Policy.TheVariants.{Default}
 use Rattle.mg_settled.specs.Prefix.{StreamPrefix, IsPrefix}
-use Rattle.mg_settled.specs.Settled.{packet_at, settled_times, settled_sets}
+use Rattle.mg_settled.specs.Settled.{TimedSet, packet_at, settled_times, settled_sets, reach}
 use Rattle.mg_settled.proofs.Climbs.{prefix-rises}
 use Rattle.mg_settled.proofs.PrefixSteps.{empty_is_prefix}
 use Rattle.mg_settled.proofs.SettledTimes.{settled_rises}
 use Rattle.mg_calc.specs.declared.law.Law.{Law}
-use Rattle.mg_calc.specs.declared.law.Law.TheVariants.{Pass, Map, Filter, BeginLoop, EndLoop}
+use Rattle.mg_calc.specs.declared.law.Law.TheVariants.{Pass, Compute, Filter, BeginLoop, EndLoop}
 use Rattle.mg_calc.specs.declared.plan_node.PlanNode.{PlanNode}
 use Rattle.mg_calc.specs.Rules.{Rules, Laws}
 use Rattle.mg_calc.specs.Law.{opening, finish, table_rules, rules_of}
 use Rattle.mg_calc.specs.Plan.{MayHavePolicy}
-use Rattle.mg_calc.specs.Values.{iterable_port}
+use Rattle.mg_calc.specs.Values.{place_at, number_of}
 use Rattle.mg_calc.specs.Outcome.{Outcome, node_outcome}
 use Rattle.mg_calc.specs.Equations.{Job, IsJob, IsSolution, stream_of, inputs_of, outcome_by, outcome_of, rules_at, sides_of}
 use Rattle.mg_calc.proofs.Earlier.{at_place, get_map}
 use Rattle.mg_calc.proofs.Jobs.{job_known}
 use Rattle.mg_calc.proofs.Solutions.{solution_keeps}
-use Rattle.mg_batch.specs.Loop.{IsInner, IsOf, Leads, IsLoop, RunThrough, list_of_images}
+use Rattle.mg_batch.specs.Loop.{IsInner, IsOf, Leads, IsLoop, RunThrough, list_of_images, list_of_some_images}
 use Rattle.mg_batch.proofs.Runs.{Runs, packets_at, node_packets}
 use Rattle.mg_batch.proofs.SetsOf.{all_found}
 use Rattle.mg_batch.proofs.InnerRuns.{image_of, images_of, inner_runs, images_chain, no_nodes}
-use Rattle.mg_batch.proofs.BeginRuns.{ends_from, items_from, item_port, ends_run, items_run}
+use Rattle.mg_batch.proofs.BeginRuns.{ends_from, items_from, shown_batches, ends_run, items_run}
 use Rattle.mg_batch.proofs.EndRuns.{gathers, end_runs}
-use Rattle.mg_batch.proofs.Gathering.{gathered_again}
+use Rattle.mg_batch.proofs.Gathering.{IsSilent, listed_batch, of_batch, gathered_again, of_lists, all_lists, some_lists}
+use Rattle.mg_batch.proofs.Settles.{first_bound, node_settles}
 use Rattle.mg_batch.proofs.LoopStreams.{node_streams, among_settled}
 
 -- the laws of a loop: they emit nothing in Open and in Close, and have the default policy
 abbrev Quiet : Law → Type 0
 Quiet Pass = Unit {0}
-Quiet (Map op operand) = Unit {0}
+Quiet (Compute computation) = Unit {0}
 Quiet (Filter keep raises) = Unit {0}
-Quiet (BeginLoop clone) = Unit {0}
-Quiet EndLoop = Unit {0}
+Quiet (BeginLoop clones always_end) = Unit {0}
+Quiet (EndLoop form) = Unit {0}
 Quiet law = ⊥
 
 inner_quiet : (law : Law) → IsInner law → Quiet law
 inner_quiet Pass h = tt
-inner_quiet (Map op operand) h = tt
+inner_quiet (Compute computation) h = tt
 inner_quiet (Filter keep raises) h = tt
 inner_quiet law h = absurd h
 
 quiet_opening : (law : Law) (sides : List (Option Plain)) → Quiet law → opening law sides ≡ Ok ([], [])
 quiet_opening Pass sides h = refl
-quiet_opening (Map op operand) sides h = refl
+quiet_opening (Compute computation) sides h = refl
 quiet_opening (Filter keep raises) sides h = refl
-quiet_opening (BeginLoop clone) sides h = refl
-quiet_opening EndLoop sides h = refl
+quiet_opening (BeginLoop clones always_end) sides h = refl
+quiet_opening (EndLoop form) sides h = refl
 quiet_opening law sides h = absurd h
 
 quiet_finish : (law : Law) → Quiet law → (state : List Plain) → finish law state ≡ Ok (state, [])
 quiet_finish Pass h state = refl
-quiet_finish (Map op operand) h state = refl
+quiet_finish (Compute computation) h state = refl
 quiet_finish (Filter keep raises) h state = refl
-quiet_finish (BeginLoop clone) h state = refl
-quiet_finish EndLoop h state = refl
+quiet_finish (BeginLoop clones always_end) h state = refl
+quiet_finish (EndLoop form) h state = refl
 quiet_finish law h state = absurd h
 
 quiet_rules : (laws : Laws) (law : Law) → Quiet law → rules_of laws law ≡ table_rules law
 quiet_rules laws Pass h = refl
-quiet_rules laws (Map op operand) h = refl
+quiet_rules laws (Compute computation) h = refl
 quiet_rules laws (Filter keep raises) h = refl
-quiet_rules laws (BeginLoop clone) h = refl
-quiet_rules laws EndLoop h = refl
+quiet_rules laws (BeginLoop clones always_end) h = refl
+quiet_rules laws (EndLoop form) h = refl
 quiet_rules laws law h = absurd h
 
 quiet_policy : (law : Law) (policy : Policy) → Quiet law → MayHavePolicy law policy → policy ≡ Default
 quiet_policy Pass policy h may = may
-quiet_policy (Map op operand) policy h may = may
+quiet_policy (Compute computation) policy h may = may
 quiet_policy (Filter keep raises) policy h may = may
-quiet_policy (BeginLoop clone) policy h may = may
-quiet_policy EndLoop policy h may = may
+quiet_policy (BeginLoop clones always_end) policy h may = may
+quiet_policy (EndLoop form) policy h may = may
 quiet_policy law policy h may = absurd h
 
 quiet_outcome : (law : Law) (job : Job) (streams : List (StreamPrefix Plain)) (node : PlanNode) → Quiet law
     → outcome_by law job streams node ≡ node_outcome (rules_at job node) node.shape.offset node.policy (length node.outputs) (sides_of job node) (inputs_of streams node)
 quiet_outcome Pass job streams node h = refl
-quiet_outcome (Map op operand) job streams node h = refl
+quiet_outcome (Compute computation) job streams node h = refl
 quiet_outcome (Filter keep raises) job streams node h = refl
-quiet_outcome (BeginLoop clone) job streams node h = refl
-quiet_outcome EndLoop job streams node h = refl
+quiet_outcome (BeginLoop clones always_end) job streams node h = refl
+quiet_outcome (EndLoop form) job streams node h = refl
 quiet_outcome law job streams node h = absurd h
 
 -- streams by number
@@ -138,6 +139,23 @@ module _ (job : Job) (streams : List (StreamPrefix Plain)) (is_job : IsJob job) 
       all_found 0 0 (settled_times ss) (stream_of streams s).packets (settled_rises ss) (prefix-rises (stream_of streams s) (stream_prefix streams s prefixes))
       (among_settled ss k (stream_of streams s) there (stream_prefix streams s prefixes) ended)
 
+  -- where an EndLoop is told that a batch ends, its output is settled
+  pub end_law : (form : Bool) (node : PlanNode) (out k : ℕ) (set : TimedSet Plain) (told : Stamped Plain) → IsOf job.plan node → node.law ≡ EndLoop form → node.outputs ≡ out ∷ [] → (outcome_of job streams node).fault ≡ None
+      → slice_get (settled_sets Default (inputs_of streams node)) k ≡ Some set → place_at set.set 0 ≡ Some told → IsAllowed (place_of (number_of told.value)) → place_of (number_of told.value) < (stream_of streams out).bound
+  end_law form node out k set told of_plan is writes faultless there at allowed =
+      let own : Quiet node.law = subst Quiet (sym is) tt in
+      let default : node.policy ≡ Default =
+      quiet_policy node.law node.policy own (at_place (λ (n : PlanNode). MayHavePolicy n.law n.policy) job.plan.nodes of_plan.0 node (recursion_from_All (λ (n : PlanNode). MayHavePolicy n.law n.policy) job.plan.nodes is_job.plan.policies) of_plan.1) in
+      let ss : List (StreamPrefix Plain) = inputs_of streams node in
+      let sides = sides_of job node in
+      let same : outcome_of job streams node ≡ node_outcome (table_rules (EndLoop form)) node.shape.offset Default 1 sides ss =
+      quiet_outcome node.law job streams node own
+      ∙ ap (λ (r : Rules). node_outcome r node.shape.offset node.policy (length node.outputs) sides ss) (ap (rules_of job.laws) is ∙ quiet_rules job.laws (EndLoop form) tt)
+      ∙ ap₂ (λ (p : Policy) (n : ℕ). node_outcome (table_rules (EndLoop form)) node.shape.offset p n sides ss) default (ap length writes) in
+      let put : stream_of streams out ∷ [] ≡ (outcome_of job streams node).outputs = sym (ap (map (stream_of streams)) writes) ∙ node_streams job streams of_plan.0 node is_job solution of_plan.1 in
+      let bound = node_settles form node.shape.offset 1 (settled_sets Default ss) (reach Default ss) k set told (omega arith) there at allowed (ap (λ (o : Outcome). o.fault) (sym same) ∙ faultless) in
+      subst (λ (outputs : List (StreamPrefix Plain)). place_of (number_of told.value) < first_bound outputs) (ap (λ (o : Outcome). o.outputs) (sym same) ∙ sym put) bound
+
   -- a node inside the loop
   inside : (node : PlanNode) (from out : ℕ) → Through node → IsInner node.law → node.inputs ≡ from ∷ [] → node.outputs ≡ out ∷ []
       → (stream_of streams out).packets ≡ filter_map (image_of node.law) (stream_of streams from).packets
@@ -167,31 +185,41 @@ module _ (job : Job) (streams : List (StreamPrefix Plain)) (is_job : IsJob job) 
   )
 
   -- the whole loop
-  pub loop_law : (clone : Bool) (lists out : ℕ) (begin end : PlanNode) (inner : List PlanNode) → IsLoop job.plan clone lists begin inner end out → RunThrough job streams (begin ∷ end ∷ inner)
-      → (stream_of streams out).packets ≡ map (list_of_images inner) (stream_of streams lists).packets
-  loop_law clone lists out begin end inner loop run =
+  loop_batches : (clones : ℕ) (always_end form : Bool) (lists out : ℕ) (begin end : PlanNode) (inner : List PlanNode) → IsSilent always_end form → IsLoop job.plan clones always_end form lists begin inner end out
+      → RunThrough job streams (begin ∷ end ∷ inner) → (stream_of streams out).packets ≡ filter_map (λ p. of_batch form inner (listed_batch p)) (stream_of streams lists).packets
+  loop_batches clones always_end form lists out begin end inner silent loop run =
       let nodes : List PlanNode = begin ∷ end ∷ inner in
       let all = through nodes (recursion_from_All (IsOf job.plan) nodes loop.nodes) (recursion_from_All (λ (node : PlanNode). (outcome_of job streams node).fault ≡ None) nodes run.faultless)
       (recursion_from_All (λ (node : PlanNode). All (λ s. (stream_of streams s).bound ≡ done) (node.inputs ++ node.outputs)) nodes run.ended) in
       let ss : List (StreamPrefix Plain) = inputs_of streams begin in
-      let there : slice_get ss (iterable_port clone) ≡ Some (stream_of streams lists) = get_map (stream_of streams) begin.inputs (iterable_port clone) lists loop.reads in
-      let shown = shows ss (iterable_port clone) lists there all.0.ended in
-      let ends : (stream_of streams loop.batches).packets ≡ ends_from 0 (stream_of streams lists).packets =
-      ends_run clone ss (stream_of streams lists) there [] (settled_times ss) (stream_of streams loop.batches).packets (written (BeginLoop clone) begin ss 0 loop.batches all.0 loop.begin_law tt refl loop.tells)
-      ∙ ap (ends_from 0) shown in
-      let items : (stream_of streams loop.items).packets ≡ items_from 0 (stream_of streams lists).packets =
-      items_run clone ss (stream_of streams lists) there [] (settled_times ss) (stream_of streams loop.items).packets (written (BeginLoop clone) begin ss (item_port clone) loop.items all.0 loop.begin_law tt refl loop.gives)
-      ∙ ap (items_from 0) shown in
-      let images : (stream_of streams loop.images).packets ≡ filter_map (images_of inner) (items_from 0 (stream_of streams lists).packets) =
+      let s : StreamPrefix Plain = stream_of streams lists in
+      let there : slice_get ss clones ≡ Some s = get_map (stream_of streams) begin.inputs clones lists loop.reads in
+      let batches : List (Stamped (List Plain)) = shown_batches clones always_end ss s there (settled_times ss) in
+      let ends : (stream_of streams loop.batches).packets ≡ ends_from 0 batches =
+      ends_run clones always_end ss s there [] (settled_times ss) (stream_of streams loop.batches).packets (written (BeginLoop clones always_end) begin ss 0 loop.batches all.0 loop.begin_law tt refl loop.tells) in
+      let items : (stream_of streams loop.items).packets ≡ items_from 0 batches =
+      items_run clones always_end ss s there [] (settled_times ss) (stream_of streams loop.items).packets (written (BeginLoop clones always_end) begin ss (clones + 1) loop.items all.0 loop.begin_law tt refl loop.gives) in
+      let images : (stream_of streams loop.images).packets ≡ filter_map (images_of inner) (items_from 0 batches) =
       chain inner loop.items loop.images all.1.1 loop.inside ∙ ap (filter_map (images_of inner)) items in
       let pair : List (StreamPrefix Plain) = stream_of streams loop.batches ∷ stream_of streams loop.images ∷ [] in
       let inputs : inputs_of streams end ≡ pair = ap (map (stream_of streams)) loop.ends in
       let ended : AllByRecursion (λ (x : StreamPrefix Plain). x.bound ≡ done) pair = subst (λ (xs : List (StreamPrefix Plain)). AllByRecursion (λ x. x.bound ≡ done) xs) inputs all.1.0.ended in
       let is_e = stream_prefix streams loop.batches prefixes in
       let is_i = stream_prefix streams loop.images prefixes in
-      let gathers_all : (stream_of streams out).packets ≡ gathers [] (stream_of streams loop.batches).packets (stream_of streams loop.images).packets =
-      end_runs 0 0 0 (settled_times pair) (stream_of streams loop.batches).packets (stream_of streams loop.images).packets [] [] (stream_of streams out).packets (settled_rises pair)
+      let gathers_all : (stream_of streams out).packets ≡ gathers form [] (stream_of streams loop.batches).packets (stream_of streams loop.images).packets =
+      end_runs form 0 0 0 (settled_times pair) (stream_of streams loop.batches).packets (stream_of streams loop.images).packets [] [] (stream_of streams out).packets (settled_rises pair)
       (prefix-rises (stream_of streams loop.batches) is_e) (prefix-rises (stream_of streams loop.images) is_i)
       (among_settled pair 0 (stream_of streams loop.batches) refl is_e ended) (among_settled pair 1 (stream_of streams loop.images) refl is_i ended) refl
-      (written EndLoop end pair 0 out all.1.0 loop.end_law tt inputs (ap (λ (ns : List ℕ). slice_get ns 0) loop.comes)) in
-      gathers_all ∙ ap₂ (gathers []) ends images ∙ gathered_again inner 0 (stream_of streams lists).packets
+      (written (EndLoop form) end pair 0 out all.1.0 loop.end_law tt inputs (ap (λ (ns : List ℕ). slice_get ns 0) loop.comes)) in
+      gathers_all ∙ ap₂ (gathers form []) ends images ∙ gathered_again form inner 0 batches
+      ∙ of_lists always_end form inner s.packets (settled_times ss) silent ∙ ap (filter_map (λ p. of_batch form inner (listed_batch p))) (shows ss clones lists there all.0.ended)
+
+  pub loop_law : (clones lists out : ℕ) (begin end : PlanNode) (inner : List PlanNode) → IsLoop job.plan clones false false lists begin inner end out → RunThrough job streams (begin ∷ end ∷ inner)
+      → (stream_of streams out).packets ≡ map (list_of_images inner) (stream_of streams lists).packets
+  loop_law clones lists out begin end inner loop run =
+      loop_batches clones false false lists out begin end inner (inl refl) loop run ∙ all_lists inner (stream_of streams lists).packets
+
+  pub some_law : (clones lists out : ℕ) (always_end : Bool) (begin end : PlanNode) (inner : List PlanNode) → IsLoop job.plan clones always_end true lists begin inner end out → RunThrough job streams (begin ∷ end ∷ inner)
+      → (stream_of streams out).packets ≡ filter_map (list_of_some_images inner) (stream_of streams lists).packets
+  some_law clones lists out always_end begin end inner loop run =
+      loop_batches clones always_end true lists out begin end inner (inr refl) loop run ∙ some_lists inner (stream_of streams lists).packets

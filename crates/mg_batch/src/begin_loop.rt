@@ -1,11 +1,10 @@
 //! The items of a list go on one by one, each at an inner time (after MediaPipe's BeginLoopCalculator).
-ghost use Rattle.std.specs.Prelude.{◌≡◌, ◌+◌, ◌-◌, ◌≤◌, ◌^◌, ◌∷◌, [], ℕ, length, map, Some, option_copied, nat_le, false, IfOk, OnErr, IfSome, IsNone};
+ghost use Rattle.std.specs.Prelude.{◌≡◌, ◌+◌, ◌-◌, ◌≤◌, ◌^◌, ◌++◌, ◌∷◌, [], ℕ, length, map, Some, option_copied, option_map, nat_le, false, IfOk, OnErr, OnOk, IfSome, IsNone};
 ghost use Rattle.mg_time.specs.Time.{raw_of};
 ghost use Rattle.mg_value.specs.Payload.{plain, int};
 ghost use Rattle.mg_calc.specs.Answer.{GivesEmission};
-ghost use Rattle.mg_calc.specs.Values.{items_in as its_items, iterable_port as the_iterable_port};
-ghost use Rattle.mg_calc.specs.Batch.{inner_time as the_inner_time, at_inner_times, last_inner, laid_up_to as the_laid, copies as the_copies, begin_loop as the_begin_loop};
-ghost use Rattle.mg_batch.specs.Code.Emitted.{clone_laid, loop_emission};
+ghost use Rattle.mg_calc.specs.Values.{items_in as its_items};
+ghost use Rattle.mg_calc.specs.Batch.{inner_time as the_inner_time, at_inner_times, last_inner, laid_up_to as the_laid, copies as the_copies, clones_laid, batch as the_batch, batch_of as the_batch_of, begin_loop as the_begin_loop};
 
 use crate::copying::copied;
 use mg_calc::{CalcFault, Cause, Emission, Laid, ShortList, State, no_emission};
@@ -28,33 +27,36 @@ struct Span {
 /// Returns what BeginLoop emits at a set, and puts its new state in the place of the old one. On an error the state stays.
 pub fn begin_loop(
     alloc: Global,
-    clone: bool,
+    clones: u32,
+    always_end: bool,
     state: &mut State,
     at: Timestamp,
     set: &InputSet,
 ) -> Result<Emission, CalcFault>
-    ensures answer { GivesEmission result state.new (the_begin_loop clone state.old at set.now) }
+    ensures answer { GivesEmission result state.new (the_begin_loop clones always_end state.old at set.now) }
     ensures kept { OnErr result (state.new ≡ state.old) }
 {
-    let Some(packet) = set.get(iterable_port(clone)) else {
+    let Some(items) = batch_of(always_end, set.get(clones)) else {
         return Ok(no_emission(alloc)?);
     };
-    let items = items_in(&packet.payload);
     let first = state.count();
     let Some(next) = next_inner(first, items.len()) else {
         return Err(CalcFault::Fault(Cause::Overflow));
     };
     let span = Span { first, next };
-    let cloned = copies_laid(alloc, clone, &span, items.len(), set.get(0))?;
-    let emission = batch(alloc, &span, at, items, cloned)?;
+    let emission = batch(alloc, clones, &span, at, items, set)?;
     *state = State::of_number(next as i64);
     Ok(emission)
 }
 
-fn iterable_port(clone: bool) -> u32
-    ensures { result ≡ the_iterable_port clone }
+// Returns the items of a set's batch, by what ITERABLE has, or none if there is no batch.
+fn batch_of(always_end: bool, packet: Option<&Packet>) -> Option<&[Payload]>
+    ensures { option_map (λ items. map plain items.now) result ≡ the_batch_of always_end (option_copied packet.entry) }
 {
-    if clone { 1 } else { 0 }
+    match packet {
+        Some(packet) => Some(items_in(&packet.payload)),
+        None => { if always_end { Some(&[]) } else { None } }
+    }
 }
 
 // Returns the items of a payload's list, or no items if the payload is no list.
@@ -136,26 +138,41 @@ fn laid_up_to(packets: Vec<Packet>, next: u64) -> Result<Laid, AllocError>
     })
 }
 
-// Returns what is laid at the output CLONE, or none if the calculator hasn't that output.
-fn copies_laid(
+// Returns what is laid at an output CLONE for a list of `count` items, by the packet of the input CLONE.
+fn clone_laid(
     alloc: Global,
-    clone: bool,
     span: &Span,
     count: usize,
     packet: Option<&Packet>,
-) -> Result<Option<Laid>, AllocError>
+) -> Result<Laid, AllocError>
     requires span { span.now.next ≡ last_inner span.now.first count + 1 }
     requires last { span.now.next ≤ 2 ^ 63 - 4 }
-    ensures { IfOk result (λ laid. laid ≡ clone_laid clone (last_inner span.now.first count) (the_copies span.now.first count (option_copied packet.entry))) }
+    ensures { IfOk result (λ laid. laid ≡ the_laid (last_inner span.now.first count) (the_copies span.now.first count (option_copied packet.entry))) }
 {
-    if clone {
-        let packets = cloned(alloc, span.first, count, packet)?;
-        return Ok(Some(laid_up_to(packets, span.next)?));
-    }
-    Ok(None)
+    let packets = cloned(alloc, span.first, count, packet)?;
+    Ok(laid_up_to(packets, span.next)?)
 }
 
-// Returns `count` packets that share the payload of the packet of CLONE, or no packets if CLONE has none.
+// Appends what is laid at each of the outputs CLONE for a list of `count` items.
+fn put_clones(
+    alloc: Global,
+    emission: &mut Vec<Laid>,
+    clones: u32,
+    span: &Span,
+    count: usize,
+    set: &InputSet,
+) -> Result<(), AllocError>
+    requires span { span.now.next ≡ last_inner span.now.first count + 1 }
+    requires last { span.now.next ≤ 2 ^ 63 - 4 }
+    ensures { OnOk result (emission.new.items ≡ emission.old.items ++ clones_laid clones span.now.first (last_inner span.now.first count) count set.now) }
+{
+    for i in 0..clones {
+        emission.push(clone_laid(alloc, span, count, set.get(i))?)?;
+    }
+    Ok(())
+}
+
+// Returns `count` packets that share the payload of the packet of an input CLONE, or no packets if it has none.
 fn cloned(
     alloc: Global,
     first: u64,
@@ -186,22 +203,23 @@ fn end_laid(alloc: Global, at: Timestamp, next: u64) -> Result<Laid, AllocError>
     Laid::new(alloc, Some(end), Some(inner_time(next)))
 }
 
-// Returns the emission for a list at a time, with what is laid at CLONE.
+// Returns the emission for a list at a time.
 fn batch(
     alloc: Global,
+    clones: u32,
     span: &Span,
     at: Timestamp,
     items: &[Payload],
-    cloned: Option<Laid>,
+    set: &InputSet,
 ) -> Result<Emission, AllocError>
     requires span { span.now.next ≡ last_inner span.now.first (length items.now) + 1 }
     requires last { span.now.next ≤ 2 ^ 63 - 4 }
-    ensures { IfOk result (λ emission. emission ≡ loop_emission span.now.first (last_inner span.now.first (length items.now)) at (map plain items.now) cloned) }
+    ensures { IfOk result (λ emission. emission ≡ the_batch clones span.now.first (last_inner span.now.first (length items.now)) at (map plain items.now) set.now) }
 {
-    let end = end_laid(alloc, at, span.next)?;
+    let mut emission = Vec::with_capacity(alloc, clones as usize + 2)?;
+    emission.push(end_laid(alloc, at, span.next)?)?;
+    put_clones(alloc, &mut emission, clones, span, items.len(), set)?;
     let items = laid_up_to(stamped(alloc, span.first, items)?, span.next)?;
-    match cloned {
-        Some(cloned) => Ok(ShortList::from_vec(vec![in alloc; end, cloned, items]?)?),
-        None => Ok(ShortList::from_vec(vec![in alloc; end, items]?)?),
-    }
+    emission.push(items)?;
+    Ok(ShortList::from_vec(emission)?)
 }

@@ -1,17 +1,19 @@
 //! Items are gathered into a list, which goes on at the time that the end of a batch tells (after MediaPipe's
 //! EndLoopCalculator).
-ghost use Rattle.std.specs.Prelude.{◌≡◌, ◌≤ℤ◌, map, ◌∷◌, [], Some, nat_le, option_copied, unwrap_or, option_map, false, IfOk, OnErr};
+ghost use Rattle.std.specs.Prelude.{◌≡◌, ◌≤ℤ◌, map, ◌∷◌, [], Some, None, nat_le, option_copied, unwrap_or, option_map, false, IfOk, OnErr};
 ghost use Rattle.mg_time.specs.Time.{place_of, raw_of, least, greatest};
-ghost use Rattle.mg_value.specs.Plain.{items, items_of, depth};
+ghost use Rattle.mg_value.specs.Plain.{depth};
 ghost use Rattle.mg_value.specs.Payload.{plain};
-ghost use Rattle.mg_calc.specs.Answer.{GivesEmission, emission_of};
+ghost use Rattle.mg_calc.specs.Answer.{GivesEmission};
 ghost use Rattle.mg_calc.specs.State.{kept_list, full_places};
-ghost use Rattle.mg_calc.specs.Batch.{end_loop as the_end_loop};
+ghost use Rattle.mg_calc.specs.Batch.{list_or_bound as the_list_or_bound, end_loop as the_end_loop};
 ghost use Rattle.mg_batch.specs.Code.Gathered.{with_more};
 
 use crate::copying::{all_copied, copied};
 use crate::nesting::nests;
-use mg_calc::{CalcFault, Cause, Emission, State, no_emission, number_of_packet, one_packet};
+use mg_calc::{
+    CalcFault, Cause, Emission, Laid, State, no_emission, number_of_packet, one_output, one_packet,
+};
 use mg_settled::InputSet;
 use mg_time::Timestamp;
 use mg_value::{Packet, Payload, PayloadList};
@@ -22,8 +24,13 @@ use std::sync::Arc;
 const DEEPEST: u32 = 15;
 
 /// Returns what EndLoop emits at a set, and puts its new state in the place of the old one. On an error the state stays.
-pub fn end_loop(alloc: Global, state: &mut State, set: &InputSet) -> Result<Emission, CalcFault>
-    ensures answer { GivesEmission result state.new (the_end_loop state.old set.now) }
+pub fn end_loop(
+    alloc: Global,
+    empty_as_bound: bool,
+    state: &mut State,
+    set: &InputSet,
+) -> Result<Emission, CalcFault>
+    ensures answer { GivesEmission result state.new (the_end_loop empty_as_bound state.old set.now) }
     ensures kept { OnErr result (state.new ≡ state.old) }
 {
     let item = set.get(1);
@@ -35,7 +42,8 @@ pub fn end_loop(alloc: Global, state: &mut State, set: &InputSet) -> Result<Emis
         keep(alloc, state, item)?;
         return Ok(emission);
     };
-    let emission = gathered(alloc, state, item, time_of(number_of_packet(end)))?;
+    let at = time_of(number_of_packet(end));
+    let emission = list_or_bound(alloc, empty_as_bound, at, gathered(alloc, state, item)?)?;
     *state = State::empty();
     Ok(emission)
 }
@@ -64,27 +72,30 @@ fn keep(alloc: Global, state: &mut State, item: Option<&Packet>) -> Result<(), A
     }
 }
 
-// Returns the emission, at a time, of the list that a state keeps. If there is a packet, its payload is the list's last item.
-fn gathered(
-    alloc: Global,
-    state: &State,
-    item: Option<&Packet>,
-    at: Timestamp,
-) -> Result<Emission, AllocError>
-    ensures { IfOk result (λ emission. emission ≡ emission_of (Some (record { at = at; value = items (items_of (with_more (kept_list state.now) (option_copied item.entry))) }) ∷ [])) }
-{
-    let payload = list_of(alloc, state, item)?;
-    let payload = Arc::new(alloc, payload)?;
-    Ok(one_packet(Packet { at, payload }))
-}
-
-fn list_of(alloc: Global, state: &State, item: Option<&Packet>) -> Result<Payload, AllocError>
-    ensures { IfOk result (λ p. plain p ≡ items (items_of (with_more (kept_list state.now) (option_copied item.entry)))) }
+// Returns the payloads of the list that a state keeps, and as the last item that of a packet, if there is one.
+fn gathered(alloc: Global, state: &State, item: Option<&Packet>) -> Result<Vec<Payload>, AllocError>
+    ensures { IfOk result (λ list. map plain list.items ≡ with_more (kept_list state.now) (option_copied item.entry)) }
 {
     let list = state.list(alloc)?;
     let mut payloads = all_copied(alloc, list.as_slice())?;
     put(alloc, &mut payloads, item)?;
-    Ok(Payload::Items(PayloadList::from_vec(payloads)?))
+    Ok(payloads)
+}
+
+// Returns the emission of a list at a time. With `empty_as_bound` an empty list is no packet, but a raise past that time.
+fn list_or_bound(
+    alloc: Global,
+    empty_as_bound: bool,
+    at: Timestamp,
+    list: Vec<Payload>,
+) -> Result<Emission, AllocError>
+    ensures { IfOk result (λ emission. emission ≡ the_list_or_bound empty_as_bound at (map plain list.items)) }
+{
+    if empty_as_bound && list.is_empty() {
+        return Ok(one_output(Laid::new(alloc, None, Some(at.next_allowed()))?));
+    }
+    let payload = Arc::new(alloc, Payload::Items(PayloadList::from_vec(list)?))?;
+    Ok(one_packet(Packet { at, payload }))
 }
 
 // Appends a copy of the payload of a packet, if there is one.

@@ -13,7 +13,11 @@ pub fn begin_loop_box(alloc: Global, clone: bool, telling: bool) -> Result<Batch
     ensures { IfOk result (λ b. b ≡ new_begin clone telling) }
 {
     let shape = begin_shape_of(alloc, clone)?;
-    let law = Law::BeginLoop { clone };
+    let clones = if clone { 1 } else { 0 };
+    let law = Law::BeginLoop {
+        clones,
+        always_end: false,
+    };
     BatchBox::new(alloc, OuterShape { shape, law }, telling)
 }
 
@@ -22,7 +26,9 @@ pub fn end_loop_box(alloc: Global, telling: bool) -> Result<BatchBox, AllocError
     ensures { IfOk result (λ b. b ≡ new_end telling) }
 {
     let shape = ending_shape(alloc)?;
-    let law = Law::EndLoop;
+    let law = Law::EndLoop {
+        empty_as_bound: false,
+    };
     BatchBox::new(alloc, OuterShape { shape, law }, telling)
 }
 

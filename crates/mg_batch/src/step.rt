@@ -46,8 +46,10 @@ pub fn batch_step_in(
         return Err(CalcFault::Fault(Cause::WrongKind));
     }
     match law {
-        Law::BeginLoop { clone } => begin_loop(alloc, *clone, state, at, set),
-        Law::EndLoop => end_loop(alloc, state, set),
+        Law::BeginLoop { clones, always_end } => {
+            begin_loop(alloc, *clones, *always_end, state, at, set)
+        }
+        Law::EndLoop { empty_as_bound } => end_loop(alloc, *empty_as_bound, state, set),
         _ => unreachable!(),
     }
 }

@@ -4,8 +4,11 @@ use Rattle.mg_time.specs.Time.{place_of, pre_stream, greatest, least, post_strea
 use Rattle.mg_value.specs.Plain.{Plain, flag, int, text, items, item, no_items}
 use Rattle.mg_value.specs.Packet.{Stamped}
 use Rattle.mg_calc.specs.declared.law.Law.{Law}
-use Rattle.mg_calc.specs.declared.law.Law.TheVariants.{Gate, Mux, Cloner, Merge, Thin, Sum, Map, Filter, Running, Shift, Count, SideOnce, Tally, Scripted}
-use Rattle.mg_calc.specs.declared.int_map.MapOp.TheVariants.{Subtract, Multiply}
+use Rattle.mg_calc.specs.declared.law.Law.TheVariants.{Gate, Mux, Cloner, Merge, Thin, Compute, Filter, Shift, Count, SideOnce, Tally, Scripted}
+use Rattle.mg_value.specs.declared.kind.Kind.TheVariants.{Int}
+use Rattle.mg_calc.specs.declared.computations.Formula.{Formula}
+use Rattle.mg_calc.specs.declared.computations.Formula.TheVariants.{Sum, Map, Running}
+use Rattle.mg_calc.specs.declared.computations.int_map.MapOp.TheVariants.{Subtract, Multiply}
 use Rattle.mg_calc.specs.declared.law.Keep.TheVariants.{Even, Odd}
 use Rattle.mg_calc.specs.declared.cause.Cause.TheVariants.{Overflow, BadSelect, WrongKind, NoSide}
 use Rattle.mg_calc.specs.declared.emission.Laid.{Laid}
@@ -24,17 +27,21 @@ out at n = record { packets = pk at n ∷ []; bound = None }
 abbrev nothing : Laid
 nothing = record { packets = []; bound = None }
 
+-- a computation of numbers
+abbrev computed : Formula → ℕ → Law
+computed formula lanes = Compute (record { formula = formula; lanes = lanes; takes = Int; gives = Int })
+
 -- a running sum begins at nothing, which counts as 0
-running_begins : opening Running [] ≡ Ok ([], [])
+running_begins : opening (computed Running 1) [] ≡ Ok ([], [])
 running_begins = refl
 
-running_goes_on : step Running [] (t 1) (Some (pk (t 1) (pos 4)) ∷ []) ≡ Ok (int (pos 4) ∷ [], out (t 1) (pos 4) ∷ [])
+running_goes_on : step (computed Running 1) [] (t 1) (Some (pk (t 1) (pos 4)) ∷ []) ≡ Ok (int (pos 4) ∷ [], out (t 1) (pos 4) ∷ [])
 running_goes_on = refl
 
-running_stays : step Running (int (pos 7) ∷ []) (t 1) (None ∷ []) ≡ Ok (int (pos 7) ∷ [], [])
+running_stays : step (computed Running 1) (int (pos 7) ∷ []) (t 1) (None ∷ []) ≡ Ok (int (pos 7) ∷ [], [])
 running_stays = refl
 
-running_overflows : step Running (int (pos (2 ^ 63 - 1)) ∷ []) (t 1) (Some (pk (t 1) (pos 1)) ∷ []) ≡ Err Overflow
+running_overflows : step (computed Running 1) (int (pos (2 ^ 63 - 1)) ∷ []) (t 1) (Some (pk (t 1) (pos 1)) ∷ []) ≡ Err Overflow
 running_overflows = refl
 
 -- a source counts from 0
@@ -130,19 +137,19 @@ cloner_renews : step (Cloner 2) (one_of (pos 5) ∷ items no_items ∷ []) (t 2)
 cloner_renews = refl
 
 -- sums are exact, whatever the order
-sum_of_ends : step (Sum 3) [] (t 1) (Some (pk (t 1) (pos (2 ^ 63 - 1))) ∷ Some (pk (t 1) (pos 1)) ∷ Some (pk (t 1) (negsuc 0)) ∷ []) ≡ Ok ([], out (t 1) (pos (2 ^ 63 - 1)) ∷ [])
+sum_of_ends : step (computed Sum 3) [] (t 1) (Some (pk (t 1) (pos (2 ^ 63 - 1))) ∷ Some (pk (t 1) (pos 1)) ∷ Some (pk (t 1) (negsuc 0)) ∷ []) ≡ Ok ([], out (t 1) (pos (2 ^ 63 - 1)) ∷ [])
 sum_of_ends = refl
 
-sum_past_the_end : step (Sum 2) [] (t 1) (Some (pk (t 1) (pos (2 ^ 63 - 1))) ∷ Some (pk (t 1) (pos 1)) ∷ []) ≡ Err Overflow
+sum_past_the_end : step (computed Sum 2) [] (t 1) (Some (pk (t 1) (pos (2 ^ 63 - 1))) ∷ Some (pk (t 1) (pos 1)) ∷ []) ≡ Err Overflow
 sum_past_the_end = refl
 
-sum_of_text : step (Sum 2) [] (t 1) (Some (pk (t 1) (pos 1)) ∷ Some (record { at = t 1; value = text [] }) ∷ []) ≡ Err WrongKind
+sum_of_text : step (computed Sum 2) [] (t 1) (Some (pk (t 1) (pos 1)) ∷ Some (record { at = t 1; value = text [] }) ∷ []) ≡ Err WrongKind
 sum_of_text = refl
 
-map_multiplies : step (Map Multiply (negsuc 1)) [] (t 1) (Some (pk (t 1) (pos 4)) ∷ []) ≡ Ok ([], out (t 1) (negsuc 7) ∷ [])
+map_multiplies : step (computed (Map Multiply (negsuc 1)) 1) [] (t 1) (Some (pk (t 1) (pos 4)) ∷ []) ≡ Ok ([], out (t 1) (negsuc 7) ∷ [])
 map_multiplies = refl
 
-map_overflows : step (Map Subtract (pos 1)) [] (t 1) (Some (pk (t 1) (negsuc (2 ^ 63 - 1))) ∷ []) ≡ Err Overflow
+map_overflows : step (computed (Map Subtract (pos 1)) 1) [] (t 1) (Some (pk (t 1) (negsuc (2 ^ 63 - 1))) ∷ []) ≡ Err Overflow
 map_overflows = refl
 
 -- filters

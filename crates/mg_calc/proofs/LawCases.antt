@@ -5,19 +5,20 @@ use Rattle.mg_value.specs.Packet.{Stamped}
 use Rattle.mg_settled.specs.Settled.{selected}
 use Rattle.mg_calc.specs.declared.emission.Laid.{Laid}
 use Rattle.mg_calc.specs.declared.law.Law.{Law}
-use Rattle.mg_calc.specs.declared.law.Law.TheVariants.{Pass, Gate, Mux, Cloner, Merge, Thin, Sum, Map, Filter, Running, Shift, Count, SideOnce, Constants, Loopback, Tally, Scripted, BeginLoop, EndLoop, FirstCome, Limiter, Stated}
+use Rattle.mg_calc.specs.declared.law.Law.TheVariants.{Pass, Gate, Mux, Cloner, Merge, Thin, Compute, Filter, Shift, Count, SideOnce, Constants, Loopback, Tally, Scripted, BeginLoop, EndLoop, FirstCome, Limiter, Stated}
 use Rattle.mg_calc.specs.declared.cause.Cause.TheVariants.{WrongKind}
 use Rattle.mg_calc.specs.Answer.{Answer, emission_of}
-use Rattle.mg_calc.specs.Values.{place_at, number_of, total, time_of, moved_time, items_in, iterable_port}
-use Rattle.mg_calc.specs.State.{state_of, number_in, count_in, kept_at, kept_list, IsStateOf}
+use Rattle.mg_calc.specs.Values.{place_at, time_of, moved_time}
+use Rattle.mg_calc.specs.State.{state_of, number_in, kept_at, kept_list}
+use Rattle.mg_calc.specs.StateForm.{IsStateOf}
 use Rattle.mg_calc.specs.Kinds.{has_wrong_kind}
 use Rattle.mg_calc.specs.Routing.{is_open, chosen, copy_at, renewed_places, first_packet, thinned}
-use Rattle.mg_calc.specs.Batch.{begun_batch, with_item}
-use Rattle.mg_calc.specs.Law.{emits_number, emits_at, filtered, is_kept, opening, rule, step, call, finish, keeps_side}
-use Rattle.mg_calc.specs.IntMap.{mapped}
+use Rattle.mg_calc.specs.Batch.{batch_of, with_item}
+use Rattle.mg_calc.specs.Law.{emits_at, filtered, is_kept, opening, rule, step, call, finish, keeps_side}
+use Rattle.mg_calc.specs.Computations.{row_of}
 use Rattle.mg_calc.specs.Shape.{ParametersFit, IsShapeOf, FitsInputs}
 use Rattle.mg_calc.specs.declared.shape.Shape.{Shape}
-use Rattle.mg_calc.proofs.StateForms.{Keeps, by_test, by_place, emits, moves, picks, cloned, thins, counts, steps_on, begins, keeps_list, items_stay}
+use Rattle.mg_calc.proofs.StateForms.{Keeps, by_test, by_place, emits, computes, moves, picks, cloned, thins, counts, steps_on, by_batch, keeps_list, items_stay}
 
 -- each law's rule
 follows : (law : Law) (shape : Shape) (state : List Plain) (t : ℕ) (set : List (Option (Stamped Plain))) → IsShapeOf law shape → FitsInputs shape set
@@ -31,14 +32,9 @@ follows (Cloner lanes) shape state t set of_law places good = cloned lanes shape
 follows (Merge lanes) shape state t set of_law places good = good
 follows (Thin period) shape state t set of_law places good =
     by_place (IsStateOf (Thin period)) (place_at set 0) _ _ (λ p. thins period state t p good) good
-follows (Sum lanes) shape state t set of_law places good = emits (IsStateOf (Sum lanes)) state t (total set) (λ _. good)
-follows (Map op operand) shape state t set of_law places good =
-    by_place (IsStateOf (Map op operand)) (place_at set 0) _ _ (λ p. emits (IsStateOf (Map op operand)) state t (mapped op operand (number_of p.value)) (λ _. good)) good
+follows (Compute computation) shape state t set of_law places good = computes (row_of computation.formula) state t set good
 follows (Filter keep raises) shape state t set of_law places good =
     by_place (IsStateOf (Filter keep raises)) (place_at set 0) _ _ (λ p. good) good
-follows Running shape state t set of_law places good =
-    by_place (IsStateOf Running) (place_at set 0) _ _
-    (λ p. let sum = number_in state +ℤ number_of p.value in emits (IsStateOf Running) (state_of sum) t sum (λ fit. fit)) good
 follows (Shift offset) shape state t set of_law places good =
     by_place (IsStateOf (Shift offset)) (place_at set 0) _ _ (λ p. moves (IsStateOf (Shift offset)) state _ p.value good) good
 follows (Count a b c) shape state t set of_law places good = good
@@ -47,11 +43,10 @@ follows Constants shape state t set of_law places good = good
 follows Loopback shape state t set of_law places good = good
 follows Tally shape state t set of_law places good =
     let count = number_in state +ℤ pos 1 in emits (IsStateOf Tally) (state_of count) t count (counts state good)
-follows (BeginLoop clone) shape state t set of_law places good =
-    by_place (IsStateOf (BeginLoop clone)) (place_at set (iterable_port clone)) _ _
-    (λ p. begins clone (count_in state) t (items_in p.value) (place_at set 0)) good
-follows EndLoop shape state t set of_law places good =
-    keeps_list (place_at set 0) (with_item (kept_list state) (place_at set 1)) (items_stay (kept_list state) (place_at set 1) good.1)
+follows (BeginLoop clones always_end) shape state t set of_law places good =
+    by_batch clones always_end state t set (batch_of always_end (place_at set clones)) good
+follows (EndLoop empty_as_bound) shape state t set of_law places good =
+    keeps_list empty_as_bound (place_at set 0) (with_item (kept_list state) (place_at set 1)) (items_stay (kept_list state) (place_at set 1) good.1)
 follows (FirstCome lanes) shape state t set of_law places good = good
 follows (Limiter most) shape state t set of_law places good = good
 follows (Stated number parameters offset) shape state t set of_law places good = good

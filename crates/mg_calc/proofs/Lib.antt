@@ -1,4 +1,5 @@
 mod Examples
+pub mod ByFormula
 pub mod LaidBehind
 pub mod Outcomes
 pub mod NodeStreams

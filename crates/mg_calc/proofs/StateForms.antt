@@ -1,5 +1,5 @@
 -- The states that are kept are of a form.
-use Rattle.std.proofs.Common.{◌≡◌, ◌==◌, ℕ, ◌+◌, ◌-◌, ◌^◌, ◌<◌, ◌≤◌, min, ℤ, pos, negsuc, ◌+ℤ◌, Bool, true, false, List, [], ◌∷◌, ◌++◌, map, take, length, replicate, get_or, All, Option, Some, None, Result, Ok, Err, IfOk, subst, sym, option_map, unwrap_or, slice_get, inl, inr, ◌⊎◌, codes, lit≤, refl, ◌∙◌, ap, arith, if◌then◌else◌, nat_le}
+use Rattle.std.proofs.Common.{◌≡◌, ◌==◌, ℕ, ◌+◌, ◌-◌, ◌^◌, ◌<◌, ◌≤◌, min, ℤ, pos, negsuc, ◌+ℤ◌, Bool, true, false, List, [], ◌∷◌, ◌++◌, map, take, length, replicate, get_or, All, Option, Some, None, Result, Ok, Err, IfOk, subst, sym, option_map, unwrap_or, slice_get, IsTrue, inl, inr, ◌⊎◌, codes, lit≤, refl, ◌∙◌, ap, arith, if◌then◌else◌, nat_le}
 use Rattle.std.specs.List.{zip}
 use Rattle.std.proofs.lemmas.Int.{ints}
 use Rattle.std.proofs.lemmas.Bool.Decides.{nat_tests, eqb_tells}
@@ -19,8 +19,10 @@ use Rattle.mg_calc.specs.declared.emission.Laid.{Laid}
 use Rattle.mg_calc.specs.declared.cause.Cause.{Cause}
 use Rattle.mg_calc.specs.declared.cause.Cause.TheVariants.{TooDeep}
 use Rattle.mg_calc.specs.Answer.{Answer}
-use Rattle.mg_calc.specs.Values.{fits, time_of, is_in_range, stored, kept_in}
-use Rattle.mg_calc.specs.State.{IsStateOf, IsNumber, CountsTo, ArePlaces, state_of, number_in, count_in, time_kept, next_valid, places_in, full_places, AreItems}
+use Rattle.mg_calc.specs.Values.{place_at, number_of, fits, time_of, is_in_range, stored, kept_in}
+use Rattle.mg_calc.specs.State.{state_of, number_in, count_in, time_kept, next_valid, places_in, full_places}
+use Rattle.mg_calc.specs.StateForm.{IsStateOf, IsStateOfRow, IsNumber, CountsTo, ArePlaces, AreItems}
+use Rattle.mg_calc.specs.Row.{Row, each, sets, keeping, answer, with_state, with_number, keeps_nothing}
 use Rattle.mg_calc.specs.Routing.{renewed, renewed_places, valid_after, chosen, thinned}
 use Rattle.mg_calc.specs.Batch.{last_inner, begun_batch, with_item, gathered}
 use Rattle.mg_calc.specs.Law.{emits_number, emits_at}
@@ -49,6 +51,34 @@ emits P state t n good = by_test P (fits n) _ _ good tt
 pub moves : (P : List Plain → Type 0) (state : List Plain) (at : Option ℕ) (value : Plain) → P state → Keeps P (emits_at state at value)
 moves P state None value good = tt
 moves P state (Some t) value good = good
+
+-- a computation keeps what its row asks for, whatever its functions give
+with_the_state : (P : List Plain → Type 0) (state : List Plain) (given : Result (List Laid) Cause) → P state → Keeps P (with_state state given)
+with_the_state P state (Err cause) good = tt
+with_the_state P state (Ok emission) good = good
+
+with_the_number : (state : List Plain) (given : Result (Option ℤ × List Laid) Cause) → IsNumber (λ n. IsTrue (fits n)) state
+    → Keeps (IsNumber (λ n. IsTrue (fits n))) (with_number state given)
+with_the_number state (Err cause) good = tt
+with_the_number state (Ok (None, emission)) good = good
+with_the_number state (Ok (Some n, emission)) good = by_test (IsNumber (λ n. IsTrue (fits n))) (fits n) _ _ (λ fit. fit) tt
+
+pub computes : (row : Row) (state : List Plain) (t : ℕ) (set : List (Option (Stamped Plain))) → IsStateOfRow row state → Keeps (IsStateOfRow row) (answer row state t set)
+computes (each f) state t set good =
+    by_place (λ state. state ≡ []) (place_at set 0) _ _ (λ p. emits (λ state. state ≡ []) state t (f (number_of p.value)) (λ _. good)) good
+computes (sets f) state t set good = with_the_state (λ state. state ≡ []) state (f t set) good
+computes (keeping f) state t set good = with_the_number state (f (number_in state) t set) good
+
+-- a row that keeps nothing has the empty state alone
+pub row_empty : (row : Row) (state : List Plain) → keeps_nothing row ≡ true → IsStateOfRow row state → state ≡ []
+row_empty (each f) state is good = good
+row_empty (sets f) state is good = good
+row_empty (keeping f) state is good = absurd cc
+
+pub empty_row : (row : Row) (state : List Plain) → keeps_nothing row ≡ true → state ≡ [] → IsStateOfRow row state
+empty_row (each f) state is good = good
+empty_row (sets f) state is good = good
+empty_row (keeping f) state is good = absurd cc
 
 -- Mux
 pub picks : (P : List Plain → Type 0) (state : List Plain) (set : List (Option (Stamped Plain))) (o : Option ℕ) → P state → Keeps P (chosen state set o)
@@ -140,18 +170,23 @@ steps_on offset first steps last state None e good = good
 steps_on offset first steps last state (Some emission) e good = omega (arith, within steps (count_in state) emission e)
 
 -- BeginLoop: the next inner time goes on up to Max
-pub begins : (clone : Bool) (c t : ℕ) (list : List Plain) (cloned : Option (Stamped Plain)) → Keeps (IsStateOf (BeginLoop clone)) (begun_batch clone c t list cloned)
-begins clone c t list cloned =
-    by_test (IsStateOf (BeginLoop clone)) (nat_le (last_inner c (length list) + 1) (2 ^ 63 - 4)) _ _ (λ e. grind (arith, nat_tests, e)) tt
+begins : (clones : ℕ) (always_end : Bool) (c t : ℕ) (list : List Plain) (set : List (Option (Stamped Plain))) → Keeps (IsStateOf (BeginLoop clones always_end)) (begun_batch clones c t list set)
+begins clones always_end c t list set =
+    by_test (IsStateOf (BeginLoop clones always_end)) (nat_le (last_inner c (length list) + 1) (2 ^ 63 - 4)) _ _ (λ e. grind (arith, nat_tests, e)) tt
+
+pub by_batch : (clones : ℕ) (always_end : Bool) (state : List Plain) (t : ℕ) (set : List (Option (Stamped Plain))) (o : Option (List Plain)) → IsStateOf (BeginLoop clones always_end) state
+    → Keeps (IsStateOf (BeginLoop clones always_end)) (unwrap_or (option_map (λ list. begun_batch clones (count_in state) t list set) o) (Ok (state, [])))
+by_batch clones always_end state t set None good = good
+by_batch clones always_end state t set (Some list) good = begins clones always_end (count_in state) t list set
 
 -- EndLoop: the items are kept in full places
 are_items : (list : List Plain) → All (λ v. depth v < 16) list → AreItems (full_places list)
 are_items list all = (ap full_places (sym (kept-full_places list)), subst (All (λ v. depth v < 16)) (sym (kept-full_places list)) all)
 
-pub keeps_list : (end : Option (Stamped Plain)) (list : Result (List Plain) Cause) → IfOk list (λ vs. All (λ v. depth v < 16) vs) → Keeps AreItems (gathered end list)
-keeps_list end (Err cause) all = tt
-keeps_list None (Ok list) all = are_items list all
-keeps_list (Some end) (Ok list) all = are_items [] (All-nil (λ v. depth v < 16))
+pub keeps_list : (empty_as_bound : Bool) (end : Option (Stamped Plain)) (list : Result (List Plain) Cause) → IfOk list (λ vs. All (λ v. depth v < 16) vs) → Keeps AreItems (gathered empty_as_bound end list)
+keeps_list empty_as_bound end (Err cause) all = tt
+keeps_list empty_as_bound None (Ok list) all = are_items list all
+keeps_list empty_as_bound (Some end) (Ok list) all = are_items [] (All-nil (λ v. depth v < 16))
 
 pub items_stay : (list : List Plain) (item : Option (Stamped Plain)) → All (λ v. depth v < 16) list → IfOk (with_item list item) (λ vs. All (λ v. depth v < 16) vs)
 items_stay list None all = all

@@ -9,7 +9,8 @@ use Rattle.mg_settled.specs.Prefix.{IsPrefix, empty_prefix, closed}
 use Rattle.mg_settled.proofs.Lemmas.{empty_is_prefix, closed_is_prefix}
 use Rattle.mg_calc.specs.declared.edge.Edge.{Edge}
 use Rattle.mg_calc.specs.declared.inputs.Inputs.{Inputs}
-use Rattle.mg_calc.specs.declared.law.Law.TheVariants.{Sum, Loopback}
+use Rattle.mg_calc.specs.declared.law.Law.TheVariants.{Compute, Loopback}
+use Rattle.mg_calc.specs.declared.computations.Formula.TheVariants.{Sum}
 use Rattle.mg_calc.specs.declared.plan.Plan.{Plan}
 use Rattle.mg_calc.specs.declared.plan_node.PlanNode.{PlanNode}
 use Rattle.mg_calc.specs.declared.plan_stream.Producer.TheVariants.{Input, Node}
@@ -34,7 +35,7 @@ loop_node = record {
 abbrev sum_node : PlanNode
 sum_node = record {
   label = [];
-  law = Sum 2;
+  law = Compute (record { formula = Sum; lanes = 2; takes = Int; gives = Int });
   shape = record { name = []; inputs = untagged 2 Int; outputs = untagged 1 Int; sides = []; offset = Some (pos 0); stateless = true };
   inputs = 0 ∷ 1 ∷ [];
   outputs = 2 ∷ [];

@@ -7,14 +7,16 @@ use Rattle.mg_value.specs.Plain.{Plain, int, flag, text}
 use Rattle.mg_value.specs.Packet.{Stamped}
 use Rattle.mg_value.specs.declared.policy.Policy.{Policy}
 use Rattle.mg_value.specs.declared.policy.Policy.TheVariants.{Default, Mux as MuxPolicy}
-use Rattle.mg_value.specs.declared.kind.Kind.TheVariants.{Any}
+use Rattle.mg_value.specs.declared.kind.Kind.TheVariants.{Any, Int}
 use Rattle.mg_settled.specs.Prefix.{StreamPrefix}
 use Rattle.mg_settled.specs.Settled.{settled_sets}
 use Rattle.mg_calc.specs.declared.cause.Cause.TheVariants.{Overflow, BadSelect, NoSide, NotAscending}
 use Rattle.mg_calc.specs.declared.call.Call.TheVariants.{Begun, Shown, Finished}
 use Rattle.mg_calc.specs.declared.law.Law.{Law}
-use Rattle.mg_calc.specs.declared.law.Law.TheVariants.{Pass, Gate, Mux, Cloner, Merge, Thin, Running, Sum, Map, Filter, Shift, Count, SideOnce, Loopback, Tally}
-use Rattle.mg_calc.specs.declared.int_map.MapOp.TheVariants.{Add, Multiply}
+use Rattle.mg_calc.specs.declared.law.Law.TheVariants.{Pass, Gate, Mux, Cloner, Merge, Thin, Compute, Filter, Shift, Count, SideOnce, Loopback, Tally}
+use Rattle.mg_calc.specs.declared.computations.Formula.{Formula}
+use Rattle.mg_calc.specs.declared.computations.Formula.TheVariants.{Sum, Map, Running}
+use Rattle.mg_calc.specs.declared.computations.int_map.MapOp.TheVariants.{Add, Multiply}
 use Rattle.mg_calc.specs.declared.law.Keep.TheVariants.{Even, Negative}
 use Rattle.mg_calc.specs.declared.node_fault.Phase.TheVariants.{Open, Call, Process}
 use Rattle.mg_calc.specs.declared.plan.Plan.{Plan}
@@ -40,6 +42,10 @@ node_by policy law inputs outputs sides = record {
   box_number = None;
   policy = policy;
 }
+
+-- a computation of numbers
+abbrev pub computed : Formula → ℕ → Law
+computed formula lanes = Compute (record { formula = formula; lanes = lanes; takes = Int; gives = Int })
 
 abbrev pub node : Law → List ℕ → List ℕ → PlanNode
 node law inputs outputs = node_by Default law inputs outputs []
@@ -201,7 +207,7 @@ waits_for_the_first_stays = refl
 
 -- A running sum by a loopback: LOOP is the sum itself.
 abbrev sums : Job
-sums = job_of 3 (node Loopback (2 ∷ 0 ∷ []) (1 ∷ []) ∷ node (Sum 2) (0 ∷ 1 ∷ []) (2 ∷ []) ∷ []) (ended (pk 10 1 ∷ pk 20 2 ∷ pk 30 3 ∷ []) ∷ [])
+sums = job_of 3 (node Loopback (2 ∷ 0 ∷ []) (1 ∷ []) ∷ node (computed Sum 2) (0 ∷ 1 ∷ []) (2 ∷ []) ∷ []) (ended (pk 10 1 ∷ pk 20 2 ∷ pk 30 3 ∷ []) ∷ [])
 
 sums_stays : next_round sums (round sums 8) ≡ round sums 8
 sums_stays = refl
@@ -217,7 +223,7 @@ sums_counts = refl
 
 -- A filter in the loop, which drops the first sum: all stands still. Where it raises its bound, the loop goes on.
 abbrev filters : Bool → Job
-filters raises = job_of 4 (node Loopback (3 ∷ 0 ∷ []) (1 ∷ []) ∷ node (Sum 2) (0 ∷ 1 ∷ []) (2 ∷ []) ∷ node (Filter Even raises) (2 ∷ []) (3 ∷ []) ∷ []) (ended (pk 10 1 ∷ pk 20 2 ∷ pk 30 3 ∷ []) ∷ [])
+filters raises = job_of 4 (node Loopback (3 ∷ 0 ∷ []) (1 ∷ []) ∷ node (computed Sum 2) (0 ∷ 1 ∷ []) (2 ∷ []) ∷ node (Filter Even raises) (2 ∷ []) (3 ∷ []) ∷ []) (ended (pk 10 1 ∷ pk 20 2 ∷ pk 30 3 ∷ []) ∷ [])
 
 filters_stays : next_round (filters false) (round (filters false) 6) ≡ round (filters false) 6
 filters_stays = refl
@@ -255,7 +261,7 @@ counts_up_weight = refl
 
 -- A chain that doubles twice.
 abbrev doubles : Job
-doubles = job_of 5 (node Pass (0 ∷ []) (1 ∷ []) ∷ node (Map Multiply (pos 2)) (1 ∷ []) (2 ∷ []) ∷ node Pass (2 ∷ []) (3 ∷ []) ∷ node (Map Multiply (pos 2)) (3 ∷ []) (4 ∷ []) ∷ []) (ended (pk 1 3 ∷ []) ∷ [])
+doubles = job_of 5 (node Pass (0 ∷ []) (1 ∷ []) ∷ node (computed (Map Multiply (pos 2)) 1) (1 ∷ []) (2 ∷ []) ∷ node Pass (2 ∷ []) (3 ∷ []) ∷ node (computed (Map Multiply (pos 2)) 1) (3 ∷ []) (4 ∷ []) ∷ []) (ended (pk 1 3 ∷ []) ∷ [])
 
 doubles_shows : lines (4 ∷ []) (round doubles 5) ≡ out (pk 1 12 ∷ [])
 doubles_shows = refl
@@ -278,7 +284,7 @@ before_all_fails = refl
 
 -- Inputs that don't end: what is below the least bound is settled.
 abbrev stops : ℕ → Job
-stops bound = job_of 3 (node (Sum 2) (0 ∷ 1 ∷ []) (2 ∷ []) ∷ []) (until (at 6) (pk 5 1 ∷ []) ∷ until bound [] ∷ [])
+stops bound = job_of 3 (node (computed Sum 2) (0 ∷ 1 ∷ []) (2 ∷ []) ∷ []) (until (at 6) (pk 5 1 ∷ []) ∷ until bound [] ∷ [])
 
 stops_shows : lines (2 ∷ []) (round (stops (at 6)) 2) ≡ out (pk 5 1 ∷ [])
 stops_shows = refl
@@ -291,7 +297,7 @@ stops_stays = refl
 
 -- An input that ended at once takes nothing from the other's packets.
 abbrev one_ended : Job
-one_ended = job_of 3 (node (Sum 2) (0 ∷ 1 ∷ []) (2 ∷ []) ∷ []) (ended (pk 1 1 ∷ pk 2 2 ∷ []) ∷ ended [] ∷ [])
+one_ended = job_of 3 (node (computed Sum 2) (0 ∷ 1 ∷ []) (2 ∷ []) ∷ []) (ended (pk 1 1 ∷ pk 2 2 ∷ []) ∷ ended [] ∷ [])
 
 one_ended_shows : lines (2 ∷ []) (round one_ended 2) ≡ out (pk 1 1 ∷ pk 2 2 ∷ [])
 one_ended_shows = refl
@@ -354,14 +360,14 @@ shifts_stays = refl
 
 -- A number added to each.
 abbrev adds : Job
-adds = job_of 2 (node (Map Add (pos 10)) (0 ∷ []) (1 ∷ []) ∷ []) (ended (pk 1 5 ∷ pk 2 6 ∷ []) ∷ [])
+adds = job_of 2 (node (computed (Map Add (pos 10)) 1) (0 ∷ []) (1 ∷ []) ∷ []) (ended (pk 1 5 ∷ pk 2 6 ∷ []) ∷ [])
 
 adds_shows : lines (1 ∷ []) (round adds 2) ≡ out (pk 1 15 ∷ pk 2 16 ∷ [])
 adds_shows = refl
 
 -- The last value of another stream, at each tick, and a sum of all so far.
 abbrev clones : Job
-clones = job_of 4 (node (Cloner 1) (0 ∷ 1 ∷ []) (2 ∷ []) ∷ node Running (2 ∷ []) (3 ∷ []) ∷ []) (ended (pk 10 7 ∷ pk 30 8 ∷ []) ∷ ended (pk 5 0 ∷ pk 20 0 ∷ pk 30 0 ∷ pk 40 0 ∷ []) ∷ [])
+clones = job_of 4 (node (Cloner 1) (0 ∷ 1 ∷ []) (2 ∷ []) ∷ node (computed Running 1) (2 ∷ []) (3 ∷ []) ∷ []) (ended (pk 10 7 ∷ pk 30 8 ∷ []) ∷ ended (pk 5 0 ∷ pk 20 0 ∷ pk 30 0 ∷ pk 40 0 ∷ []) ∷ [])
 
 clones_shows : lines (2 ∷ []) (round clones 3) ≡ out (pk 20 7 ∷ pk 30 8 ∷ pk 40 8 ∷ [])
 clones_shows = refl
@@ -397,7 +403,7 @@ repeats_ends = refl
 
 -- The running sum of two packets, round by round.
 abbrev two_sums : Job
-two_sums = job_of 3 (node Loopback (2 ∷ 0 ∷ []) (1 ∷ []) ∷ node (Sum 2) (0 ∷ 1 ∷ []) (2 ∷ []) ∷ []) (ended (pk 10 1 ∷ pk 20 2 ∷ []) ∷ [])
+two_sums = job_of 3 (node Loopback (2 ∷ 0 ∷ []) (1 ∷ []) ∷ node (computed Sum 2) (0 ∷ 1 ∷ []) (2 ∷ []) ∷ []) (ended (pk 10 1 ∷ pk 20 2 ∷ []) ∷ [])
 
 abbrev two_in : StreamPrefix Plain
 two_in = ended (pk 10 1 ∷ pk 20 2 ∷ [])

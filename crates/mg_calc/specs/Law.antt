@@ -6,43 +6,28 @@ use Rattle.mg_time.specs.Time.{next}
 use Rattle.mg_value.specs.Plain.{Plain, int}
 use Rattle.mg_value.specs.Packet.{Stamped}
 use Rattle.mg_calc.specs.declared.law.Law.{Law}
-use Rattle.mg_calc.specs.declared.law.Law.TheVariants.{Pass, Gate, Mux, Cloner, Merge, Thin, Sum, Map, Filter, Running, Shift, Count, SideOnce, Constants, Loopback, Tally, Scripted, BeginLoop, EndLoop, FirstCome, Limiter, Stated}
-use Rattle.mg_calc.specs.declared.int_map.MapOp.{MapOp}
+use Rattle.mg_calc.specs.declared.law.Law.TheVariants.{Pass, Gate, Mux, Cloner, Merge, Thin, Compute, Filter, Shift, Count, SideOnce, Constants, Loopback, Tally, Scripted, BeginLoop, EndLoop, FirstCome, Limiter, Stated}
 use Rattle.mg_calc.specs.declared.law.Keep.{Keep}
 use Rattle.mg_calc.specs.declared.law.Keep.TheVariants.{Even, Odd, Negative, NonNegative}
 use Rattle.mg_calc.specs.declared.emission.Laid.{Laid}
 use Rattle.mg_calc.specs.declared.cause.Cause.TheVariants.{WrongKind, NoSide, Overflow}
 use Rattle.mg_calc.specs.Answer.{Answer, emission_of}
 use Rattle.mg_calc.specs.Rules.{Rules, Laws}
-use Rattle.mg_calc.specs.Values.{place_at, fits, number_of, total, moved_time, time_of, stored}
+use Rattle.mg_calc.specs.Values.{number_of, moved_time, time_of, stored}
 use Rattle.mg_calc.specs.State.{state_of, number_in, count_in, kept_at}
-use Rattle.mg_calc.specs.IntMap.{mapped}
+pub use Rattle.mg_calc.specs.Row.{emits_number, with_packet}
+use Rattle.mg_calc.specs.Row.{answer}
+use Rattle.mg_calc.specs.Computations.{row_of}
 use Rattle.mg_calc.specs.Kinds.{has_wrong_kind}
 use Rattle.mg_calc.specs.Routing.{pass, gate, mux, cloner, merge, thin, copy_at}
 use Rattle.mg_calc.specs.Batch.{begin_loop, end_loop}
 
--- The rules of the calculators that compute: what each gives for its state and the set at a time t.
-
--- the answer that emits a number at t and keeps a state; Overflow if the number doesn't fit in 64 signed bits
-abbrev pub emits_number : List Plain → ℕ → ℤ → Answer
-emits_number state t n = if fits n then Ok (state, emission_of (Some (record { at = t; value = int n }) ∷ [])) else Err Overflow
+-- The rules of the calculators that compute and have no row: what each gives for its state and the set at a time t.
 
 -- the answer that emits a payload at a time and keeps a state; Overflow if there is no time
 abbrev pub emits_at : List Plain → Option ℕ → Plain → Answer
 emits_at state None value = Err Overflow
 emits_at state (Some t) value = Ok (state, emission_of (Some (record { at = t; value = value }) ∷ []))
-
--- the answer of a law of one input: what f gives for the packet of the set. Without a packet the state stays and nothing is emitted.
-abbrev pub with_packet : (Stamped Plain → Answer) → List Plain → List (Option (Stamped Plain)) → Answer
-with_packet f state set = unwrap_or (option_map f (place_at set 0)) (Ok (state, []))
-
--- Sum: the exact sum of the present numbers, or Overflow
-abbrev pub sum_law : List Plain → ℕ → List (Option (Stamped Plain)) → Answer
-sum_law state t set = emits_number state t (total set)
-
--- Map: the exact result, or Overflow
-abbrev pub map_law : MapOp → ℤ → List Plain → ℕ → List (Option (Stamped Plain)) → Answer
-map_law op operand state t set = with_packet (λ p. emits_number state t (mapped op operand (number_of p.value))) state set
 
 -- whether 2 divides a number
 abbrev pub is_even : ℤ → Bool
@@ -72,11 +57,6 @@ filtered keeps raises t p =
 -- Filter: the packet, if its number is kept
 abbrev pub filter_law : Keep → Bool → List Plain → ℕ → List (Option (Stamped Plain)) → Answer
 filter_law keep raises state t set = with_packet (λ p. Ok (state, filtered (is_kept keep (number_of p.value)) raises t p)) state set
-
--- Running: the sum of the state and the number, which is emitted and kept, or Overflow
-abbrev pub running : List Plain → ℕ → List (Option (Stamped Plain)) → Answer
-running state t set =
-    with_packet (λ p. let sum = number_in state +ℤ number_of p.value in emits_number (state_of sum) t sum) state set
 
 -- Shift: the packet at t moved by the offset; Overflow if that leaves the range
 abbrev pub shifted : ℤ → List Plain → ℕ → List (Option (Stamped Plain)) → Answer
@@ -112,10 +92,8 @@ rule (Mux lanes) state t set = mux lanes state set
 rule (Cloner lanes) state t set = cloner lanes state t set
 rule (Merge lanes) state t set = merge state set
 rule (Thin period) state t set = thin period state t set
-rule (Sum lanes) state t set = sum_law state t set
-rule (Map op operand) state t set = map_law op operand state t set
+rule (Compute computation) state t set = answer (row_of computation.formula) state t set
 rule (Filter keep raises) state t set = filter_law keep raises state t set
-rule Running state t set = running state t set
 rule (Shift offset) state t set = shifted offset state t set
 rule Tally state t set = tally state t
 rule (Scripted offset first steps last) state t set = scripted steps state
@@ -123,8 +101,8 @@ rule (Count count start apart) state t set = Ok (state, [])
 rule (SideOnce at) state t set = Ok (state, [])
 rule Constants state t set = Ok (state, [])
 rule Loopback state t set = Ok (state, [])
-rule (BeginLoop clone) state t set = begin_loop clone state t set
-rule EndLoop state t set = end_loop state set
+rule (BeginLoop clones always_end) state t set = begin_loop clones always_end state t set
+rule (EndLoop empty_as_bound) state t set = end_loop empty_as_bound state set
 rule (FirstCome lanes) state t set = Ok (state, [])
 rule (Limiter most) state t set = Ok (state, [])
 rule (Stated number parameters offset) state t set = Ok (state, [])

@@ -1,9 +1,9 @@
 pub mod Answer
 pub mod Batch
 pub mod Code
+pub mod Computations
 pub mod Equations
 pub mod Given
-pub mod IntMap
 pub mod Kinds
 pub mod Law
 pub mod Laying
@@ -13,11 +13,13 @@ pub mod Own
 pub mod Plan
 pub mod Reaching
 pub mod Routing
+pub mod Row
 pub mod Rules
 pub mod Shape
 pub mod Side
 pub mod SideView
 pub mod State
+pub mod StateForm
 pub mod Told
 pub mod Values
 -- What the prover wants of the types beside their meaning. No meaning rests on it.

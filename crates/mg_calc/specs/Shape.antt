@@ -10,20 +10,20 @@ use Rattle.mg_time.specs.Time.{pre_stream, post_stream, done, place_of}
 use Rattle.mg_value.specs.declared.kind.Kind.{Kind}
 use Rattle.mg_value.specs.declared.kind.Kind.TheVariants.{Any, Flag, Int, Items}
 use Rattle.mg_calc.specs.declared.law.Law.{Law}
-use Rattle.mg_calc.specs.declared.law.Law.TheVariants.{Pass, Gate, Mux, Cloner, Merge, Thin, Sum, Map, Filter, Running, Shift, Count, SideOnce, Constants, Loopback, Tally, Scripted, BeginLoop, EndLoop, FirstCome, Limiter, Stated}
+use Rattle.mg_calc.specs.declared.law.Law.TheVariants.{Pass, Gate, Mux, Cloner, Merge, Thin, Compute, Filter, Shift, Count, SideOnce, Constants, Loopback, Tally, Scripted, BeginLoop, EndLoop, FirstCome, Limiter, Stated}
 use Rattle.mg_calc.specs.declared.emission.Laid.{Laid}
 use Rattle.mg_calc.specs.declared.port_kind.PortKind.{PortKind}
 use Rattle.mg_calc.specs.declared.shape.Shape.{Shape}
-use Rattle.mg_calc.specs.Values.{is_in_range, iterable_port}
+use Rattle.mg_calc.specs.Values.{is_in_range}
+use Rattle.mg_calc.specs.Row.{keeps_nothing}
+use Rattle.mg_calc.specs.Computations.{row_of}
 
 -- The laws by who computes them.
 
 -- the laws that mg_calc computes: those of numbers, Shift, Tally and Scripted
 abbrev pub IsOwn : Law → Type 0
-IsOwn (Sum lanes) = ⊤
-IsOwn (Map op operand) = ⊤
+IsOwn (Compute computation) = ⊤
 IsOwn (Filter keep raises) = ⊤
-IsOwn Running = ⊤
 IsOwn (Shift offset) = ⊤
 IsOwn Tally = ⊤
 IsOwn (Scripted offset first steps last) = ⊤
@@ -41,8 +41,8 @@ IsRouting _ = ⊥
 
 -- the laws of loops over lists, which mg_batch computes
 abbrev pub IsBatch : Law → Type 0
-IsBatch (BeginLoop clone) = ⊤
-IsBatch EndLoop = ⊤
+IsBatch (BeginLoop clones always_end) = ⊤
+IsBatch (EndLoop empty_as_bound) = ⊤
 IsBatch _ = ⊥
 
 -- the laws that are served: all but those of free nodes, which take packets as they arrive and are shown no set. Only served laws have
@@ -96,10 +96,11 @@ ParametersFit (Gate lanes disallow empty_as_allow) = IsLanes lanes
 ParametersFit (Mux lanes) = IsLanes lanes
 ParametersFit (Cloner lanes) = IsLanes lanes
 ParametersFit (Merge lanes) = IsLanes lanes
-ParametersFit (Sum lanes) = IsLanes lanes
+ParametersFit (Compute computation) = IsLanes computation.lanes
 ParametersFit (Thin period) = pos 1 ≤ℤ period
 ParametersFit (Count count start apart) = (count ≤ 1000000) × IsTrue (is_in_range (place_of start)) × (pos 1 ≤ℤ apart)
 ParametersFit (SideOnce at) = (at ≡ pre_stream) ⊎ (at ≡ place_of (pos 0)) ⊎ (at ≡ post_stream)
+ParametersFit (BeginLoop clones always_end) = clones ≤ 64
 ParametersFit (FirstCome lanes) = IsLanes lanes
 ParametersFit (Limiter most) = (1 ≤ most) × (most ≤ 2147483647)
 ParametersFit _ = ⊤
@@ -141,9 +142,9 @@ pub record AreAnyInputs (ps : List PortKind) : Type 0 where
 abbrev pub control_tag : Bool → List ℕ
 control_tag disallow = if disallow then codes "DISALLOW" else codes "ALLOW"
 
--- the port CLONE of a BeginLoop, whose packet is copied for each item, or no port if it hasn't one
-abbrev pub clone_ports : Bool → List PortKind
-clone_ports clone = if clone then tagged (codes "CLONE") Any else []
+-- the ports CLONE of a BeginLoop, whose packets are copied for each item
+abbrev pub clone_ports : ℕ → List PortKind
+clone_ports clones = ports (codes "CLONE") clones Any
 
 -- the output of SideOnce, which says when it emits: at PreStream, at 0 or at PostStream
 abbrev pub HasTimeTag : ℕ → List PortKind → Type 0
@@ -160,10 +161,8 @@ HasInputs (Mux lanes) ps = ps ≡ ports (codes "INPUT") lanes Any ++ tagged (cod
 HasInputs (Cloner lanes) ps = ps ≡ untagged lanes Any ++ tagged (codes "TICK") Any
 HasInputs (Merge lanes) ps = ps ≡ untagged lanes Any
 HasInputs (Thin period) ps = ps ≡ untagged 1 Any
-HasInputs (Sum lanes) ps = ps ≡ untagged lanes Int
-HasInputs (Map op operand) ps = ps ≡ untagged 1 Int
+HasInputs (Compute computation) ps = ps ≡ untagged computation.lanes computation.takes
 HasInputs (Filter keep raises) ps = ps ≡ untagged 1 Int
-HasInputs Running ps = ps ≡ untagged 1 Int
 HasInputs (Shift offset) ps = ps ≡ untagged 1 Any
 HasInputs (Count count start apart) ps = ps ≡ []
 HasInputs (SideOnce at) ps = ps ≡ []
@@ -171,24 +170,22 @@ HasInputs Constants ps = ps ≡ []
 HasInputs Loopback ps = ps ≡ tagged (codes "LOOP") Any ++ tagged (codes "MAIN") Any
 HasInputs Tally ps = ps ≡ untagged 1 Any
 HasInputs (Scripted offset first steps last) ps = AreAnyInputs ps
-HasInputs (BeginLoop clone) ps = ps ≡ clone_ports clone ++ tagged (codes "ITERABLE") Items
-HasInputs EndLoop ps = ps ≡ tagged (codes "BATCH_END") Int ++ tagged (codes "ITEM") Any
+HasInputs (BeginLoop clones always_end) ps = ps ≡ clone_ports clones ++ tagged (codes "ITERABLE") Items
+HasInputs (EndLoop empty_as_bound) ps = ps ≡ tagged (codes "BATCH_END") Int ++ tagged (codes "ITEM") Any
 HasInputs (FirstCome lanes) ps = ps ≡ untagged lanes Any
 HasInputs (Limiter most) ps = ps ≡ untagged 1 Any ++ tagged (codes "FINISHED") Any
 HasInputs (Stated number parameters offset) ps = AreInputs ps
 
--- the kind of an input by its place, for the laws of the table. The laws of numbers take whole numbers. The last input of Gate is a
+-- the kind of an input by its place, for the laws of the table. A computation tells it. Filter takes whole numbers. The last input of Gate is a
 -- truth value, that of Mux a whole number, and that of BeginLoop a list. The first input of EndLoop is a whole number. All other inputs
 -- are of any kind.
 abbrev pub input_kind : Law → ℕ → Kind
 input_kind (Gate lanes disallow empty_as_allow) i = if i == lanes then Flag else Any
 input_kind (Mux lanes) i = if i == lanes then Int else Any
-input_kind (Sum lanes) i = Int
-input_kind (Map op operand) i = Int
+input_kind (Compute computation) i = computation.takes
 input_kind (Filter keep raises) i = Int
-input_kind Running i = Int
-input_kind (BeginLoop clone) i = if i == iterable_port clone then Items else Any
-input_kind EndLoop i = if i == 0 then Int else Any
+input_kind (BeginLoop clones always_end) i = if i == clones then Items else Any
+input_kind (EndLoop empty_as_bound) i = if i == 0 then Int else Any
 input_kind _ i = Any
 
 -- written emissions have an entry for each output
@@ -205,10 +202,8 @@ HasOutputs (Mux lanes) inputs ps = ps ≡ tagged (codes "OUTPUT") Any
 HasOutputs (Cloner lanes) inputs ps = ps ≡ untagged lanes Any
 HasOutputs (Merge lanes) inputs ps = ps ≡ untagged 1 Any
 HasOutputs (Thin period) inputs ps = ps ≡ untagged 1 Any
-HasOutputs (Sum lanes) inputs ps = ps ≡ untagged 1 Int
-HasOutputs (Map op operand) inputs ps = ps ≡ untagged 1 Int
+HasOutputs (Compute computation) inputs ps = ps ≡ untagged 1 computation.gives
 HasOutputs (Filter keep raises) inputs ps = ps ≡ untagged 1 Int
-HasOutputs Running inputs ps = ps ≡ untagged 1 Int
 HasOutputs (Shift offset) inputs ps = ps ≡ untagged 1 Any
 HasOutputs (Count count start apart) inputs ps = ps ≡ untagged 1 Int
 HasOutputs (SideOnce at) inputs ps = HasTimeTag at ps
@@ -216,8 +211,8 @@ HasOutputs Constants inputs ps = ps ≡ []
 HasOutputs Loopback inputs ps = ps ≡ tagged (codes "PREV_LOOP") Any
 HasOutputs Tally inputs ps = ps ≡ untagged 1 Int
 HasOutputs (Scripted offset first steps last) inputs ps = ArePorts ps × AreEmissions (length ps) first steps last
-HasOutputs (BeginLoop clone) inputs ps = ps ≡ tagged (codes "BATCH_END") Int ++ (clone_ports clone ++ tagged (codes "ITEM") Any)
-HasOutputs EndLoop inputs ps = ps ≡ tagged (codes "ITERABLE") Items
+HasOutputs (BeginLoop clones always_end) inputs ps = ps ≡ tagged (codes "BATCH_END") Int ++ (clone_ports clones ++ tagged (codes "ITEM") Any)
+HasOutputs (EndLoop empty_as_bound) inputs ps = ps ≡ tagged (codes "ITERABLE") Items
 HasOutputs (FirstCome lanes) inputs ps = ps ≡ untagged 1 Any
 HasOutputs (Limiter most) inputs ps = ps ≡ untagged 1 Any
 HasOutputs (Stated number parameters offset) inputs ps = ArePorts ps
@@ -238,8 +233,8 @@ offset_of (Count count start apart) = None
 offset_of (SideOnce at) = None
 offset_of Constants = None
 offset_of Loopback = None
-offset_of (BeginLoop clone) = None
-offset_of EndLoop = None
+offset_of (BeginLoop clones always_end) = None
+offset_of (EndLoop empty_as_bound) = None
 offset_of (FirstCome lanes) = None
 offset_of (Limiter most) = None
 offset_of (Scripted offset first steps last) = offset
@@ -252,8 +247,7 @@ is_stateless Pass = true
 is_stateless (Gate lanes disallow empty_as_allow) = true
 is_stateless (Mux lanes) = true
 is_stateless (Merge lanes) = true
-is_stateless (Sum lanes) = true
-is_stateless (Map op operand) = true
+is_stateless (Compute computation) = keeps_nothing (row_of computation.formula)
 is_stateless (Filter keep raises) = true
 is_stateless (Shift offset) = true
 is_stateless _ = false

@@ -58,7 +58,3 @@ listed (item p ps) = p ∷ listed ps
 abbrev pub items_in : Plain → List Plain
 items_in (items is) = listed is
 items_in _ = []
-
--- the number of the input ITERABLE of BeginLoop, which takes the lists: it stands after CLONE, if BeginLoop has that
-abbrev pub iterable_port : Bool → ℕ
-iterable_port clone = if clone then 1 else 0

@@ -1,7 +1,8 @@
 ghost use Rattle.std.specs.Prelude.{◌≡◌};
 ghost use Rattle.mg_calc.specs.Shape as shape;
 
-use crate::{Emission, EmissionList, MapOp, State, TryClone};
+use crate::computations::keeps_nothing;
+use crate::{Computation, Emission, EmissionList, State, TryClone};
 use mg_time::Timestamp;
 use mg_value::Kind;
 use std::alloc::{AllocError, Global};
@@ -53,23 +54,13 @@ pub enum Law {
         /// The least time from a packet that goes on to the next, in units of timestamps, 1 or more.
         period: i64,
     },
-    /// Emits the sum of the numbers of a set.
-    Sum {
-        /// How many inputs there are, from 1 to 64.
-        lanes: u32,
-    },
-    /// Emits the result of an operation on each number and an operand.
-    Map {
-        op: MapOp,
-        operand: i64,
-    },
+    /// Emits what a built-in computation makes of a set.
+    Compute(Computation),
     /// The numbers that `keep` names go on. If `raise` is set, the output is raised past each number, whether it goes on or not.
     Filter {
         keep: Keep,
         raise: bool,
     },
-    /// Emits at each number the sum of all numbers so far.
-    Running,
     /// Packets go on at a timestamp moved by the offset.
     Shift {
         offset: i64,
@@ -101,13 +92,18 @@ pub enum Law {
         steps: EmissionList,
         last: Emission,
     },
-    /// The items of a list go on one by one, at inner times of their own. If `clone` is set, a copy of the packet of CLONE goes on with
-    /// each item.
+    /// The items of a list go on one by one, at inner times of their own. A copy of the packet of each CLONE goes on with each item.
     BeginLoop {
-        clone: bool,
+        /// How many ports CLONE there are, at most 64; ITERABLE follows them.
+        clones: u32,
+        /// Whether the end of a batch is also told at a set without a list, as at an empty list.
+        always_end: bool,
     },
     /// Items are gathered into a list. When BATCH_END has a packet, the list goes on at the time that the packet tells.
-    EndLoop,
+    EndLoop {
+        /// Whether the output is raised past that time, in place of an empty list.
+        empty_as_bound: bool,
+    },
     /// Packets go on as they arrive, and are dropped if the output's order doesn't allow them. A free node's law: no set is shown to
     /// it.
     FirstCome {
@@ -147,16 +143,11 @@ impl TryClone for Law {
             Law::Cloner { lanes } => Ok(Law::Cloner { lanes: *lanes }),
             Law::Merge { lanes } => Ok(Law::Merge { lanes: *lanes }),
             Law::Thin { period } => Ok(Law::Thin { period: *period }),
-            Law::Sum { lanes } => Ok(Law::Sum { lanes: *lanes }),
-            Law::Map { op, operand } => Ok(Law::Map {
-                op: *op,
-                operand: *operand,
-            }),
+            Law::Compute(computation) => Ok(Law::Compute(*computation)),
             Law::Filter { keep, raise } => Ok(Law::Filter {
                 keep: *keep,
                 raise: *raise,
             }),
-            Law::Running => Ok(Law::Running),
             Law::Shift { offset } => Ok(Law::Shift { offset: *offset }),
             Law::Count { count, start, step } => Ok(Law::Count {
                 count: *count,
@@ -183,8 +174,13 @@ impl TryClone for Law {
                     last,
                 })
             }
-            Law::BeginLoop { clone } => Ok(Law::BeginLoop { clone: *clone }),
-            Law::EndLoop => Ok(Law::EndLoop),
+            Law::BeginLoop { clones, always_end } => Ok(Law::BeginLoop {
+                clones: *clones,
+                always_end: *always_end,
+            }),
+            Law::EndLoop { empty_as_bound } => Ok(Law::EndLoop {
+                empty_as_bound: *empty_as_bound,
+            }),
             Law::FirstCome { lanes } => Ok(Law::FirstCome { lanes: *lanes }),
             Law::Limiter { most } => Ok(Law::Limiter { most: *most }),
             Law::Stated {
@@ -216,15 +212,16 @@ pub fn input_kind(law: &Law, port: u32) -> Kind
             }
         }
         Law::Mux { lanes } => { if port == *lanes { Kind::Int } else { Kind::Any } }
-        Law::BeginLoop { clone } => {
-            if port == u32::from(*clone) {
+        Law::BeginLoop { clones, .. } => {
+            if port == *clones {
                 Kind::Items
             } else {
                 Kind::Any
             }
         }
-        Law::EndLoop => { if port == 0 { Kind::Int } else { Kind::Any } }
-        Law::Sum { .. } | Law::Map { .. } | Law::Filter { .. } | Law::Running => Kind::Int,
+        Law::EndLoop { .. } => { if port == 0 { Kind::Int } else { Kind::Any } }
+        Law::Compute(computation) => computation.takes,
+        Law::Filter { .. } => Kind::Int,
         _ => Kind::Any,
     }
 }
@@ -238,10 +235,9 @@ pub fn is_stateless(law: &Law) -> bool
         | Law::Gate { .. }
         | Law::Mux { .. }
         | Law::Merge { .. }
-        | Law::Sum { .. }
-        | Law::Map { .. }
         | Law::Filter { .. }
         | Law::Shift { .. } => true,
+        Law::Compute(computation) => keeps_nothing(computation.formula),
         _ => false,
     }
 }
@@ -260,7 +256,7 @@ pub fn offset_of(law: &Law) -> Option<i64>
         | Law::Constants
         | Law::Loopback
         | Law::BeginLoop { .. }
-        | Law::EndLoop
+        | Law::EndLoop { .. }
         | Law::FirstCome { .. }
         | Law::Limiter { .. } => None,
         _ => Some(0),

@@ -2,13 +2,12 @@ ghost use Rattle.std.specs.Prelude.{◌≡◌, [], IfOk};
 ghost use Rattle.mg_calc.specs.Answer.{Gives};
 ghost use Rattle.mg_calc.specs.Shape.{IsOwn};
 ghost use Rattle.mg_calc.specs.Values.{moved_time as the_moved_time};
-ghost use Rattle.mg_calc.specs.Law.{step, is_kept as is_its_kept, filtered as the_filtered, sum_law, map_law, filter_law, running as the_running, shifted as the_shifted, tally as the_tally, scripted as the_scripted};
+ghost use Rattle.mg_calc.specs.Law.{step, is_kept as is_its_kept, filtered as the_filtered, filter_law, shifted as the_shifted, tally as the_tally, scripted as the_scripted};
 
-use crate::int_map::mapped;
+use crate::computations::compute;
 use crate::{
-    CalcFault, Cause, Emission, EmissionList, Keep, Laid, Law, MapOp, State, TryClone,
-    has_wrong_kind, narrowed, no_emission, number_of_packet, one_number, one_output, one_packet,
-    total,
+    CalcFault, Cause, Emission, EmissionList, Keep, Laid, Law, State, TryClone, has_wrong_kind,
+    narrowed, no_emission, number_of_packet, one_number, one_output, one_packet,
 };
 use mg_settled::InputSet;
 use mg_time::Timestamp;
@@ -16,10 +15,11 @@ use mg_value::Packet;
 use std::alloc::{AllocError, Global};
 use std::sync::Arc;
 
-/// Returns what a law that this crate computes gives at a set: the new state and the emission, or the cause. These laws are `Sum`, `Map`,
-/// `Filter`, `Running`, `Shift`, `Tally` and `Scripted`.
+/// Returns what a law that this crate computes gives at a set: the new state and the emission, or the cause. These laws are `Compute`,
+/// `Filter`, `Shift`, `Tally` and `Scripted`.
 ///
 /// Payloads that go on are shared.
+#[tactic(auto, unfolding(crate::specs::Row::IsGiven))]
 pub fn own_step(
     alloc: Global,
     law: &Law,
@@ -34,10 +34,8 @@ pub fn own_step(
         return Err(CalcFault::Fault(Cause::WrongKind));
     }
     match law {
-        Law::Sum { .. } => sum(alloc, state, at, set),
-        Law::Map { op, operand } => map(alloc, *op, *operand, state, at, set),
+        Law::Compute(computation) => compute(alloc, computation.formula, state, at, set),
         Law::Filter { keep, raise } => filter(alloc, *keep, *raise, state, at, set),
-        Law::Running => running(alloc, state, at, set),
         Law::Shift { offset } => shifted(alloc, *offset, state, at, set),
         Law::Tally => tally(alloc, state, at),
         Law::Scripted { steps, .. } => scripted(alloc, steps, state),
@@ -51,37 +49,6 @@ pub fn stays(alloc: Global, state: &State) -> Result<(State, Emission), CalcFaul
 {
     let kept = state.try_clone(alloc)?;
     Ok((kept, no_emission(alloc)?))
-}
-
-fn sum(
-    alloc: Global,
-    state: &State,
-    at: Timestamp,
-    set: &InputSet,
-) -> Result<(State, Emission), CalcFault>
-    ensures { Gives result (sum_law state.now at set.now) }
-{
-    let number = narrowed(total(set))?;
-    let kept = state.try_clone(alloc)?;
-    Ok((kept, one_number(alloc, at, number)?))
-}
-
-fn map(
-    alloc: Global,
-    op: MapOp,
-    operand: i64,
-    state: &State,
-    at: Timestamp,
-    set: &InputSet,
-) -> Result<(State, Emission), CalcFault>
-    ensures { Gives result (map_law op operand state.now at set.now) }
-{
-    let Some(packet) = set.get(0) else {
-        return stays(alloc, state);
-    };
-    let number = narrowed(mapped(op, operand, number_of_packet(packet)))?;
-    let kept = state.try_clone(alloc)?;
-    Ok((kept, one_number(alloc, at, number)?))
 }
 
 fn is_kept(keep: Keep, number: i64) -> bool
@@ -135,22 +102,6 @@ fn filter(
     let keeps = is_kept(keep, number_of_packet(packet));
     let kept = state.try_clone(alloc)?;
     Ok((kept, filtered(alloc, keeps, raise, at, packet)?))
-}
-
-fn running(
-    alloc: Global,
-    state: &State,
-    at: Timestamp,
-    set: &InputSet,
-) -> Result<(State, Emission), CalcFault>
-    ensures { Gives result (the_running state.now at set.now) }
-{
-    let Some(packet) = set.get(0) else {
-        return stays(alloc, state);
-    };
-    let sum = narrowed(i128::from(state.number()) + i128::from(number_of_packet(packet)))?;
-    let emission = one_number(alloc, at, sum)?;
-    Ok((State::of_number(sum), emission))
 }
 
 fn moved_time(at: Timestamp, offset: i64) -> Option<Timestamp>

@@ -6,7 +6,7 @@ ghost use Rattle.mg_calc.specs.declared.law.Law.{Law};
 ghost use Rattle.mg_calc.specs.declared.shape.Shape.{Shape};
 ghost use Rattle.mg_calc.specs.Law.{opening, step};
 ghost use Rattle.mg_calc.specs.Shape.{IsShapeOf, FitsInputs};
-ghost use Rattle.mg_calc.specs.State.{IsStateOf};
+ghost use Rattle.mg_calc.specs.StateForm.{IsStateOf};
 
 /// Open gives a state of the form that the law asks for, and a set gives one again if the state has that form.
 pub fn states_keep_their_form()

@@ -1,5 +1,5 @@
 -- No two drafts have the same user-supplied calculator: each node takes another calculator of its name.
-use Rattle.std.proofs.Common.{◌≡◌, ◌≢◌, ℕ, zero, suc, ◌+◌, ◌<◌, ◌≤◌, List, [], ◌∷◌, ◌++◌, map, filter, Bool, true, false, Option, None, Some, cond, slice_get, All, AllPairs, filter_map, bytes_eq, refl, sym, ap, subst, ◌∙◌, arith, le_of_eq, le_trans}
+use Rattle.std.proofs.Common.{◌≡◌, ◌≢◌, ℕ, zero, suc, ◌+◌, ◌<◌, ◌≤◌, List, [], ◌∷◌, ◌++◌, map, filter, Bool, true, false, Option, None, Some, cond, slice_get, All, AllPairs, filter_map, is_none, ◌&&◌, bytes_eq, refl, sym, ap, subst, ◌∙◌, arith, le_of_eq, le_trans}
 use Rattle.std.specs.List.{enumerate_from, cons_option}
 use Rattle.std.proofs.lemmas.Bool.{true≢false}
 use Rattle.std.proofs.lemmas.List.Elements.{All-nil, All-cons, All-weaker}
@@ -9,10 +9,10 @@ use Rattle.std.proofs.lemmas.Option.{none-some, same_Some}
 use Rattle.std.proofs.lemmas.Slice.Eq.{bytes_eq-Decides}
 use Rattle.mg_config.specs.Config.{NodeView}
 use Rattle.mg_calc.specs.declared.shape.OuterShape.{OuterShape}
-use Rattle.mg_kinds.specs.Kinds.{kind_named}
+use Rattle.mg_kinds.specs.Kinds.{kind_at}
 use Rattle.mg_kinds.specs.declared.kind.CalculatorKind.{CalculatorKind}
 use Rattle.mg_kinds.proofs.Made.{mapped}
-use Rattle.mg_check.specs.Choosing.{Chosen, outers_named, wanted, kind_by, kind_of, with_kind, chosen_after}
+use Rattle.mg_check.specs.Choosing.{Chosen, outers_named, wants, wanted, kind_by, kind_of, with_kind, chosen_after}
 use Rattle.mg_check.specs.Drafts.{DraftView, draft_of, drafts, box_of}
 use Rattle.mg_check.specs.declared.node_kind.NodeKind.{NodeKind}
 use Rattle.mg_check.specs.declared.node_kind.NodeKind.TheVariants.{BuiltIn, Outer}
@@ -71,8 +71,8 @@ same_place k (outer ∷ outers) a b n i j at to =
 abbrev IsFresh : List OuterShape → List NodeView → ℕ → Type 0
 IsFresh outers before n = (name : List ℕ) (i : ℕ) → slice_get (outers_named outers name) i ≡ Some n → wanted before name ≤ i
 
-wanted_more : (before : List NodeView) (node : NodeView) (name : List ℕ) → wanted (before ++ node ∷ []) name ≡ wanted before name + (cond (bytes_eq name node.calculator) 1 0)
-wanted_more before node name = sum_by-append (λ n. cond (bytes_eq name n.calculator) 1 0) before (node ∷ []) ∙ ap (λ c. wanted before name + c) (nothing_before (cond (bytes_eq name node.calculator) 1 0))
+wanted_more : (before : List NodeView) (node : NodeView) (name : List ℕ) → wanted (before ++ node ∷ []) name ≡ wanted before name + (cond (wants name node) 1 0)
+wanted_more before node name = sum_by-append (λ n. cond (wants name n) 1 0) before (node ∷ []) ∙ ap (λ c. wanted before name + c) (nothing_before (cond (wants name node) 1 0))
   where
     nothing_before : (c : ℕ) → 0 + c ≡ c
     nothing_before c = omega arith
@@ -80,10 +80,11 @@ wanted_more before node name = sum_by-append (λ n. cond (bytes_eq name n.calcul
 wanted_least : (before : List NodeView) (node : NodeView) (name : List ℕ) → wanted before name ≤ wanted (before ++ node ∷ []) name
 wanted_least before node name = let more = wanted_more before node name in omega arith
 
-pub wanted_own : (before : List NodeView) (node : NodeView) → wanted before node.calculator < wanted (before ++ node ∷ []) node.calculator
-wanted_own before node =
+pub wanted_own : (before : List NodeView) (node : NodeView) → kind_at node ≡ None → wanted before node.calculator < wanted (before ++ node ∷ []) node.calculator
+wanted_own before node none =
     let more = wanted_more before node node.calculator in
-    let own : cond {A = ℕ} (bytes_eq node.calculator node.calculator) 1 0 ≡ 1 = ap (λ t. cond t 1 0) ((bytes_eq-Decides node.calculator node.calculator).1 refl) in
+    let own : cond {A = ℕ} (wants node.calculator node) 1 0 ≡ 1 =
+    ap (λ k. cond (is_none k && bytes_eq node.calculator node.calculator) 1 0) none ∙ ap (λ t. cond t 1 0) ((bytes_eq-Decides node.calculator node.calculator).1 refl) in
     omega arith
 
 fresh_before : (outers : List OuterShape) (before : List NodeView) (node : NodeView) (n : ℕ) → IsFresh outers (before ++ node ∷ []) n → IsFresh outers before n
@@ -95,28 +96,28 @@ not_outer kind n e = cc
 same_outer : (m n : ℕ) → Outer m ≡ Outer n → m ≡ n
 same_outer m n e = cc
 
--- the number that a node takes
+-- the number that a node takes, which has no built-in calculator
 taken_place : (outers : List OuterShape) (before : List NodeView) (node : NodeView) (n : ℕ) → kind_of outers before node ≡ Some (Outer n)
-    → slice_get (outers_named outers node.calculator) (wanted before node.calculator) ≡ Some n
-taken_place outers before node n e = by (kind_named node.calculator) e
+    → (slice_get (outers_named outers node.calculator) (wanted before node.calculator) ≡ Some n) × (kind_at node ≡ None)
+taken_place outers before node n e = by (kind_at node) e
   where
     by : (kind : Option CalculatorKind) → kind_by kind (outers_named outers node.calculator) (wanted before node.calculator) ≡ Some (Outer n)
-        → slice_get (outers_named outers node.calculator) (wanted before node.calculator) ≡ Some n
+        → (slice_get (outers_named outers node.calculator) (wanted before node.calculator) ≡ Some n) × (kind ≡ None)
     by (Some kind) e = absurd (not_outer kind n (same_Some (BuiltIn kind) (Outer n) e))
     by None e =
         let made = mapped Outer (slice_get (outers_named outers node.calculator) (wanted before node.calculator)) (Outer n) e in
-        made.1 ∙ ap Some (same_outer made.0 n made.2)
+        (made.1 ∙ ap Some (same_outer made.0 n made.2), refl)
 
 fresh_taken : (outers : List OuterShape) (before : List NodeView) (node : NodeView) (n : ℕ) → kind_of outers before node ≡ Some (Outer n) → IsFresh outers before n
 fresh_taken outers before node n e name i at =
-    let same = same_place 0 outers node.calculator name n (wanted before node.calculator) i (taken_place outers before node n e) at in
+    let same = same_place 0 outers node.calculator name n (wanted before node.calculator) i (taken_place outers before node n e).0 at in
     subst (λ a. wanted before a ≤ i) same.0 (le_of_eq same.1)
 
 taken_apart : (outers : List OuterShape) (before : List NodeView) (node : NodeView) (n m : ℕ) → kind_of outers before node ≡ Some (Outer n) → IsFresh outers (before ++ node ∷ []) m → n ≢ m
 taken_apart outers before node n m e fresh same =
     let place = taken_place outers before node n e in
-    let most = fresh node.calculator (wanted before node.calculator) (place ∙ ap Some same) in
-    let least = wanted_own before node in
+    let most = fresh node.calculator (wanted before node.calculator) (place.0 ∙ ap Some same) in
+    let least = wanted_own before node place.1 in
     omega arith
 
 -- The calculators of nodes that stand after others are fresh, and no two are the same.

@@ -1,5 +1,5 @@
 -- Places that are kept by names, one more at a time.
-use Rattle.std.proofs.Common.{ℕ, suc, zero, ◌+◌, ◌<◌, ◌≡◌, List, [], ◌∷◌, ◌++◌, Bool, true, false, Option, Some, cond, if◌then◌else◌, length, length-append, take, get_or, map, filter, refl, sym, ap, ◌∙◌, subst, arith}
+use Rattle.std.proofs.Common.{ℕ, suc, zero, ◌+◌, ◌<◌, ◌≡◌, List, [], ◌∷◌, ◌++◌, Bool, true, false, Option, Some, cond, if◌then◌else◌, length, length-append, take, get_or, map, filter, ◌&&◌, is_none, None, refl, sym, ap, ◌∙◌, subst, arith}
 use Rattle.std.specs.Prelude.{Vec}
 use Rattle.std.specs.List.{enumerate_from}
 use Rattle.std.specs.Ordering.{nat_cmp}
@@ -10,12 +10,11 @@ use Rattle.std.specs.BTreeMap.{BTreeMap}
 use Rattle.std.proofs.lemmas.List.{take_more}
 use Rattle.std.proofs.lemmas.List.Sums.{sum_by-append, sum_by-cons}
 use Rattle.std.proofs.lemmas.Slice.Eq.{bytes_eq-Decides}
-use Rattle.mg_config.specs.Config.{NodeView, node_view}
-use Rattle.mg_config.specs.declared.node.NodeConfig.{NodeConfig}
+use Rattle.mg_config.specs.Config.{NodeView}
 use Rattle.mg_calc.specs.declared.shape.OuterShape.{OuterShape}
 use Rattle.mg_names.proofs.Keys.{at_bytes, updates_at_bytes}
-use Rattle.mg_subgraph.proofs.Steps.{taken}
-use Rattle.mg_check.specs.Choosing.{outers_named, wanted}
+use Rattle.mg_kinds.specs.Kinds.{kind_at}
+use Rattle.mg_check.specs.Choosing.{outers_named, wants, wanted}
 use Rattle.mg_check.specs.Code.Choices.{IsStock, IsWanted}
 use Rattle.mg_check.specs.Code.Groups.{places_in, kept}
 use Rattle.mg_check.specs.declared.groups.Groups.{Groups}
@@ -99,18 +98,23 @@ counted : (test : Bool) (old new : List ℕ) (place before after : ℕ) → new 
 counted true old new place before after put known count = ap length put ∙ (length-append old (place ∷ []) ∙ (ap (λ n. n + 1) known ∙ sym count))
 counted false old new place before after put known count = ap length put ∙ (known ∙ (let same : before ≡ before + 0 = omega arith in same ∙ sym count))
 
-wanted_push : (before : List NodeView) (node : NodeView) (name : List ℕ) → wanted (before ++ node ∷ []) name ≡ wanted before name + cond (bytes_eq name node.calculator) 1 0
+wanted_push : (before : List NodeView) (node : NodeView) (name : List ℕ) → wanted (before ++ node ∷ []) name ≡ wanted before name + cond (wants name node) 1 0
 wanted_push before node name =
-    let f : NodeView → ℕ = λ n. cond (bytes_eq name n.calculator) 1 0 in
+    let f : NodeView → ℕ = λ n. cond (wants name n) 1 0 in
     let alone : f node + 0 ≡ f node = omega arith in
     sum_by-append f before (node ∷ []) ∙ ap (λ n. wanted before name + n) (sum_by-cons f node [] ∙ alone)
 
-pub wanted_more : (old new : Groups) (nodes : List NodeConfig) (i : ℕ) (node : NodeConfig) (bytes : List ℕ) (number : ℕ) → i < length nodes → node ≡ get_or nodes i node → bytes ≡ node.calculator
+-- with a node that has no built-in calculator, and with one that has
+pub wanted_more : (old new : Groups) (before : List NodeView) (node : NodeView) (bytes : List ℕ) (number : ℕ) → kind_at node ≡ None → bytes ≡ node.calculator
     → ((name : List ℕ) → kept new name ≡ (if bytes_eq name bytes then kept old name ++ number ∷ [] else kept old name))
-    → IsWanted old (map node_view (take i nodes)) → IsWanted new (map node_view (take (i + 1) nodes))
-wanted_more old new nodes i node bytes number inside here is put known = λ name.
-    let before = map node_view (take i nodes) in
+    → IsWanted old before → IsWanted new (before ++ node ∷ [])
+wanted_more old new before node bytes number none is put known = λ name.
     let added : kept new name ≡ (if bytes_eq name node.calculator then kept old name ++ number ∷ [] else kept old name) =
     put name ∙ ap (λ b. if bytes_eq name b then kept old name ++ number ∷ [] else kept old name) is in
-    counted (bytes_eq name node.calculator) (kept old name) (kept new name) number (wanted before name) (wanted (before ++ node_view node ∷ []) name) added (known name) (wanted_push before (node_view node) name)
-    ∙ ap (λ l. wanted l name) (sym (taken node_view nodes i node inside here))
+    counted (bytes_eq name node.calculator) (kept old name) (kept new name) number (wanted before name) (wanted (before ++ node ∷ []) name) added (known name)
+    (wanted_push before node name ∙ ap (λ k. wanted before name + cond (is_none k && bytes_eq name node.calculator) 1 0) none)
+
+pub wanted_same : (groups : Groups) (before : List NodeView) (node : NodeView) → is_none (kind_at node) ≡ false → IsWanted groups before → IsWanted groups (before ++ node ∷ [])
+wanted_same groups before node built known = λ name.
+    let nothing : wanted before name + 0 ≡ wanted before name = omega arith in
+    known name ∙ sym (wanted_push before node name ∙ ap (λ t. wanted before name + cond (t && bytes_eq name node.calculator) 1 0) built ∙ nothing)

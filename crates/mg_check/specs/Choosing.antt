@@ -1,11 +1,11 @@
--- The choice of a calculator for each node. Names of built-in calculators go before those of user-supplied calculators.
+-- The choice of a calculator for each node. A built-in calculator of the node goes before user-supplied ones of its name.
 -- Otherwise each node takes the next user-supplied calculator of its name, in the order of both lists.
 use Rattle.std.specs.Prelude.{ℕ, List, [], ◌∷◌, ◌++◌, Bool, ◌&&◌, ◌==◌, nat_lt, Option, None, Some, option_map, is_none, map, filter, length, count_by, position, find, slice_get}
 use Rattle.std.specs.List.{enumerate_from}
 use Rattle.std.specs.Str.{bytes_eq}
 use Rattle.mg_config.specs.Config.{NodeView}
 use Rattle.mg_calc.specs.declared.shape.OuterShape.{OuterShape}
-use Rattle.mg_kinds.specs.Kinds.{kind_named}
+use Rattle.mg_kinds.specs.Kinds.{kind_at}
 use Rattle.mg_kinds.specs.declared.kind.CalculatorKind.{CalculatorKind}
 use Rattle.mg_check.specs.declared.node_kind.NodeKind.{NodeKind}
 use Rattle.mg_check.specs.declared.node_kind.NodeKind.TheVariants.{BuiltIn, Outer}
@@ -16,9 +16,13 @@ use Rattle.mg_check.specs.declared.fault.CheckFault.TheVariants.{UnknownCalculat
 abbrev pub outers_named : List OuterShape → List ℕ → List ℕ
 outers_named outers name = map (λ e. e.0) (filter (λ e. bytes_eq name e.1.shape.name) (enumerate_from 0 outers))
 
--- how many of these nodes name a calculator
+-- whether a node wants a user-supplied calculator of a name: it names that calculator, and has no built-in one
+abbrev pub wants : List ℕ → NodeView → Bool
+wants name node = is_none (kind_at node) && bytes_eq name node.calculator
+
+-- how many of these nodes want a user-supplied calculator of a name
 abbrev pub wanted : List NodeView → List ℕ → ℕ
-wanted nodes name = count_by (λ node. bytes_eq name node.calculator) nodes
+wanted nodes name = count_by (wants name) nodes
 
 -- the calculator of a node: a built-in one, or else the next user-supplied calculator after so many were taken
 abbrev pub kind_by : Option CalculatorKind → List ℕ → ℕ → Option NodeKind
@@ -27,7 +31,7 @@ kind_by None numbers taken = option_map Outer (slice_get numbers taken)
 
 -- the calculator of a node that stands after others, if there is one
 abbrev pub kind_of : List OuterShape → List NodeView → NodeView → Option NodeKind
-kind_of outers before node = kind_by (kind_named node.calculator) (outers_named outers node.calculator) (wanted before node.calculator)
+kind_of outers before node = kind_by (kind_at node) (outers_named outers node.calculator) (wanted before node.calculator)
 
 -- a node, and the calculator that works at it
 pub record Chosen : Type 0 where
@@ -52,7 +56,7 @@ chosen_nodes outers nodes = chosen_after outers [] nodes
 
 -- whether the calculator of a node is neither built in nor user-supplied
 abbrev pub is_unknown : List OuterShape → NodeView → Bool
-is_unknown outers node = is_none (kind_named node.calculator) && (length (outers_named outers node.calculator) == 0)
+is_unknown outers node = is_none (kind_at node) && (length (outers_named outers node.calculator) == 0)
 
 abbrev pub unknown_calculator : List OuterShape → List NodeView → Option CheckFault
 unknown_calculator outers nodes = option_map UnknownCalculator (position (is_unknown outers) nodes)
@@ -60,7 +64,7 @@ unknown_calculator outers nodes = option_map UnknownCalculator (position (is_unk
 -- whether a node's calculator isn't built in, and more nodes want it than there are user-supplied calculators of its name
 abbrev pub is_short : List OuterShape → List NodeView → NodeView → Bool
 is_short outers nodes node =
-    is_none (kind_named node.calculator) && nat_lt (length (outers_named outers node.calculator)) (wanted nodes node.calculator)
+    is_none (kind_at node) && nat_lt (length (outers_named outers node.calculator)) (wanted nodes node.calculator)
 
 abbrev pub no_more_boxes : List OuterShape → List NodeView → Option CheckFault
 no_more_boxes outers nodes =

@@ -1,7 +1,7 @@
 //! The choice of a calculator for each node: a built-in one or a user-supplied one.
-ghost use Rattle.std.specs.Prelude.{◌≡◌, ◌≢◌, ◌++◌, [], None, Some, IfOk, IfErr, OnOk, List, map};
+ghost use Rattle.std.specs.Prelude.{◌≡◌, ◌≢◌, ◌++◌, ◌∷◌, [], None, Some, IfOk, IfErr, OnOk, List, map};
 ghost use Rattle.mg_config.specs.Config.{node_view, NodeView};
-ghost use Rattle.mg_kinds.specs.Kinds.{kind_named as its_kind};
+ghost use Rattle.mg_kinds.specs.Kinds.{kind_at as its_kind};
 ghost use Rattle.mg_calc.specs.declared.shape.OuterShape.{OuterShape as Outers};
 ghost use Rattle.mg_check.specs.Choosing as rules;
 ghost use Rattle.mg_check.specs.Code.Choices.{IsStock, IsWanted, AreChosen, choices_view, too_few_of, short_in};
@@ -11,7 +11,7 @@ use crate::groups::Groups;
 use crate::node_kind::NodeKind;
 use mg_calc::OuterShape;
 use mg_config::NodeConfig;
-use mg_kinds::kind_named;
+use mg_kinds::kind_at;
 use std::alloc::{AllocError, Global};
 
 /// A node, and the calculator that works at it.
@@ -50,10 +50,10 @@ pub fn stock_of(alloc: Global, outers: &[OuterShape]) -> Result<Groups, AllocErr
     Ok(stock)
 }
 
-fn kind_for(name: &[u8], numbers: &[u32], taken: usize) -> Option<NodeKind>
-    ensures { result ≡ rules.kind_by (its_kind name.now) numbers.now taken }
+fn kind_for(node: &NodeConfig, numbers: &[u32], taken: usize) -> Option<NodeKind>
+    ensures { result ≡ rules.kind_by (its_kind (node_view node.now)) numbers.now taken }
 {
-    match kind_named(name) {
+    match kind_at(node) {
         Some(kind) => Some(NodeKind::BuiltIn(kind)),
         None => match numbers.get(taken) {
             Some(number) => Some(NodeKind::Outer(*number)),
@@ -75,8 +75,22 @@ fn push_choice<'a>(
     Ok(())
 }
 
-/// Chooses a calculator for each node: the built-in calculator of the name that it asks for, or else the next
-/// user-supplied calculator of that name.
+// Counts a node among those that want a user-supplied calculator of its name, if it has no built-in one.
+fn count_node(
+    alloc: Global,
+    wanted: &mut Groups,
+    node: &NodeConfig,
+    place: usize,
+) -> Result<(), AllocError>
+    ensures { OnOk result ((before : List NodeView) → IsWanted wanted.old before → IsWanted wanted.new (before ++ node_view node.now ∷ [])) }
+{
+    if kind_at(node).is_none() {
+        wanted.add(alloc, node.calculator.as_bytes(), number_of(place)?)?;
+    }
+    Ok(())
+}
+
+/// Chooses a calculator for each node: its built-in calculator, or else the next user-supplied calculator of the name that it asks for.
 pub fn choices_of<'a>(
     alloc: Global,
     nodes: &'a [NodeConfig],
@@ -88,9 +102,9 @@ pub fn choices_of<'a>(
     let mut wanted = Groups::new(alloc);
     for (place, node) in nodes.iter().enumerate() {
         let name = node.calculator.as_bytes();
-        let kind = kind_for(name, stock.get(name), wanted.get(name).len());
+        let kind = kind_for(node, stock.get(name), wanted.get(name).len());
         push_choice(&mut list, node, kind)?;
-        wanted.add(alloc, name, number_of(place)?)?;
+        count_node(alloc, &mut wanted, node, place)?;
     }
     Ok(Choices { list, wanted })
 }
@@ -99,7 +113,7 @@ fn is_unknown(node: &NodeConfig, stock: &Groups) -> bool
     ensures { (outers : List Outers) → IsStock stock.now outers → result ≡ rules.is_unknown outers (node_view node.now) }
 {
     let name = node.calculator.as_bytes();
-    kind_named(name).is_none() && stock.get(name).is_empty()
+    kind_at(node).is_none() && stock.get(name).is_empty()
 }
 
 /// Refuses the first node whose calculator is neither built in nor user-supplied.
@@ -121,7 +135,7 @@ fn is_short(node: &NodeConfig, stock: &Groups, wanted: &Groups) -> bool
     ensures { (outers : List Outers) (nodes : List NodeView) → IsStock stock.now outers → IsWanted wanted.now nodes → result ≡ rules.is_short outers nodes (node_view node.now) }
 {
     let name = node.calculator.as_bytes();
-    kind_named(name).is_none() && stock.get(name).len() < wanted.get(name).len()
+    kind_at(node).is_none() && stock.get(name).len() < wanted.get(name).len()
 }
 
 fn too_few(

@@ -8,7 +8,7 @@ use Rattle.std.proofs.lemmas.Option.{cond_some, none-some, same_Some}
 use Rattle.mg_text.specs.View.{Value, Entry}
 use Rattle.mg_time.specs.Time.{pre_stream, post_stream, place_of}
 use Rattle.mg_value.specs.Plain.{Plain}
-use Rattle.mg_value.specs.declared.kind.Kind.TheVariants.{Any, Flag, Int}
+use Rattle.mg_value.specs.declared.kind.Kind.TheVariants.{Any, Flag, Items}
 use Rattle.mg_names.specs.Ports.{has_port}
 use Rattle.mg_config.specs.Values.{entries}
 use Rattle.mg_config.specs.Config.{NodeView}
@@ -19,16 +19,16 @@ use Rattle.mg_calc.specs.Shape.{ParametersFit, IsStated, IsShapeOf, HasInputs, H
 use Rattle.mg_kinds.specs.Ports.{has_just, ports_in, fitting}
 use Rattle.mg_kinds.specs.PortOrder.{in_order}
 use Rattle.mg_kinds.specs.Options.{calculator_options, set_to, number}
-use Rattle.mg_kinds.specs.Maps.{map_with}
-use Rattle.mg_kinds.specs.declared.maps.MapKind.{MapKind}
+use Rattle.mg_calc.specs.declared.computations.ComputationKind.{ComputationKind}
+use Rattle.mg_calc.specs.Computations.{kind_row}
 use Rattle.mg_kinds.specs.Values.{required, payload_in, payloads_in, call_count, keep_in}
-use Rattle.mg_kinds.specs.Kinds.{lanes_of, disallows, moment_of, inputs_of, outputs_of, sides_of, side_outputs_of, side_ports, rowed_ports, passed_ports, kind_ports, is_empty, SettingsView, law_with, constants_with, settings_with, are_options, kind_settings, shape_with, time_of, gate_law, thinner_law, thins, map_law_of, filter_law_of, shift_law, counting_law, limiter_law, merge_law, flight_or_one, truth_or_false, positive_or_one, timestamp_or_zero}
+use Rattle.mg_kinds.specs.Kinds.{lanes_of, disallows, moment_of, inputs_of, outputs_of, sides_of, side_outputs_of, side_ports, rowed_ports, passed_ports, kind_ports, is_empty, SettingsView, law_with, constants_with, settings_with, are_options, kind_settings, shape_with, time_of, gate_law, thinner_law, thins, computing, compute_law, settings_of, filter_law_of, shift_law, counting_law, limiter_law, merge_law, begin_law, end_law, clones_of, flight_or_one, truth_or_false, positive_or_one, timestamp_or_zero}
 use Rattle.mg_kinds.specs.Tags.{tag_text}
 use Rattle.mg_kinds.specs.declared.ports.Ports.{Ports}
 use Rattle.mg_kinds.specs.declared.tag.Tag.{Tag}
 use Rattle.mg_kinds.specs.declared.tag.Tag.TheVariants.{Allow, Disallow, AtPreStream, AtZero, AtPostStream}
 use Rattle.mg_kinds.specs.declared.kind.CalculatorKind.{CalculatorKind}
-use Rattle.mg_kinds.specs.declared.kind.CalculatorKind.TheVariants.{PassThrough, Gate, Mux, Cloner, Merge, Thinner, Sum, Map, Filter, Running, Shift, Counting, SideToStream, Constants, Loopback, FlowLimiter}
+use Rattle.mg_kinds.specs.declared.kind.CalculatorKind.TheVariants.{PassThrough, Gate, Mux, Cloner, Merge, Thinner, Compute, Filter, Shift, Counting, SideToStream, Constants, Loopback, FlowLimiter, BeginLoop, EndLoop}
 use Rattle.mg_kinds.proofs.InOrder.{in_order-ascends, in_order-any, in_order-some, in_order-none}
 use Rattle.mg_kinds.proofs.InRow.{fits-row, one-tag}
 use Rattle.mg_text.proofs.Choices.{mapped}
@@ -139,10 +139,12 @@ suits_thinner node options name ps rule h e = by (thins options) e
         subst (Suits name ps) made.2 (positive-least (codes "period") options made.0 made.1, shaped name ps (law.Thin made.0) h.inputs h.outputs h.sides)
     by false e = absurd (none-some rule e)
 
-suits_map : (m : MapKind) (node : NodeView) (options : List Entry) (name : List ℕ) (ps : Ports) (rule : Law) → IsRowed (Map m) node ps → map_law_of m options ≡ Some rule → Suits name ps rule
-suits_map m node options name ps rule h e =
-    let made = mapped (λ pair. law.Map pair.0 pair.1) (map_with m options) rule e in
-    subst (Suits name ps) made.2 (tt, shaped name ps (law.Map made.0.0 made.0.1) h.inputs h.outputs h.sides)
+suits_compute : (kind : ComputationKind) (node : NodeView) (options : List Entry) (name : List ℕ) (ps : Ports) (rule : Law) → IsRowed (Compute kind) node ps → compute_law kind node options ≡ Some rule → Suits name ps rule
+suits_compute kind node options name ps rule h e =
+    let lanes = lanes_of (Compute kind) node in
+    let wiring = (kind_row kind).wiring in
+    let made = mapped (computing wiring lanes) ((kind_row kind).formula (settings_of (kind_row kind).options options)) rule e in
+    subst (Suits name ps) made.2 ((h.some, h.most), shaped name ps (computing wiring lanes made.0) (h.inputs ∙ append-nil (untagged lanes wiring.takes)) h.outputs h.sides)
 
 suits_filter : (node : NodeView) (options : List Entry) (name : List ℕ) (ps : Ports) (rule : Law) → IsRowed Filter node ps → filter_law_of options ≡ Some rule → Suits name ps rule
 suits_filter node options name ps rule h e =
@@ -173,6 +175,16 @@ suits_limiter : (node : NodeView) (options : List Entry) (name : List ℕ) (ps :
 suits_limiter node options name ps rule h e =
     let made = mapped law.Limiter (flight_or_one (codes "max_in_flight") options) rule e in
     subst (Suits name ps) made.2 (flight-in-range (codes "max_in_flight") options made.0 made.1, shaped name ps (law.Limiter made.0) h.inputs h.outputs h.sides)
+
+suits_begin : (node : NodeView) (options : List Entry) (name : List ℕ) (ps : Ports) (rule : Law) → IsRowed BeginLoop node ps → begin_law node options ≡ Some rule → Suits name ps rule
+suits_begin node options name ps rule h e =
+    let made = mapped (law.BeginLoop (clones_of node)) (truth_or_false (codes "always_end") options) rule e in
+    subst (Suits name ps) made.2 (h.most, shaped name ps (law.BeginLoop (clones_of node) made.0) h.inputs h.outputs h.sides)
+
+suits_end : (node : NodeView) (options : List Entry) (name : List ℕ) (ps : Ports) (rule : Law) → IsRowed EndLoop node ps → end_law options ≡ Some rule → Suits name ps rule
+suits_end node options name ps rule h e =
+    let made = mapped law.EndLoop (truth_or_false (codes "empty_as_bound") options) rule e in
+    subst (Suits name ps) made.2 (tt, shaped name ps (law.EndLoop made.0) h.inputs h.outputs h.sides)
 
 -- a MergeCalculator has the same ports with either handler
 suits_merge : (node : NodeView) (name : List ℕ) (ps : Ports) → IsRowed Merge node ps → Suits name ps (merge_law node)
@@ -212,16 +224,11 @@ suits_rowed Cloner node options name ps rule fit e other =
     ((h.some, h.most), shaped name ps (law.Cloner (lanes_of Cloner node)) h.inputs (h.outputs ∙ append-nil (untagged (lanes_of Cloner node) Any)) h.sides)
 suits_rowed Merge node options name ps rule fit e other = subst (Suits name ps) (same_Some (merge_law node) rule e) (suits_merge node name ps (is_rowed Merge node ps fit))
 suits_rowed Thinner node options name ps rule fit e other = suits_thinner node options name ps rule (is_rowed Thinner node ps fit) e
-suits_rowed Sum node options name ps rule fit e other =
-    let h = is_rowed Sum node ps fit in
-    subst (Suits name ps) (same_Some (law.Sum (lanes_of Sum node)) rule e)
-    ((h.some, h.most), shaped name ps (law.Sum (lanes_of Sum node)) (h.inputs ∙ append-nil (untagged (lanes_of Sum node) Int)) h.outputs h.sides)
-suits_rowed (Map m) node options name ps rule fit e other = suits_map m node options name ps rule (is_rowed (Map m) node ps fit) e
+suits_rowed (Compute kind) node options name ps rule fit e other = suits_compute kind node options name ps rule (is_rowed (Compute kind) node ps fit) e
 suits_rowed Filter node options name ps rule fit e other = suits_filter node options name ps rule (is_rowed Filter node ps fit) e
-suits_rowed Running node options name ps rule fit e other =
-    let h = is_rowed Running node ps fit in
-    subst (Suits name ps) (same_Some law.Running rule e) (tt, shaped name ps law.Running h.inputs h.outputs h.sides)
 suits_rowed FlowLimiter node options name ps rule fit e other = suits_limiter node options name ps rule (is_rowed FlowLimiter node ps fit) e
+suits_rowed BeginLoop node options name ps rule fit e other = suits_begin node options name ps rule (is_rowed BeginLoop node ps fit) e
+suits_rowed EndLoop node options name ps rule fit e other = suits_end node options name ps rule (is_rowed EndLoop node ps fit) e
 suits_rowed Shift node options name ps rule fit e other = suits_shift node options name ps rule (is_rowed Shift node ps fit) e
 suits_rowed Counting node options name ps rule fit e other = suits_counting node options name ps rule (is_rowed Counting node ps fit) e
 suits_rowed SideToStream node options name ps rule fit e other =
@@ -305,12 +312,12 @@ law-unstated Mux node options rule e = subst IsUnstated (same_Some (law.Mux (lan
 law-unstated Cloner node options rule e = subst IsUnstated (same_Some (law.Cloner (lanes_of Cloner node)) rule e) (λ is. is)
 law-unstated Merge node options rule e = subst IsUnstated (same_Some (merge_law node) rule e) (merge-unstated node (bytes_eq node.handler (codes "ImmediateInputStreamHandler")))
 law-unstated Thinner node options rule e = thin-unstated options (thins options) rule e
-law-unstated Sum node options rule e = subst IsUnstated (same_Some (law.Sum (lanes_of Sum node)) rule e) (λ is. is)
-law-unstated (Map m) node options rule e =
-    let made = mapped (λ pair. law.Map pair.0 pair.1) (map_with m options) rule e in
+law-unstated (Compute kind) node options rule e =
+    let made = mapped (computing (kind_row kind).wiring (lanes_of (Compute kind) node)) ((kind_row kind).formula (settings_of (kind_row kind).options options)) rule e in
     subst IsUnstated made.2 (λ is. is)
 law-unstated Filter node options rule e = filter-unstated options rule e
-law-unstated Running node options rule e = subst IsUnstated (same_Some law.Running rule e) (λ is. is)
+law-unstated BeginLoop node options rule e = (let made = mapped (law.BeginLoop (clones_of node)) (truth_or_false (codes "always_end") options) rule e in subst IsUnstated made.2 (λ is. is))
+law-unstated EndLoop node options rule e = (let made = mapped law.EndLoop (truth_or_false (codes "empty_as_bound") options) rule e in subst IsUnstated made.2 (λ is. is))
 law-unstated Shift node options rule e = (let made = mapped law.Shift (number (codes "offset") options) rule e in subst IsUnstated made.2 (λ is. is))
 law-unstated Counting node options rule e = count-unstated options rule e
 law-unstated SideToStream node options rule e = subst IsUnstated (same_Some (law.SideOnce (time_of (moment_of node))) rule e) (λ is. is)
@@ -327,6 +334,10 @@ kind-unstated kind node settings e = (let h = is_set kind node settings e in law
 side_last : (kind : CalculatorKind) (node : NodeView) → (side_outputs_of kind node).last ≡ None
 side_last Constants node = refl
 side_last kind node = refl
+
+side_first : (kind : CalculatorKind) (node : NodeView) → (side_outputs_of kind node).first ≡ None
+side_first Constants node = refl
+side_first kind node = refl
 
 payloads_length : (values : List Value) (payloads : List Plain) → payloads_in values ≡ Some payloads → length payloads ≡ length values
 payloads_length [] payloads e = ap length (sym (same_Some [] payloads e))
@@ -345,7 +356,7 @@ constants_length kind node options constants e = ap length (sym (same_Some [] co
 
 written_count : (kind : CalculatorKind) (node : NodeView) (ps : Ports) → kind_ports kind node ≡ Some ps → length (in_order node.output_sides) ≡ (side_outputs_of kind node).count
 written_count PassThrough node ps fit = in_order-none node.output_sides (is_passed node ps fit).written
-written_count kind node ps fit = one-tag node.output_sides (side_outputs_of kind node) (side_last kind node) (is_rowed kind node ps fit).written
+written_count kind node ps fit = one-tag node.output_sides (side_outputs_of kind node) (side_first kind node) (side_last kind node) (is_rowed kind node ps fit).written
 
 -- the constants are as many as the side packets that the node writes
 pub kind-constants : (kind : CalculatorKind) (node : NodeView) (ps : Ports) (settings : SettingsView) → kind_ports kind node ≡ Some ps → kind_settings kind node ≡ Some settings

@@ -1,5 +1,5 @@
 -- What fits a row has its ports, and no more than there are indexes.
-use Rattle.std.proofs.Common.{◌≡◌, ℕ, zero, suc, ◌+◌, ◌<◌, ◌≤◌, List, [], ◌∷◌, ◌++◌, length, true, ◌==◌, nat_le, None, Some, refl, sym, ap, subst, ◌∙◌, arith, inl, inr, map, eqb-true, leb-true, append-nil, zero-le}
+use Rattle.std.proofs.Common.{◌≡◌, ℕ, zero, suc, ◌+◌, ◌<◌, ◌≤◌, List, [], ◌∷◌, ◌++◌, length, true, ◌==◌, nat_le, None, Some, refl, sym, ap, ap₂, subst, ◌∙◌, arith, inl, inr, map, eqb-true, leb-true, append-nil, zero-le}
 use Rattle.std.specs.declared.cmp.Ordering.{Ordering}
 use Rattle.std.specs.declared.cmp.Ordering.TheVariants.{Less, Equal, Greater}
 use Rattle.std.specs.Ordering.{is_eq, ordering_then, ordering_reverse, nat_cmp}
@@ -15,7 +15,7 @@ use Rattle.mg_names.specs.Ports.{has_port}
 use Rattle.mg_names.specs.declared.port.Port.{Port}
 use Rattle.mg_calc.specs.declared.port_kind.PortKind.{PortKind}
 use Rattle.mg_calc.specs.Shape.{port_cmp, ArePorts, ports}
-use Rattle.mg_kinds.specs.Ports.{port, has_just, has_row, ports_in, last_port, fitting}
+use Rattle.mg_kinds.specs.Ports.{port, has_just, has_row, ports_in, end_port, fitting}
 use Rattle.mg_kinds.specs.PortOrder.{in_order}
 use Rattle.mg_kinds.specs.Tags.{tag_text}
 use Rattle.mg_kinds.specs.declared.row.Row.{Row}
@@ -110,8 +110,8 @@ fits-row given row ps e =
     record { same = sym both.1; most = leb-true row.count 64 parts.0; just = parts.1 }
 
 -- ports of one tag
-pub one-tag : (given : List Port) (row : Row) → row.last ≡ None → has_just given (ports_in row) ≡ true → length (in_order given) ≡ row.count
-one-tag given row last just =
-    let alone : ports_in row ≡ ports (tag_text row.tag) row.count row.kind = ap (λ l. ports (tag_text row.tag) row.count row.kind ++ last_port l) last ∙ append-nil (ports (tag_text row.tag) row.count row.kind) in
+pub one-tag : (given : List Port) (row : Row) → row.first ≡ None → row.last ≡ None → has_just given (ports_in row) ≡ true → length (in_order given) ≡ row.count
+one-tag given row first last just =
+    let alone : ports_in row ≡ ports (tag_text row.tag) row.count row.kind = ap₂ (λ f l. end_port f ++ (ports (tag_text row.tag) row.count row.kind ++ end_port l)) first last ∙ append-nil (ports (tag_text row.tag) row.count row.kind) in
     just-as-many given (ports (tag_text row.tag) row.count row.kind) (ports-ascend (tag_text row.tag) row.kind row.count) (subst (λ l. has_just given l ≡ true) alone just)
     ∙ length-map-range_with_len (port (tag_text row.tag) row.kind) 0 row.count

@@ -13,7 +13,9 @@ use Rattle.mg_text.specs.View.{Entry, field_view, value_view}
 use Rattle.mg_text.proofs.Views.{field-record}
 use Rattle.mg_config.specs.Number.{is_one_of}
 use Rattle.mg_config.specs.Values.{has_name}
-use Rattle.mg_kinds.specs.Kinds.{names_of}
+use Rattle.mg_calc.specs.declared.setting.Setting.{Setting}
+use Rattle.mg_calc.specs.Row.{said}
+use Rattle.mg_kinds.specs.Kinds.{names_of, said_by, settings_of}
 use Rattle.mg_kinds.specs.Options.{are_known, are_once, set_to}
 use Rattle.mg_kinds.specs.Views.{fields_of}
 
@@ -122,3 +124,19 @@ one_appended before out new fs i d inside same is known =
 pub all_appended : (before out : List (Bor Field)) (fs : List Field) (i : ℕ) → length fs ≤ i → fields_of out ≡ fields_of before ++ map field_view (take i fs)
     → fields_of out ≡ fields_of before ++ map field_view fs
 all_appended before out fs i past known = known ∙ ap (λ l. fields_of before ++ map field_view l) (take_all i fs past)
+
+-- what options say, one name after another
+pub one_said : (options : List Entry) (out : List Setting) (new : Setting) (names : List (Bor (List ℕ))) (i : ℕ) (d : Bor (List ℕ)) → i < length names → d ≡ get_or names i d
+    → said new ≡ said_by (set_to d.now options) → map said out ≡ settings_of (names_of (take i names)) options
+    → map said (out ++ new ∷ []) ≡ settings_of (names_of (take (i + 1) names)) options
+one_said options out new names i d inside same is known =
+    map-append said out (new ∷ [])
+    ∙ (ap (λ l. l ++ said new ∷ []) known
+    ∙ (ap (λ s. settings_of (names_of (take i names)) options ++ s ∷ []) (is ∙ ap (λ (n : Bor (List ℕ)). said_by (set_to n.now options)) same)
+    ∙ (sym (map-append (λ name. said_by (set_to name options)) (names_of (take i names)) ((get_or names i d).now ∷ []))
+    ∙ (ap (λ l. settings_of l options) (sym (map-append (λ name. name.now) (take i names) (get_or names i d ∷ [])))
+    ∙ sym (ap (λ l. settings_of (names_of l) options) (take_more names i d inside))))))
+
+pub all_said : (options : List Entry) (out : List Setting) (names : List (Bor (List ℕ))) (i : ℕ) → length names ≤ i
+    → map said out ≡ settings_of (names_of (take i names)) options → map said out ≡ settings_of (names_of names) options
+all_said options out names i past known = known ∙ ap (λ l. settings_of (names_of l) options) (take_all i names past)

@@ -1,36 +1,39 @@
 -- The calculators that are built in: the name of each (MediaPipe, Calculators; CountingSourceCalculator is this project's own), the
--- names of its options, its ports, and its law by these. Those that map numbers have all but the ports in Maps.antt.
-use Rattle.std.specs.Prelude.{ℕ, ◌-◌, List, [], ◌∷◌, Bool, not, ◌&&◌, ◌==◌, Option, None, Some, option_map, option_and_then, if◌then◌else◌, codes, length, false, ℤ, pos, map}
+-- names of its options, its ports, and its law by these. Those that compute numbers tell their names, options and streams in mg_calc.
+use Rattle.std.specs.Prelude.{ℕ, ◌-◌, List, [], ◌∷◌, Bool, not, ◌&&◌, ◌||◌, ◌==◌, Option, None, Some, option_map, option_and_then, if◌then◌else◌, codes, length, false, ℤ, pos, map}
 use Rattle.std.specs.Option.{option_or}
 use Rattle.std.specs.Str.{bytes_eq}
 use Rattle.std.specs.Borrow.{Bor}
 use Rattle.mg_time.specs.Time.{pre_stream, post_stream, place_of}
 use Rattle.mg_value.specs.declared.kind.Kind.{Kind}
-use Rattle.mg_value.specs.declared.kind.Kind.TheVariants.{Any, Flag, Int}
+use Rattle.mg_value.specs.declared.kind.Kind.TheVariants.{Any, Flag, Int, Items}
 use Rattle.mg_value.specs.Plain.{Plain}
 use Rattle.mg_names.specs.Ports.{has_port}
 use Rattle.mg_names.specs.declared.port.Port.{Port}
-use Rattle.mg_text.specs.View.{Entry}
+use Rattle.mg_text.specs.View.{Value, Entry}
 use Rattle.mg_config.specs.Config.{NodeView}
-use Rattle.mg_config.specs.Values.{entries, truth_in_value}
+use Rattle.mg_config.specs.Values.{entries, truth_in_value, long_number_in_value}
 use Rattle.mg_calc.specs.declared.port_kind.PortKind.{PortKind}
 use Rattle.mg_calc.specs.declared.law.Law.{Law}
 use Rattle.mg_calc.specs.declared.law.Law.TheVariants as law
 use Rattle.mg_calc.specs.declared.shape.Shape.{Shape}
 use Rattle.mg_calc.specs.Shape.{offset_of, is_stateless}
+use Rattle.mg_calc.specs.declared.computations.ComputationKind.{ComputationKind}
+use Rattle.mg_calc.specs.declared.computations.Wiring.{Wiring}
+use Rattle.mg_calc.specs.declared.computations.Formula.{Formula}
+use Rattle.mg_calc.specs.Row.{Said}
+use Rattle.mg_calc.specs.Computations.{computation_named, kind_row}
 use Rattle.mg_kinds.specs.Ports.{has_just, fitting}
 use Rattle.mg_kinds.specs.PortOrder.{in_order}
 use Rattle.mg_kinds.specs.Tags.{tag_text}
-use Rattle.mg_kinds.specs.Maps.{map_named, map_options, map_with}
 use Rattle.mg_kinds.specs.declared.kind.CalculatorKind.{CalculatorKind}
-use Rattle.mg_kinds.specs.declared.kind.CalculatorKind.TheVariants.{PassThrough, Gate, Mux, Cloner, Merge, Thinner, Sum, Map, Filter, Running, Shift, Counting, SideToStream, Constants, Loopback, FlowLimiter}
+use Rattle.mg_kinds.specs.declared.kind.CalculatorKind.TheVariants.{PassThrough, Gate, Mux, Cloner, Merge, Thinner, Compute, Filter, Shift, Counting, SideToStream, Constants, Loopback, FlowLimiter, BeginLoop, EndLoop}
 use Rattle.mg_kinds.specs.declared.tag.Tag.{Tag}
-use Rattle.mg_kinds.specs.declared.tag.Tag.TheVariants.{Untagged, Allow, Disallow, Input, Select, Output, Tick, Loop, Main, Finished, PrevLoop, Packet, AtPreStream, AtZero, AtPostStream}
+use Rattle.mg_kinds.specs.declared.tag.Tag.TheVariants.{Untagged, Allow, Disallow, Input, Select, Output, Tick, Loop, Main, Finished, PrevLoop, Iterable, Item, BatchEnd, Clone, Packet, AtPreStream, AtZero, AtPostStream}
 use Rattle.mg_kinds.specs.declared.row.Row.{Row}
 use Rattle.mg_kinds.specs.declared.ports.Ports.{Ports}
 use Rattle.mg_kinds.specs.Options.{calculator_options, are_known, are_once, set_to, number}
-use Rattle.mg_kinds.specs.Values.{or_absent, required, positive, timestamp_number, call_count, flight_limit, keep_in, is_absent_or, is_asynchronous, payloads_in}
-use Rattle.mg_kinds.specs.declared.maps.MapKind.{MapKind}
+use Rattle.mg_kinds.specs.Values.{or_absent, required, positive, timestamp_number, call_count, flight_limit, keep_in, word_in, is_absent_or, is_asynchronous, payloads_in}
 
 -- Names.
 
@@ -42,32 +45,39 @@ pub record NameRow : Type 0 where
 abbrev pub row : List ℕ → CalculatorKind → NameRow
 row name kind = record { name = name; kind = kind }
 
--- the calculators that pass packets on
+-- the calculators with input streams that don't compute numbers
 abbrev pub passing : List NameRow
 passing = row (codes "PassThroughCalculator") PassThrough ∷ row (codes "GateCalculator") Gate ∷ row (codes "MuxCalculator") Mux
     ∷ row (codes "PacketClonerCalculator") Cloner ∷ row (codes "MergeCalculator") Merge ∷ row (codes "PacketThinnerCalculator") Thinner
     ∷ row (codes "TimestampShiftCalculator") Shift ∷ row (codes "PreviousLoopbackCalculator") Loopback
-    ∷ row (codes "FlowLimiterCalculator") FlowLimiter ∷ []
-
--- the calculators that work with numbers
-abbrev pub reckoning : List NameRow
-reckoning = row (codes "IntSumCalculator") Sum ∷ row (codes "IntFilterCalculator") Filter
-    ∷ row (codes "RunningSumCalculator") Running ∷ []
+    ∷ row (codes "FlowLimiterCalculator") FlowLimiter ∷ row (codes "IntFilterCalculator") Filter ∷ []
 
 -- the calculators without input streams
 abbrev pub beginning : List NameRow
 beginning = row (codes "CountingSourceCalculator") Counting ∷ row (codes "SidePacketToStreamCalculator") SideToStream
     ∷ row (codes "ConstantSidePacketCalculator") Constants ∷ []
 
+-- the calculators of loops over lists. They are built in only at a node that asks for more than a user-supplied one of the name gives.
+abbrev pub looping : List NameRow
+looping = row (codes "BeginLoopCalculator") BeginLoop ∷ row (codes "EndLoopCalculator") EndLoop ∷ []
+
 -- the calculator that has a name in a table, if there is one
 abbrev pub named_in : List NameRow → List ℕ → Option CalculatorKind
 named_in [] name = None
 named_in (r ∷ rows) name = if bytes_eq name r.name then Some r.kind else named_in rows name
 
--- the kind of a calculator, by its name; the names of those that map numbers stand in Maps.antt
+-- the kind of a calculator, by its name; those that compute numbers tell their names in mg_calc
 abbrev pub kind_named : List ℕ → Option CalculatorKind
 kind_named name =
-    option_or (option_map Map (map_named name)) (option_or (option_or (named_in passing name) (named_in reckoning name)) (named_in beginning name))
+    option_or (option_map Compute (computation_named name)) (option_or (named_in passing name) (named_in beginning name))
+
+-- whether a node has options, or a stream at an input CLONE
+abbrev pub asks_more : NodeView → Bool
+asks_more node = not (length (entries node.options) == 0) || has_port (tag_text Clone) 0 node.inputs
+
+-- the built-in calculator of a node: by its name alone, or by a name of the calculators of loops if the node asks for more
+abbrev pub kind_at : NodeView → Option CalculatorKind
+kind_at node = option_or (kind_named node.calculator) (if asks_more node then named_in looping node.calculator else None)
 
 -- Options.
 
@@ -75,10 +85,12 @@ kind_named name =
 abbrev pub single_options : CalculatorKind → List (List ℕ)
 single_options Gate = codes "empty_packets_as_allow" ∷ []
 single_options Thinner = codes "thinner_type" ∷ codes "period" ∷ []
-single_options (Map m) = map_options m
+single_options (Compute kind) = (kind_row kind).options
 single_options Filter = codes "keep" ∷ codes "raise_bound" ∷ []
 single_options Shift = codes "offset" ∷ []
 single_options FlowLimiter = codes "max_in_flight" ∷ []
+single_options BeginLoop = codes "always_end" ∷ []
+single_options EndLoop = codes "empty_as_bound" ∷ []
 single_options Counting = codes "count" ∷ codes "start" ∷ codes "step" ∷ []
 single_options kind = []
 
@@ -91,7 +103,7 @@ all_options kind = single_options kind
 
 -- the row of count ports of a tag
 abbrev pub many : Tag → Kind → ℕ → Row
-many tag kind count = record { tag = tag; kind = kind; count = count; last = None }
+many tag kind count = record { tag = tag; kind = kind; count = count; first = None; last = None }
 
 abbrev pub no_ports : Row
 no_ports = many Untagged Any 0
@@ -101,7 +113,11 @@ one tag kind = many tag kind 1
 
 -- the row of count ports of a tag, and a last one of another tag
 abbrev pub many_and : Tag → Kind → ℕ → Tag → Kind → Row
-many_and tag kind count last_tag last_kind = record { tag = tag; kind = kind; count = count; last = Some (record { tag = last_tag; kind = last_kind }) }
+many_and tag kind count last_tag last_kind = record { tag = tag; kind = kind; count = count; first = None; last = Some (record { tag = last_tag; kind = last_kind }) }
+
+-- a row with a first port of another tag before its ports
+abbrev pub after_one : Tag → Kind → Row → Row
+after_one tag kind row = record row { first = Some (record { tag = tag; kind = kind }) }
 
 -- the number of lanes: of inputs that are treated alike, without the last one if the calculator has a control. For a
 -- ConstantSidePacketCalculator it is the number of side packets that the calculator writes.
@@ -110,9 +126,13 @@ lanes_of Gate node = length node.inputs - 1
 lanes_of Mux node = length node.inputs - 1
 lanes_of Cloner node = length node.inputs - 1
 lanes_of Merge node = length node.inputs
-lanes_of Sum node = length node.inputs
+lanes_of (Compute kind) node = if (kind_row kind).wiring.many then length node.inputs else 1
 lanes_of Constants node = length node.output_sides
 lanes_of kind node = 1
+
+-- the number of ports CLONE of a BeginLoop: of its inputs without ITERABLE
+abbrev pub clones_of : NodeView → ℕ
+clones_of node = length node.inputs - 1
 
 -- whether a gate's control is DISALLOW: whether the node has that port
 abbrev pub disallows : NodeView → Bool
@@ -136,16 +156,16 @@ inputs_of Mux node = many_and Input Any (lanes_of Mux node) Select Int
 inputs_of Cloner node = many_and Untagged Any (lanes_of Cloner node) Tick Any
 inputs_of Merge node = many Untagged Any (lanes_of Merge node)
 inputs_of Thinner node = one Untagged Any
-inputs_of Sum node = many Untagged Int (lanes_of Sum node)
-inputs_of (Map m) node = one Untagged Int
+inputs_of (Compute kind) node = many Untagged (kind_row kind).wiring.takes (lanes_of (Compute kind) node)
 inputs_of Filter node = one Untagged Int
-inputs_of Running node = one Untagged Int
 inputs_of Shift node = one Untagged Any
 inputs_of Counting node = no_ports
 inputs_of SideToStream node = no_ports
 inputs_of Constants node = no_ports
 inputs_of Loopback node = many_and Loop Any 1 Main Any
 inputs_of FlowLimiter node = many_and Untagged Any 1 Finished Any
+inputs_of BeginLoop node = many_and Clone Any (clones_of node) Iterable Items
+inputs_of EndLoop node = many_and BatchEnd Int 1 Item Any
 
 -- the output streams of a calculator at a node
 abbrev pub outputs_of : CalculatorKind → NodeView → Row
@@ -155,16 +175,16 @@ outputs_of Mux node = one Output Any
 outputs_of Cloner node = many Untagged Any (lanes_of Cloner node)
 outputs_of Merge node = one Untagged Any
 outputs_of Thinner node = one Untagged Any
-outputs_of Sum node = one Untagged Int
-outputs_of (Map m) node = one Untagged Int
+outputs_of (Compute kind) node = one Untagged (kind_row kind).wiring.gives
 outputs_of Filter node = one Untagged Int
-outputs_of Running node = one Untagged Int
 outputs_of Shift node = one Untagged Any
 outputs_of Counting node = one Untagged Int
 outputs_of SideToStream node = one (moment_of node) Any
 outputs_of Constants node = no_ports
 outputs_of Loopback node = one PrevLoop Any
 outputs_of FlowLimiter node = one Untagged Any
+outputs_of BeginLoop node = after_one BatchEnd Int (many_and Clone Any (clones_of node) Item Any)
+outputs_of EndLoop node = one Iterable Items
 
 -- the side packets that a calculator takes
 abbrev pub sides_of : CalculatorKind → Row
@@ -242,8 +262,22 @@ abbrev pub thinner_law : List Entry → Option Law
 thinner_law options =
     if thins options then option_map law.Thin (positive_or_one (codes "period") options) else None
 
-abbrev pub map_law_of : MapKind → List Entry → Option Law
-map_law_of kind options = option_map (λ pair. law.Map pair.0 pair.1) (map_with kind options)
+-- what an option says that may be set to this value, as each form of value
+abbrev pub said_by : Option Value → Said
+said_by None = record { number = None; word = [] }
+said_by (Some value) = record { number = long_number_in_value value; word = word_in value }
+
+-- what the options of these names say, in this order
+abbrev pub settings_of : List (List ℕ) → List Entry → List Said
+settings_of names options = map (λ name. said_by (set_to name options)) names
+
+-- the law of a formula, with so many inputs
+abbrev pub computing : Wiring → ℕ → Formula → Law
+computing wiring lanes formula = law.Compute (record { formula = formula; lanes = lanes; takes = wiring.takes; gives = wiring.gives })
+
+abbrev pub compute_law : ComputationKind → NodeView → List Entry → Option Law
+compute_law kind node options =
+    option_map (computing (kind_row kind).wiring (lanes_of (Compute kind) node)) ((kind_row kind).formula (settings_of (kind_row kind).options options))
 
 abbrev pub filter_law_of : List Entry → Option Law
 filter_law_of options =
@@ -266,6 +300,12 @@ flight_or_one name options = or_absent 1 flight_limit (set_to name options)
 abbrev pub limiter_law : List Entry → Option Law
 limiter_law options = option_map law.Limiter (flight_or_one (codes "max_in_flight") options)
 
+abbrev pub begin_law : NodeView → List Entry → Option Law
+begin_law node options = option_map (law.BeginLoop (clones_of node)) (truth_or_false (codes "always_end") options)
+
+abbrev pub end_law : List Entry → Option Law
+end_law options = option_map law.EndLoop (truth_or_false (codes "empty_as_bound") options)
+
 -- the law of a MergeCalculator: with the handler that takes packets as they come (MediaPipe, ImmediateInputStreamHandler) that of a
 -- free node
 abbrev pub merge_law : NodeView → Law
@@ -280,16 +320,16 @@ law_with Mux node options = Some (law.Mux (lanes_of Mux node))
 law_with Cloner node options = Some (law.Cloner (lanes_of Cloner node))
 law_with Merge node options = Some (merge_law node)
 law_with Thinner node options = thinner_law options
-law_with Sum node options = Some (law.Sum (lanes_of Sum node))
-law_with (Map m) node options = map_law_of m options
+law_with (Compute kind) node options = compute_law kind node options
 law_with Filter node options = filter_law_of options
-law_with Running node options = Some law.Running
 law_with Shift node options = shift_law options
 law_with Counting node options = counting_law options
 law_with SideToStream node options = Some (law.SideOnce (time_of (moment_of node)))
 law_with Constants node options = Some law.Constants
 law_with Loopback node options = Some law.Loopback
 law_with FlowLimiter node options = limiter_law options
+law_with BeginLoop node options = begin_law node options
+law_with EndLoop node options = end_law options
 
 -- the side packets that a ConstantSidePacketCalculator writes: as many as its ports, each set by an option
 abbrev pub constants_with : CalculatorKind → NodeView → List Entry → Option (List Plain)

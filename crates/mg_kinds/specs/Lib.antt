@@ -4,7 +4,6 @@ pub mod PortOrder
 pub mod Options
 pub mod Values
 pub mod Views
-pub mod Maps
 pub mod Kinds
 pub mod SettingsView
 pub mod Code

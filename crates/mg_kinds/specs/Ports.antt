@@ -9,19 +9,19 @@ use Rattle.mg_calc.specs.declared.port_kind.PortKind.{PortKind}
 use Rattle.mg_calc.specs.Shape.{ports}
 use Rattle.mg_kinds.specs.Tags.{tag_text}
 use Rattle.mg_kinds.specs.declared.row.Row.{Row}
-use Rattle.mg_kinds.specs.declared.row.LastPort.{LastPort}
+use Rattle.mg_kinds.specs.declared.row.EndPort.{EndPort}
 
 abbrev pub port : List ℕ → Kind → ℕ → PortKind
 port tag kind index = record { tag = tag; index = index; kind = kind }
 
--- the last port of a row, if the row has one
-abbrev pub last_port : Option LastPort → List PortKind
-last_port None = []
-last_port (Some last) = port (tag_text last.tag) last.kind 0 ∷ []
+-- the first or the last port of a row, if the row has one
+abbrev pub end_port : Option EndPort → List PortKind
+end_port None = []
+end_port (Some end) = port (tag_text end.tag) end.kind 0 ∷ []
 
--- the ports of a row: its count of one tag, and after them perhaps one of another
+-- the ports of a row: its count of one tag, and before and after them perhaps one of another
 abbrev pub ports_in : Row → List PortKind
-ports_in row = ports (tag_text row.tag) row.count row.kind ++ last_port row.last
+ports_in row = end_port row.first ++ (ports (tag_text row.tag) row.count row.kind ++ end_port row.last)
 
 -- whether the given ports are just the wanted ones by tag and index, provided that no port is given twice
 abbrev pub has_just : List Port → List PortKind → Bool

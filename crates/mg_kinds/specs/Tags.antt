@@ -1,7 +1,7 @@
 -- The tags of the ports of built-in calculators.
 use Rattle.std.specs.Prelude.{ℕ, List, [], codes}
 use Rattle.mg_kinds.specs.declared.tag.Tag.{Tag}
-use Rattle.mg_kinds.specs.declared.tag.Tag.TheVariants.{Untagged, Allow, Disallow, Input, Select, Output, Tick, Loop, Main, Finished, PrevLoop, Packet, AtPreStream, AtZero, AtPostStream}
+use Rattle.mg_kinds.specs.declared.tag.Tag.TheVariants.{Untagged, Allow, Disallow, Input, Select, Output, Tick, Loop, Main, Finished, PrevLoop, Iterable, Item, BatchEnd, Clone, Packet, AtPreStream, AtZero, AtPostStream}
 
 abbrev pub tag_text : Tag → List ℕ
 tag_text Untagged = []
@@ -15,6 +15,10 @@ tag_text Loop = codes "LOOP"
 tag_text Main = codes "MAIN"
 tag_text Finished = codes "FINISHED"
 tag_text PrevLoop = codes "PREV_LOOP"
+tag_text Iterable = codes "ITERABLE"
+tag_text Item = codes "ITEM"
+tag_text BatchEnd = codes "BATCH_END"
+tag_text Clone = codes "CLONE"
 tag_text Packet = codes "PACKET"
 tag_text AtPreStream = codes "AT_PRESTREAM"
 tag_text AtZero = codes "AT_ZERO"

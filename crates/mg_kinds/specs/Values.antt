@@ -6,8 +6,6 @@ use Rattle.mg_text.specs.View.{Value, simple, inner, Entry}
 use Rattle.mg_time.specs.Time.{raw_of, least, greatest}
 use Rattle.mg_value.specs.Plain.{Plain, flag, int, text}
 use Rattle.mg_config.specs.Values.{entries, has_name, long_number_in_value, truth_in_value}
-use Rattle.mg_calc.specs.declared.int_map.MapOp.{MapOp}
-use Rattle.mg_calc.specs.declared.int_map.MapOp.TheVariants.{Add, Subtract, Multiply}
 use Rattle.mg_calc.specs.declared.law.Keep.{Keep}
 use Rattle.mg_calc.specs.declared.law.Keep.TheVariants.{Even, Odd, Negative, NonNegative}
 
@@ -65,16 +63,6 @@ flight_limit value = option_map natural (number_between (pos 1) most_in_flight v
 abbrev pub word_in : Value → List ℕ
 word_in (simple word bytes) = bytes
 word_in value = []
-
-abbrev pub operation_named : List ℕ → Option MapOp
-operation_named name =
-    if bytes_eq name (codes "ADD") then Some Add
-    else (if bytes_eq name (codes "SUBTRACT") then Some Subtract
-    else (if bytes_eq name (codes "MULTIPLY") then Some Multiply else None))
-
--- the operation of IntMapCalculator that a value names, if it names one
-abbrev pub operation_in : Value → Option MapOp
-operation_in value = operation_named (word_in value)
 
 abbrev pub keep_named : List ℕ → Option Keep
 keep_named name =

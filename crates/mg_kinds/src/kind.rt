@@ -1,14 +1,15 @@
 //! The table of the calculators that are built in: their names, their options and their ports.
-ghost use Rattle.std.specs.Prelude.{◌≡◌};
+ghost use Rattle.std.specs.Prelude.{◌≡◌, ◌==◌, not, length};
 ghost use Rattle.mg_config.specs.Config.{node_view};
+ghost use Rattle.mg_config.specs.Values.{entries};
 ghost use Rattle.mg_names.specs.Ports.{has_port as has_it};
 ghost use Rattle.mg_kinds.specs.Kinds as table;
 ghost use Rattle.mg_kinds.specs.Tags.{tag_text};
 
-use crate::maps::{MapKind, map_named, map_options};
 use crate::ports::has_port;
-use crate::row::{LastPort, Row};
+use crate::row::{EndPort, Row};
 use crate::tag::Tag;
+use mg_calc::{ComputationKind, computation_named};
 use mg_config::{NodeConfig, is};
 use mg_names::PortMap;
 use mg_value::Kind;
@@ -28,14 +29,10 @@ pub enum CalculatorKind {
     Merge,
     /// PacketThinnerCalculator
     Thinner,
-    /// IntSumCalculator
-    Sum,
-    /// A calculator that maps numbers
-    Map(MapKind),
+    /// A calculator that computes numbers, of the list of mg_calc
+    Compute(ComputationKind),
     /// IntFilterCalculator
     Filter,
-    /// RunningSumCalculator
-    Running,
     /// TimestampShiftCalculator
     Shift,
     /// CountingSourceCalculator
@@ -48,6 +45,10 @@ pub enum CalculatorKind {
     Loopback,
     /// FlowLimiterCalculator
     FlowLimiter,
+    /// BeginLoopCalculator
+    BeginLoop,
+    /// EndLoopCalculator
+    EndLoop,
 }
 
 fn passing(name: &[u8]) -> Option<CalculatorKind>
@@ -71,20 +72,8 @@ fn passing(name: &[u8]) -> Option<CalculatorKind>
         Some(CalculatorKind::Loopback)
     } else if is(name, b"FlowLimiterCalculator") {
         Some(CalculatorKind::FlowLimiter)
-    } else {
-        None
-    }
-}
-
-fn reckoning(name: &[u8]) -> Option<CalculatorKind>
-    ensures { result ≡ table.named_in table.reckoning name.now }
-{
-    if is(name, b"IntSumCalculator") {
-        Some(CalculatorKind::Sum)
     } else if is(name, b"IntFilterCalculator") {
         Some(CalculatorKind::Filter)
-    } else if is(name, b"RunningSumCalculator") {
-        Some(CalculatorKind::Running)
     } else {
         None
     }
@@ -104,13 +93,51 @@ fn beginning(name: &[u8]) -> Option<CalculatorKind>
     }
 }
 
-/// Returns the built-in calculator of a name, if there is one.
-pub fn kind_named(name: &[u8]) -> Option<CalculatorKind>
+fn looping(name: &[u8]) -> Option<CalculatorKind>
+    ensures { result ≡ table.named_in table.looping name.now }
+{
+    if is(name, b"BeginLoopCalculator") {
+        Some(CalculatorKind::BeginLoop)
+    } else if is(name, b"EndLoopCalculator") {
+        Some(CalculatorKind::EndLoop)
+    } else {
+        None
+    }
+}
+
+// Returns the built-in calculator that has a name at every node, if there is one.
+fn kind_named(name: &[u8]) -> Option<CalculatorKind>
     ensures { result ≡ table.kind_named name.now }
 {
-    match map_named(name) {
-        Some(map) => Some(CalculatorKind::Map(map)),
-        None => passing(name).or(reckoning(name)).or(beginning(name)),
+    match computation_named(name) {
+        Some(computation) => Some(CalculatorKind::Compute(computation)),
+        None => passing(name).or(beginning(name)),
+    }
+}
+
+// Whether a node has options.
+fn has_options(node: &NodeConfig) -> bool
+    ensures { result ≡ not (length (entries (node_view node.now).options) == 0) }
+{
+    !node.options.as_slice().is_empty()
+}
+
+// Whether a node has options, or a stream at an input CLONE.
+fn asks_more(node: &NodeConfig) -> bool
+    ensures { result ≡ table.asks_more (node_view node.now) }
+{
+    has_options(node) || has_tag(&node.inputs, Tag::Clone)
+}
+
+/// Returns the built-in calculator of a node, if there is one. The calculators of loops over lists are built in only at nodes that have
+/// options or an input CLONE.
+pub fn kind_at(node: &NodeConfig) -> Option<CalculatorKind>
+    ensures { result ≡ table.kind_at (node_view node.now) }
+{
+    let name = node.calculator.as_bytes();
+    match kind_named(name) {
+        Some(kind) => Some(kind),
+        None => { if asks_more(node) { looping(name) } else { None } }
     }
 }
 
@@ -121,10 +148,12 @@ pub fn single_options(kind: CalculatorKind) -> &'static [&'static str]
     match kind {
         CalculatorKind::Gate => &["empty_packets_as_allow"],
         CalculatorKind::Thinner => &["thinner_type", "period"],
-        CalculatorKind::Map(map) => map_options(map),
+        CalculatorKind::Compute(computation) => computation.options(),
         CalculatorKind::Filter => &["keep", "raise_bound"],
         CalculatorKind::Shift => &["offset"],
         CalculatorKind::FlowLimiter => &["max_in_flight"],
+        CalculatorKind::BeginLoop => &["always_end"],
+        CalculatorKind::EndLoop => &["empty_as_bound"],
         CalculatorKind::Counting => &["count", "start", "step"],
         _ => &[],
     }
@@ -153,6 +182,7 @@ fn many(tag: Tag, kind: Kind, count: u32) -> Row
         tag,
         kind,
         count,
+        first: None,
         last: None,
     }
 }
@@ -160,7 +190,7 @@ fn many(tag: Tag, kind: Kind, count: u32) -> Row
 fn many_and(tag: Tag, kind: Kind, count: u32, last_tag: Tag, last_kind: Kind) -> Row
     ensures { result ≡ table.many_and tag kind count last_tag last_kind }
 {
-    let last = LastPort {
+    let last = EndPort {
         tag: last_tag,
         kind: last_kind,
     };
@@ -168,7 +198,17 @@ fn many_and(tag: Tag, kind: Kind, count: u32, last_tag: Tag, last_kind: Kind) ->
         tag,
         kind,
         count,
+        first: None,
         last: Some(last),
+    }
+}
+
+fn after_one(tag: Tag, kind: Kind, row: Row) -> Row
+    ensures { result ≡ table.after_one tag kind row }
+{
+    Row {
+        first: Some(EndPort { tag, kind }),
+        ..row
     }
 }
 
@@ -180,10 +220,24 @@ pub fn lanes_of(kind: CalculatorKind, node: &NodeConfig) -> u32
         CalculatorKind::Gate | CalculatorKind::Mux | CalculatorKind::Cloner => {
             node.inputs.len().saturating_sub(1)
         }
-        CalculatorKind::Merge | CalculatorKind::Sum => node.inputs.len(),
+        CalculatorKind::Merge => node.inputs.len(),
+        CalculatorKind::Compute(computation) => {
+            if computation.wiring().many {
+                node.inputs.len()
+            } else {
+                1
+            }
+        }
         CalculatorKind::Constants => node.output_sides.len(),
         _ => 1,
     }
+}
+
+/// Returns how many ports CLONE a BeginLoop has at a node.
+pub fn clones_of(node: &NodeConfig) -> u32
+    ensures { result ≡ table.clones_of (node_view node.now) }
+{
+    node.inputs.len().saturating_sub(1)
 }
 
 /// Returns whether a gate's control port is DISALLOW.
@@ -237,13 +291,23 @@ pub fn inputs_of(kind: CalculatorKind, node: &NodeConfig) -> Row
         CalculatorKind::FlowLimiter => {
             many_and(Tag::Untagged, Kind::Any, 1, Tag::Finished, Kind::Any)
         }
+        CalculatorKind::BeginLoop => {
+            many_and(
+                Tag::Clone,
+                Kind::Any,
+                clones_of(node),
+                Tag::Iterable,
+                Kind::Items,
+            )
+        }
+        CalculatorKind::EndLoop => many_and(Tag::BatchEnd, Kind::Int, 1, Tag::Item, Kind::Any),
         CalculatorKind::Merge | CalculatorKind::Thinner | CalculatorKind::Shift => {
             many(Tag::Untagged, Kind::Any, lanes)
         }
-        CalculatorKind::Sum
-        | CalculatorKind::Map(_)
-        | CalculatorKind::Filter
-        | CalculatorKind::Running => many(Tag::Untagged, Kind::Int, lanes),
+        CalculatorKind::Compute(computation) => {
+            many(Tag::Untagged, computation.wiring().takes, lanes)
+        }
+        CalculatorKind::Filter => many(Tag::Untagged, Kind::Int, lanes),
         CalculatorKind::PassThrough
         | CalculatorKind::Counting
         | CalculatorKind::SideToStream
@@ -260,17 +324,21 @@ pub fn outputs_of(kind: CalculatorKind, node: &NodeConfig) -> Row
             many(Tag::Untagged, Kind::Any, lanes_of(kind, node))
         }
         CalculatorKind::Mux => many(Tag::Output, Kind::Any, 1),
+        CalculatorKind::BeginLoop => {
+            let items = many_and(Tag::Clone, Kind::Any, clones_of(node), Tag::Item, Kind::Any);
+            after_one(Tag::BatchEnd, Kind::Int, items)
+        }
+        CalculatorKind::EndLoop => many(Tag::Iterable, Kind::Items, 1),
         CalculatorKind::Loopback => many(Tag::PrevLoop, Kind::Any, 1),
         CalculatorKind::SideToStream => many(moment_of(node), Kind::Any, 1),
         CalculatorKind::Merge
         | CalculatorKind::Thinner
         | CalculatorKind::Shift
         | CalculatorKind::FlowLimiter => many(Tag::Untagged, Kind::Any, 1),
-        CalculatorKind::Sum
-        | CalculatorKind::Map(_)
-        | CalculatorKind::Filter
-        | CalculatorKind::Running
-        | CalculatorKind::Counting => many(Tag::Untagged, Kind::Int, 1),
+        CalculatorKind::Compute(computation) => {
+            many(Tag::Untagged, computation.wiring().gives, 1)
+        }
+        CalculatorKind::Filter | CalculatorKind::Counting => many(Tag::Untagged, Kind::Int, 1),
         CalculatorKind::PassThrough | CalculatorKind::Constants => {
             many(Tag::Untagged, Kind::Any, 0)
         }

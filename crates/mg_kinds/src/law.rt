@@ -1,20 +1,21 @@
 //! The law of a calculator at a node, by the node's ports and options.
-ghost use Rattle.std.specs.Prelude.{◌≡◌};
+ghost use Rattle.std.specs.Prelude.{◌≡◌, IfOk};
 ghost use Rattle.mg_config.specs.Config.{node_view};
 ghost use Rattle.mg_kinds.specs.Kinds as laws;
 ghost use Rattle.mg_kinds.specs.Views.{fields_of};
 
-use crate::kind::{CalculatorKind, disallows, lanes_of, moment_of};
-use crate::maps::{MapKind, map_with};
+use crate::kind::{CalculatorKind, clones_of, disallows, lanes_of, moment_of};
 use crate::options::{number, set_to};
+use crate::said::settings_in;
 use crate::tag::Tag;
 use crate::value::{
     call_count, flight_limit, is_asynchronous, keep_in, positive, timestamp_number,
 };
-use mg_calc::Law;
+use mg_calc::{Computation, ComputationKind, Law};
 use mg_config::{NodeConfig, is, truth_in_value};
 use mg_text::Field;
 use mg_time::Timestamp;
+use std::alloc::{AllocError, Global};
 
 /// Returns the timestamp that an output tag of a SidePacketToStreamCalculator stands for.
 fn time_of(tag: Tag) -> Timestamp
@@ -84,11 +85,25 @@ fn thinner_law(options: &[&Field]) -> Option<Law>
     Some(Law::Thin { period })
 }
 
-fn map_law(kind: MapKind, options: &[&Field]) -> Option<Law>
-    ensures { result ≡ laws.map_law_of kind (fields_of options.now) }
+fn compute_law(
+    alloc: Global,
+    kind: ComputationKind,
+    node: &NodeConfig,
+    options: &[&Field],
+) -> Result<Option<Law>, AllocError>
+    ensures { IfOk result (λ law. law ≡ laws.compute_law kind (node_view node.now) (fields_of options.now)) }
 {
-    let (op, operand) = map_with(kind, options)?;
-    Some(Law::Map { op, operand })
+    let settings = settings_in(alloc, kind.options(), options)?;
+    let Some(formula) = kind.formula(settings.as_slice()) else {
+        return Ok(None);
+    };
+    let wiring = kind.wiring();
+    Ok(Some(Law::Compute(Computation {
+        formula,
+        lanes: lanes_of(CalculatorKind::Compute(kind), node),
+        takes: wiring.takes,
+        gives: wiring.gives,
+    })))
 }
 
 fn filter_law(options: &[&Field]) -> Option<Law>
@@ -131,6 +146,23 @@ fn limiter_law(options: &[&Field]) -> Option<Law>
     Some(Law::Limiter { most })
 }
 
+fn begin_law(node: &NodeConfig, options: &[&Field]) -> Option<Law>
+    ensures { result ≡ laws.begin_law (node_view node.now) (fields_of options.now) }
+{
+    let always_end = truth_or_false("always_end", options)?;
+    Some(Law::BeginLoop {
+        clones: clones_of(node),
+        always_end,
+    })
+}
+
+fn end_law(options: &[&Field]) -> Option<Law>
+    ensures { result ≡ laws.end_law (fields_of options.now) }
+{
+    let empty_as_bound = truth_or_false("empty_as_bound", options)?;
+    Some(Law::EndLoop { empty_as_bound })
+}
+
 fn merge_law(node: &NodeConfig) -> Law
     ensures { result ≡ laws.merge_law (node_view node.now) }
 {
@@ -143,28 +175,33 @@ fn merge_law(node: &NodeConfig) -> Law
 }
 
 /// Returns the law of a calculator at a node with these options, or none if the options don't set it.
-pub fn law_with(kind: CalculatorKind, node: &NodeConfig, options: &[&Field]) -> Option<Law>
-    ensures { result ≡ laws.law_with kind (node_view node.now) (fields_of options.now) }
+pub fn law_with(
+    alloc: Global,
+    kind: CalculatorKind,
+    node: &NodeConfig,
+    options: &[&Field],
+) -> Result<Option<Law>, AllocError>
+    ensures { IfOk result (λ law. law ≡ laws.law_with kind (node_view node.now) (fields_of options.now)) }
 {
     let lanes = lanes_of(kind, node);
     match kind {
-        CalculatorKind::PassThrough => Some(Law::Pass),
-        CalculatorKind::Gate => gate_law(node, options),
-        CalculatorKind::Mux => Some(Law::Mux { lanes }),
-        CalculatorKind::Cloner => Some(Law::Cloner { lanes }),
-        CalculatorKind::Merge => Some(merge_law(node)),
-        CalculatorKind::Thinner => thinner_law(options),
-        CalculatorKind::Sum => Some(Law::Sum { lanes }),
-        CalculatorKind::Map(map) => map_law(map, options),
-        CalculatorKind::Filter => filter_law(options),
-        CalculatorKind::Running => Some(Law::Running),
-        CalculatorKind::Shift => shift_law(options),
-        CalculatorKind::Counting => counting_law(options),
-        CalculatorKind::SideToStream => Some(Law::SideOnce {
+        CalculatorKind::Compute(kind) => compute_law(alloc, kind, node, options),
+        CalculatorKind::PassThrough => Ok(Some(Law::Pass)),
+        CalculatorKind::Gate => Ok(gate_law(node, options)),
+        CalculatorKind::Mux => Ok(Some(Law::Mux { lanes })),
+        CalculatorKind::Cloner => Ok(Some(Law::Cloner { lanes })),
+        CalculatorKind::Merge => Ok(Some(merge_law(node))),
+        CalculatorKind::Thinner => Ok(thinner_law(options)),
+        CalculatorKind::Filter => Ok(filter_law(options)),
+        CalculatorKind::Shift => Ok(shift_law(options)),
+        CalculatorKind::Counting => Ok(counting_law(options)),
+        CalculatorKind::SideToStream => Ok(Some(Law::SideOnce {
             at: time_of(moment_of(node)),
-        }),
-        CalculatorKind::Constants => Some(Law::Constants),
-        CalculatorKind::Loopback => Some(Law::Loopback),
-        CalculatorKind::FlowLimiter => limiter_law(options),
+        })),
+        CalculatorKind::Constants => Ok(Some(Law::Constants)),
+        CalculatorKind::Loopback => Ok(Some(Law::Loopback)),
+        CalculatorKind::FlowLimiter => Ok(limiter_law(options)),
+        CalculatorKind::BeginLoop => Ok(begin_law(node, options)),
+        CalculatorKind::EndLoop => Ok(end_law(options)),
     }
 }

@@ -9,20 +9,21 @@ use mg_calc::{PortKind, PortKindList};
 use mg_value::{BlockList, Kind, MgText};
 use std::alloc::{AllocError, Global};
 
-/// A port of index 0 that comes after the other ports of a row and has another tag.
+/// A port of index 0 that comes before or after the other ports of a row and has another tag.
 #[derive(Clone, Copy, Debug, PartialEq, Eq)]
-pub struct LastPort {
+pub struct EndPort {
     pub tag: Tag,
     pub kind: Kind,
 }
 
-/// The ports of a calculator of one sort, such as its inputs: `count` of a tag, and perhaps a last one of another tag.
+/// The ports of a calculator of one sort, such as its inputs: `count` of a tag, and perhaps a first and a last one of other tags.
 #[derive(Clone, Copy, Debug, PartialEq, Eq)]
 pub struct Row {
     pub tag: Tag,
     pub kind: Kind,
     pub count: u32,
-    pub last: Option<LastPort>,
+    pub first: Option<EndPort>,
+    pub last: Option<EndPort>,
 }
 
 fn put_port(
@@ -56,15 +57,23 @@ fn put_ports(
     Ok(())
 }
 
+fn put_end(alloc: Global, out: &mut Vec<PortKind>, end: Option<EndPort>) -> Result<(), AllocError>
+    ensures { OnOk result (out.new.items ≡ out.old.items ++ ports.end_port end) }
+{
+    if let Some(end) = end {
+        put_port(alloc, out, end.tag, end.kind, 0)?;
+    }
+    Ok(())
+}
+
 /// Returns the ports of a row, in order.
 pub fn ports_in(alloc: Global, row: Row) -> Result<PortKindList, AllocError>
     requires { row.count ≤ index_count }
     ensures { IfOk result (λ list. list ≡ ports.ports_in row) }
 {
     let mut out = Vec::new(alloc);
+    put_end(alloc, &mut out, row.first)?;
     put_ports(alloc, &mut out, row.tag, row.kind, row.count)?;
-    if let Some(last) = row.last {
-        put_port(alloc, &mut out, last.tag, last.kind, 0)?;
-    }
+    put_end(alloc, &mut out, row.last)?;
     Ok(BlockList::from_vec(out)?)
 }

@@ -62,7 +62,7 @@ fn settings_with(
     if !are_options(kind, options) {
         return Ok(None);
     }
-    let Some(law) = law_with(kind, node, options) else {
+    let Some(law) = law_with(alloc, kind, node, options)? else {
         return Ok(None);
     };
     let Some(constants) = constants_with(alloc, kind, node, options)? else {

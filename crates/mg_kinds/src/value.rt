@@ -3,7 +3,7 @@ ghost use Rattle.std.specs.Prelude.{◌≡◌};
 ghost use Rattle.mg_text.specs.View.{value_view};
 ghost use Rattle.mg_kinds.specs.Values as values;
 
-use mg_calc::{Keep, MapOp};
+use mg_calc::Keep;
 use mg_config::{is, long_number_in_value};
 use mg_text::{Scalar, TreeValue};
 
@@ -44,28 +44,13 @@ pub fn flight_limit(value: &TreeValue) -> Option<u32>
     Some(n as u32)
 }
 
-fn word_in(value: &TreeValue) -> &[u8]
+/// Returns the bytes of a value that is a word, and no bytes for every other value.
+pub fn word_in(value: &TreeValue) -> &[u8]
     ensures { result.now ≡ values.word_in (value_view value.now) }
 {
     match value {
         TreeValue::Scalar(Scalar::Word(text)) => text.as_bytes(),
         _ => b"",
-    }
-}
-
-/// Returns the operation of IntMapCalculator that a value names, if it names one.
-pub fn operation_in(value: &TreeValue) -> Option<MapOp>
-    ensures { result ≡ values.operation_in (value_view value.now) }
-{
-    let name = word_in(value);
-    if is(name, b"ADD") {
-        Some(MapOp::Add)
-    } else if is(name, b"SUBTRACT") {
-        Some(MapOp::Subtract)
-    } else if is(name, b"MULTIPLY") {
-        Some(MapOp::Multiply)
-    } else {
-        None
     }
 }
 

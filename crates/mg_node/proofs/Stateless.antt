@@ -11,7 +11,7 @@ use Rattle.mg_calc.specs.Rules.{Laws}
 use Rattle.mg_calc.specs.declared.cause.Cause.{Cause}
 use Rattle.mg_calc.specs.declared.emission.Laid.{Laid}
 use Rattle.mg_calc.specs.declared.law.Law.{Law}
-use Rattle.mg_calc.specs.declared.law.Law.TheVariants.{Cloner, Thin, Running, Count, SideOnce, Constants, Loopback, Tally, Scripted, BeginLoop, EndLoop, Stated}
+use Rattle.mg_calc.specs.declared.law.Law.TheVariants.{Cloner, Thin, Compute, Count, SideOnce, Constants, Loopback, Tally, Scripted, BeginLoop, EndLoop, Stated}
 use Rattle.mg_calc.specs.declared.node_fault.Phase.{Phase}
 use Rattle.mg_calc.specs.declared.node_fault.Phase.TheVariants.{Open, Process}
 use Rattle.mg_calc.specs.declared.plan_node.PlanNode.{PlanNode}
@@ -22,10 +22,12 @@ use Rattle.mg_calc.specs.Laying.{laid_behind, all_raised}
 use Rattle.mg_calc.specs.Outcome.{Failure, Outcome, after_laying, after_call, unopened, opened, unless_failed, shown, shown_all}
 use Rattle.mg_calc.specs.Plan.{HasNumbers, FlightFits}
 use Rattle.mg_calc.specs.Shape.{IsShapeOf, FitsInputs, IsStated, is_stateless}
-use Rattle.mg_calc.specs.State.{IsStateOf}
+use Rattle.mg_calc.specs.StateForm.{IsStateOf}
+use Rattle.mg_calc.specs.Computations.{row_of}
 use Rattle.mg_calc.specs.Equations.{Job, IsJob, inputs_of, sides_of, stream_of, rules_at}
 use Rattle.mg_calc.proofs.Counting.{all_of_first}
 use Rattle.mg_calc.proofs.LawCases.{stepped}
+use Rattle.mg_calc.proofs.StateForms.{row_empty, empty_row}
 use Rattle.mg_calc.specs.Rules.{Rules}
 use Rattle.mg_calc.proofs.TableRules.{by_table}
 use Rattle.mg_node.specs.Job.{LoggedJob, Solves, sets_of, stage_by, stage, first_log}
@@ -35,23 +37,23 @@ use Rattle.mg_node.proofs.HeldRules.{of_node}
 form_empty : (law : Law) (state : List Plain) → is_stateless law ≡ true → IsStateOf law state → state ≡ []
 form_empty (Cloner lanes) state is h = absurd cc
 form_empty (Thin period) state is h = absurd cc
-form_empty Running state is h = absurd cc
+form_empty (Compute computation) state is h = row_empty (row_of computation.formula) state is h
 form_empty (SideOnce at) state is h = absurd cc
 form_empty Tally state is h = absurd cc
 form_empty (Scripted offset first steps last) state is h = absurd cc
-form_empty (BeginLoop clone) state is h = absurd cc
-form_empty EndLoop state is h = absurd cc
+form_empty (BeginLoop clones always_end) state is h = absurd cc
+form_empty (EndLoop empty_as_bound) state is h = absurd cc
 form_empty law state is h = h
 
 empty_form : (law : Law) (state : List Plain) → is_stateless law ≡ true → state ≡ [] → IsStateOf law state
 empty_form (Cloner lanes) state is h = absurd cc
 empty_form (Thin period) state is h = absurd cc
-empty_form Running state is h = absurd cc
+empty_form (Compute computation) state is h = empty_row (row_of computation.formula) state is h
 empty_form (SideOnce at) state is h = absurd cc
 empty_form Tally state is h = absurd cc
 empty_form (Scripted offset first steps last) state is h = absurd cc
-empty_form (BeginLoop clone) state is h = absurd cc
-empty_form EndLoop state is h = absurd cc
+empty_form (BeginLoop clones always_end) state is h = absurd cc
+empty_form (EndLoop empty_as_bound) state is h = absurd cc
 empty_form law state is h = h
 
 opens_empty : (law : Law) (sides : List (Option Plain)) (given : List Plain × List Laid) → is_stateless law ≡ true → opening law sides ≡ Ok given → given.0 ≡ []

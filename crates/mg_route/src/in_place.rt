@@ -42,7 +42,7 @@ pub fn outer_step_in(
     ensures kept { OnErr result (state.new ≡ state.old) }
 {
     match law {
-        Law::BeginLoop { .. } | Law::EndLoop => batch_step_in(alloc, law, state, at, set),
+        Law::BeginLoop { .. } | Law::EndLoop { .. } => batch_step_in(alloc, law, state, at, set),
         Law::Pass => {
             let emission = front(alloc, set, set.len())?;
             Ok(emission)

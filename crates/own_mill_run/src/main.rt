@@ -52,7 +52,7 @@ fn status_of<R: Threads + Wait + Sync>(
         words.as_slice(),
         number(rt, 1),
         &nap,
-        &mut FolderStore::new(files),
+        &mut FolderStore::new(rt.alloc(), files),
         &mut ReaderSource::new(rt.stdin()),
         &mut WriterSink::new(rt.stdout()),
         &mut WriterSink::new(rt.stderr()),

@@ -15,7 +15,7 @@ use Rattle.mg_check.specs.declared.node_kind.NodeKind.{NodeKind}
 abbrev pub IsStock : Groups → List OuterShape → Type 0
 IsStock stock outers = (name : List ℕ) → kept stock name ≡ outers_named outers name
 
--- The table has as many places of each name as nodes want a calculator of it.
+-- The table has as many places of each name as nodes want a user-supplied calculator of it.
 abbrev pub IsWanted : Groups → List NodeView → Type 0
 IsWanted groups nodes = (name : List ℕ) → length (kept groups name) ≡ wanted nodes name
 

@@ -3,7 +3,7 @@ use Rattle.mg_batch.proofs.LoopLaw.{loop_law}
 use Rattle.mg_batch.proofs.laws.lists_come_out_as_lists_of_images.Goals as goal
 
 pub returns-clause-chain : goal.returns-clause-chain
-returns-clause-chain c = λ job streams clone lists out begin end inner is_job solution. loop_law job streams is_job solution clone lists out begin end inner
+returns-clause-chain c = λ job streams clones lists out begin end inner is_job solution. loop_law job streams is_job solution clones lists out begin end inner
 
 pub returns-clause-one : goal.returns-clause-one
-returns-clause-one c = λ job streams clone lists out begin node end is_job solution. loop_law job streams is_job solution clone lists out begin end (node ∷ [])
+returns-clause-one c = λ job streams clones lists out begin node end is_job solution. loop_law job streams is_job solution clones lists out begin end (node ∷ [])

@@ -1,9 +1,9 @@
-use Rattle.std.proofs.Common.{map}
+use Rattle.std.proofs.Common.{map, take, subst, sym}
 use Rattle.mg_config.specs.Config.{node_view}
 use Rattle.mg_check.specs.Choosing.{chosen_nodes}
-use Rattle.mg_check.specs.Code.Choices.{choices_view}
 use Rattle.mg_check.proofs.ChoiceSteps.{chosen_put}
-use Rattle.mg_check.proofs.Grouped.{wanted_more}
+use Rattle.mg_subgraph.proofs.Steps.{taken}
+use Rattle.mg_check.specs.Code.Choices.{choices_view, IsWanted}
 use Rattle.mg_check.proofs.choosing.choices_of.Goals as goal
 
 pub loop-place-preserved : goal.loop-place-preserved
@@ -19,6 +19,6 @@ loop-place-preserved c =
           c.loop-place-test.true c.index-nodes-place.is c.as_bytes-name.ensures.bytes c.get.ensures c.get-in-loop-place.ensures c.kind_for-kind.ensures c.in_ok-push_choice.ensures
           stock c.loop-place.invariant.wanted (c.loop-place.invariant.list outers stock);
       wanted =
-          wanted_more c.loop-place.wanted c.add.new.self nodes place node bytes c.in_ok-number_of.field-0 c.loop-place-test.true c.index-nodes-place.is c.as_bytes-name.ensures.bytes
-          c.in_ok-add.ensures c.loop-place.invariant.wanted;
+          subst (IsWanted c.count_node.new.wanted) (sym (taken node_view nodes place node c.loop-place-test.true c.index-nodes-place.is))
+          (c.in_ok-count_node.ensures (map node_view (take place nodes)) c.loop-place.invariant.wanted);
     }
