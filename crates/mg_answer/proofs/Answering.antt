@@ -1,7 +1,8 @@
 -- What a run did, by its status, and what follows from that.
 use Rattle.std.proofs.Common.{◌≡◌, ◌≢◌, ◌⊎◌, inl, inr, ℕ, List, [], ◌∷◌, ◌++◌, Bool, true, false, not, if◌then◌else◌, Option, None, Some, IfSome, refl, sym, ap, ◌∙◌, subst, arith, append-nil}
-use Rattle.mg_edge.specs.Edge.{SourceTold, SinkTold, Rose, one_more}
+use Rattle.mg_edge.specs.Edge.{SourceTold, SinkTold, one_more}
 use Rattle.mg_edge.specs.Runs.{Gave}
+use Rattle.mg_edge.proofs.Counts.{rises-after}
 use Rattle.mg_value.specs.Payload.{Plain}
 use Rattle.mg_settled.specs.Prefix.{StreamPrefix}
 use Rattle.mg_calc.specs.declared.inputs.Inputs.{Inputs}
@@ -352,13 +353,13 @@ ran-ended laws report plan OutOfMemory all ran one = absurd (no-one OutOfMemory 
 -- Faults --
 
 pub steady-risen : (a b : ℕ) → b ≡ a → HasRisen a b → ⊥
-steady-risen a b steady risen = absurd (omega (arith, steady, risen))
+steady-risen a b steady risen = risen steady
 
 pub one-unrisen : (a b : ℕ) → b ≡ one_more a → Unrisen a b → ⊥
-one-unrisen a b more un = absurd (omega (arith, more, un.0, un.1))
+one-unrisen a b more un = rises-after a a b refl more un
 
-pub rose-unrisen : (a b : ℕ) → Rose a b → Unrisen a b → ⊥
-rose-unrisen a b rose un = absurd (omega (arith, rose, un.0, un.1))
+pub rose-unrisen : (a b : ℕ) → HasRisen a b → Unrisen a b → ⊥
+rose-unrisen a b rose un = rose un
 
 abbrev pub read_statuses : List Status
 read_statuses = ReadFault ∷ WriteFault ∷ OutOfMemory ∷ []
@@ -444,9 +445,9 @@ all-answered laws report plan status all ran none = by all.input.before.left ref
 short-failed : (laws : Laws) (report : Reporting) (plan : Plan) (all : RunDevices) → RanShort laws report plan all → NoneFailed all → ⊥
 short-failed laws report plan all ran none = by ran.short.rose
   where
-    by : Rose all.output.before.faults all.output.now.faults ⊎ Rose all.notes.before.faults all.notes.now.faults → ⊥
-    by (inl rose) = rose-unrisen _ _ rose none.output
-    by (inr rose) = rose-unrisen _ _ rose none.notes
+    by : HasRisen all.output.before.faults all.output.now.faults ⊎ HasRisen all.notes.before.faults all.notes.now.faults → ⊥
+    by (inl rose) = rose none.output
+    by (inr rose) = rose none.notes
 
 pub ran-answered : (laws : Laws) (report : Reporting) (plan : Plan) (status : Status) (all : RunDevices) → Ran laws report plan status all → NoneFailed all → status ≢ OutOfMemory → IsAnswered laws report plan status all
 ran-answered laws report plan Good all ran none some = all-answered laws report plan Good all ran none

@@ -1,12 +1,17 @@
 -- What a feed that read an input gives a graph.
-use Rattle.std.proofs.Common.{◌≡◌, ◌≢◌, ◌⊎◌, inl, inr, ℕ, List, [], length, Bool, false, Option, refl, sym, ap, ◌∙◌, subst}
+use Rattle.std.proofs.Common.{◌≡◌, ◌≢◌, ◌⊎◌, inl, inr, ℕ, List, [], ◌++◌, length, Bool, false, Option, refl, sym, ap, ◌∙◌, subst}
 use Rattle.mg_edge.specs.Edge.{SourceTold}
 use Rattle.mg_edge.specs.Runs.{Gave}
 use Rattle.mg_edge.proofs.Runs.{Gave-start}
 use Rattle.mg_value.specs.Payload.{Plain}
 use Rattle.mg_settled.specs.Prefix.{StreamPrefix}
 use Rattle.mg_calc.specs.declared.inputs.Inputs.{Inputs}
-use Rattle.mg_feed.specs.Graph.{GraphInputs}
+use Rattle.mg_calc.specs.Rules.{Laws}
+use Rattle.mg_calc.specs.Plan.{IsValid}
+use Rattle.mg_calc.specs.Equations.{IsJob}
+use Rattle.mg_calc.specs.declared.plan.Plan.{Plan}
+use Rattle.mg_feed.specs.Graph.{GraphInputs, inputs_of}
+use Rattle.mg_feed.specs.Lines.{all_lines, whole_lines}
 use Rattle.mg_feed.specs.Accepted.{State, given_by}
 use Rattle.mg_feed.specs.Given.{ended_streams}
 use Rattle.mg_feed.specs.Stands.{HasAccepted, AllGood, nothing_taken}
@@ -15,13 +20,15 @@ use Rattle.mg_feed.specs.Came.{Came}
 use Rattle.mg_feed.specs.Ran.{MetEnd, late, Spends, Unfailed, ReadFailed, FailedBy}
 use Rattle.mg_feed.specs.Once.{StopsInTime, ReadsOnce}
 use Rattle.mg_feed.specs.Batch.{EndsAs, HasRead}
-use Rattle.mg_feed.proofs.Accepting.{good-ends, good-few}
-use Rattle.mg_feed.proofs.Coming.{stops-nothing, came-nothing}
+use Rattle.mg_feed.proofs.Accepting.{good-accepted, good-ends, good-few}
+use Rattle.mg_feed.proofs.Coming.{came-nothing}
+use Rattle.mg_feed.proofs.Timely.{stops-nothing}
 use Rattle.mg_feed.proofs.Moving.{spends-late, unfailed-same}
 use Rattle.mg_feed.proofs.Holding.{given-untaken}
 use Rattle.mg_feed.specs.declared.feed_end.FeedEnd.{FeedEnd}
 use Rattle.mg_feed.specs.declared.feed_end.FeedEnd.TheVariants.{Ended, Failed, Refused, OutOfMemory}
-use Rattle.mg_answer.specs.Answer.{Read, end_by, is_ended}
+use Rattle.mg_answer.specs.Answer.{Read, end_by, is_ended, inputs_by, job_of}
+use Rattle.mg_answer.proofs.Fitting.{inputs-fit}
 use Rattle.mg_answer.specs.Devices.{Device, device}
 use Rattle.mg_answer.specs.Ran.{CameAs, CameTo, ReadSome}
 use Rattle.mg_answer.specs.Gathered.{GatheredInputs}
@@ -55,6 +62,19 @@ came-by graph input came lines end ended gave ends met failed some once = record
   few = good-few graph lines (good-ends end graph came lines ended ends some);
 }
 
+-- the lines of what was read are good
+pub came-good : (end : FeedEnd) (graph : GraphInputs) (input : Device SourceTold) (came : List ℕ) (read : Read) → CameAs end graph input came read → AllGood graph [] read.lines
+came-good Ended graph input came read by = subst (λ (r : Read). AllGood graph [] r.lines) (sym by.1) (good-accepted graph [] (all_lines came))
+came-good (Failed number) graph input came read by = subst (λ (r : Read). AllGood graph [] r.lines) (sym by.0) (good-accepted graph [] (whole_lines came))
+came-good (Refused number cause) graph input came read by = subst (λ (r : Read). AllGood graph [] r.lines) (sym (by.2 [] (λ ended. refl))) (good-accepted graph [] (all_lines (came ++ [])))
+came-good OutOfMemory graph input came read by = absurd by
+
+pub read-job : (laws : Laws) (plan : Plan) (input : Device SourceTold) (read : Read) → IsValid plan → CameTo (inputs_of plan) input read → IsJob (job_of laws plan read)
+read-job laws plan input read valid came = record {
+  plan = valid;
+  inputs = inputs-fit plan read (inputs_by (inputs_of plan) read) valid (came-good read.end (inputs_of plan) input came.came read came.by) refl;
+}
+
 -- how the reads went, by how the call ended
 faults-by : (end : FeedEnd) (before now : SourceTold) → FailedBy end before now → Unfailed before now ⊎ ReadFailed before now
 faults-by Ended before now failed = inl failed
@@ -67,7 +87,7 @@ pub read-none : (graph : GraphInputs) (told : SourceTold) → ReadSome graph (de
 read-none graph told = record {
   came = [];
   gave = Gave-start told.left;
-  once = record { stops = stops-nothing graph []; reads = spends-late false told.left told.reads };
+  once = record { stops = stops-nothing graph [] told; reads = spends-late false told.left told.reads };
   faults = inl (unfailed-same told);
 }
 
@@ -80,8 +100,8 @@ once-read : (graph : GraphInputs) (end : FeedEnd) (before now : SourceTold) (old
     → HasAccepted [] (nothing_taken graph) old.view → old.read ≡ record { kept = []; ended = false } → (read : HasRead end before now old new)
     → Spends (late old.read.ended) 1 before.left now.left before.reads now.reads → ReadsOnce graph before now read.came
 once-read graph end before now old new is_old is_new stands unread read spent = record {
-  stops = subst (λ (g : GraphInputs). StopsInTime g [] read.came) is_new
-      (read.accepted [] [] [] (nothing_taken graph) (came-nothing [] (nothing_taken graph) old unread stands)).0.stops;
+  stops = subst (λ (g : GraphInputs). StopsInTime g [] before now read.came) is_old
+      (read.stops before [] [] [] (nothing_taken graph) (came-nothing [] (nothing_taken graph) old unread stands) (Gave-start before.left) (stops-nothing old.view.graph [] before));
   reads = subst (λ (r : Reading). Spends (late r.ended) 1 before.left now.left before.reads now.reads) unread spent;
 }
 

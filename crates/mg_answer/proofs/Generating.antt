@@ -1,6 +1,6 @@
 -- What a run over packets that are made did, by its status, and what follows from that.
 use Rattle.std.proofs.Common.{◌≡◌, ◌≢◌, ◌<◌, ◌^◌, length, ◌⊎◌, inl, inr, ℕ, List, [], ◌∷◌, refl}
-use Rattle.mg_edge.specs.Edge.{Rose}
+use Rattle.mg_edge.specs.Edge.{HasRisen}
 use Rattle.mg_value.specs.Payload.{Plain}
 use Rattle.mg_value.specs.declared.policy.Policy.TheVariants.{Default}
 use Rattle.mg_settled.specs.Prefix.{StreamPrefix}
@@ -21,7 +21,7 @@ use Rattle.mg_answer.specs.Status.{IsOneOf}
 use Rattle.mg_answer.specs.Ran.{GeneratedAll, GeneratedShort, RanGenerated}
 use Rattle.mg_answer.specs.declared.status.Status.{Status}
 use Rattle.mg_answer.specs.declared.status.Status.TheVariants.{Good, StoreFault, Usage, GraphRefused, LineRefused, NodeFault, Stalled, ReadFault, WriteFault, OutOfMemory}
-use Rattle.mg_answer.proofs.Answering.{WriteRisen, steady-risen, rose-unrisen}
+use Rattle.mg_answer.proofs.Answering.{WriteRisen, steady-risen}
 use Rattle.mg_answer.proofs.OneAnswer.{answer-of}
 use Rattle.mg_answer.proofs.Telling.{solved-prefixes}
 use Rattle.mg_answer.specs.declared.run.Reporting.{Reporting}
@@ -81,9 +81,9 @@ short-failed : (laws : Laws) (report : Reporting) (plan : Plan) (number : ℕ) (
     → Unrisen all.output.before.faults all.output.now.faults → Unrisen all.notes.before.faults all.notes.now.faults → ⊥
 short-failed laws report plan number all ran output notes = by ran.short.rose
   where
-    by : Rose all.output.before.faults all.output.now.faults ⊎ Rose all.notes.before.faults all.notes.now.faults → ⊥
-    by (inl rose) = rose-unrisen _ _ rose output
-    by (inr rose) = rose-unrisen _ _ rose notes
+    by : HasRisen all.output.before.faults all.output.now.faults ⊎ HasRisen all.notes.before.faults all.notes.now.faults → ⊥
+    by (inl rose) = rose output
+    by (inr rose) = rose notes
 
 pub generated-answered : (laws : Laws) (report : Reporting) (plan : Plan) (number : ℕ) (status : Status) (all : RunDevices) → RanGenerated laws report plan number status all
     → Unrisen all.output.before.faults all.output.now.faults → Unrisen all.notes.before.faults all.notes.now.faults → status ≢ OutOfMemory → MetGenerated laws report plan number status all

@@ -1,6 +1,6 @@
 -- A text that is written in blocks, one set of lines after the other.
 use Rattle.std.proofs.Common.{◌≡◌, ◌<◌, ◌≤◌, ◌+◌, ℕ, zero, suc, List, [], ◌∷◌, ◌++◌, length, drop, get_or, slice_get, Bool, true, false, Option, None, Some, unwrap_or, not, refl, sym, ap, ◌∙◌, subst, arith, append_assoc, append-nil}
-use Rattle.mg_edge.specs.Edge.{SinkTold, Rose}
+use Rattle.mg_edge.specs.Edge.{SinkTold, HasRisen}
 use Rattle.mg_edge.specs.Runs.{TookAll}
 use Rattle.mg_edge.proofs.Runs.{TookAll-start}
 use Rattle.mg_value.specs.Payload.{Plain}
@@ -32,7 +32,7 @@ part-then first before now xs ys one two = record {
   rest = two.rest;
   cut = ap (λ l. xs ++ l) two.cut ∙ sym (append_assoc xs two.front two.rest);
   taken = TookAll-then first.taken before.taken now.taken xs two.front one.whole two.taken;
-  rose = subst (λ (n : ℕ). Rose n now.faults) one.steady two.rose;
+  rose = subst (λ (n : ℕ). HasRisen n now.faults) one.steady two.rose;
 }
 
 -- whether a write failed or not, the sink took a prefix

@@ -1,7 +1,8 @@
 -- The devices of a run, and what the run did to each: what each device told of itself before the run, and tells now. The words for
 -- what a source and a sink did are those of mg_feed (`specs/Ran.antt` and `specs/Sent.antt` there).
-use Rattle.std.specs.Prelude.{◌≡◌, ◌⊎◌, ℕ, ◌^◌, ◌-◌, ◌<◌, List, ◌++◌}
+use Rattle.std.specs.Prelude.{◌≡◌, ◌⊎◌, ℕ, List, ◌++◌}
 use Rattle.mg_edge.specs.Edge.{SourceTold, SinkTold}
+pub use Rattle.mg_edge.specs.Edge.{HasRisen, Unrisen}
 use Rattle.mg_edge.specs.Runs.{TookAll}
 use Rattle.mg_feed.specs.Sent.{SentAll, SentPart}
 
@@ -28,15 +29,7 @@ run_devices input output notes = record { input = input; output = output; notes 
 
 -- Faults --
 
--- A call has failed: the count of faults is higher.
-abbrev pub HasRisen : ℕ → ℕ → Type 0
-HasRisen before now = before < now
-
--- No call has failed: the count of faults is as it was, and below 2^64 - 1. At this number it stops counting.
-abbrev pub Unrisen : ℕ → ℕ → Type 0
-Unrisen before now = (now ≡ before) × (now < 2 ^ 64 - 1)
-
--- No device of a run failed.
+-- No device of a run failed: each count of faults is as it was.
 pub record NoneFailed (devices : RunDevices) : Type 0 where
   pub input : Unrisen devices.input.before.faults devices.input.now.faults
   pub output : Unrisen devices.output.before.faults devices.output.now.faults

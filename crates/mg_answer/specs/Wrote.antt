@@ -1,6 +1,6 @@
 -- What was written of the answer of a job.
 use Rattle.std.specs.Prelude.{◌≡◌, ◌⊎◌, ℕ, List}
-use Rattle.mg_edge.specs.Edge.{SinkTold, Rose}
+use Rattle.mg_edge.specs.Edge.{SinkTold, HasRisen}
 use Rattle.mg_value.specs.Payload.{Plain}
 use Rattle.mg_settled.specs.Prefix.{StreamPrefix}
 use Rattle.mg_calc.specs.Equations.{Job, IsSolution}
@@ -20,10 +20,10 @@ pub record Meets (answer : RunAnswer) (status : Status) (output notes : Device S
 -- to the output failed, the notes took the text that says so (`failed`), or a prefix of that. If none did, the notes took a prefix
 -- of the answer's notes.
 pub record MetShort (answer : RunAnswer) (failed : List ℕ) (output notes : Device SinkTold) : Type 0 where
-  pub rose : Rose output.before.faults output.now.faults ⊎ Rose notes.before.faults notes.now.faults
+  pub rose : HasRisen output.before.faults output.now.faults ⊎ HasRisen notes.before.faults notes.now.faults
   pub front : TookFront output answer.output
-  pub whole : Rose output.before.faults output.now.faults ⊎ TookText output answer.output
-  pub noted : (Rose output.before.faults output.now.faults × TookNotes notes failed) ⊎ (TookText output answer.output × TookPart notes answer.notes)
+  pub whole : HasRisen output.before.faults output.now.faults ⊎ TookText output answer.output
+  pub noted : (HasRisen output.before.faults output.now.faults × TookNotes notes failed) ⊎ (TookText output answer.output × TookPart notes answer.notes)
 
 -- what was written of an answer, by the status with which it was written
 abbrev pub WroteBy : Status → RunAnswer → List ℕ → Device SinkTold → Device SinkTold → Type 0

@@ -132,6 +132,11 @@ pub fn what_batches_came_to()
         → CameTo graph input (record { lines = lines; end = end }) }
 {}
 
+/// What was read of an input makes a job of a valid plan: its inputs fit the plan.
+pub fn what_was_read_is_a_job()
+    ensures { (laws : Laws) (plan : Plan) (input : Device SourceTold) (read : Read) → IsValid plan → CameTo (inputs_of plan) input read → IsJob (job_of laws plan read) }
+{}
+
 /// The output text of some lines is a prefix of the output text of a whole input that begins with these lines. No side packet may
 /// come after the lines.
 pub fn texts_grow()

@@ -47,7 +47,7 @@ fn status_of<R: Threads + Wait + Sync>(
         threads,
         rt.alloc(),
         words.as_slice(),
-        &mut FolderStore::new(files),
+        &mut FolderStore::new(rt.alloc(), files),
         &mut ReaderSource::new(rt.stdin()),
         &mut WriterSink::new(rt.stdout()),
         &mut WriterSink::new(rt.stderr()),

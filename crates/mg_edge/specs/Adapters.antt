@@ -1,6 +1,6 @@
 -- What the adapters tell. The system is trusted for what a file or a terminal has: over those, `reader_left` and
 -- `writer_taken` are none.
-use Rattle.std.specs.Prelude.{ℕ, List, Option, None}
+use Rattle.std.specs.Prelude.{ℕ, List, map, Option, None}
 use Rattle.std.specs.Option.{option_map}
 use Rattle.std.specs.String.{string_bytes}
 use Rattle.mg_edge.specs.Edge.{SourceTold, SinkTold, StoreTold}
@@ -15,6 +15,7 @@ reader_told reader_left source = record {
   reads = None;
   ends = source.ends;
   faults = source.faults;
+  left_at_bytes = None;
   left_at_fault = None;
 }
 
@@ -24,5 +25,9 @@ writer_told writer_taken sink = record { taken = writer_taken sink.writer; fault
 
 -- A folder tells no content.
 abbrev pub folder_told : {R : Type 0} → FolderStore R → StoreTold
-folder_told store =
-    record { content = λ name. None; failed_name = option_map string_bytes store.failed_name; faults = store.faults }
+folder_told store = record {
+  content = λ name. None;
+  loaded = map string_bytes store.loaded.items;
+  failed_name = option_map string_bytes store.failed_name;
+  faults = store.faults;
+}

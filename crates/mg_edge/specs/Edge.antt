@@ -1,8 +1,8 @@
 -- What a call of a source, a sink or a store does to the bytes that it tells of and to its counts.
 --
--- What an object tells is optional: `None` claims nothing. A count rises by one at the calls that it counts, and every
--- other call leaves it as it was. It stands still at 2 ^ 64 - 1, the end of its type.
-use Rattle.std.specs.Prelude.{◌≡◌, ℕ, ◌+◌, ◌-◌, ◌^◌, ◌≤◌, min, List, [], ◌++◌, length, take, drop, Option, None, Some, option_map, ⊤}
+-- What an object tells is optional: `None` claims nothing. A count steps by one at the calls that it counts, and every
+-- other call leaves it as it was.
+use Rattle.std.specs.Prelude.{◌≡◌, ◌≢◌, ◌⊎◌, ℕ, ◌+◌, ◌^◌, ◌%◌, ◌≤◌, List, [], ◌∷◌, ◌++◌, length, take, drop, Option, None, Some, option_map, ⊤}
 use Rattle.mg_edge.specs.declared.source.Got.{Got}
 use Rattle.mg_edge.specs.declared.source.Got.TheVariants.{Bytes, End, Failed}
 use Rattle.mg_edge.specs.declared.sink.Put.{Put}
@@ -11,15 +11,19 @@ use Rattle.mg_edge.specs.declared.store.TheConstants.{MOST_LOADED}
 use Rattle.mg_edge.specs.declared.store.Loaded.{Loaded}
 use Rattle.mg_edge.specs.declared.store.Loaded.TheVariants.{Bytes as LoadedBytes, Failed as LoadFailed, OutOfMemory}
 
--- A count with one more, up to the end of its type.
+-- A count after one step: one more, and 0 after 2 ^ 64 - 1, the greatest count.
 abbrev pub one_more : ℕ → ℕ
-one_more count = min (count + 1) (2 ^ 64 - 1)
+one_more count = (count + 1) % 2 ^ 64
 
--- The count has risen, or stands at its type's end.
-abbrev pub Rose : ℕ → ℕ → Type 0
-Rose before now = one_more before ≤ now
+-- A count has risen: it isn't what it was. A step from the greatest count counts as any other.
+abbrev pub HasRisen : ℕ → ℕ → Type 0
+HasRisen before now = now ≢ before
 
--- A count that is told rises by one, and stays told.
+-- A count hasn't risen.
+abbrev pub Unrisen : ℕ → ℕ → Type 0
+Unrisen before now = now ≡ before
+
+-- A count that is told steps by one, and stays told.
 abbrev pub CountsOne : Option ℕ → Option ℕ → Type 0
 CountsOne None now = ⊤
 CountsOne (Some count) now = now ≡ Some (one_more count)
@@ -28,13 +32,15 @@ CountsOne (Some count) now = now ≡ Some (one_more count)
 
 -- What a source tells of itself at a moment. `left` is the bytes that are left, and `reads` is how many reads there
 -- were: each is `None` if the source doesn't tell it. `ends` is how many reads answered `End`, and `faults` is how many
--- failed. `left_at_fault` is what was left at the read that failed last, and `Some None` before the first such read. It
--- is `None` if the source doesn't tell that.
+-- failed. `left_at_bytes` is what was left before the last read that gave bytes. `left_at_fault` is what was left at the
+-- read that failed last. Each of these two is `Some None` before the first such read, and `None` if the source doesn't
+-- tell it.
 pub record SourceTold : Type 0 where
   pub left : Option (List ℕ)
   pub reads : Option ℕ
   pub ends : ℕ
   pub faults : ℕ
+  pub left_at_bytes : Option (Option (List ℕ))
   pub left_at_fault : Option (Option (List ℕ))
 
 -- A read that gives bytes gives at least one, and no more than there is room for.
@@ -63,6 +69,13 @@ abbrev pub ReadFaultCounts : ℕ → ℕ → Got → Type 0
 ReadFaultCounts before now (Bytes n) = now ≡ before
 ReadFaultCounts before now End = now ≡ before
 ReadFaultCounts before now Failed = now ≡ one_more before
+
+-- What was left before the last read that gave bytes, if the source tells that. A read that gives bytes sets it to the
+-- bytes left before that read, and any other read keeps it. `left` is what the source tells to be left before the read.
+abbrev pub KeepsLeftAtBytes : Option (Option (List ℕ)) → Option (Option (List ℕ)) → Got → Option (List ℕ) → Type 0
+KeepsLeftAtBytes before now (Bytes n) left = now ≡ option_map (λ last. left) before
+KeepsLeftAtBytes before now End left = now ≡ before
+KeepsLeftAtBytes before now Failed left = now ≡ before
 
 -- What was left at the read that failed last, if the source tells that. A read that fails sets it to the bytes left
 -- before that read, and any other read keeps it. `left` is what the source tells to be left before the read.
@@ -98,10 +111,11 @@ WriteFaultCounts before now PutFailed = now ≡ one_more before
 -- A store --
 
 -- What a store tells of itself at a moment. `content` is what a name has: the bytes, or `Some None` if the name isn't
--- there, or `None` if the store doesn't tell it. `failed_name` is the name of the load that failed last, and none
--- before the first. `faults` is how many loads failed.
+-- there, or `None` if the store doesn't tell it. `loaded` is the names that were loaded, in the order of the loads.
+-- `failed_name` is the name of the load that failed last, and none before the first. `faults` is how many loads failed.
 pub record StoreTold : Type 0 where
   pub content : List ℕ → Option (Option (List ℕ))
+  pub loaded : List (List ℕ)
   pub failed_name : Option (List ℕ)
   pub faults : ℕ
 
@@ -126,6 +140,12 @@ LoadGives (Some None) OutOfMemory = ⊤
 LoadGives (Some (Some content)) (LoadedBytes bytes) = bytes.items ≡ take most_loaded content
 LoadGives (Some (Some content)) LoadFailed = ⊤
 LoadGives (Some (Some content)) OutOfMemory = ⊤
+
+-- A load appends its name to the names that were loaded. A load that runs out of memory may also leave them as they were.
+abbrev pub NotesLoad : List (List ℕ) → List (List ℕ) → Loaded → List ℕ → Type 0
+NotesLoad before now (LoadedBytes bytes) name = now ≡ before ++ name ∷ []
+NotesLoad before now LoadFailed name = now ≡ before ++ name ∷ []
+NotesLoad before now OutOfMemory name = (now ≡ before) ⊎ (now ≡ before ++ name ∷ [])
 
 -- The loads that fail are counted.
 abbrev pub LoadFaultCounts : ℕ → ℕ → Loaded → Type 0

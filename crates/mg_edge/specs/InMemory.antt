@@ -10,8 +10,8 @@ use Rattle.mg_edge.specs.Edge.{SourceTold, SinkTold, one_more}
 -- A source in memory --
 
 -- A source in memory, as contracts see it. It has the bytes that are left, the most that one read gives, and the
--- numbers of the reads that fail. It also has how many reads, ends and faults there were, and what was left at the read
--- that failed last.
+-- numbers of the reads that fail. It also has how many reads, ends and faults there were. And it has what was left before
+-- the last read that gave bytes, and what was left at the read that failed last.
 pub record SourceState : Type 0 where
   pub left : List ℕ
   pub piece : ℕ
@@ -19,12 +19,21 @@ pub record SourceState : Type 0 where
   pub reads : ℕ
   pub ends : ℕ
   pub faults : ℕ
+  pub left_at_bytes : Option (List ℕ)
   pub left_at_fault : Option (List ℕ)
 
 -- A source that nothing was read from yet.
 abbrev pub whole_source : List ℕ → ℕ → List ℕ → SourceState
-whole_source bytes piece failing =
-    record { left = bytes; piece = piece; failing = failing; reads = 0; ends = 0; faults = 0; left_at_fault = None }
+whole_source bytes piece failing = record {
+  left = bytes;
+  piece = piece;
+  failing = failing;
+  reads = 0;
+  ends = 0;
+  faults = 0;
+  left_at_bytes = None;
+  left_at_fault = None;
+}
 
 -- What a source in memory tells: all that a source can.
 abbrev pub source_told : SourceState → SourceTold
@@ -33,6 +42,7 @@ source_told source = record {
   reads = Some source.reads;
   ends = source.ends;
   faults = source.faults;
+  left_at_bytes = Some source.left_at_bytes;
   left_at_fault = Some source.left_at_fault;
 }
 
@@ -49,7 +59,8 @@ next_got source room =
 
 -- The source after a read with this answer.
 abbrev pub after_got : SourceState → Got → SourceState
-after_got source (Bytes n) = record source { left = drop n source.left; reads = one_more source.reads }
+after_got source (Bytes n) =
+    record source { left = drop n source.left; reads = one_more source.reads; left_at_bytes = Some source.left }
 after_got source End = record source { reads = one_more source.reads; ends = one_more source.ends }
 after_got source Failed =
     record source { reads = one_more source.reads; faults = one_more source.faults; left_at_fault = Some source.left }

@@ -1,5 +1,5 @@
 -- What contracts see of a store in memory, and what a load of it answers.
-use Rattle.std.specs.Prelude.{◌≡◌, ◌≢◌, ◌⊎◌, ℕ, List, Vec, String, take, Option, None, Some, ⊤}
+use Rattle.std.specs.Prelude.{◌≡◌, ◌≢◌, ◌⊎◌, ℕ, List, map, Vec, String, take, Option, None, Some, ⊤}
 use Rattle.std.specs.Option.{option_map}
 use Rattle.std.specs.String.{string_bytes}
 use Rattle.std.specs.BTreeMap.{get_by_text, BTreeMap}
@@ -25,6 +25,10 @@ failing_load store = store.failing
 abbrev pub loads_made : MemoryStore → ℕ
 loads_made store = store.loads
 
+-- The names that were loaded.
+abbrev pub names_loaded : MemoryStore → List (List ℕ)
+names_loaded store = map string_bytes store.loaded.items
+
 -- The name of the load that failed last.
 abbrev pub last_failed : MemoryStore → Option (List ℕ)
 last_failed store = option_map string_bytes store.failed_name
@@ -35,12 +39,18 @@ store_faults store = store.faults
 
 -- What a store in memory tells: all that a store can.
 abbrev pub store_told : MemoryStore → StoreTold
-store_told store =
-    record { content = λ name. Some (stored store name); failed_name = last_failed store; faults = store_faults store }
+store_told store = record {
+  content = λ name. Some (stored store name);
+  loaded = names_loaded store;
+  failed_name = last_failed store;
+  faults = store_faults store;
+}
 
--- The counts of loads and of faults, and the name of the load that failed last, are as they were.
+-- The counts of loads and of faults, the names that were loaded, and the name of the load that failed last are as they
+-- were.
 pub record KeepsCalls (old new : MemoryStore) : Type 0 where
   pub loads : loads_made new ≡ loads_made old
+  pub loaded : names_loaded new ≡ names_loaded old
   pub failed_name : last_failed new ≡ last_failed old
   pub faults : store_faults new ≡ store_faults old
 

@@ -1,8 +1,9 @@
-ghost use Rattle.std.specs.Prelude.{◌≡◌, Option, None, Some};
+ghost use Rattle.std.specs.Prelude.{◌≡◌, [], Option, None, Some};
 ghost use Rattle.std.specs.Option.{option_map};
 ghost use Rattle.mg_edge.specs.Edge.{LoadsWithin, LoadGives};
 ghost use Rattle.mg_edge.specs.Adapters.{folder_told};
 
+use crate::loaded_names::push_name;
 use crate::{Loaded, MOST_LOADED, Store};
 use std::alloc::Global;
 use std::fs;
@@ -14,18 +15,22 @@ use std::rt::Files;
 #[derive(Drop)]
 pub struct FolderStore<R> {
     rt: R,
+    loaded: Vec<String>,
     failed_name: Option<String>,
     faults: u64,
 }
 
 impl<R: Files + Drop> FolderStore<R> {
-    /// Makes a store over the files of a runtime. It takes the names that `std::fs` takes.
-    pub fn new(rt: R) -> FolderStore<R>
+    /// Makes a store over the files of a runtime, with no load yet. It takes the names that `std::fs` takes. The names that are
+    /// loaded are kept in memory of `alloc`.
+    pub fn new(alloc: Global, rt: R) -> FolderStore<R>
+        ensures loaded { (⟦<FolderStore<R> as Store>⟧.told result).loaded ≡ [] }
         ensures failed_name { (⟦<FolderStore<R> as Store>⟧.told result).failed_name ≡ None }
         ensures faults { (⟦<FolderStore<R> as Store>⟧.told result).faults ≡ 0 }
     {
         FolderStore {
             rt,
+            loaded: Vec::new(alloc),
             failed_name: None,
             faults: 0,
         }
@@ -39,10 +44,13 @@ impl<R: Files + Drop> Store for FolderStore<R> {
         let Ok(copy) = String::from_str(alloc, name) else {
             return Loaded::OutOfMemory;
         };
+        if push_name(alloc, &mut self.loaded, name).is_err() {
+            return Loaded::OutOfMemory;
+        }
         let loaded = read_file(&self.rt, alloc, name);
         if let Loaded::Failed = loaded {
             self.failed_name = Some(copy);
-            self.faults = self.faults.saturating_add(1);
+            self.faults = self.faults.wrapping_add(1);
         }
         loaded
     }

@@ -1,8 +1,8 @@
-//! Laws of several calls in a row, over the definitions alone.
+//! Laws of several calls in a row, and of counts, over the definitions alone.
 ghost use Rattle.std.specs.Prelude.{◌≡◌, ℕ, List, Option, ◌++◌, take, IfSome};
 ghost use Rattle.mg_edge.specs.declared.source.Got.TheVariants.{Bytes, End, Failed};
 ghost use Rattle.mg_edge.specs.declared.sink.Put.TheVariants.{Took};
-ghost use Rattle.mg_edge.specs.Edge.{ReadTakes, WriteAppends};
+ghost use Rattle.mg_edge.specs.Edge.{ReadTakes, WriteAppends, HasRisen, one_more};
 ghost use Rattle.mg_edge.specs.Runs.{Gave, TookAll};
 
 /// A read after others gives the bytes that follow theirs.
@@ -27,4 +27,9 @@ pub fn reads_to_the_end_give_all()
 pub fn writes_append_in_order()
     ensures { (first before now : Option (List ℕ)) (bytes piece : List ℕ) (n : ℕ)
         → TookAll first before bytes → WriteAppends before now (Took n) piece → TookAll first now (bytes ++ take n piece) }
+{}
+
+/// A count has risen if it stepped once, also from the greatest count.
+pub fn a_step_is_a_rise()
+    ensures { (before now : ℕ) → now ≡ one_more before → HasRisen before now }
 {}

@@ -6,6 +6,7 @@
 mod folder_store;
 mod gate;
 pub mod laws;
+mod loaded_names;
 mod memory_sink;
 mod memory_source;
 mod memory_store;

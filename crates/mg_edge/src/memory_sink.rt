@@ -74,14 +74,14 @@ impl MemorySink {
         &self.taken
     }
 
-    /// Returns how many writes there were. It stays at 2^64 - 1 once it is there.
+    /// Returns how many writes there were. After 2^64 - 1 it goes on from 0.
     pub fn writes(&self) -> u64
         ensures { result ≡ self.now.writes }
     {
         self.writes
     }
 
-    /// Returns how many writes failed. It stays at 2^64 - 1 once it is there.
+    /// Returns how many writes failed. After 2^64 - 1 it goes on from 0.
     pub fn faults(&self) -> u64
         ensures { result ≡ self.now.faults }
     {
@@ -101,10 +101,10 @@ impl Sink for MemorySink {
         ensures after { self.new ≡ after_put self.old piece.now result }
     {
         let number = self.writes;
-        self.writes = number.saturating_add(1);
+        self.writes = number.wrapping_add(1);
         let left = self.room - self.taken.len();
         if left == 0 || self.failing.contains(&number) {
-            self.faults = self.faults.saturating_add(1);
+            self.faults = self.faults.wrapping_add(1);
             return Put::Failed;
         }
         let count = piece.len().min(self.most).min(left);

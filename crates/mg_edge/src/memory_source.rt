@@ -1,5 +1,5 @@
 ghost use Rattle.std.specs.Prelude.{◌≡◌, ◌<◌, ◌≤◌, length, take, IfOk, Some};
-ghost use Rattle.mg_edge.specs.Edge.{GivesWithin, ReadTakes, CountsOne, EndCounts, ReadFaultCounts, KeepsLeftAtFault};
+ghost use Rattle.mg_edge.specs.Edge.{GivesWithin, ReadTakes, CountsOne, EndCounts, ReadFaultCounts, KeepsLeftAtBytes, KeepsLeftAtFault};
 ghost use Rattle.mg_edge.specs.InMemory.{SourceState, whole_source, source_told, next_got, after_got};
 
 use crate::{Got, Source};
@@ -8,7 +8,7 @@ use std::marker::Model;
 
 /// A source over bytes in memory, which fails at the reads that it is told to. Contracts see the bytes that are left,
 /// the most that one read gives, and the numbers of the reads that fail. They also see how many reads, ends and faults
-/// there were, and what was left at the read that failed last.
+/// there were. And they see what was left before the last read that gave bytes, and at the read that failed last.
 #[derive(Drop)]
 pub struct MemorySource {
     bytes: Vec<u8>,
@@ -18,6 +18,8 @@ pub struct MemorySource {
     reads: u64,
     ends: u64,
     faults: u64,
+    // The place in the bytes at which the last read that gave bytes began, if one did.
+    gave_at: Option<usize>,
     // The place in the bytes at which the read that failed last stood, if one failed.
     failed_at: Option<usize>,
 }
@@ -36,6 +38,7 @@ impl Model for MemorySource {
       reads = s.reads;
       ends = s.ends;
       faults = s.faults;
+      left_at_bytes = option_map (λ at. drop at s.bytes.items) s.gave_at;
       left_at_fault = option_map (λ at. drop at s.bytes.items) s.failed_at;
     } };
 
@@ -62,25 +65,26 @@ impl MemorySource {
             reads: 0,
             ends: 0,
             faults: 0,
+            gave_at: None,
             failed_at: None,
         })
     }
 
-    /// Returns how many reads there were. It stays at 2^64 - 1 once it is there.
+    /// Returns how many reads there were. After 2^64 - 1 it goes on from 0.
     pub fn reads(&self) -> u64
         ensures { result ≡ self.now.reads }
     {
         self.reads
     }
 
-    /// Returns how many reads answered `End`. It stays at 2^64 - 1 once it is there.
+    /// Returns how many reads answered `End`. After 2^64 - 1 it goes on from 0.
     pub fn ends(&self) -> u64
         ensures { result ≡ self.now.ends }
     {
         self.ends
     }
 
-    /// Returns how many reads failed. It stays at 2^64 - 1 once it is there.
+    /// Returns how many reads failed. After 2^64 - 1 it goes on from 0.
     pub fn faults(&self) -> u64
         ensures { result ≡ self.now.faults }
     {
@@ -98,24 +102,26 @@ impl Source for MemorySource {
         ensures counted { CountsOne (Some self.old.reads) (Some self.new.reads) }
         ensures end { EndCounts self.old.ends self.new.ends result }
         ensures fault { ReadFaultCounts self.old.faults self.new.faults result }
+        ensures left_at_bytes { KeepsLeftAtBytes (Some self.old.left_at_bytes) (Some self.new.left_at_bytes) result (Some self.old.left) }
         ensures left_at_fault { KeepsLeftAtFault (Some self.old.left_at_fault) (Some self.new.left_at_fault) result (Some self.old.left) }
         ensures answer { result ≡ next_got self.old (length buf.new) }
         ensures after { self.new ≡ after_got self.old result }
     {
         let number = self.reads;
-        self.reads = number.saturating_add(1);
+        self.reads = number.wrapping_add(1);
         if self.failing.contains(&number) {
-            self.faults = self.faults.saturating_add(1);
+            self.faults = self.faults.wrapping_add(1);
             self.failed_at = Some(self.at);
             return Got::Failed;
         }
         let left = &self.bytes[self.at..];
         let count = self.piece.min(buf.len()).min(left.len());
         if count == 0 {
-            self.ends = self.ends.saturating_add(1);
+            self.ends = self.ends.wrapping_add(1);
             return Got::End;
         }
         copy_to_front(buf, &left[..count]);
+        self.gave_at = Some(self.at);
         self.at += count;
         Got::Bytes(count)
     }

@@ -1,10 +1,11 @@
-ghost use Rattle.std.specs.Prelude.{◌≡◌, ◌≢◌, ℕ, List, None, Some, OnOk, OnErr};
+ghost use Rattle.std.specs.Prelude.{◌≡◌, ◌≢◌, ℕ, List, [], None, Some, OnOk, OnErr};
 ghost use Rattle.std.specs.Option.{option_map};
-ghost use Rattle.mg_edge.specs.Edge.{LoadsWithin, LoadGives, LoadFaultCounts, KeepsFailedName, one_more};
-ghost use Rattle.mg_edge.specs.MemoryStore.{stored, failing_load, loads_made, last_failed, store_faults, store_told, content_at};
+ghost use Rattle.mg_edge.specs.Edge.{LoadsWithin, LoadGives, NotesLoad, LoadFaultCounts, KeepsFailedName, one_more};
+ghost use Rattle.mg_edge.specs.MemoryStore.{stored, failing_load, loads_made, names_loaded, last_failed, store_faults, store_told, content_at};
 ghost use Rattle.mg_edge.specs.MemoryStore.{KeepsCalls, AnswersLoad};
 ghost use Rattle.mg_edge.specs.Code.{LooksUp, IsFrontOf};
 
+use crate::loaded_names::push_name;
 use crate::{Loaded, MOST_LOADED, Store};
 use std::alloc::{AllocError, Global};
 use std::collections::BTreeMap;
@@ -16,6 +17,7 @@ pub struct MemoryStore {
     contents: BTreeMap<String, Vec<u8>>,
     failing: Option<u64>,
     loads: u64,
+    loaded: Vec<String>,
     failed_name: Option<String>,
     faults: u64,
 }
@@ -26,6 +28,7 @@ impl MemoryStore {
         ensures contents { (name : List ℕ) → stored result name ≡ None }
         ensures failing { failing_load result ≡ None }
         ensures loads { loads_made result ≡ 0 }
+        ensures loaded { names_loaded result ≡ [] }
         ensures failed_name { last_failed result ≡ None }
         ensures faults { store_faults result ≡ 0 }
     {
@@ -34,6 +37,7 @@ impl MemoryStore {
             contents: BTreeMap::new(alloc),
             failing: None,
             loads: 0,
+            loaded: Vec::new(alloc),
             failed_name: None,
             faults: 0,
         }
@@ -63,14 +67,14 @@ impl MemoryStore {
         self.failing = Some(call);
     }
 
-    /// Returns how many loads there were. It stays at 2^64 - 1 once it is there.
+    /// Returns how many loads there were. After 2^64 - 1 it goes on from 0.
     pub fn loads(&self) -> u64
         ensures { result ≡ loads_made self.now }
     {
         self.loads
     }
 
-    /// Returns how many loads failed. It stays at 2^64 - 1 once it is there.
+    /// Returns how many loads failed. After 2^64 - 1 it goes on from 0.
     pub fn faults(&self) -> u64
         ensures { result ≡ store_faults self.now }
     {
@@ -95,6 +99,7 @@ impl Store for MemoryStore {
         ensures kept { (other : List ℕ) → Some (stored self.new other) ≡ Some (stored self.old other) }
         ensures bound { LoadsWithin result }
         ensures bytes { LoadGives (Some (stored self.old name.now)) result }
+        ensures loaded { NotesLoad (names_loaded self.old) (names_loaded self.new) result name.now }
         ensures failed_name { KeepsFailedName (last_failed self.old) (last_failed self.new) result name.now }
         ensures fault { LoadFaultCounts (store_faults self.old) (store_faults self.new) result }
         ensures answer { AnswersLoad self.old name.now result }
@@ -102,15 +107,18 @@ impl Store for MemoryStore {
         ensures failing { failing_load self.new ≡ failing_load self.old }
     {
         let number = self.loads;
-        self.loads = number.saturating_add(1);
+        self.loads = number.wrapping_add(1);
         let Ok(copy) = String::from_str(alloc, name) else {
             return Loaded::OutOfMemory;
         };
+        if push_name(alloc, &mut self.loaded, name).is_err() {
+            return Loaded::OutOfMemory;
+        }
         let fails = self.failing == Some(number);
         match look_up(alloc, &self.contents, name, fails) {
             Loaded::Failed => {
                 self.failed_name = Some(copy);
-                self.faults = self.faults.saturating_add(1);
+                self.faults = self.faults.wrapping_add(1);
                 Loaded::Failed
             }
             Loaded::Bytes(bytes) => Loaded::Bytes(bytes),

@@ -19,7 +19,7 @@ pub struct ReaderSource<R> {
 impl<R: Read + Drop> ReaderSource<R> {
     /// Makes a source over a reader, with no end and no fault counted yet.
     pub fn new(reader: R) -> ReaderSource<R>
-        ensures { ⟦<ReaderSource<R> as Source>⟧.told result ≡ record { left = R.remaining reader; reads = None; ends = 0; faults = 0; left_at_fault = None } }
+        ensures { ⟦<ReaderSource<R> as Source>⟧.told result ≡ record { left = R.remaining reader; reads = None; ends = 0; faults = 0; left_at_bytes = None; left_at_fault = None } }
     {
         ReaderSource {
             reader,
@@ -35,12 +35,12 @@ impl<R: Read + Drop> Source for ReaderSource<R> {
     fn read(&mut self, buf: &mut [u8]) -> Got {
         match read_uninterrupted(&mut self.reader, buf) {
             Ok(0) => {
-                self.ends = self.ends.saturating_add(1);
+                self.ends = self.ends.wrapping_add(1);
                 Got::End
             }
             Ok(count) => Got::Bytes(count),
             Err(_) => {
-                self.faults = self.faults.saturating_add(1);
+                self.faults = self.faults.wrapping_add(1);
                 Got::Failed
             }
         }

@@ -1,5 +1,5 @@
 ghost use Rattle.std.specs.Prelude.{◌<◌, length};
-ghost use Rattle.mg_edge.specs.Edge.{SourceTold, GivesWithin, ReadTakes, CountsOne, EndCounts, ReadFaultCounts, KeepsLeftAtFault};
+ghost use Rattle.mg_edge.specs.Edge.{SourceTold, GivesWithin, ReadTakes, CountsOne, EndCounts, ReadFaultCounts, KeepsLeftAtBytes, KeepsLeftAtFault};
 
 /// What a read answers.
 #[derive(Clone, Copy, Debug, PartialEq, Eq)]
@@ -28,5 +28,6 @@ pub trait Source {
         ensures counted { CountsOne (told self.old).reads (told self.new).reads }
         ensures end { EndCounts (told self.old).ends (told self.new).ends result }
         ensures fault { ReadFaultCounts (told self.old).faults (told self.new).faults result }
+        ensures left_at_bytes { KeepsLeftAtBytes (told self.old).left_at_bytes (told self.new).left_at_bytes result (told self.old).left }
         ensures left_at_fault { KeepsLeftAtFault (told self.old).left_at_fault (told self.new).left_at_fault result (told self.old).left };
 }

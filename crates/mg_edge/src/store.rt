@@ -1,5 +1,5 @@
 ghost use Rattle.std.specs.Prelude.{◌≡◌, ℕ, List};
-ghost use Rattle.mg_edge.specs.Edge.{StoreTold, LoadsWithin, LoadGives, LoadFaultCounts, KeepsFailedName};
+ghost use Rattle.mg_edge.specs.Edge.{StoreTold, LoadsWithin, LoadGives, NotesLoad, LoadFaultCounts, KeepsFailedName};
 
 use std::alloc::Global;
 
@@ -24,11 +24,13 @@ pub trait Store {
 
     /// Loads the content of a name.
     ///
-    /// It changes no content. A load that fails leaves its name as the name of the load that failed last.
+    /// It changes no content. The name is appended to the names that were loaded. A load that fails leaves its name as the name of
+    /// the load that failed last.
     fn load(&mut self, alloc: Global, name: &str) -> Loaded
         ensures kept { (other : List ℕ) → (told self.new).content other ≡ (told self.old).content other }
         ensures bound { LoadsWithin result }
         ensures bytes { LoadGives ((told self.old).content name.now) result }
+        ensures loaded { NotesLoad (told self.old).loaded (told self.new).loaded result name.now }
         ensures failed_name { KeepsFailedName (told self.old).failed_name (told self.new).failed_name result name.now }
         ensures fault { LoadFaultCounts (told self.old).faults (told self.new).faults result };
 }

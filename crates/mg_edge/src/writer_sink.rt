@@ -32,7 +32,7 @@ impl<W: Write + Drop> Sink for WriterSink<W> {
     fn write(&mut self, piece: &[u8]) -> Put {
         match write_uninterrupted(&mut self.writer, piece) {
             Ok(0) | Err(_) => {
-                self.faults = self.faults.saturating_add(1);
+                self.faults = self.faults.wrapping_add(1);
                 Put::Failed
             }
             Ok(count) => Put::Took(count),

@@ -7,9 +7,8 @@ use Rattle.mg_feed.specs.Lines.{all_lines, whole_lines, with_feed, completed, No
 use Rattle.mg_feed.specs.Accepted.{longest_line, accepted, accepted_after}
 use Rattle.mg_feed.specs.View.{before_seen}
 use Rattle.mg_feed.specs.Graph.{GraphInputs}
-use Rattle.mg_feed.specs.Stands.{HasAccepted, AllGood}
+use Rattle.mg_feed.specs.Stands.{HasAccepted}
 use Rattle.mg_feed.specs.Fed.{Fed, Reading}
-use Rattle.mg_feed.specs.Once.{longest_block, StopsInTime}
 use Rattle.mg_feed.specs.Came.{Came, Judged, arrived_bytes}
 use Rattle.mg_feed.specs.Code.Moves.{Grows, EndsReading, TookLine, NextLine}
 use Rattle.mg_feed.specs.declared.line_fault.LineFault.{LineFault}
@@ -17,29 +16,7 @@ use Rattle.mg_feed.specs.declared.line_fault.LineFault.TheVariants.{TooLong}
 use Rattle.mg_feed.specs.declared.feed_end.FeedEnd.TheVariants.{Ended, Failed, Refused}
 use Rattle.mg_feed.proofs.Holding.{stands-next, refusal-seen}
 use Rattle.mg_feed.proofs.Cutting.{cut-more, cut-line, cut-all, cut-whole, cut-rest, cut-end, cut-ended, all_lines-line, all_lines-begin, all_lines-completed}
-use Rattle.mg_feed.proofs.Accepting.{good-behind, accepted-good, judged-good, judged-stop, long-refused}
-
--- How far it was read --
-
--- nothing was
-pub stops-nothing : (graph : GraphInputs) (first : List (List ℕ)) → StopsInTime graph first []
-stops-nothing graph first = record { before = []; block = []; split = refl; few = omega arith; good = tt; open_line = omega arith }
-
--- no more came
-stops-same : (g h : GraphInputs) (first : List (List ℕ)) (past : List ℕ) → h ≡ g → StopsInTime g first past → StopsInTime h first (past ++ [])
-stops-same g h first past same stops = rw (append-nil past, same) stops
-
--- a block came after good lines, and the line that these leave open isn't too long
-stops-block : (graph : GraphInputs) (first lines : List (List ℕ)) (past kept came : List ℕ) → AllGood graph [] (first ++ lines) → IsCut past lines kept → NoFeed kept → length kept ≤ longest_line
-    → length came ≤ longest_block → StopsInTime graph first (past ++ came)
-stops-block graph first lines past kept came good cut none short few = record {
-  before = past;
-  block = came;
-  split = refl;
-  few = few;
-  good = subst (λ (l : List (List ℕ)). AllGood graph first l) (cut-whole past lines kept cut none) (good-behind graph [] first lines good);
-  open_line = subst (λ (l : List ℕ). length l ≤ longest_line) (sym (cut-rest past lines kept cut none)) short;
-}
+use Rattle.mg_feed.proofs.Accepting.{accepted-good, judged-good, judged-stop, long-refused}
 
 -- One step --
 
@@ -49,19 +26,16 @@ grows-line named old new t first past lines gone c = record {
   stands = subst (λ (l : List (List ℕ)). HasAccepted l gone new.view) (append_assoc first lines (t.line ∷ []))
       (stands-next (first ++ lines) gone old.view new.view t.line c.stands t.good t.view).1;
   cut = rw (append-nil past, t.ended) (cut-line (arrived_bytes old.read.ended past) lines old.read.kept t.line new.read.kept c.cut t.cut t.none);
-  stops = stops-same old.view.graph new.view.graph first past (ap (λ v. v.graph) t.view) c.stops;
 }
 
 -- bytes came
 pub grows-bytes : (old new : Fed) (came : List ℕ) → new.view ≡ old.view → old.read.ended ≡ false → new.read.ended ≡ false → new.read.kept ≡ old.read.kept ++ came
-    → NoFeed old.read.kept → length old.read.kept ≤ longest_line → length came ≤ longest_block → Grows old new came []
-grows-bytes old new came view before ended kept none short few first past lines gone c =
+    → Grows old new came []
+grows-bytes old new came view before ended kept first past lines gone c =
     let cut : IsCut past lines old.read.kept = subst (λ (b : Bool). IsCut (arrived_bytes b past) lines old.read.kept) before c.cut in
     record {
       stands = rw (append-nil lines, view) c.stands;
       cut = rw (ended, kept, append-nil lines) (cut-more past lines old.read.kept came cut);
-      stops = subst (λ (g : GraphInputs). StopsInTime g first (past ++ came)) (sym (ap (λ v. v.graph) view))
-          (stops-block old.view.graph first lines past old.read.kept came c.stands.good cut none short few);
     }
 
 -- the source ended, and no line feed was left
@@ -71,7 +45,6 @@ grows-end old new view before ended none kept first past lines gone c = record {
   stands = rw (append-nil lines, view) c.stands;
   cut = rw (ended, kept, append-nil lines, append-nil past) (cut-end past lines old.read.kept
       (subst (λ (b : Bool). IsCut (arrived_bytes b past) lines old.read.kept) before c.cut) none);
-  stops = stops-same old.view.graph new.view.graph first past (ap (λ v. v.graph) view) c.stops;
 }
 
 pub grows-same : (f : Fed) → Grows f f [] []
@@ -133,16 +106,14 @@ pub came-nothing : (lines : List (List ℕ)) (gone : List (List (Stamped Plain))
 came-nothing lines gone f unread stands = record {
   stands = rw append-nil stands;
   cut = subst (λ (r : Reading). IsCut (arrived_bytes r.ended []) [] r.kept) (sym unread) (record { whole = tt; is = refl });
-  stops = stops-nothing f.view.graph lines;
 }
 
 -- packets were taken
 pub came-taken : (first : List (List ℕ)) (came : List ℕ) (lines : List (List ℕ)) (gone gone' : List (List (Stamped Plain))) (f g : Fed) → Came first came lines gone f → g.read ≡ f.read
-    → g.view.graph ≡ f.view.graph → HasAccepted (first ++ lines) gone' g.view → Came first came lines gone' g
-came-taken first came lines gone gone' f g it same graph stands = record {
+    → HasAccepted (first ++ lines) gone' g.view → Came first came lines gone' g
+came-taken first came lines gone gone' f g it same stands = record {
   stands = stands;
   cut = subst (λ (r : Reading). IsCut (arrived_bytes r.ended came) lines r.kept) (sym same) it.cut;
-  stops = subst (λ (g : GraphInputs). StopsInTime g first came) (sym graph) it.stops;
 }
 
 -- the lines that were accepted so far are the first accepted lines of the whole input

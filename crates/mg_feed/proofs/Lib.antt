@@ -21,6 +21,7 @@ pub mod Judging
 pub mod Growing
 pub mod Joining
 pub mod Coming
+pub mod Timely
 pub mod Moving
 pub mod Stepping
 pub mod JsonParts

@@ -5,17 +5,19 @@ use mir.Val.{bool_byte}
 use Rattle.mg_edge.specs.Edge.{SourceTold, CountsOne, one_more}
 use Rattle.mg_edge.specs.Runs.{Gave}
 use Rattle.mg_edge.proofs.Runs.{Gave-start}
+use Rattle.mg_edge.proofs.Counts.{one_more-few}
 use Rattle.mg_feed.specs.Graph.{GraphInputs}
 use Rattle.mg_feed.specs.Lines.{with_feed, but_last}
 use Rattle.mg_feed.specs.Accepted.{names_stream}
 use Rattle.mg_feed.specs.Fed.{Fed}
 use Rattle.mg_feed.specs.Ran.{EndCame, MetEnd, late, Spends, Unfailed, ReadFailed, FailedBy}
-use Rattle.mg_feed.specs.Batch.{EndsAs, CutsAt, HasReadBatch, naming}
+use Rattle.mg_feed.specs.Batch.{EndsAs, CutsAt, ReadsInTime, HasReadBatch, naming}
 use Rattle.mg_feed.specs.Code.Moves.{Grows, TookLine, Moved, Stopped, weight}
 use Rattle.mg_feed.specs.declared.feed_end.FeedEnd.{FeedEnd}
 use Rattle.mg_feed.specs.declared.feed_end.FeedEnd.TheVariants.{Ended, Failed, Refused, OutOfMemory}
 use Rattle.mg_feed.specs.declared.feed_end.BatchEnd.TheVariants.{More, End}
 use Rattle.mg_feed.proofs.Coming.{grows-line, grows-same, grows-then}
+use Rattle.mg_feed.proofs.Timely.{timely-none, timely-then}
 
 -- Sources --
 
@@ -76,7 +78,7 @@ pub spends-read : (a b : ℕ) (first now : Option (List ℕ)) (reads counted : O
 spends-read a b None now reads counted came gave counts some = tt
 spends-read a b (Some bytes) now None counted came gave counts some = tt
 spends-read a b (Some bytes) now (Some was) counted came (left, told, split) counts some =
-    (left, one_more was, told, counts, omega (arith, some, ap length split, length-append came left))
+    (left, one_more was, told, counts, omega (arith, one_more-few was, some, ap length split, length-append came left))
 
 pub unfailed-same : (told : SourceTold) → Unfailed told told
 unfailed-same told = record { steady = refl; last = refl }
@@ -90,6 +92,7 @@ pub moved-same : (told : SourceTold) (f : Fed) → Moved told told f f [] []
 moved-same told f = record {
   gave = Gave-start told.left;
   grows = grows-same f;
+  stops = timely-none told told f (Gave-start told.left) refl;
   graph = refl;
   number = omega arith;
   met = met-same f.read.ended told;
@@ -102,6 +105,7 @@ pub moved-then : (first before now : SourceTold) (a b c : Fed) (came came' : Lis
 moved-then first before now a b c came came' taken taken' one two = record {
   gave = gave-then first.left before.left now.left came came' one.gave two.gave;
   grows = grows-then a b c came came' taken taken' one.grows two.grows;
+  stops = timely-then first before now a b came came' taken one.grows one.graph one.gave one.stops two.stops;
   graph = two.graph ∙ one.graph;
   number = omega (arith, one.number, two.number, length-append taken taken');
   met = met-then a.read.ended b.read.ended c.read.ended first before now came one.gave one.met two.met;
@@ -126,6 +130,7 @@ pub moved-line : (named : Bool) (told : SourceTold) (a b : Fed) (t : TookLine na
 moved-line named told a b t = record {
   gave = Gave-start told.left;
   grows = grows-line named a b t;
+  stops = timely-none told told a (Gave-start told.left) refl;
   graph = ap (λ v. v.graph) t.view;
   number = ap (λ v. v.lines) t.view;
   met = met-line a.read.ended b.read.ended told t.ended;
@@ -216,6 +221,7 @@ batch-cut early most first now a b came taken m cut = record {
   number = m.number;
   filled = cut;
   accepted = λ start past lines gone c. (m.grows start past lines gone c, tt);
+  stops = m.stops;
 }
 
 pub batch-more : (early : Bool) (most : ℕ) (first now : SourceTold) (a b : Fed) (came : List ℕ) (taken : List (List ℕ)) → Moved first now a b came taken → naming taken ≡ most → IsShort most taken
@@ -242,6 +248,7 @@ batch-stop early most end first before now a b c came taken m s few =
       accepted = λ start past lines gone it.
           let now_it = grows start past lines gone it in
           (now_it, subst (λ (g : GraphInputs). EndsAs end g start (past ++ came) (lines ++ taken) c.read.ended) graph (s.ends start (past ++ came) (lines ++ taken) gone now_it));
+      stops = subst (λ (l : List ℕ). ReadsInTime first now a l) (append-nil came) (timely-then first before now a b came [] taken m.grows m.graph m.gave m.stops (timely-none before now b s.gave s.last));
     }
 
 -- a batch takes no more lines that name a stream than it takes lines

@@ -20,6 +20,7 @@ use Rattle.mg_feed.proofs.Cutting.{no_feed-of, no_feed-append}
 use Rattle.mg_feed.proofs.Accepting.{long-refused}
 use Rattle.mg_feed.proofs.Blocks.{drop-twice}
 use Rattle.mg_feed.proofs.Coming.{grows-bytes, grows-end, ends-ended, ends-failed}
+use Rattle.mg_feed.proofs.Timely.{timely-none, timely-block}
 use Rattle.mg_feed.proofs.Moving.{met-same, spends-late, spends-read, unfailed-same}
 
 -- Reads --
@@ -34,7 +35,8 @@ pub moved-bytes : (old new : Fed) (before now : SourceTold) → new.view ≡ old
     → (got : GotBytes old.read new.read before now) → Moved before now old new got.bytes []
 moved-bytes old new before now view was none short got = record {
   gave = got.gave;
-  grows = grows-bytes old new got.bytes view was got.ended got.kept none short got.few;
+  grows = grows-bytes old new got.bytes view was got.ended got.kept;
+  stops = timely-block before now old got.bytes was none short got.some got.few got.gave got.last;
   graph = ap (λ v. v.graph) view;
   number = let same : new.view.lines ≡ old.view.lines = ap (λ v. v.lines) view in omega (arith, same);
   met = met-open old.read.ended new.read.ended before now was got.ended got.ends;
@@ -49,6 +51,7 @@ pub moved-end : (old new : Fed) (before now : SourceTold) → new.view ≡ old.v
 moved-end old new before now view was none got = record {
   gave = got.gave;
   grows = grows-end old new view was got.ended none got.kept;
+  stops = timely-none before now old got.gave got.last;
   graph = ap (λ v. v.graph) view;
   number = let same : new.view.lines ≡ old.view.lines = ap (λ v. v.lines) view in omega (arith, same);
   met = met-end old.read.ended new.read.ended before now was got.ended got.came;
@@ -65,6 +68,7 @@ stopped-failed old new before now same was none got =
     let is : new.read.ended ≡ false = ap (λ f. f.read.ended) same ∙ was in
     record {
       gave = got.gave;
+      last = got.last;
       same = same;
       met = met-open old.read.ended new.read.ended before now was is got.ends;
       spent =
@@ -81,6 +85,7 @@ stopped-failed old new before now same was none got =
 stopped-here : (end : FeedEnd) (old new : Fed) (told : SourceTold) → new ≡ old → (FailedBy end told told) → HasCause end → EndsReading end old → Stopped end told told old new
 stopped-here end old new told same failed cause ends = record {
   gave = Gave-start told.left;
+  last = refl;
   same = same;
   met = subst (λ (f : Fed). MetEnd old.read.ended f.read.ended told told) (sym same) (met-same old.read.ended told);
   spent = spends-late old.read.ended told.left told.reads;

@@ -8,7 +8,7 @@ use Rattle.mg_feed.specs.Graph.{GraphInputs}
 use Rattle.mg_feed.specs.Lines.{all_lines, whole_lines, but_last}
 use Rattle.mg_feed.specs.Accepted.{names_stream, longest_line}
 use Rattle.mg_feed.specs.Fed.{Fed}
-use Rattle.mg_feed.specs.Once.{longest_block}
+use Rattle.mg_feed.specs.Once.{longest_block, StopsInTime}
 use Rattle.mg_feed.specs.Came.{Came, Judged}
 use Rattle.mg_feed.specs.Ran.{late, Unfailed, FailedBy}
 use Rattle.mg_feed.specs.declared.line_fault.LineFault.TheVariants.{OutOfMemory as no_memory}
@@ -37,6 +37,13 @@ HasCause (Failed number) = ⊤
 HasCause (Refused number cause) = cause ≢ no_memory
 HasCause OutOfMemory = ⊤
 
+-- A call of a feed after which these bytes had come reads no further than it may. If the reads since an earlier moment stopped in time
+-- before the call, they did so after it.
+abbrev pub ReadsInTime : SourceTold → SourceTold → Fed → List ℕ → Type 0
+ReadsInTime before now old came = (origin : SourceTold) (first : List (List ℕ)) (past : List ℕ) (lines : List (List ℕ)) (gone : List (List (Stamped Plain)))
+    → Came first past lines gone old → Gave origin.left before.left past → StopsInTime old.view.graph first origin before past
+    → StopsInTime old.view.graph first origin now (past ++ came)
+
 -- A call that reads an input to its end. These bytes came. The call took these lines of the bytes that were kept and of the bytes
 -- that came.
 pub record HasRead (end : FeedEnd) (before now : SourceTold) (old new : Fed) : Type 0 where
@@ -46,6 +53,7 @@ pub record HasRead (end : FeedEnd) (before now : SourceTold) (old new : Fed) : T
   pub number : new.view.lines ≡ old.view.lines + length taken
   pub accepted : (first : List (List ℕ)) (past : List ℕ) (lines : List (List ℕ)) (gone : List (List (Stamped Plain))) → Came first past lines gone old
       → Came first (past ++ came) (lines ++ taken) gone new × EndsAs end old.view.graph first (past ++ came) (lines ++ taken) new.read.ended
+  pub stops : ReadsInTime before now old came
 
 -- the most bytes that a feed keeps: those of a line that isn't whole yet, and a block
 abbrev pub most_kept : ℕ
@@ -100,3 +108,4 @@ pub record HasReadBatch (early : Bool) (most : ℕ) (end : BatchEnd) (before now
   pub filled : CutsAt early end most taken
   pub accepted : (first : List (List ℕ)) (past : List ℕ) (lines : List (List ℕ)) (gone : List (List (Stamped Plain))) → Came first past lines gone old
       → Came first (past ++ came) (lines ++ taken) gone new × BatchEndsAs end old.view.graph first (past ++ came) (lines ++ taken) new.read.ended
+  pub stops : ReadsInTime before now old came

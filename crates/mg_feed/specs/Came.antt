@@ -8,18 +8,16 @@ use Rattle.mg_feed.specs.Lines.{IsCut, completed}
 use Rattle.mg_feed.specs.Accepted.{Refused, accepted_after, first_refused_after}
 use Rattle.mg_feed.specs.Stands.{HasAccepted}
 use Rattle.mg_feed.specs.Fed.{Fed}
-use Rattle.mg_feed.specs.Once.{StopsInTime}
 
 -- the bytes that came, and a line feed if the input has ended without one
 abbrev pub arrived_bytes : Bool → List ℕ → List ℕ
 arrived_bytes ended came = if ended then completed came else came
 
 -- After the first lines, which came in another way, the feed accepted these lines of the bytes that came. The bytes after these
--- lines are kept, and no block was read after a line that isn't good.
+-- lines are kept.
 pub record Came (first : List (List ℕ)) (came : List ℕ) (lines : List (List ℕ)) (gone : List (List (Stamped Plain))) (f : Fed) : Type 0 where
   pub stands : HasAccepted (first ++ lines) gone f.view
   pub cut : IsCut (arrived_bytes f.read.ended came) lines f.read.kept
-  pub stops : StopsInTime f.view.graph first came
 
 -- Of the lines `all`, which come after the lines `first`, these are accepted, and this is the first that isn't good, if there is one.
 abbrev pub Judged : GraphInputs → List (List ℕ) → List (List ℕ) → List (List ℕ) → Option Refused → Type 0

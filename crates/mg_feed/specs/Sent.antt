@@ -1,6 +1,6 @@
 -- What a sink took of a text.
 use Rattle.std.specs.Prelude.{◌≡◌, ℕ, List, ◌++◌, Bool, true, false}
-use Rattle.mg_edge.specs.Edge.{SinkTold, Rose}
+use Rattle.mg_edge.specs.Edge.{SinkTold, HasRisen}
 use Rattle.mg_edge.specs.Runs.{TookAll}
 
 -- A sink took a whole text, and no write failed.
@@ -14,7 +14,7 @@ pub record SentPart (before now : SinkTold) (text : List ℕ) : Type 0 where
   pub rest : List ℕ
   pub cut : text ≡ front ++ rest
   pub taken : TookAll before.taken now.taken front
-  pub rose : Rose before.faults now.faults
+  pub rose : HasRisen before.faults now.faults
 
 -- what a sink took of a text, by whether all of it was sent
 abbrev pub Sent : Bool → SinkTold → SinkTold → List ℕ → Type 0

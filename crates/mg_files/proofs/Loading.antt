@@ -1,13 +1,14 @@
 -- What loads gave.
-use Rattle.std.proofs.Common.{◌≡◌, ◌<◌, ℕ, zero, suc, ◌+◌, ◌∙◌, List, [], ◌∷◌, ◌++◌, length, take, drop, get_or, Option, None, Some, IfSome, option_map, sym, ap, subst, refl, arith}
+use Rattle.std.proofs.Common.{◌≡◌, ◌⊎◌, inl, inr, ◌<◌, ℕ, zero, suc, ◌+◌, ◌∙◌, List, [], ◌∷◌, ◌++◌, length, take, drop, get_or, Option, None, Some, IfSome, option_map, sym, ap, subst, refl, arith, append_assoc}
 use Rattle.std.specs.Global.{Vec}
 use Rattle.std.specs.Option.{option_and_then}
-use Rattle.std.proofs.lemmas.List.{take_more}
+use Rattle.std.proofs.lemmas.List.{take_more, take-append-drop}
 use Rattle.mg_subgraph.proofs.Steps.{map-push}
-use Rattle.mg_edge.specs.Edge.{LoadGives, most_loaded}
+use Rattle.mg_edge.specs.Edge.{StoreTold, LoadGives, most_loaded}
 use Rattle.mg_edge.specs.declared.store.Loaded.TheVariants.{Bytes}
 use Rattle.mg_files.specs.Reads.{contents_of}
-use Rattle.mg_files.specs.Loads.{FilesTold, IsLoaded, AreLoaded, there, loads_of}
+use Rattle.mg_answer.specs.Devices.{device}
+use Rattle.mg_files.specs.Loads.{FilesTold, IsLoaded, AreLoaded, LoadedFront, there, loads_of}
 
 pub gives-loaded : (told : Option (Option (List ℕ))) (content : Vec ℕ) → LoadGives told (Bytes content) → IsLoaded told content.items
 gives-loaded None content gives = tt
@@ -28,6 +29,29 @@ loaded-step told names i name contents grown content inside here same given one 
     subst (λ (ns : List (List ℕ)). AreLoaded told ns (contents_of grown)) (sym (take_more names i name inside ∙ ap (λ n. take i names ++ n ∷ []) (sym here)))
     (subst (AreLoaded told (take i names ++ name ∷ [])) (sym (ap contents_of same ∙ map-push (λ v. v.items) contents content))
     (loaded-more told (take i names) (contents_of contents) name content.items given one))
+
+-- one more name was loaded
+pub loaded-then : (first before now names : List (List ℕ)) (loaded name : List ℕ) → before ≡ first ++ names → now ≡ before ++ loaded ∷ [] → loaded ≡ name → now ≡ first ++ (names ++ name ∷ [])
+loaded-then first before now names loaded name was more is =
+    more ∙ ap (λ l. before ++ l ∷ []) is ∙ ap (λ l. l ++ name ∷ []) was ∙ append_assoc first names (name ∷ [])
+
+pub once-more : (first before now names : List (List ℕ)) (i : ℕ) (loaded name : List ℕ) → i < length names → name ≡ get_or names i name → loaded ≡ name
+    → before ≡ first ++ take i names → now ≡ before ++ loaded ∷ [] → now ≡ first ++ take (i + 1) names
+once-more first before now names i loaded name inside here is was more =
+    loaded-then first before now (take i names) loaded name was more is
+    ∙ ap (λ l. first ++ l) (sym (take_more names i name inside ∙ ap (λ n. take i names ++ n ∷ []) (sym here)))
+
+-- the first names were loaded
+front-of : (names : List (List ℕ)) (i : ℕ) (first now : StoreTold) → ((name : List ℕ) → now.content name ≡ first.content name) → now.loaded ≡ first.loaded ++ take i names → LoadedFront names (device first now)
+front-of names i first now kept loaded = record { kept = kept; front = take i names; rest = drop i names; order = sym (take-append-drop i names); loaded = loaded }
+
+-- these names, and perhaps one more
+pub front-then : (names : List (List ℕ)) (i : ℕ) (loaded name : List ℕ) (first before now : StoreTold) → i < length names → name ≡ get_or names i name → loaded ≡ name
+    → ((other : List ℕ) → now.content other ≡ first.content other) → before.loaded ≡ first.loaded ++ take i names
+    → (now.loaded ≡ before.loaded) ⊎ (now.loaded ≡ before.loaded ++ loaded ∷ []) → LoadedFront names (device first now)
+front-then names i loaded name first before now inside here is kept was (inl same) = front-of names i first now kept (same ∙ was)
+front-then names i loaded name first before now inside here is kept was (inr more) =
+    front-of names (i + 1) first now kept (once-more first.loaded before.loaded now.loaded names i loaded name inside here is was more)
 
 pub loaded-count : (told : FilesTold) (names contents : List (List ℕ)) → AreLoaded told names contents → length contents ≡ length names
 loaded-count told [] [] given = refl

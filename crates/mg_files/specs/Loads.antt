@@ -27,23 +27,37 @@ AreLoaded told (name ∷ names) (content ∷ contents) = IsLoaded (told name) co
 abbrev pub StoreIsKept : Device StoreTold → Type 0
 StoreIsKept store = (name : List ℕ) → store.now.content name ≡ store.before.content name
 
--- All of these files were loaded, and no load failed.
+-- A store loaded these names, each once and in this order, and no other.
+abbrev pub LoadedOnce : List (List ℕ) → Device StoreTold → Type 0
+LoadedOnce names store = store.now.loaded ≡ store.before.loaded ++ names
+
+-- All of these files were loaded, each once, and no load failed.
 pub record LoadedAll (names contents : List (List ℕ)) (store : Device StoreTold) : Type 0 where
   pub kept : StoreIsKept store
+  pub loaded : LoadedOnce names store
   pub given : AreLoaded store.before.content names contents
   pub steady : store.now.faults ≡ store.before.faults
   pub last : store.now.failed_name ≡ store.before.failed_name
 
--- This file couldn't be loaded. The files before it were loaded, and no other load failed.
+-- This file couldn't be loaded. The files before it were loaded, each once, and no other load failed.
 pub record FailedAt (names : List (List ℕ)) (file : List ℕ) (store : Device StoreTold) : Type 0 where
   pub kept : StoreIsKept store
   pub before : List (List ℕ)
   pub after : List (List ℕ)
   pub order : names ≡ before ++ file ∷ after
+  pub loaded : LoadedOnce (before ++ file ∷ []) store
   pub contents : List (List ℕ)
   pub given : AreLoaded store.before.content before contents
   pub once : store.now.faults ≡ one_more store.before.faults
   pub last : store.now.failed_name ≡ Some file
+
+-- The first of these files were loaded, each once, and no other.
+pub record LoadedFront (names : List (List ℕ)) (store : Device StoreTold) : Type 0 where
+  pub kept : StoreIsKept store
+  pub front : List (List ℕ)
+  pub rest : List (List ℕ)
+  pub order : names ≡ front ++ rest
+  pub loaded : LoadedOnce front store
 
 -- the bytes of a name, if the store tells them
 abbrev pub there : Option (Option (List ℕ)) → Option (List ℕ)

@@ -1,5 +1,5 @@
 -- What a read of a block leaves.
-use Rattle.std.specs.Prelude.{◌≡◌, ◌≤◌, ℕ, List, [], ◌++◌, length, true, false}
+use Rattle.std.specs.Prelude.{◌≡◌, ◌≤◌, ℕ, List, [], ◌++◌, length, option_map, true, false}
 use Rattle.mg_edge.specs.Edge.{SourceTold, CountsOne}
 use Rattle.mg_edge.specs.Runs.{Gave}
 use Rattle.mg_edge.specs.declared.source.Got.{Got}
@@ -19,6 +19,7 @@ pub record GotBytes (old new : Reading) (before now : SourceTold) : Type 0 where
   pub gave : Gave before.left now.left bytes
   pub ends : now.ends ≡ before.ends
   pub counted : CountsOne before.reads now.reads
+  pub last : now.left_at_bytes ≡ option_map (λ last. before.left) before.left_at_bytes
   pub unfailed : Unfailed before now
 
 -- The source has ended. If the last line lacks its line feed, a line feed was put after it.
@@ -28,6 +29,7 @@ pub record GotEnd (old new : Reading) (before now : SourceTold) : Type 0 where
   pub gave : Gave before.left now.left []
   pub came : EndCame before now
   pub counted : CountsOne before.reads now.reads
+  pub last : now.left_at_bytes ≡ before.left_at_bytes
   pub unfailed : Unfailed before now
 
 -- The read failed, and what was read before is as it was.
@@ -36,6 +38,7 @@ pub record GotFault (old new : Reading) (before now : SourceTold) : Type 0 where
   pub gave : Gave before.left now.left []
   pub ends : now.ends ≡ before.ends
   pub counted : CountsOne before.reads now.reads
+  pub last : now.left_at_bytes ≡ before.left_at_bytes
   pub failed : ReadFailed before now
 
 -- what a read of a block leaves, by its answer

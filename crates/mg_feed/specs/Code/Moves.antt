@@ -11,7 +11,7 @@ use Rattle.mg_feed.specs.Fed.{Fed}
 use Rattle.mg_feed.specs.Once.{longest_block}
 use Rattle.mg_feed.specs.Came.{Came}
 use Rattle.mg_feed.specs.Ran.{MetEnd, late, Spends, Unfailed, FailedBy}
-use Rattle.mg_feed.specs.Batch.{EndsAs, HasCause}
+use Rattle.mg_feed.specs.Batch.{EndsAs, HasCause, ReadsInTime}
 use Rattle.mg_feed.specs.declared.line_fault.LineFault.{LineFault}
 use Rattle.mg_feed.specs.declared.line_fault.LineFault.TheVariants.{OutOfMemory as no_memory}
 use Rattle.mg_feed.specs.declared.feed_end.FeedEnd.{FeedEnd}
@@ -55,6 +55,7 @@ Grows old new came taken = (first : List (List ℕ)) (past : List ℕ) (lines : 
 pub record Moved (before now : SourceTold) (old new : Fed) (came : List ℕ) (taken : List (List ℕ)) : Type 0 where
   pub gave : Gave before.left now.left came
   pub grows : Grows old new came taken
+  pub stops : ReadsInTime before now old came
   pub graph : new.view.graph ≡ old.view.graph
   pub number : new.view.lines ≡ old.view.lines + length taken
   pub met : MetEnd old.read.ended new.read.ended before now
@@ -77,6 +78,7 @@ EndsReading end f = (first : List (List ℕ)) (past : List ℕ) (lines : List (L
 -- The reading stops with this end, and the feed is as it was.
 pub record Stopped (end : FeedEnd) (before now : SourceTold) (old new : Fed) : Type 0 where
   pub gave : Gave before.left now.left []
+  pub last : now.left_at_bytes ≡ before.left_at_bytes
   pub same : new ≡ old
   pub met : MetEnd old.read.ended new.read.ended before now
   pub spent : Spends (late old.read.ended) 1 before.left now.left before.reads now.reads
