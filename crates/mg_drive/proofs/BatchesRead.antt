@@ -20,6 +20,7 @@ use Rattle.mg_feed.specs.declared.feed_end.FeedEnd.TheVariants.{Ended, Failed, R
 use Rattle.mg_feed.specs.declared.feed_end.BatchEnd.{BatchEnd}
 use Rattle.mg_feed.specs.declared.feed_end.BatchEnd.TheVariants.{More, End}
 use Rattle.mg_feed.proofs.Coming.{came-nothing, came-taken}
+use Rattle.mg_feed.proofs.Timely.{stops-nothing}
 use Rattle.mg_feed.proofs.Moving.{gave-then, met-then, spends-same, spends-then, spends-late, unfailed-same, unfailed-then, failed-by, naming-few}
 use Rattle.mg_feed.proofs.Holding.{given-untaken}
 use Rattle.mg_feed.proofs.Growing.{naming-names}
@@ -52,6 +53,7 @@ nothing_read plan first fed graph stands unread = record {
   came = came-nothing [] (packets_of (given_by (inputs_of plan) []).streams) fed unread
       (subst (λ (gone : List (List (Stamped Plain))). HasAccepted [] gone fed.view) (sym (none_given (inputs_of plan))) stands);
   met = subst (λ (r : Reading). MetEnd false r.ended first first) (sym unread) refl;
+  stops = stops-nothing (inputs_of plan) [] first;
   spent = subst (λ (r : Reading). Spends 0 (late r.ended) first.left first.left first.reads first.reads) (sym unread) (spends-same 0 first.left first.reads);
   so = unfailed-same first;
 }
@@ -68,6 +70,14 @@ reads_on (End end) plan first before now mid fed graph past came lines taken som
       (subst (λ (g : GraphInputs). EndsAs end g [] (past ++ came) (lines ++ taken) mid.read.ended) is ends),
   failed-by end first before now past gave unfailed failed,
 )
+
+-- a batch reads no further than it may
+stops_on : (early : Bool) (plan : Plan) (first before now : SourceTold) (most : ℕ) (end : BatchEnd) (old mid : Fed) (past : List ℕ) (lines : List (List ℕ)) → IsRead plan first More before old past lines
+    → (read : HasReadBatch early most end before now old mid) → StopsInTime (inputs_of plan) [] first now (past ++ read.came)
+stops_on early plan first before now most end old mid past lines was read =
+    subst (λ (g : GraphInputs). StopsInTime g [] first now (past ++ read.came)) was.graph
+    (read.stops first [] past lines (packets_of (given_by (inputs_of plan) lines).streams) was.came was.gave
+    (subst (λ (g : GraphInputs). StopsInTime g [] first before past) (sym was.graph) was.stops))
 
 -- a batch has lines if more may come after it
 cut_some : (early : Bool) (end : BatchEnd) (most : ℕ) (taken : List (List ℕ)) → 0 < most → CutsAt early end most taken → IsMore end → 0 < naming taken
@@ -96,9 +106,10 @@ batch_read early plan first before now most end old mid new inputs b past lines 
       is_read = record {
         graph = new_graph ∙ graph;
         gave = gave-then first.left before.left now.left past read.came was.gave read.gave;
-        came = came-taken [] (past ++ read.came) all (packets_of (given_by (inputs_of plan) lines).streams) (packets_of (given_by (inputs_of plan) all).streams) mid new came new_read new_graph
+        came = came-taken [] (past ++ read.came) all (packets_of (given_by (inputs_of plan) lines).streams) (packets_of (given_by (inputs_of plan) all).streams) mid new came new_read
             (subst (λ (gone : List (List (Stamped Plain))). HasAccepted all gone new.view) taken_is (takes all (packets_of (given_by (inputs_of plan) lines).streams) came.stands));
         met = subst (λ (r : Reading). MetEnd false r.ended first now) (sym new_read) (met-then false old.read.ended mid.read.ended first before now past was.gave was.met met);
+        stops = stops_on early plan first before now most end old mid past lines was read;
         spent = subst (λ (r : Reading). Spends 0 (idle_by end r.ended) first.left now.left first.reads now.reads) (sym new_read)
             (spends-then 0 (late old.read.ended) (idle_by end mid.read.ended) first.left before.left now.left first.reads before.reads now.reads was.spent spent);
         so = reads_on end plan first before now mid new old.view.graph past read.came lines read.taken had was.graph new_read was.gave was.so failed both.1;
@@ -123,7 +134,7 @@ still_read plan first at fed past lines was = record {
   came = past;
   gave = was.gave;
   once = record {
-    stops = subst (λ (g : GraphInputs). StopsInTime g [] past) was.graph was.came.stops;
+    stops = was.stops;
     reads = spends-then 0 (late fed.read.ended) 1 first.left at.left at.left first.reads at.reads at.reads was.spent (spends-late fed.read.ended at.left at.reads);
   };
   faults = inl was.so;
@@ -159,14 +170,13 @@ further : (early : Bool) (most : ℕ) (end : BatchEnd) (plan : Plan) (first befo
     → Spends (late old.read.ended) (idle_by end mid.read.ended) before.left now.left before.reads now.reads → mid.view.graph ≡ old.view.graph → old.read.ended ≡ false
     → IsRead plan first More before old past lines → HasReadOn plan first before now old.read.ended past
 further early most end plan first before now old mid past lines read failed spent same not_ended was =
-    let both = read.accepted [] past lines (packets_of (given_by (inputs_of plan) lines).streams) was.came in
     let spent_all = spends-then 0 (late old.read.ended) (idle_by end mid.read.ended) first.left before.left now.left first.reads before.reads now.reads was.spent spent in
     record {
       read = record {
         came = past ++ read.came;
         gave = gave-then first.left before.left now.left past read.came was.gave read.gave;
         once = record {
-          stops = subst (λ (g : GraphInputs). StopsInTime g [] (past ++ read.came)) (same ∙ was.graph) both.0.stops;
+          stops = stops_on early plan first before now most end old mid past lines was read;
           reads = spends-then 0 (idle_by end mid.read.ended) 1 first.left now.left now.left first.reads now.reads now.reads spent_all (one_idle end mid.read.ended now.left now.reads);
         };
         faults = faults_by end first now (failed_then end first before now past was.gave was.so failed);

@@ -18,7 +18,6 @@ use Rattle.mg_feed.specs.Accepted.{accepted, given_by}
 use Rattle.mg_feed.specs.Given.{ended_streams}
 use Rattle.mg_feed.specs.Stands.{AllGood}
 use Rattle.mg_feed.specs.Ran.{EndCame, MetEnd}
-use Rattle.mg_feed.specs.Once.{StopsInTime}
 use Rattle.mg_feed.specs.Fed.{Fed}
 use Rattle.mg_feed.specs.declared.feed_end.FeedEnd.{FeedEnd}
 use Rattle.mg_feed.specs.declared.feed_end.BatchEnd.{BatchEnd}
@@ -148,7 +147,7 @@ pub came_at : (plan : Plan) (first at : SourceTold) (fed : Fed) (end : FeedEnd) 
 came_at plan first at fed end inputs u =
     came-by (inputs_of plan) (device first at) u.past u.lines end fed.read.ended u.is_read.gave u.is_read.so.1 u.is_read.met u.is_read.so.2 u.is_read.so.0
     (record {
-      stops = subst (λ (g : GraphInputs). StopsInTime g [] u.past) u.is_read.graph u.is_read.came.stops;
+      stops = u.is_read.stops;
       reads = u.is_read.spent;
     })
 

@@ -51,11 +51,11 @@ keeps_itself net = record { plan = refl; spare = refl }
 pub keeps_on : (a b c : NetView) → Keeps a b → Keeps b c → Keeps a c
 keeps_on a b c one two = record { plan = two.plan ∙ one.plan; spare = two.spare ∙ one.spare }
 
-pub begins_keep : (before now : NetView) → BeginsNet before now → Keeps before now
-begins_keep before now b = record { plan = ap (λ (v : NetView). v.plan) b.parts; spare = ap (λ (v : NetView). v.spare) b.parts }
+pub begins_keep : {laws : Laws} (before now : NetView) → BeginsNet laws before now → Keeps before now
+begins_keep {laws} before now b = record { plan = ap (λ (v : NetView). v.plan) b.parts; spare = ap (λ (v : NetView). v.spare) b.parts }
 
-pub begins_taken : (before now : NetView) → BeginsNet before now → taken_out now ≡ taken_out before
-begins_taken before now b = ap taken_out b.parts
+pub begins_taken : {laws : Laws} (before now : NetView) → BeginsNet laws before now → taken_out now ≡ taken_out before
+begins_taken {laws} before now b = ap taken_out b.parts
 
 pub becomes_keeps : {laws : Laws} (before now : NetView) → Becomes laws before now → Keeps before now
 becomes_keeps {laws} before now b = record { plan = becomes_plan before now b; spare = becomes_spare before now b }

@@ -116,7 +116,7 @@ recorded_end {laws} first sink now blocks blocks_now text lines end before there
 -- The run --
 
 -- the runs of a job begin where its net was made and its nodes are begun
-pub begun_at : {laws : Laws} (plan : Plan) (inputs : Inputs) (boxes : List BoxTold) (made begun : NetView) → IsMade laws plan inputs boxes made → BeginsNet made begun
+pub begun_at : {laws : Laws} (plan : Plan) (inputs : Inputs) (boxes : List BoxTold) (made begun : NetView) → IsMade laws plan inputs boxes made → BeginsNet laws made begun
     → ((job : LoggedJob laws) → StandsFor job made → StandsFor job begun) → IsRunning begun → IsBegun laws plan inputs boxes begun
 begun_at {laws} plan inputs boxes made begun is begins keeps running = record { made = made; is_made = is; begins = begins; stands = keeps (job_of laws plan inputs boxes) is.stands; running = running }
 

@@ -1,6 +1,6 @@
 -- What a recorded run came to, by its status, and what follows of it.
 use Rattle.std.proofs.Common.{◌≡◌, ◌≢◌, ◌⊎◌, inl, inr, ℕ, List, [], ◌∷◌, Option, None, Some, IfSome, refl, ap, ◌∙◌, subst}
-use Rattle.mg_edge.specs.Edge.{Rose}
+use Rattle.mg_edge.specs.Edge.{HasRisen}
 use Rattle.mg_calc.specs.Rules.{Laws}
 use Rattle.mg_calc.specs.declared.plan.Plan.{Plan}
 use Rattle.mg_calc.specs.declared.node_fault.NodeFault.{NodeFault as Fault}
@@ -93,7 +93,7 @@ whole_answered {laws} report plan boxes status all ran none = by all.input.befor
 short_failed : {laws : Laws} (report : Reporting) (plan : Plan) (boxes : List BoxTold) (all : RunDevices) → TracedShort laws report plan boxes all → NoneFailed all → ⊥
 short_failed {laws} report plan boxes all ran none = by ran.short.rose
   where
-    by : Rose all.output.before.faults all.output.now.faults ⊎ Rose all.notes.before.faults all.notes.now.faults → ⊥
+    by : HasRisen all.output.before.faults all.output.now.faults ⊎ HasRisen all.notes.before.faults all.notes.now.faults → ⊥
     by (inl rose) = rose-unrisen _ _ rose none.output
     by (inr rose) = rose-unrisen _ _ rose none.notes
 

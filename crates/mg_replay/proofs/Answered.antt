@@ -1,6 +1,6 @@
 -- What a recorded run that was made again did, by its status, and what follows from that.
 use Rattle.std.proofs.Common.{◌≡◌, ◌≢◌, ◌⊎◌, inl, inr, ℕ, Bool, true, false, List, [], ◌∷◌, ◌++◌, Option, None, Some, IfSome, refl, sym, ap, ◌∙◌, subst, append-nil}
-use Rattle.mg_edge.specs.Edge.{SourceTold, SinkTold, Rose}
+use Rattle.mg_edge.specs.Edge.{SourceTold, SinkTold, HasRisen}
 use Rattle.mg_edge.specs.Runs.{Gave}
 use Rattle.mg_edge.proofs.Runs.{TookAll-start}
 use Rattle.mg_calc.specs.Rules.{Laws}
@@ -34,7 +34,7 @@ use Rattle.mg_replay.specs.declared.trace_end.TraceEnd.TheVariants.{Accepted, Re
 -- the answer was met, or a write failed
 abbrev MetOr : RunAnswer → Status → Device SinkTold → Device SinkTold → Type 0
 MetOr answer status output notes =
-    ((status ≡ WriteFault) × (Rose output.before.faults output.now.faults ⊎ Rose notes.before.faults notes.now.faults)) ⊎ Meets answer status output notes
+    ((status ≡ WriteFault) × (HasRisen output.before.faults output.now.faults ⊎ HasRisen notes.before.faults notes.now.faults)) ⊎ Meets answer status output notes
 
 met_by : (status : Status) (answer : RunAnswer) (failed : List ℕ) (output notes : Device SinkTold) → WroteBy status answer failed output notes → MetOr answer status output notes
 met_by Good answer failed output notes wrote = inr wrote
@@ -243,7 +243,7 @@ comes_to {laws} end plan boxes input bytes job read is un =
 abbrev AnswersBytes : Laws → Option (List ℕ) → Reporting → Plan → List BoxTold → Status → Device SinkTold → Device SinkTold → Type 0
 AnswersBytes laws left report plan boxes status output notes = IfSome left (λ bytes. (answer : RunAnswer) × AnswersTrace laws report plan boxes (all_lines bytes) answer × Meets answer status output notes)
 
-none_rose : (all : RunDevices) → NoneFailed all → Rose all.output.before.faults all.output.now.faults ⊎ Rose all.notes.before.faults all.notes.now.faults → ⊥
+none_rose : (all : RunDevices) → NoneFailed all → HasRisen all.output.before.faults all.output.now.faults ⊎ HasRisen all.notes.before.faults all.notes.now.faults → ⊥
 none_rose all none (inl rose) = rose-unrisen _ _ rose none.output
 none_rose all none (inr rose) = rose-unrisen _ _ rose none.notes
 

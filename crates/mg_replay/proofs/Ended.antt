@@ -119,7 +119,7 @@ is_job laws plan ended first now read number view inputs valid h streams sides i
     }
 
 -- the nodes were begun
-pub making_begins : {laws : Laws} (plan : Plan) (inputs : Inputs) (boxes : List BoxTold) (first now : SourceTold) (read : Reading) (number : ℕ) (made begun : NetView) → IsMade laws plan inputs boxes made → BeginsNet made begun
+pub making_begins : {laws : Laws} (plan : Plan) (inputs : Inputs) (boxes : List BoxTold) (first now : SourceTold) (read : Reading) (number : ℕ) (made begun : NetView) → IsMade laws plan inputs boxes made → BeginsNet laws made begun
     → ((job : LoggedJob laws) → StandsFor job made → StandsFor job begun) → IsRunning begun → HasReadInputs plan inputs first now read number → IsMaking laws plan boxes inputs first now read number begun
 making_begins {laws} plan inputs boxes first now read number made begun is begins keeps running h = record {
   lines = h.given ++ end_word inputs.ended ∷ [];
@@ -131,6 +131,7 @@ making_begins {laws} plan inputs boxes first now read number made begun is begin
     begun = begun;
     begins = begun_at plan inputs boxes made begun is begins keeps running;
     events = [];
+    are_events = tt;
     run = refl;
     lines_are = refl;
   };
@@ -167,10 +168,10 @@ pub plan_is_of : {laws : Laws} (plan : Plan) (net : NetView) → StandsForPlan l
 plan_is_of {laws} plan net some = plan_stood some.job net some.stands ∙ some.plan_is
 
 -- no set was taken out of it yet
-pub none_taken : {laws : Laws} (plan : Plan) (inputs : Inputs) (boxes : List BoxTold) (made begun later : NetView) → IsMade laws plan inputs boxes made → BeginsNet made begun → Becomes laws begun later → taken_out later ≡ 0
+pub none_taken : {laws : Laws} (plan : Plan) (inputs : Inputs) (boxes : List BoxTold) (made begun later : NetView) → IsMade laws plan inputs boxes made → BeginsNet laws made begun → Becomes laws begun later → taken_out later ≡ 0
 none_taken {laws} plan inputs boxes made begun later is begins becomes = becomes_taken begun later becomes ∙ begins_taken made begun begins ∙ none_yet plan inputs boxes made is
 
-pub keeps_later : {laws : Laws} (made begun later : NetView) → BeginsNet made begun → Becomes laws begun later → Keeps made later
+pub keeps_later : {laws : Laws} (made begun later : NetView) → BeginsNet laws made begun → Becomes laws begun later → Keeps made later
 keeps_later {laws} made begun later begins becomes = keeps_on made begun later (begins_keep made begun begins) (becomes_keeps begun later becomes)
 
 -- it stood for its job

@@ -32,7 +32,7 @@ use Rattle.mg_sched.specs.Code.Left.{left_in}
 use Rattle.mg_sched.proofs.LeftIn.{acts_less}
 use Rattle.mg_sched.proofs.RunsOn.{run_one, run_on}
 use Rattle.mg_answer.specs.Devices.{device}
-use Rattle.mg_replay.specs.Replay.{LinesLedTo, StopsAfterJob, IsIdleEvent, EndsAt, WasRead}
+use Rattle.mg_replay.specs.Replay.{AreEventsOf, LinesLedTo, StopsAfterJob, IsIdleEvent, EndsAt, WasRead}
 use Rattle.mg_replay.specs.Reading.{BeginsWithJob, IsReading, IsMaking}
 use Rattle.mg_replay.specs.Code.Reading.{ComesBehind, MakesOn, MakesEvent, MakesLine, TakesEvent, StopsBy, StopsBehind, EndsRun}
 use Rattle.mg_replay.specs.declared.trace_end.TraceFault.{TraceFault}
@@ -181,6 +181,10 @@ net_event (Perform node number) plan net same of = subst (λ (p : Plan). node < 
 net_event (Commit node number) plan net same of = subst (λ (p : Plan). node < length p.nodes) (sym same) of.0
 net_event Relax plan net same of = tt
 
+events_more : (plan : Plan) (events : List Event) (event : Event) → AreEventsOf plan events → IsEventOf plan event → AreEventsOf plan (events ++ event ∷ [])
+events_more plan [] event are of = (of, tt)
+events_more plan (e ∷ events) event are of = (are.0, events_more plan events event are.1 of)
+
 -- it was made
 pub run_more : {laws : Laws} (event : Event) (line : List ℕ) (plan : Plan) (boxes : List BoxTold) (lines : List (List ℕ)) (inputs : Inputs) (net now : NetView) → net.plan ≡ plan → LinesLedTo laws plan boxes lines inputs net → IsEventOf plan event → line ≡ event_line event
     → Acts laws event Did net now → LinesLedTo laws plan boxes (lines ++ line ∷ []) inputs now
@@ -191,6 +195,7 @@ run_more {laws} event line plan boxes lines inputs net now same h of is acts = r
   begun = h.begun;
   begins = h.begins;
   events = h.events ++ event ∷ [];
+  are_events = events_more plan h.events event h.are_events of;
   run = run_on laws h.events (event ∷ []) h.begun net now h.run (run_one laws event net now (net_event event plan net same of) acts);
   lines_are = ap (λ (l : List (List ℕ)). l ++ line ∷ []) h.lines_are ∙ append_assoc h.given (end_word inputs.ended ∷ map event_line h.events) (line ∷ [])
       ∙ ap (λ (l : List (List ℕ)). h.given ++ end_word inputs.ended ∷ l) (ap (λ (x : List ℕ). map event_line h.events ++ x ∷ []) is ∙ sym (map-append event_line h.events (event ∷ [])));

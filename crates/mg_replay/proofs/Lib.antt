@@ -6,3 +6,4 @@ pub mod Closed
 pub mod Ended
 pub mod Accepting
 pub mod Answered
+pub mod OneReading

@@ -1,7 +1,7 @@
 -- What the lines of a recorded run say. The first lines tell its job. After them stands a line for each event. Each event is made
 -- on the net to which the events before it led. The first event is made where the runs of the job begin. The last line is `end`. It
 -- is accepted if the net is at rest then, and nothing stands after it.
-use Rattle.std.specs.Prelude.{◌≡◌, ◌≢◌, ◌⊎◌, ℕ, ◌+◌, ◌<◌, Bool, true, false, List, [], ◌∷◌, ◌++◌, length, map, codes, Option, None, Some}
+use Rattle.std.specs.Prelude.{◌≡◌, ◌≢◌, ◌⊎◌, ℕ, ◌+◌, ◌<◌, Bool, true, false, List, [], ◌∷◌, ◌++◌, length, map, codes, Option, None, Some, ⊤}
 use Rattle.mg_edge.specs.Edge.{SourceTold}
 use Rattle.mg_edge.specs.Runs.{Gave}
 use Rattle.mg_calc.specs.Rules.{Laws}
@@ -45,6 +45,11 @@ pub record StopsEarly (plan : Plan) (lines : List (List ℕ)) (end : TraceEnd) :
 
 -- The lines of events --
 
+-- each event is one of the plan
+abbrev pub AreEventsOf : Plan → List Event → Type 0
+AreEventsOf plan [] = ⊤
+AreEventsOf plan (event ∷ events) = IsEventOf plan event × AreEventsOf plan events
+
 -- Lines led a net to where it is. They are the packet lines of a job, the word after them, and the lines of the events of a run.
 -- The run begins where the job's runs begin.
 pub record LinesLedTo (laws : Laws) (plan : Plan) (boxes : List BoxTold) (lines : List (List ℕ)) (inputs : Inputs) (net : NetView) : Type 0 where
@@ -54,6 +59,7 @@ pub record LinesLedTo (laws : Laws) (plan : Plan) (boxes : List BoxTold) (lines 
   pub begun : NetView
   pub begins : IsBegun laws plan inputs boxes begun
   pub events : List Event
+  pub are_events : AreEventsOf plan events
   pub run : IsRun laws events begun net
   pub lines_are : lines ≡ given ++ end_word inputs.ended ∷ map event_line events
 

@@ -3,6 +3,7 @@
 #![tactic(auto)]
 
 mod events;
+pub mod laws;
 mod noting;
 mod opening;
 mod packets;

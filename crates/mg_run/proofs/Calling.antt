@@ -1,10 +1,11 @@
 -- What a call came to.
-use Rattle.std.proofs.Common.{◌≡◌, ◌≢◌, ℕ, List, [], All, Option, None, Some, IfSome, ◌⊎◌, inl, inr, refl, sym, ap, ◌∙◌, subst, arith}
-use Rattle.mg_edge.specs.Edge.{SourceTold, SinkTold, StoreTold, Rose, one_more}
+use Rattle.std.proofs.Common.{◌≡◌, ◌≢◌, ℕ, List, [], All, Option, None, Some, IfSome, ◌⊎◌, inl, inr, refl, sym, ap, ◌∙◌, subst}
+use Rattle.mg_edge.specs.Edge.{SourceTold, SinkTold, StoreTold, HasRisen}
 use Rattle.mg_calc.specs.Rules.{Laws}
 use Rattle.mg_calc.specs.Told.{BoxTold}
 use Rattle.mg_check.specs.Check.{IsOuterShape}
 use Rattle.mg_edge.proofs.Runs.{TookAll-start}
+use Rattle.mg_edge.proofs.Counts.{rises-after}
 use Rattle.mg_run.proofs.Readings.{no-status, lines-no-store, lines-no-usage, packets-no-store, packets-no-usage, lines-noted, packets-noted, lines-answered, packets-answered}
 use Rattle.mg_run.proofs.LiveReadings.{live-no-other, live-made-no-other, live-noted, live-made-noted, live-answered, live-made-answered}
 use Rattle.mg_files.proofs.Loading.{of-loads}
@@ -28,10 +29,6 @@ use Rattle.mg_run.specs.Call.{Written, WasShown, DidAction, IsActionOf, CallDid,
 use Rattle.mg_answer.specs.declared.status.Status.{Status}
 use Rattle.mg_answer.specs.declared.status.Status.TheVariants.{Good, StoreFault, Usage, GraphRefused, LineRefused, NodeFault, Stalled, ReadFault, WriteFault, OutOfMemory}
 use Rattle.mg_answer.specs.declared.run.Reporting.{Reporting}
-
--- a call that fails, after others that don't
-rose-after : (a b c : ℕ) → b ≡ a → c ≡ one_more b → Rose a c
-rose-after a b c same more = omega (arith, same, more)
 
 -- Nothing was written.
 if-any : {X : Type 0} (o : Option X) (P : X → Type 0) → ((x : X) → P x) → IfSome o P
@@ -117,8 +114,8 @@ called-did laws action OutOfMemory invocation shaped contents all loaded due did
 
 -- What follows --
 
-unrisen-rose : (a b : ℕ) → Unrisen a b → Rose a b → ⊥
-unrisen-rose a b same rose = absurd (omega (arith, same.0, same.1, rose))
+unrisen-rose : (a b : ℕ) → Unrisen a b → HasRisen a b → ⊥
+unrisen-rose a b same rose = rose same
 
 -- A sink that wasn't used took nothing.
 took-nothing : (sink : Device SinkTold) → Untouched sink → TookText sink []
@@ -184,7 +181,7 @@ call-answered laws status invocation all called none some =
 
 pub answered-from : (laws : Laws) (status : Status) (invocation : Invocation) (all : CallDevices) → Called laws status invocation all → NoneFailed all → status ≢ OutOfMemory → IsAnswered laws status invocation all
 answered-from laws Good invocation all called none some = call-answered laws Good invocation all called none some
-answered-from laws StoreFault invocation all called none some = absurd (unrisen-rose all.store.before.faults all.store.now.faults none.store (rose-after all.store.before.faults all.store.before.faults all.store.now.faults refl called.failed.once))
+answered-from laws StoreFault invocation all called none some = absurd (unrisen-rose all.store.before.faults all.store.now.faults none.store (rises-after all.store.before.faults all.store.before.faults all.store.now.faults refl called.failed.once))
 answered-from laws Usage invocation all called none some = elim called [ ]
 answered-from laws GraphRefused invocation all called none some = call-answered laws GraphRefused invocation all called none some
 answered-from laws LineRefused invocation all called none some = call-answered laws LineRefused invocation all called none some

@@ -1,9 +1,10 @@
 -- Who reads the input, and that it met its end.
-use Rattle.std.proofs.Common.{◌≡◌, ℕ, List, [], ◌∷◌, true, false, Option, None, Some, Result, Ok, Err, ◌⊎◌, inl, inr, refl, sym, subst, arith}
+use Rattle.std.proofs.Common.{◌≡◌, ℕ, List, [], ◌∷◌, true, false, Option, None, Some, Result, Ok, Err, ◌⊎◌, inl, inr, refl, sym, subst}
 use Rattle.std.proofs.lemmas.Bool.{false≢true}
 use Rattle.mg_edge.specs.Edge.{SourceTold}
 use Rattle.mg_feed.specs.Ran.{EndCame}
 use Rattle.mg_config.specs.Config.{GraphView}
+use Rattle.mg_edge.proofs.Counts.{rises-after}
 use Rattle.mg_calc.specs.Rules.{Laws}
 use Rattle.mg_calc.specs.declared.plan.Plan.{Plan}
 use Rattle.mg_calc.specs.declared.shape.OuterShape.{OuterShape}
@@ -177,7 +178,7 @@ short-ended status is (inr (inr (inl e))) = cc
 short-ended status is (inr (inr (inr e))) = e
 
 end-came : (input : Device SourceTold) → EndCame input.before input.now → InputHasEnded input
-end-came input came = record { rose = let more = came.rose in omega (arith, more); none = came.none }
+end-came input came = record { rose = rises-after input.before.ends input.before.ends input.now.ends refl came.rose; none = came.none }
 
 did-ended : (laws : Laws) (invocation : Invocation) (contents : List (List ℕ)) (action : Action) (status : Status) (all : CallDevices) → IsActionOf invocation contents action → DidAction laws action status all → reads_input invocation.instruction.verb ≡ true
     → IsOneOf status ended_statuses → InputHasEnded all.input

@@ -5,6 +5,7 @@ pub mod Readings
 pub mod LiveReadings
 pub mod Calling
 pub mod Duty
+pub mod Loaded
 pub mod Planned
 pub mod Ending
 pub mod OneLiveAnswer

@@ -1,5 +1,5 @@
 -- Which statuses a call may have if its devices failed.
-use Rattle.std.proofs.Common.{◌≡◌, ℕ, List, [], ◌∷◌, ◌⊎◌, inl, inr, refl, ap, arith}
+use Rattle.std.proofs.Common.{◌≡◌, ℕ, List, [], ◌∷◌, ◌⊎◌, inl, inr, refl, ap}
 use Rattle.mg_edge.specs.Edge.{SourceTold, SinkTold}
 use Rattle.mg_calc.specs.Rules.{Laws}
 use Rattle.mg_run.specs.Invocation.{Invocation}
@@ -15,7 +15,7 @@ use Rattle.mg_answer.specs.declared.status.Status.{Status}
 use Rattle.mg_answer.specs.declared.status.Status.TheVariants.{Good, StoreFault, Usage, GraphRefused, LineRefused, NodeFault, Stalled, ReadFault, WriteFault, OutOfMemory}
 
 pub risen-steady : (a b : ℕ) → HasRisen a b → b ≡ a → ⊥
-risen-steady a b risen steady = absurd (omega (arith, steady, risen))
+risen-steady a b risen steady = risen steady
 
 risen-unread : (input : Device SourceTold) → HasRisen input.before.faults input.now.faults → Untouched input → ⊥
 risen-unread input risen untouched = risen-steady _ _ risen (ap (λ s. s.faults) untouched)

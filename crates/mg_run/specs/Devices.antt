@@ -3,7 +3,7 @@
 use Rattle.std.specs.Prelude.{◌≡◌, List, [], map, Some, IfSome}
 use Rattle.std.specs.Global.{Vec}
 use Rattle.mg_calc.specs.Told.{BoxTold}
-use Rattle.mg_edge.specs.Edge.{SourceTold, SinkTold, StoreTold, Rose}
+use Rattle.mg_edge.specs.Edge.{SourceTold, SinkTold, StoreTold}
 use Rattle.mg_answer.specs.declared.devices.Devices.{Devices as Held}
 pub use Rattle.mg_answer.specs.Held.{told_by, SameDevices}
 pub use Rattle.mg_answer.specs.Devices.{Device, device, Untouched, HasRisen, Unrisen, IsFront, TookFront, TookText, TookPart, TookNotes, RunDevices, run_devices}
@@ -41,7 +41,7 @@ told_apart t s k e c store store_now input input_now output output_now notes not
 
 -- Faults --
 
--- No device failed.
+-- No device failed: each count of faults is as it was.
 pub record NoneFailed (devices : CallDevices) : Type 0 where
   pub store : Unrisen devices.store.before.faults devices.store.now.faults
   pub input : Unrisen devices.input.before.faults devices.input.now.faults
@@ -52,5 +52,5 @@ pub record NoneFailed (devices : CallDevices) : Type 0 where
 
 -- The source answered `End`, and if it tells its bytes, none is left.
 pub record InputHasEnded (input : Device SourceTold) : Type 0 where
-  pub rose : Rose input.before.ends input.now.ends
+  pub rose : HasRisen input.before.ends input.now.ends
   pub none : IfSome input.before.left (λ bytes. input.now.left ≡ Some [])

@@ -30,11 +30,11 @@ ghost use Rattle.mg_words.specs.declared.words.Way.TheVariants.{Run};
 ghost use Rattle.mg_run.specs.Answer.{RunAnswer, Action, run_plan, solve, trace, action_of, with_limit, AnswersAction, Records, Replays, EndsEarly};
 
 /// The program has at most one answer to the bytes of an input. Only the events of a run that it records may differ: they are those of any
-/// run of the action. A recorded run, too, has one status and one text of notes, which are those of the run. A recorded run that is made
-/// again isn't part of this law. Nor is a run of a graph with free nodes if its batches may end early.
+/// run of the action. A recorded run, too, has one status and one text of notes, which are those of the run. A run of a graph with free nodes
+/// isn't part of this law if its batches may end early.
 pub fn one_answer()
-    ensures one { (laws : Laws) (action : Action) (boxes : List BoxTold) (input : List ℕ) (a b : RunAnswer) → ¬ Records action → ¬ Replays action → ¬ EndsEarly action → AnswersAction laws action boxes input a → AnswersAction laws action boxes input b → a ≡ b }
-    ensures ends { (laws : Laws) (action : Action) (boxes : List BoxTold) (input : List ℕ) (a b : RunAnswer) → ¬ Replays action → ¬ EndsEarly action → AnswersAction laws action boxes input a → AnswersAction laws action boxes input b → (a.notes ≡ b.notes) × (a.status ≡ b.status) }
+    ensures one { (laws : Laws) (action : Action) (boxes : List BoxTold) (input : List ℕ) (a b : RunAnswer) → ¬ Records action → ¬ EndsEarly action → AnswersAction laws action boxes input a → AnswersAction laws action boxes input b → a ≡ b }
+    ensures ends { (laws : Laws) (action : Action) (boxes : List BoxTold) (input : List ℕ) (a b : RunAnswer) → ¬ EndsEarly action → AnswersAction laws action boxes input a → AnswersAction laws action boxes input b → (a.notes ≡ b.notes) × (a.status ≡ b.status) }
     ensures as_run { (laws : Laws) (report : Reporting) (plan : Plan) (boxes : List BoxTold) (input : List ℕ) (a b : RunAnswer) → AnswersAction laws (trace report plan) boxes input a → AnswersAction laws (run_plan report plan) boxes input b
         → (a.notes ≡ b.notes) × (a.status ≡ b.status) }
 {}

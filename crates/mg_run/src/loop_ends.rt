@@ -1,6 +1,6 @@
 //! The calculators of loops over lists, as boxes by their laws. The programs supply them beside other boxes of that form.
-ghost use Rattle.std.specs.Prelude.{◌≡◌, IfOk};
-ghost use Rattle.mg_batch.specs.Loops.{new_begin, new_end};
+ghost use Rattle.std.specs.Prelude.{◌≡◌, ◌≤◌, IfOk};
+ghost use Rattle.mg_batch.specs.Loops.{new_begin, new_end, clones_of as the_clones_of};
 
 use mg_batch::{begin_loop_box, end_loop_box};
 use mg_calc::{Calculator, Law, OuterShape, TryClone};
@@ -14,7 +14,10 @@ pub fn begin_loop(alloc: Global, clone: bool, telling: bool) -> Result<LawBox, A
     let begin = begin_loop_box(alloc, clone, false)?;
     let outer = OuterShape {
         shape: begin.shape().try_clone(alloc)?,
-        law: Law::BeginLoop { clone },
+        law: Law::BeginLoop {
+            clones: clones_of(clone),
+            always_end: false,
+        },
     };
     LawBox::new(alloc, outer, telling)
 }
@@ -26,7 +29,17 @@ pub fn end_loop(alloc: Global, telling: bool) -> Result<LawBox, AllocError>
     let end = end_loop_box(alloc, false)?;
     let outer = OuterShape {
         shape: end.shape().try_clone(alloc)?,
-        law: Law::EndLoop,
+        law: Law::EndLoop {
+            empty_as_bound: false,
+        },
     };
     LawBox::new(alloc, outer, telling)
+}
+
+// Returns how many ports CLONE a BeginLoop has: one, or none.
+fn clones_of(clone: bool) -> u32
+    ensures value { result ≡ the_clones_of clone }
+    ensures most { result ≤ 64 }
+{
+    if clone { 1 } else { 0 }
 }

@@ -88,3 +88,8 @@ pub mod HeardOn
 pub mod Alike
 pub mod WorkingAtOnce
 pub mod ShowingAtOnce
+pub mod SameParts
+pub mod OneClaim
+pub mod OneStep
+pub mod OneBeginning
+pub mod OneRun

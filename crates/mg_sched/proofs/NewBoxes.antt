@@ -14,7 +14,7 @@ use Rattle.mg_node.specs.Begun.{IsHanded}
 use Rattle.mg_node.specs.Fresh.{own_told}
 use Rattle.mg_node.proofs.Lemmas.{at_each, some_same}
 use Rattle.mg_sched.specs.StandsFor.{HasSpare}
-use Rattle.mg_sched.specs.Made.{job_of, FitsNew, BoxesFit}
+use Rattle.mg_sched.specs.Made.{job_of, FitsNew, BoxesFit, first_calculator}
 use Rattle.mg_sched.specs.Code.Made.{IsLeftOver, HasTaken, FindEach, first_holder}
 
 -- Lists.
@@ -90,6 +90,18 @@ pub placed : (boxes : List BoxTold) (place : ℕ) (told : BoxTold) → slice_get
 placed [] place told is = absurd cc
 placed (b ∷ boxes) zero told is = some_same (Some (Some b)) _ _ refl is
 placed (b ∷ boxes) (suc place) told is = placed boxes place told is
+
+given_at : (boxes : List BoxTold) (number : ℕ) → unwrap_or (slice_get (given_of boxes) number) None ≡ slice_get boxes number
+given_at [] number = refl
+given_at (b ∷ boxes) zero = refl
+given_at (b ∷ boxes) (suc number) = given_at boxes number
+
+pub first_is : (boxes : List BoxTold) (node : PlanNode) → first_holder (given_of boxes) node ≡ first_calculator boxes node
+first_is boxes node = ap (λ (o : Option BoxTold). unwrap_or (option_map (holder_view true) o) (own_told node)) (by_number node.box_number)
+  where
+    by_number : (o : Option ℕ) → option_and_then (λ number. unwrap_or (slice_get (given_of boxes) number) None) o ≡ option_and_then (λ number. slice_get boxes number) o
+    by_number None = refl
+    by_number (Some number) = given_at boxes number
 
 -- what is left of them
 pub spare : {laws : Laws} (plan : Plan) (inputs : Inputs) (boxes : List BoxTold) (now : List (Option BoxTold)) → BoxesFit plan boxes → IsLeftOver plan.nodes (given_of boxes) (length plan.nodes) now → HasSpare (job_of laws plan inputs boxes) now

@@ -45,7 +45,7 @@ use Rattle.mg_sched.specs.Made.{job_of, BoxesFit, IsMade}
 use Rattle.mg_sched.specs.Code.Made.{AtPlaces, IsEngineAt, IsIntakeAt, IsWorkQueueAt, HasParts, IsLeftOver, first_holder}
 use Rattle.mg_sched.proofs.HandedOut.{below}
 use Rattle.mg_sched.proofs.Solved.{solved}
-use Rattle.mg_sched.proofs.NewBoxes.{there_at, given_of, handed, placed, spare}
+use Rattle.mg_sched.proofs.NewBoxes.{there_at, given_of, handed, placed, spare, first_is}
 
 -- Engines.
 
@@ -235,8 +235,12 @@ pub net_made : {laws : Laws} (plan : Plan) (inputs : Inputs) (boxes : List BoxTo
     → IsLeftOver plan.nodes (given_of boxes) (length plan.nodes) net.spare → net.begun ≡ 0 → net.wound ≡ 0 → IsMade laws plan inputs boxes net
 net_made {laws} plan inputs boxes net is fit parts left begun wound = record {
   stands = stands plan inputs boxes net is fit parts left begun wound;
+  fits = fit;
   begun = begun;
+  engines = λ number node engine there at. (parts.engines number engine at).node node there ∙ ap (fresh_engine node number) (first_is boxes node);
+  input_engines = λ input s engine there at. (parts.engines (length plan.nodes + input) engine at).input input s refl there;
   fresh = λ consumer intake there. (parts.intakes consumer intake there).fresh;
+  work_queues = λ number node work_queue there at. parts.work_queues number work_queue at node there;
   limits = parts.queues;
   kept = parts.kept;
   whole = whole_new plan inputs (λ _ node. first_holder (given_of boxes) node) net is parts;

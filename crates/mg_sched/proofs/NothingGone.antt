@@ -239,8 +239,8 @@ gone_or_none [] port number each = omega arith
 gone_or_none (b ∷ outputs) zero number each = each b refl
 gone_or_none (b ∷ outputs) (suc port) number each = gone_or_none outputs port number each
 
-pub begins_keep : (before now : NetView) (stream number : ℕ) → BeginsNet before now → HasFrom before stream number → HasFrom now stream number
-begins_keep before now stream number b has output is =
+pub begins_keep : {laws : Laws} (before now : NetView) (stream number : ℕ) → BeginsNet laws before now → HasFrom before stream number → HasFrom now stream number
+begins_keep {laws} before now stream number b has output is =
     let plan : now.plan ≡ before.plan = ap (λ (v : NetView). v.plan) b.parts in
     let place = place_of before.plan is.producer in
     let there : slice_get now.engines place ≡ Some is.engine = ap (λ (p : Plan). slice_get now.engines (place_of p is.producer)) (sym plan) ∙ is.engine_is in

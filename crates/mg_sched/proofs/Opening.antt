@@ -1,6 +1,6 @@
 -- How nodes are begun.
 use Rattle.std.proofs.Common.{◌≡◌, ◌≢◌, ℕ, zero, suc, ◌+◌, ◌-◌, ◌^◌, ◌<◌, ◌≤◌, Bool, true, false, List, [], ◌∷◌, length, map, replicate, set, length-set, Option, Some, None, Result, slice_get, get_or, nat_lt, ◌⊎◌, inl, inr, ap, sym, refl, subst, ◌∙◌, arith}
-use Rattle.std.specs.Prelude.{slice_index_or}
+use Rattle.std.specs.Prelude.{slice_index_or, option_map, unwrap_or}
 use Rattle.std.proofs.lemmas.Bool.{cases_eq, cases_lt, lt-ltb}
 use Rattle.std.proofs.lemmas.Bool.Decides.{nat_tests}
 use Rattle.std.proofs.lemmas.List.Elements.{All-weaker}
@@ -30,10 +30,10 @@ use Rattle.mg_node.specs.Shelves.{IsOut}
 use Rattle.mg_node.specs.Standing.{EngineGrows}
 use Rattle.mg_node.specs.Views.{IntakeView, ContextView, EntryView, EngineView}
 use Rattle.mg_node.specs.Windows.{has_ended}
-use Rattle.mg_node.proofs.Lemmas.{get_other, grown_by_itself, is_new, may_begin, put_there, unbegun_parts}
+use Rattle.mg_node.proofs.Lemmas.{get_other, get_set, grown_by_itself, is_new, may_begin, put_there, unbegun_parts}
 use Rattle.mg_throttle.specs.Throttle.{QueueLimits}
 use Rattle.mg_sched.specs.Acts.{stopped_by}
-use Rattle.mg_sched.specs.Begins.{BeginsNet}
+use Rattle.mg_sched.specs.Begins.{BeginsEngine, StillUnbegun, stopped_from, BeginsNet}
 use Rattle.mg_sched.specs.Places.{with_engine, with_limits}
 use Rattle.mg_sched.specs.StandsFor.{HasWorks, IsEngine, IsCell, IsJoined, KnowsLimits, IsNetOf, StandsFor, StandsForSome}
 use Rattle.mg_sched.specs.Views.{WorkQueueView, NetView}
@@ -258,6 +258,9 @@ IsLawfulThen laws sides engine now = (job : LoggedJob laws) (number : ℕ) (node
 abbrev pub IsBegunThen : Laws → List (Option Plain) → EngineView → EngineView → Type 0
 IsBegunThen laws sides engine now = (node : PlanNode) (number : ℕ) (told : HolderView) → IsNew node told → IsUnbegun laws node number told sides engine → HasBegun laws node number told sides now
 
+abbrev pub IsUnbegunThen : Laws → List (Option Plain) → EngineView → EngineView → Type 0
+IsUnbegunThen laws sides engine now = (node : PlanNode) (number : ℕ) (told : HolderView) → IsUnbegun laws node number told sides engine → IsUnbegun laws node number told sides now
+
 limits_then : {laws : Laws} (job : LoggedJob laws) (net : NetView) (engine engine_now : EngineView) (begun : ℕ) → IsNetOf job net → net.begun < length net.plan.nodes → slice_get net.engines net.begun ≡ Some engine → (has_ended engine ≡ true → has_ended engine_now ≡ true)
     → KnowsLimits (with_opened net net.begun engine_now (stopped_by net.begun engine_now net.limits) begun)
 limits_then {laws} job net engine engine_now begun h within at ended =
@@ -342,14 +345,80 @@ set_gone engines node engine now there none place g g_now at at_now output = eli
       omega (arith, gone))
 ]
 
-begins_by : (net : NetView) (engine engine_now : EngineView) (limits : QueueLimits) (begun : ℕ) → slice_get net.engines net.begun ≡ Some engine → EngineGrows engine engine_now → ((output : ℕ) → (laid_at engine_now output).gone ≡ 0) → net.begun ≤ begun
-    → BeginsNet net (with_opened net net.begun engine_now limits begun)
-begins_by net engine engine_now limits begun at grows none more = record {
-  more = more;
+-- the engine that stands at the place of the next node, before and now
+engine_was : (net : NetView) (engine g : EngineView) (number : ℕ) → slice_get net.engines net.begun ≡ Some engine → net.begun ≡ number → slice_get net.engines number ≡ Some g → g ≡ engine
+engine_was net engine g number at here at_g = same_Some g engine (sym at_g ∙ ap (slice_get net.engines) (sym here) ∙ at)
+
+engine_is : (net : NetView) (now g : EngineView) (number : ℕ) → net.begun ≡ number → slice_get (set net.engines net.begun now) number ≡ Some g → g ≡ now
+engine_is net now g number here at_g = put_there net.engines net.begun now g (ap (slice_get (set net.engines net.begun now)) here ∙ at_g)
+
+-- what becomes of an engine, told for the side packets of a node of the net
+begun_there_then : {laws : Laws} (net : NetView) (sides : List (Option Plain)) (engine now : EngineView) (node : PlanNode) → AreSides net sides → IsBegunThen laws sides engine now → slice_get net.plan.nodes net.begun ≡ Some node
+    → BeginsEngine laws net net.begun node engine now
+begun_there_then {laws} net sides engine now node are begun there = λ told new unbegun.
+    subst (λ (ss : List (Option Plain)). HasBegun laws node net.begun told ss now) (are node there)
+    (begun node net.begun told new (subst (λ (ss : List (Option Plain)). IsUnbegun laws node net.begun told ss engine) (sym (are node there)) unbegun))
+
+unbegun_there_then : {laws : Laws} (net : NetView) (sides : List (Option Plain)) (engine now : EngineView) (node : PlanNode) → AreSides net sides → IsUnbegunThen laws sides engine now → slice_get net.plan.nodes net.begun ≡ Some node
+    → StillUnbegun laws net net.begun node engine now
+unbegun_there_then {laws} net sides engine now node are keeps there = λ told unbegun.
+    subst (λ (ss : List (Option Plain)). IsUnbegun laws node net.begun told ss now) (are node there)
+    (keeps node net.begun told (subst (λ (ss : List (Option Plain)). IsUnbegun laws node net.begun told ss engine) (sym (are node there)) unbegun))
+
+-- the limits once one more node is begun
+pub stopped_next : (engines : List EngineView) (number : ℕ) (engine : EngineView) (limits : QueueLimits) → slice_get engines number ≡ Some engine → stopped_by number engine limits ≡ stopped_from engines number 1 limits
+stopped_next engines number engine limits at = sym (ap (λ (o : Option EngineView). unwrap_or (option_map (λ e. stopped_by number e limits) o) limits) at)
+
+-- the next node isn't begun: its engine is put back, perhaps with its calculator opened
+begins_none_by : {laws : Laws} (net : NetView) (sides : List (Option Plain)) (engine now : EngineView) → slice_get net.engines net.begun ≡ Some engine → net.begun < length net.plan.nodes → EngineGrows engine now → ((output : ℕ) → (laid_at now output).gone ≡ 0)
+    → AreSides net sides → IsUnbegunThen laws sides engine now → BeginsNet laws net (with_opened net net.begun now net.limits net.begun)
+begins_none_by {laws} net sides engine now at within grows none are keeps = record {
+  more = omega arith;
   parts = refl;
-  places = length-set net.engines net.begun engine_now;
-  grow = set_grows net.engines net.begun engine engine_now at grows;
-  gone = set_gone net.engines net.begun engine engine_now at none;
+  places = length-set net.engines net.begun now;
+  opens = λ number node g g_now from below there at_g at_now. absurd (omega (arith, from, below));
+  next = λ node g g_now there at_g at_now.
+      subst (λ (v : EngineView). StillUnbegun laws net net.begun node g v) (sym (engine_is net now g_now net.begun refl at_now))
+      (subst (λ (v : EngineView). StillUnbegun laws net net.begun node v now) (sym (engine_was net engine g net.begun at refl at_g)) (unbegun_there_then net sides engine now node are keeps there));
+  others = λ place elsewhere. get_other net.engines net.begun place now (λ same. elim elsewhere [
+    | inl less ↦ absurd (omega (arith, same, less))
+    | inr further ↦ elim further [
+      | inl more ↦ absurd (omega (arith, same, more))
+      | inr past ↦ absurd (omega (arith, same, past, within))
+    ]
+  ]);
+  stops = ap (λ (n : ℕ). stopped_from (set net.engines net.begun now) net.begun n net.limits) (let e : 0 ≡ net.begun - net.begun = omega arith in e);
+  grow = set_grows net.engines net.begun engine now at grows;
+  gone = set_gone net.engines net.begun engine now at none;
+}
+
+-- the next node is begun
+begins_one_by : {laws : Laws} (net : NetView) (sides : List (Option Plain)) (engine now : EngineView) → slice_get net.engines net.begun ≡ Some engine → net.begun < length net.plan.nodes → EngineGrows engine now → ((output : ℕ) → (laid_at now output).gone ≡ 0)
+    → AreSides net sides → IsBegunThen laws sides engine now → BeginsNet laws net (with_opened net net.begun now (stopped_by net.begun now net.limits) (net.begun + 1))
+begins_one_by {laws} net sides engine now at within grows none are begun = record {
+  more = omega arith;
+  parts = refl;
+  places = length-set net.engines net.begun now;
+  opens = λ number node g g_now from below there at_g at_now.
+      let here : net.begun ≡ number = omega (arith, from, below) in
+      subst (λ (v : EngineView). BeginsEngine laws net number node g v) (sym (engine_is net now g_now number here at_now))
+      (subst (λ (v : EngineView). BeginsEngine laws net number node v now) (sym (engine_was net engine g number at here at_g))
+      (subst (λ (n : ℕ). BeginsEngine laws net n node engine now) here (begun_there_then net sides engine now node are begun (ap (slice_get net.plan.nodes) here ∙ there))));
+  next = λ node g g_now there at_g at_now.
+      let other : net.begun + 1 ≢ net.begun = λ same. omega (arith, same) in
+      let same : g ≡ g_now = same_Some g g_now (sym at_g ∙ sym (get_other net.engines net.begun (net.begun + 1) now other) ∙ at_now) in
+      λ told unbegun. subst (λ (v : EngineView). IsUnbegun laws node (net.begun + 1) told (node_sides net.plan net.given node) v) same unbegun;
+  others = λ place elsewhere. get_other net.engines net.begun place now (λ same. elim elsewhere [
+    | inl less ↦ absurd (omega (arith, same, less))
+    | inr further ↦ elim further [
+      | inl more ↦ absurd (omega (arith, same, more))
+      | inr past ↦ absurd (omega (arith, same, past, within))
+    ]
+  ]);
+  stops = stopped_next (set net.engines net.begun now) net.begun now net.limits (get_set net.engines net.begun engine now at)
+      ∙ ap (λ (n : ℕ). stopped_from (set net.engines net.begun now) net.begun n net.limits) (let e : 1 ≡ net.begun + 1 - net.begun = omega arith in e);
+  grow = set_grows net.engines net.begun engine now at grows;
+  gone = set_gone net.engines net.begun engine now at none;
 }
 
 -- an engine that stays unbegun, or is begun, has given up nothing
@@ -386,11 +455,12 @@ unbegun_stands {laws} job shown net sides engine now is some h within value are 
     (unbegun_net job net sides engine now h within (begun_engine shown net engine is some within value) (sides_are shown net sides is are) grows stays)
 
 pub unbegun_begins : {laws : Laws} (shown net : NetView) (sides : List (Option Plain)) (engine now : EngineView) → shown ≡ net → StandsForSome laws net → net.begun < length net.plan.nodes → engine ≡ get_or shown.engines shown.begun engine → AreSides shown sides → EngineGrows engine now
-    → StaysUnbegun laws sides engine now → BeginsNet net (with_engine shown shown.begun now)
-unbegun_begins {laws} shown net sides engine now is some within value are grows stays =
+    → StaysUnbegun laws sides engine now → IsUnbegunThen laws sides engine now → BeginsNet laws net (with_engine shown shown.begun now)
+unbegun_begins {laws} shown net sides engine now is some within value are grows stays keeps =
     let at = begun_engine shown net engine is some within value in
-    subst (λ (v : NetView). BeginsNet net (with_engine v v.begun now)) (sym is)
-    (begins_by net engine now net.limits net.begun at grows (unbegun_whole net sides engine now some within at (sides_are shown net sides is are) stays) (omega arith))
+    let own = sides_are shown net sides is are in
+    subst (λ (v : NetView). BeginsNet laws net (with_engine v v.begun now)) (sym is)
+    (begins_none_by net sides engine now at within grows (unbegun_whole net sides engine now some within at own stays) own keeps)
 
 -- what it is once the queues of a node that failed are stopped
 abbrev pub Stopped : NetView → EngineView → NetView → Type 0
@@ -406,11 +476,12 @@ stopped_is {laws} shown net now new is some within stopped =
     s now (it.1 ∙ ap Some (put_there net.engines net.begun now it.0 it.1))
 
 pub begun_begins : {laws : Laws} (shown net : NetView) (sides : List (Option Plain)) (engine now : EngineView) (new : NetView) → shown ≡ net → StandsForSome laws net → net.begun < length net.plan.nodes → engine ≡ get_or shown.engines shown.begun engine → AreSides shown sides
-    → EngineGrows engine now → IsBegunThen laws sides engine now → Stopped shown now new → BeginsNet net new
+    → EngineGrows engine now → IsBegunThen laws sides engine now → Stopped shown now new → BeginsNet laws net new
 begun_begins {laws} shown net sides engine now new is some within value are grows begun stopped =
     let at = begun_engine shown net engine is some within value in
-    subst (λ (v : NetView). BeginsNet net v) (sym (stopped_is shown net now new is some within stopped))
-    (begins_by net engine now (stopped_by net.begun now net.limits) (net.begun + 1) at grows (begun_whole net sides engine now some within at (sides_are shown net sides is are) begun) (omega arith))
+    let own = sides_are shown net sides is are in
+    subst (λ (v : NetView). BeginsNet laws net v) (sym (stopped_is shown net now new is some within stopped))
+    (begins_one_by net sides engine now at within grows (begun_whole net sides engine now some within at own begun) own begun)
 
 pub begun_next : {laws : Laws} (shown net : NetView) (now : EngineView) (new : NetView) → shown ≡ net → StandsForSome laws net → net.begun < length net.plan.nodes → Stopped shown now new → new.begun ≡ net.begun + 1
 begun_next {laws} shown net now new is some within stopped = ap (λ (v : NetView). v.begun) (stopped_is shown net now new is some within stopped)

@@ -15,6 +15,7 @@ pub mod WindsUp
 pub mod AtRest
 pub mod Sweeps
 pub mod Runs
+pub mod SameNets
 pub mod Heard
 pub mod ComesApart
 -- What the prover wants of the types beside their meaning. No meaning rests on it.

@@ -23,7 +23,7 @@ IsRun laws (event ∷ events) before now = (next : NetView) × IsEventOf before 
 pub record IsBegun (laws : Laws) (plan : Plan) (inputs : Inputs) (boxes : List BoxTold) (net : NetView) : Type 0 where
   pub made : NetView
   pub is_made : IsMade laws plan inputs boxes made
-  pub begins : BeginsNet made net
+  pub begins : BeginsNet laws made net
   pub stands : StandsFor (job_of laws plan inputs boxes) net
   pub running : IsRunning net
 

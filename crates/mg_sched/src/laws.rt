@@ -195,7 +195,7 @@ pub fn nets_at_rest_for_one_job_are_alike()
 /// What can be read of a stream stays there. No step gives up anything of it, and neither does the begin of nodes or further input. A trim
 /// gives up nothing of a stream that is kept. A change that leaves the nodes as they are gives up nothing.
 pub fn what_is_kept_stays()
-    ensures begins { (before now : NetView) (stream number : ℕ) → BeginsNet before now → HasFrom before stream number → HasFrom now stream number }
+    ensures begins { (laws : Laws) (before now : NetView) (stream number : ℕ) → BeginsNet laws before now → HasFrom before stream number → HasFrom now stream number }
     ensures steps { (laws : Laws) (before now : NetView) (stream number : ℕ) → Becomes laws before now → HasFrom before stream number → HasFrom now stream number }
     ensures further { (laws : Laws) (more : Inputs) (before now : NetView) (stream number : ℕ) → MayGoOnWith laws more before → Extends more before now → HasFrom before stream number → HasFrom now stream number }
     ensures trims { (laws : Laws) (before now : NetView) (stream number : ℕ) → StandsForSome laws before → Trims before now → is_kept before stream ≡ true → HasFrom before stream number → HasFrom now stream number }

@@ -5,19 +5,22 @@ ghost use Rattle.mg_settled.specs.Prefix.{StreamPrefix};
 ghost use Rattle.mg_settled.specs.Ends.{end_of};
 ghost use Rattle.mg_calc.specs.Rules.{Laws};
 ghost use Rattle.mg_calc.specs.declared.event.Event.{Event};
-ghost use Rattle.mg_calc.specs.declared.event.Effect.TheVariants.{Did};
+ghost use Rattle.mg_calc.specs.declared.event.Effect.{Effect};
+ghost use Rattle.mg_calc.specs.declared.event.Effect.TheVariants.{Did, OutOfMemory};
 ghost use Rattle.mg_calc.specs.declared.inputs.Inputs.{Inputs};
 ghost use Rattle.mg_calc.specs.declared.plan.Plan.{Plan};
 ghost use Rattle.mg_calc.specs.Told.{BoxTold};
 ghost use Rattle.mg_calc.specs.Meaning.{counts, faults};
 ghost use Rattle.mg_node.specs.Job.{LoggedJob, Solves};
 ghost use Rattle.mg_sched.specs.Views.{NetView};
-ghost use Rattle.mg_sched.specs.StandsFor.{StandsFor, IsRunning};
+ghost use Rattle.mg_sched.specs.StandsFor.{StandsFor, StandsForSome, IsRunning};
 ghost use Rattle.mg_sched.specs.Acts.{IsEventOf, Acts};
 ghost use Rattle.mg_sched.specs.Made.{job_of};
 ghost use Rattle.mg_sched.specs.Reports.{report_of};
-ghost use Rattle.mg_sched.specs.Runs.{IsRun, IsRunAtRest};
+ghost use Rattle.mg_sched.specs.Runs.{IsRun, IsBegun, IsRunAtRest};
 ghost use Rattle.mg_sched.specs.Sweeps.{Becomes};
+ghost use Rattle.mg_sched.specs.AtRest.{IsAtRest, MayGoOn};
+ghost use Rattle.mg_sched.specs.SameNets.{AreAlike};
 
 /// The empty list is a run from a net to itself. An event that does something is a run. Two runs are one run if the second begins where the
 /// first ended.
@@ -44,6 +47,22 @@ pub fn steps_keep_what_a_net_stands_for()
     ensures running { (laws : Laws) (before now : NetView) → Becomes laws before now → IsRunning before → IsRunning now }
     ensures stands { (laws : Laws) (job : LoggedJob laws) (before now : NetView) → Becomes laws before now → IsRunning before → StandsFor job before → StandsFor job now }
     ensures run { (laws : Laws) (events : List Event) (before now : NetView) → IsRun laws events before now → Becomes laws before now }
+{}
+
+/// The runs of a job begin at one place. Two nets that were made for a job with the same calculators, and whose nodes are begun, differ in
+/// nothing but the room of their queues, and in the table of which feeder reaches which node.
+pub fn runs_of_a_job_begin_at_one_place()
+    ensures { (laws : Laws) (plan : Plan) (inputs : Inputs) (boxes : List BoxTold) (net other : NetView) → IsBegun laws plan inputs boxes net → IsBegun laws plan inputs boxes other → AreAlike net other }
+{}
+
+/// An event has one effect at a net of a run: it does something, or there is nothing to do. What it does is one thing, up to the room of
+/// queues. The same events lead a run of a job to one place, and a net of a run that is at rest may not go on.
+pub fn an_event_has_one_effect()
+    ensures effect { (laws : Laws) (event : Event) (effect twin : Effect) (net now other also : NetView) → StandsForSome laws net → IsRunning net → IsEventOf net event → AreAlike net other
+        → effect ≢ OutOfMemory → twin ≢ OutOfMemory → Acts laws event effect net now → Acts laws event twin other also → (effect ≡ twin) × AreAlike now also }
+    ensures run { (laws : Laws) (plan : Plan) (inputs : Inputs) (boxes : List BoxTold) (events : List Event) (begun now twin also : NetView)
+        → IsBegun laws plan inputs boxes begun → IsBegun laws plan inputs boxes twin → IsRun laws events begun now → IsRun laws events twin also → AreAlike now also }
+    ensures rests { (laws : Laws) (net other : NetView) → StandsForSome laws net → IsRunning net → AreAlike net other → IsAtRest laws net → ¬ MayGoOn laws other }
 {}
 
 /// Whatever its events are, a run of a job to rest reaches the job's solution. The net reports what the solution has: how many sets each

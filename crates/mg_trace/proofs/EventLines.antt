@@ -68,7 +68,7 @@ lines_apart (x ∷ xs) (y ∷ ys) rest more none isnt same =
     let r = lines_apart xs ys rest more (both_not (x == 10) (has_feed xs) none).1 (both_not (y == 10) (has_feed ys) isnt).1 behind in
     (λ i. first i ∷ r.0 i, r.1)
 
-not_end : (event : Event) → codes "end" ≡ event_line event → ⊥
+pub not_end : (event : Event) → codes "end" ≡ event_line event → ⊥
 not_end (Deliver n) same = let head : 101 ≡ 100 = ap (λ (l : List ℕ). get_or l 0 0) same in absurd (omega (arith, head))
 not_end (Advance n) same = let head : 101 ≡ 97 = ap (λ (l : List ℕ). get_or l 0 0) same in absurd (omega (arith, head))
 not_end (Claim n) same = let head : 101 ≡ 99 = ap (λ (l : List ℕ). get_or l 0 0) same in absurd (omega (arith, head))

@@ -12,6 +12,7 @@ use Rattle.mg_feed.specs.Stands.{HasAccepted, nothing_taken, packets_of}
 use Rattle.mg_feed.specs.Fed.{Fed}
 use Rattle.mg_feed.specs.Came.{Came}
 use Rattle.mg_feed.specs.Ran.{MetEnd, Spends, Unfailed, FailedBy}
+use Rattle.mg_feed.specs.Once.{StopsInTime}
 use Rattle.mg_feed.specs.Batch.{EndsAs, CutsAt, idle_by}
 use Rattle.mg_feed.specs.declared.feed_end.FeedEnd.TheVariants.{OutOfMemory}
 use Rattle.mg_feed.specs.declared.feed_end.BatchEnd.{BatchEnd}
@@ -45,6 +46,7 @@ pub record IsRead (plan : Plan) (first : SourceTold) (end : BatchEnd) (source : 
   pub gave : Gave first.left source.left past
   pub came : Came [] past lines (packets_of (given_by (inputs_of plan) lines).streams) fed
   pub met : MetEnd false fed.read.ended first source
+  pub stops : StopsInTime (inputs_of plan) [] first source past
   pub spent : Spends 0 (idle_by end fed.read.ended) first.left source.left first.reads source.reads
   pub so : ReadsAs end plan first source fed past lines
 

@@ -29,7 +29,7 @@ impl<C: NodeCalculator> Net<C> {
     pub fn begin(&mut self) -> Result<(), AllocError>
         requires stands { StandsForSome C.laws self.old }
         ensures running { OnOk result (IsRunning self.new) }
-        ensures begins { BeginsNet self.old self.new }
+        ensures begins { BeginsNet C.laws self.old self.new }
         ensures stands { (job : LoggedJob C.laws) → StandsFor job self.old → StandsFor job self.new }
     {
         while self.begun < self.plan.nodes.len() {
@@ -42,7 +42,7 @@ impl<C: NodeCalculator> Net<C> {
     fn begin_next(&mut self) -> Result<(), AllocError>
         requires there { self.old.begun < length self.old.plan.nodes }
         requires stands { StandsForSome C.laws self.old }
-        ensures begins { BeginsNet self.old self.new }
+        ensures begins { BeginsNet C.laws self.old self.new }
         ensures next { OnOk result (self.new.begun ≡ self.old.begun + 1) }
         ensures stands { (job : LoggedJob C.laws) → StandsFor job self.old → StandsFor job self.new }
     {

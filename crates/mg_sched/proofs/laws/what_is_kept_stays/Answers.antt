@@ -4,7 +4,7 @@ use Rattle.mg_sched.proofs.NothingGone.{begins_keep, steps_keep, extends_keep, t
 use Rattle.mg_sched.proofs.laws.what_is_kept_stays.Goals as goal
 
 pub returns-clause-begins : goal.returns-clause-begins
-returns-clause-begins c = begins_keep
+returns-clause-begins c = λ laws. begins_keep
 
 pub returns-clause-steps : goal.returns-clause-steps
 returns-clause-steps c = λ laws. steps_keep

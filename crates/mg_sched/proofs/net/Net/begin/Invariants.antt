@@ -5,7 +5,7 @@ use Rattle.mg_sched.proofs.AllBegun.{Keeps}
 use Rattle.mg_sched.proofs.net.Net.begin.Given as goal
 
 abbrev pub invariant-loop-self : goal.invariant-loop-self
-invariant-loop-self g l = record { begins : BeginsNet l.fn.self l.self; keeps : Keeps g.C.NodeCalculator.laws l.fn.self l.self }
+invariant-loop-self g l = record { begins : BeginsNet g.C.NodeCalculator.laws l.fn.self l.self; keeps : Keeps g.C.NodeCalculator.laws l.fn.self l.self }
 
 abbrev pub decreases-loop-self : goal.decreases-loop-self
 decreases-loop-self g l = length l.self.plan.nodes - l.self.begun

@@ -13,7 +13,7 @@ begin-requires g c = may_begin_next c.args.self.now c.in_ok-sides.sides c.index_
 
 pub returns-in_err-begin-clause-begins : goal.returns-in_err-begin-clause-begins
 returns-in_err-begin-clause-begins g c = unbegun_begins _ c.args.self.now c.in_ok-sides.sides c.index_mut.result.now c.begin.new.self c.self.view_is c.requires.stands c.requires.there c.index_mut.ensures.value c.in_ok-sides.ensures
-    c.in_err-begin.ensures.grows c.in_err-begin.ensures.lawful_unbegun
+    c.in_err-begin.ensures.grows c.in_err-begin.ensures.lawful_unbegun c.in_err-begin.ensures.unbegun
 
 pub returns-in_err-begin-clause-stands : goal.returns-in_err-begin-clause-stands
 returns-in_err-begin-clause-stands g c = λ job h. unbegun_stands job _ c.args.self.now c.in_ok-sides.sides c.index_mut.result.now c.begin.new.self c.self.view_is c.requires.stands h c.requires.there c.index_mut.ensures.value c.in_ok-sides.ensures
