@@ -3,7 +3,7 @@
 use crate::call::{Asked, make_calls, outcome_of};
 use crate::choice::{Choice, choice_of};
 use crate::devices::InMemory;
-use crate::member::{knows, text};
+use crate::member::{knows, number, text};
 use crate::report::{Wanted, difference, wanted_of};
 use crate::text::{Texts, bytes_of};
 use crate::turn::turn_of;
@@ -54,6 +54,8 @@ pub enum Verdict {
     Passed,
     /// A call of the line's case didn't come out as the case wants. The text tells how it differs.
     Failed(String),
+    /// The line tells how many rows the table has: lines that pass or fail.
+    Counts(u64),
 }
 
 /// Reads a line, and keeps the text that it names, or makes the calls of its case. An error says why it is no line of a table. A line with
@@ -112,6 +114,10 @@ fn act<R: Threads + Wait + Sync>(
         knows(said, &["text", "is"])?;
         name_text(alloc, texts, name, said)?;
         return Ok(Verdict::Said);
+    }
+    if let Some(rows) = number(said, "rows")? {
+        knows(said, &["rows"])?;
+        return Ok(Verdict::Counts(rows));
     }
     ensure!(
         text(said, "section")?.is_some(),

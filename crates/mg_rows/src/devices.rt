@@ -59,21 +59,21 @@ impl<'a> Input<'a> {
 }
 
 impl<'a> Source for Input<'a> {
-    ghost told = { λ s. record { left = None; reads = None; ends = s.ends; faults = s.faults; left_at_fault = None } };
+    ghost told = { λ s. record { left = None; reads = None; ends = s.ends; faults = s.faults; left_at_bytes = None; left_at_fault = None } };
 
     fn read(&mut self, buf: &mut [u8]) -> Got {
         if self.is_early() {
-            self.faults = self.faults.saturating_add(1);
+            self.faults = self.faults.wrapping_add(1);
             return Got::Failed;
         }
         match self.bytes.read(buf) {
             Got::Bytes(count) => Got::Bytes(count),
             Got::End => {
-                self.ends = self.ends.saturating_add(1);
+                self.ends = self.ends.wrapping_add(1);
                 Got::End
             }
             Got::Failed => {
-                self.faults = self.faults.saturating_add(1);
+                self.faults = self.faults.wrapping_add(1);
                 Got::Failed
             }
         }
@@ -99,7 +99,7 @@ impl<'a> Sink for Output<'a> {
                 Put::Took(count)
             }
             Put::Failed => {
-                self.faults = self.faults.saturating_add(1);
+                self.faults = self.faults.wrapping_add(1);
                 Put::Failed
             }
         }

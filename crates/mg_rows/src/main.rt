@@ -1,6 +1,6 @@
 //! Runs the worked rows of the program. Reads a table of JSON lines from standard input. Makes the calls of the table's
 //! cases over devices in memory, and compares each outcome with what the case wants. Writes a line for each case that
-//! differs, and last how many passed and failed. `docs/ROWS.md` says what the lines of a table are.
+//! differs, and last how many failed and whether the table is whole: whether it has as many rows as one of its lines tells. `docs/ROWS.md` says what the lines of a table are.
 #![tactic(auto)]
 
 mod call;
@@ -22,10 +22,12 @@ fn main(rt: HostRuntime) -> io::Result<()> {
     let alloc = rt.alloc();
     let mut texts = BTreeMap::new(alloc);
     let (mut number, mut passed, mut failed) = (0u64, 0u64, 0u64);
+    let mut told = None;
     for line in rt.lines(alloc) {
         number = number.saturating_add(1);
         match judge(&rt, alloc, &mut texts, line?.as_str()) {
             Ok(Verdict::Said) => {}
+            Ok(Verdict::Counts(rows)) => told = Some(rows),
             Ok(Verdict::Passed) => passed = passed.saturating_add(1),
             Ok(Verdict::Failed(how)) => {
                 failed = failed.saturating_add(1);
@@ -37,5 +39,9 @@ fn main(rt: HostRuntime) -> io::Result<()> {
             }
         }
     }
-    println!(rt; "{passed} passed, {failed} failed")
+    if told == Some(passed.saturating_add(failed)) {
+        println!(rt; "the whole table: {failed} failed")
+    } else {
+        println!(rt; "the table isn't whole: {passed} passed, {failed} failed")
+    }
 }

@@ -119,7 +119,11 @@ fn a_folder_gives_its_files(rt: HostRuntime) -> Result<(), Fail> {
     fs::write(&rt, "graph", "bytes")?;
     write_long(&rt, rt.alloc(), 4_194_306)?;
     let calls = "graph=bytes\nlong=4194305\nmissing=Failed\n.=Failed";
-    assert_rows(rt.alloc(), &mut Loads(FolderStore::new(rt.clone()?)), calls)?;
+    assert_rows(
+        rt.alloc(),
+        &mut Loads(FolderStore::new(rt.alloc(), rt.clone()?)),
+        calls,
+    )?;
     fs::remove_file(&rt, "graph")?;
     fs::remove_file(&rt, "long")?;
     Ok(())
