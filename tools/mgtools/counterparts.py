@@ -29,5 +29,6 @@ def counterpart(name: str) -> str | None:
     """The sentence about a calculator that has a counterpart here."""
     loop = LOOP.fullmatch(name)
     if loop:
-        return f"in place of {name}: {loop[1]}Calculator, for items of any type (docs/guide/calculators.md#loops-over-lists)"
+        option = "always_end" if loop[1] == "BeginLoop" else "empty_as_bound"
+        return f"in place of {name}: {loop[1]}Calculator with `{option}: true`, for items of any type (docs/guide/calculators.md#loops-over-lists)"
     return counterparts().get(name)

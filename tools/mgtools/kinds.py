@@ -17,11 +17,13 @@ TRUTHS = ("true", "True", "t", "1", "false", "False", "f", "0")
 
 @dataclass(frozen=True)
 class Ports:
-    """Ports of one tag: how many at least and at most, and which kind of packets they have."""
+    """Ports of one tag: how many at least and at most, and which kind of packets they have. Those that a node `may_lack` are as many
+    inputs as outputs."""
     tag: str = ""
     least: int = 1
     most: int = 1
     kind: str = "Any"
+    may_lack: bool = False
 
     def say(self) -> str:
         what = f"{self.tag}" if self.tag else "untagged"
@@ -89,7 +91,7 @@ class Kind:
     either: tuple[str, ...] = ()
 
 
-PORTS = re.compile(r"(?:(k|one) untagged|(\w+(?: or \w+)*)( 0 to k-1)?)(?: \((\w+)\))?")
+PORTS = re.compile(r"(perhaps )?(?:(k|one) untagged|(\w+(?: or \w+)*)( 0 to k-1)?)(?: \((\w+)\))?")
 
 
 def ports_in(cell: str) -> tuple[Ports, ...]:
@@ -99,10 +101,10 @@ def ports_in(cell: str) -> tuple[Ports, ...]:
         read = PORTS.fullmatch(entry)
         if not read:
             raise ValueError(f"{PAGE}: `{entry}` is no port of a calculator")
-        untagged, tags, many, kind = read.groups()
+        lacks, untagged, tags, many, kind = read.groups()
         names = [""] if untagged else tags.split(" or ")
         most = 64 if untagged == "k" or many else 1
-        found += [Ports(name, 1 if len(names) == 1 else 0, most, kind or "Any") for name in names]
+        found += [Ports(name, 1 if len(names) == 1 and not lacks else 0, most, kind or "Any", bool(lacks)) for name in names]
     return tuple(found)
 
 
@@ -132,7 +134,7 @@ def kind_told(told: Told) -> Kind:
     if told.inputs == "any ports":
         return Kind(options=options, offset=told.offset, mirror=True)
     (inputs, sides_in), (outputs, sides_out) = streams_and_sides(told.inputs), streams_and_sides(told.outputs)
-    either = tuple(ports.tag for ports in inputs + outputs if ports.least == 0)
+    either = tuple(ports.tag for ports in inputs + outputs if ports.least == 0 and not ports.may_lack)
     return Kind(inputs, outputs, sides_in, sides_out, options, told.offset, MANY in inputs and MANY in outputs, either=either)
 
 
@@ -175,6 +177,10 @@ def port_faults(node: Node) -> list[tuple[int, str]]:
         given = [port for name in LISTS_OF_STREAMS for port in node.ports[name] if port.tag in kind.either]
         if len(given) != 1:
             faults.append((given[1].at if given else node.field.at, f"exactly one of {', '.join(kind.either)} has to be connected, not {len(given)}"))
+    for tag in sorted({rule.tag for rule in kind.inputs if rule.may_lack}):
+        into, out = (sum(port.tag == tag for port in node.ports[name]) for name in LISTS_OF_STREAMS)
+        if into != out and not faults:
+            faults.append((node.field.at, f"inputs {tag}: {into}, outputs {tag}: {out}; each input needs its output"))
     if kind.alike:
         into, out = (sum(not port.tag for port in node.ports[name]) for name in LISTS_OF_STREAMS)
         if into != out and not faults:

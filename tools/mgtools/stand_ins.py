@@ -59,7 +59,7 @@ class StandIn:
     def hands_on(self, key: Key) -> list[Key]:
         """The outputs that packets of an input may go to."""
         if self.loop_end:
-            return [out for out in self.ports["output_stream"] if key[0] == "CLONE" and out[0] == "CLONE"]
+            return [out for out in self.ports["output_stream"] if key[0] == "CLONE" and out == key]
         return [out for out in self.ports["output_stream"] if out not in self.flags and (out == key or not self.is_gate)]
 
     def names(self, part: str) -> dict[Key, str]:
@@ -142,12 +142,7 @@ class StandIn:
         return f", {self.latency} later" if self.latency else ""
 
     def of_loop(self) -> list[str]:
-        clones = [key for key in self.ports["input_stream"] if key[0] == "CLONE"]
-        kind = f"{self.loop_end}Loop{'Clone' * bool(clones)}Calculator"
-        said = [f"it is mg's {kind}, which {'takes' if self.loop_end == 'Begin' else 'makes'} lists"]
-        if len(clones) > 1:
-            said.append(f"each CLONE output gets the packet of the first of {listed(clones, '')} that has one")
-        return said
+        return [f"it is mg's {self.loop_end}LoopCalculator, which {'takes' if self.loop_end == 'Begin' else 'makes'} lists"]
 
 
 def spelled(key: Key, name: str) -> str:
@@ -181,17 +176,13 @@ def constants(values: dict[str, str]) -> list[str]:
 
 
 def begin_loop(ins: dict[Key, str], outs: dict[Key, str]) -> list[str]:
-    """The begin of a loop. mg's has one CLONE at most, so what comes at several is merged, and handed on to each."""
-    clones, copies = ([name for (tag, _), name in names.items() if tag == "CLONE"] for names in (ins, outs))
+    """The begin of a loop, by MediaPipe's rule. Each CLONE has its input and its output, and TICK is one more CLONE, which nobody reads."""
+    clones = sorted(key for key in ins if key[0] == "CLONE") + [key for key in ins if key[0] == "TICK"]
+    taken = [spelled(("CLONE", place), ins[key]) for place, key in enumerate(clones)]
+    made = [spelled(("CLONE", place), outs.get(key, f"clone_{place}")) for place, key in enumerate(clones)]
     ends = [f"BATCH_END:{outs.get(('BATCH_END', 0), 'batch_end')}", f"ITEM:{outs.get(('ITEM', 0), 'item')}"]
-    iterable = f"ITERABLE:{ins['ITERABLE', 0]}"
-    if not clones:
-        return node("BeginLoopCalculator", [iterable], ends)
-    if len(clones) == 1 and len(copies) == 1:
-        return node("BeginLoopCloneCalculator", [iterable, f"CLONE:{clones[0]}"], [*ends, f"CLONE:{copies[0]}"])
-    lines = node("MergeCalculator", clones, ["clones"]) + node("BeginLoopCloneCalculator", [iterable, "CLONE:clones"], [*ends, "CLONE:copies"])
-    return lines + [line for name in copies for line in node("MergeCalculator", ["copies"], [name])]
+    return node("BeginLoopCalculator", [f"ITERABLE:{ins['ITERABLE', 0]}", *taken], [*ends, *made], "always_end: true")
 
 
 def end_loop(ins: dict[Key, str], outs: dict[Key, str]) -> list[str]:
-    return node("EndLoopCalculator", [f"BATCH_END:{ins['BATCH_END', 0]}", f"ITEM:{ins['ITEM', 0]}"], [f"ITERABLE:{outs['ITERABLE', 0]}"])
+    return node("EndLoopCalculator", [f"BATCH_END:{ins['BATCH_END', 0]}", f"ITEM:{ins['ITEM', 0]}"], [f"ITERABLE:{outs['ITERABLE', 0]}"], "empty_as_bound: true")

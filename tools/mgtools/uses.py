@@ -184,8 +184,8 @@ class Porter:
         if not one.loop_end:
             return
         wanted, made = (("ITERABLE",), ("BATCH_END", "ITEM")) if one.loop_end == "Begin" else (("BATCH_END", "ITEM"), ("ITERABLE",))
-        cloned = ("CLONE",) if one.loop_end == "Begin" else ()
-        bad = [key for keys, tags in ((ins, wanted), (outs, made)) for key in keys if key[0] not in (*tags, *cloned) or key[0] in tags and key[1]]
+        others = (("CLONE", "TICK"), ("CLONE",)) if one.loop_end == "Begin" else ((), ())
+        bad = [key for keys, tags, more in zip((ins, outs), (wanted, made), others) for key in keys if key[0] not in (*tags, *more) or key[0] in tags and key[1]]
         missing = [tag for tag in wanted if (tag, 0) not in ins] + [tag for tag in made if one.loop_end == "End" and (tag, 0) not in outs]
         bad += one.unread + [key for key in outs if key[0] == "CLONE" and key not in ins]
         if bad or missing:
