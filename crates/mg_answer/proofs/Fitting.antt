@@ -19,7 +19,9 @@ use Rattle.mg_feed.specs.Form.{Named, Form, packets, bound, close, side, is_blan
 use Rattle.mg_feed.specs.Given.{ended_stream}
 use Rattle.mg_feed.specs.Accepted.{State, fresh, stepped, stepped_at, with_packets, with_form, with_said, with_line, time_or_none, given_by, accepted}
 use Rattle.mg_feed.specs.Stands.{AllGood}
+use Rattle.mg_feed.specs.Recorded.{AllRecorded}
 use Rattle.mg_feed.proofs.Accepting.{good-accepted}
+use Rattle.mg_feed.proofs.Recording.{all-recorded}
 use Rattle.mg_answer.specs.Answer.{Read, is_ended, inputs_by}
 use Rattle.mg_answer.proofs.Prefixes.{prefixes-given}
 
@@ -105,8 +107,8 @@ pub side-count : (sides : List PlainSide) → length (given_sides sides) ≡ len
 side-count [] = refl
 side-count (s ∷ sides) = side-by s.value s sides refl (side-count sides)
 
-pub inputs-fit : {L : Law → Type 0} {E : Plan → Edge → Type 0} (plan : Plan) (read : Read) (inputs : Inputs) → HoldsTogether L E plan → AllGood (inputs_of plan) [] read.lines → inputs ≡ inputs_by (inputs_of plan) read → InputsFit plan inputs
-inputs-fit plan read inputs valid good is =
+pub recorded-fit : {L : Law → Type 0} {E : Plan → Edge → Type 0} (plan : Plan) (read : Read) (inputs : Inputs) → HoldsTogether L E plan → AllRecorded (inputs_of plan) [] read.lines → inputs ≡ inputs_by (inputs_of plan) read → InputsFit plan inputs
+recorded-fit plan read inputs valid good is =
     let graph = inputs_of plan in
     let given = given_by graph read.lines in
     let size = size-lines graph (fresh graph) read.lines in
@@ -115,6 +117,9 @@ inputs-fit plan read inputs valid good is =
       prefixes = prefixes-given graph (map (λ s. s.name) (input_streams plan)) (is_ended read.end) read.lines refl good;
       sides = size.sides ∙ length-replicate (length graph.sides) None ∙ side-count plan.sides;
     })
+
+pub inputs-fit : {L : Law → Type 0} {E : Plan → Edge → Type 0} (plan : Plan) (read : Read) (inputs : Inputs) → HoldsTogether L E plan → AllGood (inputs_of plan) [] read.lines → inputs ≡ inputs_by (inputs_of plan) read → InputsFit plan inputs
+inputs-fit plan read inputs valid good is = recorded-fit plan read inputs valid (all-recorded (inputs_of plan) [] read.lines good) is
 
 pub accepted-fit : (plan : Plan) (lines : List (List ℕ)) (end : FeedEnd) → IsValid plan
     → InputsFit plan (inputs_by (inputs_of plan) (record { lines = accepted (inputs_of plan) lines; end = end }))

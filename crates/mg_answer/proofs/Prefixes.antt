@@ -14,10 +14,10 @@ use Rattle.mg_feed.specs.declared.places.Placed.{Placed}
 use Rattle.mg_feed.specs.Form.{Named, Form, packets, bound, close, side, form_of, json_value}
 use Rattle.mg_feed.specs.Value.{plain_of}
 use Rattle.mg_feed.specs.Given.{ended_stream, ended_streams}
-use Rattle.mg_feed.specs.Stands.{AllGood}
-use Rattle.mg_feed.specs.Accepted.{State, before, stepped, stepped_at, with_packets, with_form, with_line, time_or_none, given_by, placed, first_refusal, form_refusals, line_refusal}
+use Rattle.mg_feed.specs.Recorded.{AllRecorded}
+use Rattle.mg_feed.specs.Accepted.{State, before, stepped, stepped_at, with_packets, with_form, with_line, time_or_none, given_by, placed, first_refusal, form_refusals, words_refusal}
 use Rattle.mg_feed.proofs.Holding.{given-more}
-use Rattle.mg_feed.proofs.Judging.{if-weaker, if-always, MayStand, Stand, packets-stand, bound-low, line-keeps}
+use Rattle.mg_feed.proofs.Judging.{if-weaker, if-always, MayStand, Stand, packets-stand, bound-low, recorded-keeps}
 use Rattle.mg_answer.proofs.Keys.{HasApart, AreApart, IsNew, apart-line}
 
 -- Places --
@@ -116,12 +116,12 @@ if-some : {X : Type 0} (P : X → Type 0) (o : Option X) (x : X) → o ≡ Some 
 if-some P o x is h = rw is at h
 
 each-line : (graph : GraphInputs) (names : List (List ℕ)) (n : ℕ) (given : State) (line : List ℕ) → graph.streams ≡ numbered 0 names
-    → line_refusal (before graph n given) line ≡ None → Each IsPrefix given.streams → Each IsPrefix (with_line graph given line).streams
+    → words_refusal (before graph n given) line ≡ None → Each IsPrefix given.streams → Each IsPrefix (with_line graph given line).streams
 each-line graph names n given line places none all =
-    line-keeps (λ (s : State). Each IsPrefix s.streams) graph n given line none all (λ form is good.
+    recorded-keeps (λ (s : State). Each IsPrefix s.streams) graph n given line none all (λ form is good.
     each-form graph names n given form places (if-some HasApart (option_and_then form_of (json_value line)) form is (apart-line line)) good all)
 
-each-lines : (graph : GraphInputs) (names : List (List ℕ)) (before lines : List (List ℕ)) → graph.streams ≡ numbered 0 names → AllGood graph before lines
+each-lines : (graph : GraphInputs) (names : List (List ℕ)) (before lines : List (List ℕ)) → graph.streams ≡ numbered 0 names → AllRecorded graph before lines
     → Each IsPrefix (given_by graph before).streams → Each IsPrefix (given_by graph (before ++ lines)).streams
 each-lines graph names before [] places good all = subst (λ (l : List (List ℕ)). Each IsPrefix (given_by graph l).streams) (sym (append-nil before)) all
 each-lines graph names before (line ∷ lines) places good all =
@@ -143,7 +143,7 @@ each-ended ended (s ∷ ss) all = (by ended all.0, each-ended ended ss all.1)
     by true h = closed_is_prefix s h
     by false h = h
 
-pub prefixes-given : (graph : GraphInputs) (names : List (List ℕ)) (ended : Bool) (lines : List (List ℕ)) → graph.streams ≡ numbered 0 names → AllGood graph [] lines
+pub prefixes-given : (graph : GraphInputs) (names : List (List ℕ)) (ended : Bool) (lines : List (List ℕ)) → graph.streams ≡ numbered 0 names → AllRecorded graph [] lines
     → All IsPrefix (ended_streams ended (given_by graph lines).streams)
 prefixes-given graph names ended lines places good =
     All-from_recursion IsPrefix (ended_streams ended (given_by graph lines).streams)

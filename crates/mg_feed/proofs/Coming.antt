@@ -1,12 +1,11 @@
 -- What came to a feed, as bytes come and lines are taken.
-use Rattle.std.proofs.Common.{◌≡◌, ℕ, ◌+◌, ◌<◌, ◌≤◌, List, [], ◌∷◌, ◌++◌, length, Bool, true, false, None, refl, sym, ap, ◌∙◌, subst, arith, append_assoc, append-nil, length-append}
+use Rattle.std.proofs.Common.{◌≡◌, ℕ, ◌+◌, ◌<◌, List, [], ◌∷◌, ◌++◌, length, Bool, true, false, None, refl, sym, ap, ◌∙◌, subst, arith, append_assoc, append-nil, length-append}
 use Rattle.std.proofs.lemmas.Bool.{false≢true}
 use Rattle.mg_value.specs.Payload.{Plain}
 use Rattle.mg_value.specs.Packet.{Stamped}
 use Rattle.mg_feed.specs.Lines.{all_lines, whole_lines, with_feed, completed, NoFeed, IsCut}
 use Rattle.mg_feed.specs.Accepted.{longest_line, accepted, accepted_after}
 use Rattle.mg_feed.specs.View.{before_seen}
-use Rattle.mg_feed.specs.Graph.{GraphInputs}
 use Rattle.mg_feed.specs.Stands.{HasAccepted}
 use Rattle.mg_feed.specs.Fed.{Fed, Reading}
 use Rattle.mg_feed.specs.Came.{Came, Judged, arrived_bytes}
@@ -15,7 +14,7 @@ use Rattle.mg_feed.specs.declared.line_fault.LineFault.{LineFault}
 use Rattle.mg_feed.specs.declared.line_fault.LineFault.TheVariants.{TooLong}
 use Rattle.mg_feed.specs.declared.feed_end.FeedEnd.TheVariants.{Ended, Failed, Refused}
 use Rattle.mg_feed.proofs.Holding.{stands-next, refusal-seen}
-use Rattle.mg_feed.proofs.Cutting.{cut-more, cut-line, cut-all, cut-whole, cut-rest, cut-end, cut-ended, all_lines-line, all_lines-begin, all_lines-completed}
+use Rattle.mg_feed.proofs.Cutting.{cut-more, cut-line, cut-all, cut-whole, cut-end, cut-ended, all_lines-line, all_lines-begin, all_lines-completed}
 use Rattle.mg_feed.proofs.Accepting.{accepted-good, judged-good, judged-stop, long-refused}
 
 -- One step --

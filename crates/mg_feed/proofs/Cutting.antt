@@ -56,7 +56,7 @@ rest_of-fed [] more none = refl
 rest_of-fed (line ∷ lines) more none =
     ap unended_line (append_assoc line (10 ∷ fed_lines lines) more) ∙ rest_of-line line (fed_lines lines ++ more) none.0 ∙ rest_of-fed lines more none.1
 
-fed_lines-append : (xs ys : List (List ℕ)) → fed_lines (xs ++ ys) ≡ fed_lines xs ++ fed_lines ys
+pub fed_lines-append : (xs ys : List (List ℕ)) → fed_lines (xs ++ ys) ≡ fed_lines xs ++ fed_lines ys
 fed_lines-append [] ys = refl
 fed_lines-append (x ∷ xs) ys = ap (λ l. x ++ 10 ∷ l) (fed_lines-append xs ys) ∙ sym (append_assoc x (10 ∷ fed_lines xs) (fed_lines ys))
 

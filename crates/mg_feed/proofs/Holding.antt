@@ -117,7 +117,7 @@ length-by : (b : Bool) (given x : State) → length x.streams ≡ length given.s
 length-by true given x is = refl
 length-by false given x is = is
 
-length-line : (graph : GraphInputs) (given : State) (line : List ℕ) → length (with_line graph given line).streams ≡ length given.streams
+pub length-line : (graph : GraphInputs) (given : State) (line : List ℕ) → length (with_line graph given line).streams ≡ length given.streams
 length-line graph given line =
     length-by (list_all is_blank line) given (with_said graph given (option_and_then form_of (json_value line))) (length-said graph given (option_and_then form_of (json_value line)))
 
@@ -193,7 +193,7 @@ behind-none zero (s ∷ ss) is = absurd (omega (arith, is))
 behind-none (suc n) [] is = absurd (omega (arith, is))
 behind-none (suc n) (s ∷ ss) is = let same : n ≡ length ss = omega (arith, is) in ap (λ l. s ∷ l) (behind-none n ss same)
 
-length-none : (n : ℕ) → length (replicate {A = List (Stamped Plain)} n []) ≡ n
+pub length-none : (n : ℕ) → length (replicate {A = List (Stamped Plain)} n []) ≡ n
 length-none zero = refl
 length-none (suc n) = ap suc (length-none n)
 

@@ -15,7 +15,7 @@ use Rattle.mg_feed.specs.Graph.{GraphInputs, place_of}
 use Rattle.mg_feed.specs.declared.places.Placed.{Placed}
 use Rattle.mg_feed.specs.Form.{Named, Form, packets, bound, side, is_blank, form_of, json_value, time_of, time_numbered, is_of_range}
 use Rattle.mg_feed.specs.Value.{plain_of, takes}
-use Rattle.mg_feed.specs.Accepted.{State, before, with_form, with_said, with_line, time_or_none, standing, has_some, placed, no_stream, kind_at, standing_at, side_at, when, first_refusal, packet_refusals, bound_refusals, side_refusals, several_refusals, form_refusals, shape_refusal, json_refusal, words_refusal, line_refusal, longest_line, most_lines, is_stream, is_side}
+use Rattle.mg_feed.specs.Accepted.{State, Before, before, with_form, with_said, with_line, time_or_none, standing, has_some, placed, no_stream, kind_at, standing_at, side_at, when, first_refusal, packet_refusals, bound_refusals, side_refusals, several_refusals, form_refusals, shape_refusal, json_refusal, words_refusal, line_refusal, longest_line, most_lines, is_stream, is_side}
 use Rattle.mg_feed.specs.declared.standing.Standing.{Standing}
 use Rattle.mg_feed.specs.declared.line_fault.LineFault.{LineFault}
 use Rattle.mg_feed.specs.declared.line_fault.LineFault.TheVariants.{BadTimestamp, NotAscending, Closed, KindMismatch, BadValue, TooLong, TooManyLines, NotAlone, UnknownStream, SideLate, SideTwice}
@@ -23,16 +23,16 @@ use Rattle.mg_feed.specs.declared.line_fault.LineFault.TheVariants.{BadTimestamp
 -- Reasons --
 
 -- if no reason holds, the first doesn't, and none of the later ones does
-first-parts : (x : Option LineFault) (xs : List (Option LineFault)) → first_refusal (x ∷ xs) ≡ None → (x ≡ None) × (first_refusal xs ≡ None)
+pub first-parts : (x : Option LineFault) (xs : List (Option LineFault)) → first_refusal (x ∷ xs) ≡ None → (x ≡ None) × (first_refusal xs ≡ None)
 first-parts None xs none = (refl, none)
 first-parts (Some fault) xs none = cc
 
-first-both : (xs ys : List (Option LineFault)) → first_refusal (xs ++ ys) ≡ None → (first_refusal xs ≡ None) × (first_refusal ys ≡ None)
+pub first-both : (xs ys : List (Option LineFault)) → first_refusal (xs ++ ys) ≡ None → (first_refusal xs ≡ None) × (first_refusal ys ≡ None)
 first-both [] ys none = (refl, none)
 first-both (None ∷ xs) ys none = first-both xs ys none
 first-both (Some fault ∷ xs) ys none = cc
 
-when-none : (test : Bool) (fault : LineFault) → when test fault ≡ None → test ≡ false
+pub when-none : (test : Bool) (fault : LineFault) → when test fault ≡ None → test ≡ false
 when-none true fault none = cc
 when-none false fault none = refl
 
@@ -57,7 +57,7 @@ allowed-named false true u e = grind arith
 allowed-named false false u e = cc
 
 -- a time of a line may be a packet's
-allowed-time : (t : json.Data) (u : ℕ) → time_of t ≡ Some u → IsAllowed u
+pub allowed-time : (t : json.Data) (u : ℕ) → time_of t ≡ Some u → IsAllowed u
 allowed-time json.null u e = cc
 allowed-time (json.boolean b) u e = cc
 allowed-time (json.number n) u e = allowed-number (as_i64 n) u e
@@ -65,7 +65,7 @@ allowed-time (json.string s) u e = allowed-named (bytes_eq s (codes "PreStream")
 allowed-time (json.array ds) u e = cc
 allowed-time (json.object ms) u e = cc
 
-some-time : (time : Option ℕ) → not (is_some time) ≡ false → time ≡ Some (unwrap_or time 0)
+pub some-time : (time : Option ℕ) → not (is_some time) ≡ false → time ≡ Some (unwrap_or time 0)
 some-time None is = absurd (false≢true (sym is))
 some-time (Some t) is = refl
 
@@ -203,11 +203,19 @@ words-keep : (P : State → Type 0) (graph : GraphInputs) (n : ℕ) (given : Sta
 words-keep P graph n given true v none start step = start
 words-keep P graph n given false v none start step = said-keeps P graph n given v none start step
 
+-- a good line is good whatever its length and number
+pub good-words : (b : Before) (line : List ℕ) → line_refusal b line ≡ None → words_refusal b line ≡ None
+good-words b line none =
+    let few = past-if (nat_lt longest_line (length line)) TooLong (if nat_le most_lines b.lines then Some TooManyLines else words_refusal b line) none in
+    past-if (nat_le most_lines b.lines) TooManyLines (words_refusal b line) few
+
 -- a property of what is given holds after a good line, if it holds after what the line says
+pub recorded-keeps : (P : State → Type 0) (graph : GraphInputs) (n : ℕ) (given : State) (line : List ℕ) → words_refusal (before graph n given) line ≡ None → P given
+    → ((form : Form) → option_and_then form_of (json_value line) ≡ Some form → first_refusal (form_refusals (before graph n given) form) ≡ None → P (with_form graph given form))
+    → P (with_line graph given line)
+recorded-keeps P graph n given line none start step = words-keep P graph n given (list_all is_blank line) (json_value line) none start step
+
 pub line-keeps : (P : State → Type 0) (graph : GraphInputs) (n : ℕ) (given : State) (line : List ℕ) → line_refusal (before graph n given) line ≡ None → P given
     → ((form : Form) → option_and_then form_of (json_value line) ≡ Some form → first_refusal (form_refusals (before graph n given) form) ≡ None → P (with_form graph given form))
     → P (with_line graph given line)
-line-keeps P graph n given line none start step =
-    let b = before graph n given in
-    let few = past-if (nat_lt longest_line (length line)) TooLong (if nat_le most_lines n then Some TooManyLines else words_refusal b line) none in
-    words-keep P graph n given (list_all is_blank line) (json_value line) (past-if (nat_le most_lines n) TooManyLines (words_refusal b line) few) start step
+line-keeps P graph n given line none start step = recorded-keeps P graph n given line (good-words (before graph n given) line none) start step

@@ -29,4 +29,5 @@ pub mod Trees
 pub mod PacketLines
 pub mod ChangingPlaces
 pub mod LinesOut
+pub mod Recording
 pub mod WholeOrNone

@@ -1,22 +1,23 @@
 -- How lines are handed out of the bytes that come.
-use Rattle.std.proofs.Common.{◌≡◌, ℕ, ◌+◌, ◌<◌, ◌≤◌, List, [], ◌∷◌, ◌++◌, length, take, drop, Bool, true, false, refl, sym, ap, ◌∙◌, subst, arith, append_assoc, append-nil, length-append}
-use Rattle.std.proofs.lemmas.List.{length-take-le}
+use Rattle.std.proofs.Common.{◌≡◌, ◌≢◌, ℕ, ◌+◌, ◌-◌, ◌^◌, ◌<◌, ◌≤◌, List, [], ◌∷◌, ◌++◌, length, take, drop, Bool, true, false, refl, sym, ap, ◌∙◌, subst, arith, append_assoc, append-nil, length-append}
+use Rattle.std.proofs.lemmas.List.{length-take, length-take-le}
 use Rattle.mg_edge.specs.Edge.{SourceTold}
 use Rattle.mg_edge.specs.Runs.{Gave}
 use Rattle.mg_edge.proofs.Runs.{Gave-start}
 use Rattle.mg_feed.specs.Lines.{NoFeed, IsCut, all_lines, with_feed}
-use Rattle.mg_feed.specs.Accepted.{longest_line}
 use Rattle.mg_feed.specs.Fed.{Reading}
 use Rattle.mg_feed.specs.Came.{arrived_bytes}
 use Rattle.mg_feed.specs.Ran.{MetEnd, Unfailed}
 use Rattle.mg_feed.specs.Handed.{HasHanded, MovesOn, EndsReads, ComesAs, NextComes}
 use Rattle.mg_feed.specs.Code.LineEnd.{EndsLine, has_feed}
 use Rattle.mg_feed.specs.Code.Filled.{GotEnd, GotFault}
+use Rattle.mg_feed.specs.Code.Readers.{left_of, reading_of}
 use Rattle.mg_feed.specs.Ran.{late}
 use Rattle.mg_feed.specs.Code.Handing.{LacksLine, SearchStops, StopsLater, HandsOutLine, weight_of}
 use Rattle.mg_feed.specs.Once.{longest_block}
 use Rattle.mg_feed.specs.declared.lines.NextLine.{NextLine}
 use Rattle.mg_feed.specs.declared.lines.NextLine.TheVariants.{Line, TooLong, Ended, Failed}
+use Rattle.mg_feed.specs.declared.reader.Reader.{Reader}
 use Rattle.mg_feed.proofs.Cutting.{cut-line, cut-whole, cut-end, cut-ended, all_lines-line, all_lines-begin}
 use Rattle.mg_feed.proofs.Blocks.{drop-twice}
 use Rattle.mg_feed.proofs.Coming.{lines-by}
@@ -65,8 +66,8 @@ moves-end old new before now was none got =
 
 -- The search stops --
 
-pub stops-failed : (old new : Reading) (before now : SourceTold) → old.ended ≡ false → NoFeed old.kept → GotFault old new before now → SearchStops Failed before now old new
-stops-failed old new before now was none got = record {
+pub stops-failed : (longest : ℕ) (old new : Reading) (before now : SourceTold) → old.ended ≡ false → NoFeed old.kept → GotFault old new before now → SearchStops longest Failed before now old new
+stops-failed longest old new before now was none got = record {
   same = got.same;
   gave = got.gave;
   met = met-open old.ended new.ended before now was (ap (λ (r : Reading). r.ended) got.same ∙ was) got.ends;
@@ -74,8 +75,8 @@ stops-failed old new before now was none got = record {
   lacks = (was, none);
 }
 
-pub stops-ended : (told : SourceTold) (r : Reading) → r.ended ≡ true → NoFeed r.kept → SearchStops Ended told told r r
-stops-ended told r ended none = record {
+pub stops-ended : (longest : ℕ) (told : SourceTold) (r : Reading) → r.ended ≡ true → NoFeed r.kept → SearchStops longest Ended told told r r
+stops-ended longest told r ended none = record {
   same = refl;
   gave = Gave-start told.left;
   met = met-same r.ended told;
@@ -83,8 +84,8 @@ stops-ended told r ended none = record {
   lacks = (ended, none);
 }
 
-pub stops-long : (told : SourceTold) (r s : Reading) (next : NextLine) → next ≡ TooLong → s ≡ r → NoFeed r.kept → longest_line < length r.kept → SearchStops next told told r s
-stops-long told r s next is same none long = subst (λ (n : NextLine). SearchStops n told told r s) (sym is) (record {
+pub stops-long : (longest : ℕ) (told : SourceTold) (r s : Reading) (next : NextLine) → next ≡ TooLong → s ≡ r → NoFeed r.kept → longest < length r.kept → SearchStops longest next told told r s
+stops-long longest told r s next is same none long = subst (λ (n : NextLine). SearchStops longest n told told r s) (sym is) (record {
   same = same;
   gave = Gave-start told.left;
   met = subst (λ (t : Reading). MetEnd r.ended t.ended told told) (sym same) (met-same r.ended told);
@@ -101,8 +102,8 @@ reads-then Ended first before now came gave one two = unfailed-then first before
 reads-then Failed first before now came gave one two = failed-stop first before now came gave one two
 
 -- a line that is too long already, whatever comes
-long-comes : (r : Reading) (past : List ℕ) (lines : List (List ℕ)) → NoFeed r.kept → longest_line < length r.kept → HasHanded past lines r → (line : List ℕ) → ComesAs TooLong line past lines r
-long-comes r past lines none long has line more fits =
+long-comes : (longest : ℕ) (r : Reading) (past : List ℕ) (lines : List (List ℕ)) → NoFeed r.kept → longest < length r.kept → HasHanded past lines r → (line : List ℕ) → ComesAs longest TooLong line past lines r
+long-comes longest r past lines none long has line more fits =
     let b = all_lines-begin r.kept more none (omega (arith, long)) in (
       r.kept ++ b.0,
       b.1,
@@ -114,14 +115,14 @@ ended-by : (ended : Bool) (past : List ℕ) (lines : List (List ℕ)) (kept : Li
 ended-by true past lines kept is cut none = cut-ended past lines kept cut none
 ended-by false past lines kept is cut none = absurd cc
 
-lacks-comes : (next : NextLine) (r : Reading) (line past : List ℕ) (lines : List (List ℕ)) → LacksLine next r → HasHanded past lines r → ComesAs next line past lines r
-lacks-comes Line r line past lines lacks has = absurd lacks
-lacks-comes TooLong r line past lines lacks has = long-comes r past lines lacks.0 lacks.1 has line
-lacks-comes Ended r line past lines lacks has = (lacks.0, ended-by r.ended past lines r.kept lacks.0 has lacks.1)
-lacks-comes Failed r line past lines lacks has = cut-whole past lines r.kept (subst (λ (b : Bool). IsCut (arrived_bytes b past) lines r.kept) lacks.0 has) lacks.1
+lacks-comes : (longest : ℕ) (next : NextLine) (r : Reading) (line past : List ℕ) (lines : List (List ℕ)) → LacksLine longest next r → HasHanded past lines r → ComesAs longest next line past lines r
+lacks-comes longest Line r line past lines lacks has = absurd lacks
+lacks-comes longest TooLong r line past lines lacks has = long-comes longest r past lines lacks.0 lacks.1 has line
+lacks-comes longest Ended r line past lines lacks has = (lacks.0, ended-by r.ended past lines r.kept lacks.0 has lacks.1)
+lacks-comes longest Failed r line past lines lacks has = cut-whole past lines r.kept (subst (λ (b : Bool). IsCut (arrived_bytes b past) lines r.kept) lacks.0 has) lacks.1
 
-pub next-stops : (next : NextLine) (line : List ℕ) (before now : SourceTold) (old new : Reading) → StopsLater next before now old new → NextComes next line before now old new
-next-stops next line before now old new s =
+pub next-stops : (longest : ℕ) (next : NextLine) (line : List ℕ) (before now : SourceTold) (old new : Reading) → StopsLater longest next before now old new → NextComes longest next line before now old new
+next-stops longest next line before now old new s =
     let m = s.moves in
     let t = s.stops in
     let same : new ≡ s.read = t.same in
@@ -130,49 +131,49 @@ next-stops next line before now old new s =
       gave = subst (λ (l : List ℕ). Gave before.left now.left l) (append-nil m.came) (gave-then before.left s.between.left now.left m.came [] m.gave t.gave);
       met = met-then old.ended s.read.ended new.ended before s.between now m.came m.gave m.met t.met;
       reads = reads-then next before s.between now m.came m.gave m.unfailed t.reads;
-      comes = λ past lines has. subst (ComesAs next line (past ++ m.came) lines) (sym same) (lacks-comes next s.read line (past ++ m.came) lines t.lacks (m.grows past lines has));
+      comes = λ past lines has. subst (ComesAs longest next line (past ++ m.came) lines) (sym same) (lacks-comes longest next s.read line (past ++ m.came) lines t.lacks (m.grows past lines has));
     }
 
-takes-comes : (next : NextLine) (line past : List ℕ) (lines : List (List ℕ)) (r s : Reading) → HandsOutLine next line r s → HasHanded past lines r → ComesAs next line past lines s
-takes-comes Line line past lines r s (cut, none, ended, short) has =
+takes-comes : (longest : ℕ) (next : NextLine) (line past : List ℕ) (lines : List (List ℕ)) (r s : Reading) → HandsOutLine longest next line r s → HasHanded past lines r → ComesAs longest next line past lines s
+takes-comes longest Line line past lines r s (cut, none, ended, short) has =
     (subst (λ (b : Bool). IsCut (arrived_bytes b past) (lines ++ line ∷ []) s.kept) (sym ended) (cut-line (arrived_bytes r.ended past) lines r.kept line s.kept has cut none), short)
-takes-comes TooLong line past lines r s (same, (long, rest, cut, none, far)) has = λ more fits. (
+takes-comes longest TooLong line past lines r s (same, (long, rest, cut, none, far)) has = λ more fits. (
   long,
   all_lines (rest ++ more),
   lines-by r.ended past lines r.kept more has (λ ended. fits (ap (λ (t : Reading). t.ended) same ∙ ended))
       ∙ ap (λ (l : List (List ℕ)). lines ++ l) (ap (λ (k : List ℕ). all_lines (k ++ more)) cut ∙ ap all_lines (append_assoc long (10 ∷ rest) more) ∙ all_lines-line long (rest ++ more) none),
   far,
 )
-takes-comes Ended line past lines r s takes has = absurd takes
-takes-comes Failed line past lines r s takes has = absurd takes
+takes-comes longest Ended line past lines r s takes has = absurd takes
+takes-comes longest Failed line past lines r s takes has = absurd takes
 
-takes-reads : (next : NextLine) (line : List ℕ) (r s : Reading) (before now : SourceTold) → HandsOutLine next line r s → Unfailed before now → EndsReads next before now
-takes-reads Line line r s before now takes un = un
-takes-reads TooLong line r s before now takes un = un
-takes-reads Ended line r s before now takes un = absurd takes
-takes-reads Failed line r s before now takes un = absurd takes
+takes-reads : (longest : ℕ) (next : NextLine) (line : List ℕ) (r s : Reading) (before now : SourceTold) → HandsOutLine longest next line r s → Unfailed before now → EndsReads next before now
+takes-reads longest Line line r s before now takes un = un
+takes-reads longest TooLong line r s before now takes un = un
+takes-reads longest Ended line r s before now takes un = absurd takes
+takes-reads longest Failed line r s before now takes un = absurd takes
 
-takes-ended : (next : NextLine) (line : List ℕ) (r s : Reading) → HandsOutLine next line r s → s.ended ≡ r.ended
-takes-ended Line line r s (cut, none, ended, short) = ended
-takes-ended TooLong line r s (same, long) = ap (λ (t : Reading). t.ended) same
-takes-ended Ended line r s takes = absurd takes
-takes-ended Failed line r s takes = absurd takes
+takes-ended : (longest : ℕ) (next : NextLine) (line : List ℕ) (r s : Reading) → HandsOutLine longest next line r s → s.ended ≡ r.ended
+takes-ended longest Line line r s (cut, none, ended, short) = ended
+takes-ended longest TooLong line r s (same, long) = ap (λ (t : Reading). t.ended) same
+takes-ended longest Ended line r s takes = absurd takes
+takes-ended longest Failed line r s takes = absurd takes
 
-pub next-takes : (next : NextLine) (line : List ℕ) (before now : SourceTold) (old read new : Reading) → MovesOn before now old read → HandsOutLine next line read new → NextComes next line before now old new
-next-takes next line before now old read new m takes = record {
+pub next-takes : (longest : ℕ) (next : NextLine) (line : List ℕ) (before now : SourceTold) (old read new : Reading) → MovesOn before now old read → HandsOutLine longest next line read new → NextComes longest next line before now old new
+next-takes longest next line before now old read new m takes = record {
   came = m.came;
   gave = m.gave;
-  met = subst (λ (b : Bool). MetEnd old.ended b before now) (sym (takes-ended next line read new takes)) m.met;
-  reads = takes-reads next line read new before now takes m.unfailed;
-  comes = λ past lines has. takes-comes next line (past ++ m.came) lines read new takes (m.grows past lines has);
+  met = subst (λ (b : Bool). MetEnd old.ended b before now) (sym (takes-ended longest next line read new takes)) m.met;
+  reads = takes-reads longest next line read new before now takes m.unfailed;
+  comes = λ past lines has. takes-comes longest next line (past ++ m.came) lines read new takes (m.grows past lines has);
 }
 
 -- A line in the block --
 
 -- a line that was held, and whose line feed was passed
-pub took-line : (cut left line held after : List ℕ) (old new : Reading) (i : ℕ) → old.kept ≡ cut ++ left → has_feed cut ≡ false → EndsLine left i → line ≡ cut ++ take i left → held ≡ drop i left → after ≡ drop 1 held
-    → new.kept ≡ after → new.ended ≡ old.ended → length line ≤ longest_line → HandsOutLine Line line old new
-took-line cut left line held after old new i is none ends line_is passed behind now ended short = (
+pub took-line : (longest : ℕ) (cut left line held after : List ℕ) (old new : Reading) (i : ℕ) → old.kept ≡ cut ++ left → has_feed cut ≡ false → EndsLine left i → line ≡ cut ++ take i left → held ≡ drop i left → after ≡ drop 1 held
+    → new.kept ≡ after → new.ended ≡ old.ended → length line ≤ longest → HandsOutLine longest Line line old new
+took-line longest cut left line held after old new i is none ends line_is passed behind now ended short = (
   is ∙ line-cut cut line left new.kept i ends line_is (now ∙ behind ∙ ap (drop 1) passed ∙ sym (drop-twice i 1 (i + 1) left refl)),
   line-none cut line left i none ends line_is,
   ended,
@@ -180,8 +181,8 @@ took-line cut left line held after old new i is none ends line_is passed behind 
 )
 
 -- a line that can't be held
-pub took-long : (cut left : List ℕ) (old new : Reading) (next : NextLine) (i : ℕ) (line : List ℕ) → next ≡ TooLong → new ≡ old → old.kept ≡ cut ++ left → has_feed cut ≡ false → EndsLine left i → longest_line < length cut + i → HandsOutLine next line old new
-took-long cut left old new next i line next_is same is none ends long = subst (λ (n : NextLine). HandsOutLine n line old new) (sym next_is) (
+pub took-long : (longest : ℕ) (cut left : List ℕ) (old new : Reading) (next : NextLine) (i : ℕ) (line : List ℕ) → next ≡ TooLong → new ≡ old → old.kept ≡ cut ++ left → has_feed cut ≡ false → EndsLine left i → longest < length cut + i → HandsOutLine longest next line old new
+took-long longest cut left old new next i line next_is same is none ends long = subst (λ (n : NextLine). HandsOutLine longest n line old new) (sym next_is) (
   same,
   (
     cut ++ take i left,
@@ -196,6 +197,48 @@ took-long cut left old new next i line next_is same is none ends long = subst (�
 
 -- How much is read --
 
--- so much is read at most while no line is whole
+-- more bytes than a reader keeps, as its memory holds fewer
 abbrev pub heaviest_of : ℕ
-heaviest_of = longest_line + longest_block + 1
+heaviest_of = 2 ^ 63 + longest_block + 1
+
+few-left : (r : Reader) → length (left_of r) ≤ longest_block
+few-left r = (let part = length-take (r.filled - r.at) (drop r.at r.block.items) in let within = r.within in let small = r.small in omega (arith, part, within, small))
+
+pub few-kept : (r : Reader) → length (reading_of r).kept < 2 ^ 63 + longest_block
+few-kept r =
+    let whole = length-append r.cut.items (left_of r) in
+    let long = r.cut.ok.0 in
+    let room = r.cut.ok.1 in
+    let small = r.cut.small in
+    let few = few-left r in
+    omega (arith, whole, long, room, small, few)
+
+late-few : (b : Bool) → late b ≤ 1
+late-few true = omega arith
+late-few false = omega arith
+
+-- so less is left once more was read
+pub lighter : (now : Reader) (before : Reading) → weight_of before < weight_of (reading_of now) → heaviest_of - weight_of (reading_of now) < heaviest_of - weight_of before
+lighter now before more = (let few = few-kept now in let end = late-few now.ended in omega (arith, more, few, end))
+
+-- so no line is longer than 2^64 - 1 bytes
+pub stops-any : (longest : ℕ) (next : NextLine) (before now : SourceTold) (old new : Reading) (r : Reader) → new ≡ reading_of r → StopsLater longest next before now old new → longest ≡ 2 ^ 64 - 1 → next ≢ TooLong
+stops-any longest Line before now old new r is s any same = cc
+stops-any longest TooLong before now old new r is s any same =
+    let far = s.stops.lacks.1 in
+    let kept : length s.read.kept ≡ length (reading_of r).kept = ap (λ (x : Reading). length x.kept) (sym s.stops.same ∙ is) in
+    let few = few-kept r in
+    omega (arith, far, kept, few, any)
+stops-any longest Ended before now old new r is s any same = cc
+stops-any longest Failed before now old new r is s any same = cc
+
+pub takes-any : (longest : ℕ) (next : NextLine) (line : List ℕ) (old new : Reading) (r : Reader) → new ≡ reading_of r → HandsOutLine longest next line old new → longest ≡ 2 ^ 64 - 1 → next ≢ TooLong
+takes-any longest Line line old new r is h any same = cc
+takes-any longest TooLong line old new r is (kept, (long, rest, cut, none, far)) any same =
+    let whole : length old.kept ≡ length (reading_of r).kept = ap (λ (x : Reading). length x.kept) (sym kept ∙ is) in
+    let split : length old.kept ≡ length (long ++ 10 ∷ rest) = ap length cut in
+    let parts = length-append long (10 ∷ rest) in
+    let few = few-kept r in
+    omega (arith, far, whole, split, parts, few, any)
+takes-any longest Ended line old new r is h any same = cc
+takes-any longest Failed line old new r is h any same = cc

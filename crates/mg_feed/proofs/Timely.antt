@@ -1,7 +1,5 @@
 -- How far an input was read, call by call.
 use Rattle.std.proofs.Common.{◌≡◌, ◌≤◌, ℕ, List, [], ◌∷◌, ◌++◌, length, Bool, false, Option, None, Some, IfSome, option_map, refl, sym, ap, ◌∙◌, subst, arith, append_assoc, append-nil}
-use Rattle.mg_value.specs.Payload.{Plain}
-use Rattle.mg_value.specs.Packet.{Stamped}
 use Rattle.mg_edge.specs.Edge.{SourceTold}
 use Rattle.mg_edge.specs.Runs.{Gave}
 use Rattle.mg_feed.specs.Lines.{NoFeed, IsCut}
@@ -10,7 +8,7 @@ use Rattle.mg_feed.specs.Graph.{GraphInputs}
 use Rattle.mg_feed.specs.Stands.{AllGood}
 use Rattle.mg_feed.specs.Fed.{Fed}
 use Rattle.mg_feed.specs.Once.{longest_block, IsLastRead, StopsInTime}
-use Rattle.mg_feed.specs.Came.{Came, arrived_bytes}
+use Rattle.mg_feed.specs.Came.{arrived_bytes}
 use Rattle.mg_feed.specs.Batch.{ReadsInTime}
 use Rattle.mg_feed.specs.Code.Moves.{Grows}
 use Rattle.mg_feed.proofs.Cutting.{cut-whole, cut-rest}

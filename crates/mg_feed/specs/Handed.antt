@@ -3,7 +3,6 @@ use Rattle.std.specs.Prelude.{◌≡◌, ◌<◌, ◌≤◌, ◌+◌, ℕ, List,
 use Rattle.mg_edge.specs.Edge.{SourceTold}
 use Rattle.mg_edge.specs.Runs.{Gave}
 use Rattle.mg_feed.specs.Lines.{IsCut, all_lines, whole_lines}
-use Rattle.mg_feed.specs.Accepted.{longest_line}
 use Rattle.mg_feed.specs.Fed.{Reading}
 use Rattle.mg_feed.specs.Came.{arrived_bytes}
 use Rattle.mg_feed.specs.Ran.{MetEnd, Unfailed, ReadFailed}
@@ -29,23 +28,23 @@ EndsReads TooLong before now = Unfailed before now
 EndsReads Ended before now = Unfailed before now
 EndsReads Failed before now = ReadFailed before now
 
--- What comes after the lines of the bytes that came. `Line`: a line, and it is handed out. `TooLong`: a line that is too long,
--- whatever bytes may follow. No bytes follow if the source has ended. `Ended`: nothing, since the source has ended. `Failed`: no
--- whole line before a read failed.
-abbrev pub ComesAs : NextLine → List ℕ → List ℕ → List (List ℕ) → Reading → Type 0
-ComesAs Line line came lines read = HasHanded came (lines ++ line ∷ []) read × (length line ≤ longest_line)
-ComesAs TooLong line came lines read =
-    (more : List ℕ) → (read.ended ≡ true → more ≡ []) → (long : List ℕ) × (rest : List (List ℕ)) × (all_lines (came ++ more) ≡ lines ++ long ∷ rest) × (longest_line < length long)
-ComesAs Ended line came lines read = (read.ended ≡ true) × (lines ≡ all_lines came)
-ComesAs Failed line came lines read = lines ≡ whole_lines came
+-- What comes after the lines of the bytes that came, if a line may have so many bytes. `Line`: a line, and it is handed out.
+-- `TooLong`: a line that is too long, whatever bytes may follow. No bytes follow if the source has ended. `Ended`: nothing, since the
+-- source has ended. `Failed`: no whole line before a read failed.
+abbrev pub ComesAs : ℕ → NextLine → List ℕ → List ℕ → List (List ℕ) → Reading → Type 0
+ComesAs longest Line line came lines read = HasHanded came (lines ++ line ∷ []) read × (length line ≤ longest)
+ComesAs longest TooLong line came lines read =
+    (more : List ℕ) → (read.ended ≡ true → more ≡ []) → (long : List ℕ) × (rest : List (List ℕ)) × (all_lines (came ++ more) ≡ lines ++ long ∷ rest) × (longest < length long)
+ComesAs longest Ended line came lines read = (read.ended ≡ true) × (lines ≡ all_lines came)
+ComesAs longest Failed line came lines read = lines ≡ whole_lines came
 
--- A call that asks for the next line, by its answer.
-pub record NextComes (answer : NextLine) (line : List ℕ) (before now : SourceTold) (old new : Reading) : Type 0 where
+-- A call that asks for the next line, which may have so many bytes, by its answer.
+pub record NextComes (longest : ℕ) (answer : NextLine) (line : List ℕ) (before now : SourceTold) (old new : Reading) : Type 0 where
   pub came : List ℕ
   pub gave : Gave before.left now.left came
   pub met : MetEnd old.ended new.ended before now
   pub reads : EndsReads answer before now
-  pub comes : (past : List ℕ) (lines : List (List ℕ)) → HasHanded past lines old → ComesAs answer line (past ++ came) lines new
+  pub comes : (past : List ℕ) (lines : List (List ℕ)) → HasHanded past lines old → ComesAs longest answer line (past ++ came) lines new
 
 -- how many lines are handed out after this answer
 abbrev pub counted_with : NextLine → ℕ → ℕ

@@ -23,5 +23,6 @@ pub mod Came
 pub mod Batch
 pub mod Handed
 pub mod LinesSeen
+pub mod Recorded
 -- Definitions for the contracts of the crate's inner functions, and what its private types stand for.
 pub mod Code

@@ -1,11 +1,17 @@
+ghost use Rattle.std.specs.Prelude.{◌≤◌, length};
+ghost use Rattle.mg_feed.specs.Accepted.{longest_line};
+
 use crate::feed_end::Step;
 use crate::input_buffer::InputBuffer;
+use crate::limits::LONGEST_LINE;
 use crate::reader::Reader;
 use crate::{BatchEnd, FeedEnd, LineFault};
 use json::Scratch;
 use mg_calc::{Inputs, Plan};
 use mg_edge::{Got, Source};
 use std::alloc::{AllocError, Global};
+
+mod recorded;
 
 /// Reads the packet lines of an input, judges them, and keeps what they give a graph's inputs until it is taken.
 pub struct Feed {
@@ -14,6 +20,7 @@ pub struct Feed {
     reader: Reader,
     // Room for reading the JSON of a line.
     scratch: Scratch,
+    ghost short: { length reader.cut.items ≤ longest_line },
 }
 
 // Written out, so that a proof about code that drops a feed needn't open it.
@@ -213,7 +220,7 @@ impl Feed {
         requires { EndsLine (left_of self.old.reader) end }
         ensures { TookNext result (fed self.old) (fed self.new) }
     {
-        self.reader.hold(end)?;
+        self.reader.hold(end, LONGEST_LINE)?;
         let named = self
             .input_buffer
             .line(self.alloc, &mut self.scratch, &self.reader.cut)?;
@@ -229,7 +236,7 @@ impl Feed {
         if self.reader.ended {
             return Step::Stop(FeedEnd::Ended);
         }
-        match self.reader.hold_rest() {
+        match self.reader.hold_rest(LONGEST_LINE) {
             Ok(()) => self.fill(source),
             Err(fault) => Step::Stop(self.stop_by(fault)),
         }

@@ -79,8 +79,9 @@ impl InputBuffer {
         Ok(named)
     }
 
-    // Takes a line whose length and number are allowed. A line of blanks alone gives nothing.
-    fn words(
+    /// Takes a line of any length, after any number of lines, and doesn't count it. Returns whether it names a stream, or why it isn't
+    /// good. A line of blanks alone gives nothing.
+    pub fn words(
         &mut self,
         alloc: Global,
         scratch: &mut Scratch,

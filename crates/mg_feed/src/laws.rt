@@ -14,6 +14,7 @@ ghost use Rattle.mg_feed.specs.Accepted.{given_by, accepted};
 ghost use Rattle.mg_feed.specs.Given.{ended_streams};
 ghost use Rattle.mg_feed.specs.View.{View};
 ghost use Rattle.mg_feed.specs.Stands.{AllGood, HasAccepted, nothing_taken, behind_all, taken_with, packets_of};
+ghost use Rattle.mg_feed.specs.Recorded.{AllRecorded};
 ghost use Rattle.mg_feed.specs.Fed.{Fed};
 ghost use Rattle.mg_feed.specs.Came.{Came};
 ghost use Rattle.mg_feed.specs.Ran.{MetEnd, Spends, Unfailed, FailedBy};
@@ -88,6 +89,11 @@ pub fn lines_of_different_streams_may_change_places()
 /// Accepted lines are all good.
 pub fn accepted_lines_are_good()
     ensures { (graph : GraphInputs) (lines : List (List ℕ)) → AllGood graph [] (accepted graph lines) }
+{}
+
+/// Good lines are good as lines of a recorded job too.
+pub fn good_lines_may_be_recorded()
+    ensures { (graph : GraphInputs) (lines : List (List ℕ)) → AllGood graph [] lines → AllRecorded graph [] lines }
 {}
 
 /// What two calls, one after the other, did to a source follows from what each of them did. This holds for the bytes that the

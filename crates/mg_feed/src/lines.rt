@@ -10,7 +10,7 @@ use std::alloc::{AllocError, Global};
 pub enum NextLine {
     /// A line, which is kept until the next one is asked for.
     Line,
-    /// A line that is longer than a packet line may be. It isn't kept, and nothing is read after it.
+    /// A line that is longer than it may be. It isn't kept, and nothing is read after it.
     TooLong,
     /// The source answered `End`, and no line is left.
     Ended,
@@ -47,7 +47,7 @@ fn too_long(fault: LineFault) -> Result<NextLine, AllocError>
 }
 
 impl Lines {
-    ghost use Rattle.std.specs.Prelude.{◌≡◌, ◌+◌, ◌<◌, ◌^◌, [], false, IfOk, OnErr};
+    ghost use Rattle.std.specs.Prelude.{◌≡◌, ◌≢◌, ◌+◌, ◌-◌, ◌<◌, ◌^◌, ℕ, [], false, IfOk, OnErr};
     ghost use Rattle.mg_feed.specs.Lines.{NoFeed};
     ghost use Rattle.mg_feed.specs.Handed.{NextComes, counted_with, MovesOn};
     ghost use Rattle.mg_feed.specs.LinesSeen.{line_of, number_of, reading};
@@ -82,21 +82,27 @@ impl Lines {
         self.number
     }
 
-    /// Hands out the next line, or returns why there is none. Once the source answered `End` it isn't read again. Returns an error
-    /// if memory runs out, and after 2^64 - 1 lines. An error leaves all bytes that were read kept.
-    pub fn next<S: Source>(&mut self, source: &mut S) -> Result<NextLine, AllocError>
-        ensures comes { IfOk result (λ next. NextComes next (line_of self.new) (S.told source.old) (S.told source.new) (reading self.old) (reading self.new)) }
+    /// Hands out the next line, or returns why there is none. The line may have up to `longest` bytes without its line feed. If
+    /// `longest` is `usize::MAX`, no line is too long. Once the source answered `End` it isn't read again. Returns an error if memory
+    /// runs out, and after 2^64 - 1 lines. An error leaves all bytes that were read kept.
+    pub fn next<S: Source>(
+        &mut self,
+        source: &mut S,
+        longest: usize,
+    ) -> Result<NextLine, AllocError>
+        ensures comes { IfOk result (λ next. NextComes longest next (line_of self.new) (S.told source.old) (S.told source.new) (reading self.old) (reading self.new)) }
         ensures number { IfOk result (λ next. number_of self.new ≡ counted_with next (number_of self.old)) }
         ensures few { IfOk result (λ next. number_of self.old + 1 < 2 ^ 64) }
+        ensures any { IfOk result (λ next. longest ≡ 2 ^ 64 - 1 → next ≢ NextLine.TooLong) }
         ensures kept { OnErr result (MovesOn (S.told source.old) (S.told source.new) (reading self.old) (reading self.new)) }
     {
         let Some(number) = self.number.checked_add(1) else {
             return Err(AllocError);
         };
-        let found = self.find(source)?;
+        let found = self.find(source, longest)?;
         match found {
             Found::At(end) => {
-                let next = self.take(end, number)?;
+                let next = self.take(end, number, longest)?;
                 Ok(next)
             }
             Found::Stop(next) => Ok(next),
@@ -104,8 +110,8 @@ impl Lines {
     }
 
     // Reads until the line feed of the next line is in the block, or there is no next line.
-    fn find<S: Source>(&mut self, source: &mut S) -> Result<Found, AllocError>
-        ensures finds { IfOk result (λ found. Finds found (left_of self.new.reader) (S.told source.old) (S.told source.new) (reading_of self.old.reader) (reading_of self.new.reader)) }
+    fn find<S: Source>(&mut self, source: &mut S, longest: usize) -> Result<Found, AllocError>
+        ensures finds { IfOk result (λ found. Finds longest found (left_of self.new.reader) (S.told source.old) (S.told source.new) (reading_of self.old.reader) (reading_of self.new.reader)) }
         ensures kept { OnErr result (MovesOn (S.told source.old) (S.told source.new) (reading_of self.old.reader) (reading_of self.new.reader)) }
         ensures number { self.new.number ≡ self.old.number }
     {
@@ -113,7 +119,7 @@ impl Lines {
             if let Some(end) = self.reader.line_end() {
                 return Ok(Found::At(end));
             }
-            let step = self.read_on(source)?;
+            let step = self.read_on(source, longest)?;
             match step {
                 Some(next) => return Ok(Found::Stop(next)),
                 None => {}
@@ -123,9 +129,13 @@ impl Lines {
 
     // Holds what is left of the block, which has no line feed, and reads the next block. Returns why there is no line, if there is
     // none.
-    fn read_on<S: Source>(&mut self, source: &mut S) -> Result<Option<NextLine>, AllocError>
+    fn read_on<S: Source>(
+        &mut self,
+        source: &mut S,
+        longest: usize,
+    ) -> Result<Option<NextLine>, AllocError>
         requires { NoFeed (left_of self.old.reader) }
-        ensures steps { IfOk result (λ next. StepsOn next (S.told source.old) (S.told source.new) (reading_of self.old.reader) (reading_of self.new.reader)) }
+        ensures steps { IfOk result (λ next. StepsOn longest next (S.told source.old) (S.told source.new) (reading_of self.old.reader) (reading_of self.new.reader)) }
         ensures kept { OnErr result (reading_of self.new.reader ≡ reading_of self.old.reader) }
         ensures same { OnErr result (S.told source.new ≡ S.told source.old) }
         ensures number { self.new.number ≡ self.old.number }
@@ -133,7 +143,7 @@ impl Lines {
         if self.reader.ended {
             return Ok(Some(NextLine::Ended));
         }
-        if let Err(fault) = self.reader.hold_rest() {
+        if let Err(fault) = self.reader.hold_rest(longest) {
             let next = too_long(fault)?;
             return Ok(Some(next));
         }
@@ -144,7 +154,7 @@ impl Lines {
     fn fill<S: Source>(&mut self, source: &mut S) -> Option<NextLine>
         requires passed { left_of self.old.reader ≡ [] }
         requires open { self.old.reader.ended ≡ false }
-        ensures steps { StepsOn result (S.told source.old) (S.told source.new) (reading_of self.old.reader) (reading_of self.new.reader) }
+        ensures steps { (longest : ℕ) → StepsOn longest result (S.told source.old) (S.told source.new) (reading_of self.old.reader) (reading_of self.new.reader) }
         ensures number { self.new.number ≡ self.old.number }
     {
         match self.reader.fill(source) {
@@ -155,13 +165,13 @@ impl Lines {
     }
 
     // Hands out the line whose line feed is at `end` in what is left of the block, as line `number`, or returns `TooLong`.
-    fn take(&mut self, end: usize, number: u64) -> Result<NextLine, AllocError>
+    fn take(&mut self, end: usize, number: u64, longest: usize) -> Result<NextLine, AllocError>
         requires { EndsLine (left_of self.old.reader) end }
-        ensures takes { IfOk result (λ next. HandsOutLine next self.new.line.items (reading_of self.old.reader) (reading_of self.new.reader)) }
+        ensures takes { IfOk result (λ next. HandsOutLine longest next self.new.line.items (reading_of self.old.reader) (reading_of self.new.reader)) }
         ensures kept { OnErr result (reading_of self.new.reader ≡ reading_of self.old.reader) }
         ensures number { IfOk result (λ next. self.new.number ≡ counted_by next self.old.number number) }
     {
-        match self.reader.hold(end) {
+        match self.reader.hold(end, longest) {
             Ok(()) => {
                 self.reader.hand_over(&mut self.line);
                 self.number = number;

@@ -1,11 +1,10 @@
-ghost use Rattle.std.specs.Prelude.{◌≡◌, ◌<◌, ◌≤◌, false, length, vec_len, IfOk, MatchOption};
+ghost use Rattle.std.specs.Prelude.{◌≡◌, ◌<◌, ◌≤◌, false, vec_len, IfOk, MatchOption};
 ghost use Rattle.mg_feed.specs.Lines.{NoFeed};
-ghost use Rattle.mg_feed.specs.Accepted.{longest_line};
 ghost use Rattle.mg_feed.specs.Code.LineEnd.{EndsLine, has_feed};
 ghost use Rattle.mg_feed.specs.declared.limits.TheConstants.{LONGEST_BLOCK};
 
 use crate::LineFault;
-use crate::limits::{LONGEST_BLOCK, LONGEST_LINE};
+use crate::limits::LONGEST_BLOCK;
 use memchr::memchr;
 use mg_edge::{Got, Source};
 use std::alloc::{AllocError, Global};
@@ -27,20 +26,19 @@ pub struct Reader {
     ghost ahead: { at ≤ filled },
     ghost within: { filled ≤ vec_len block },
     ghost none: { has_feed cut.items ≡ false },
-    ghost short: { length cut.items ≤ longest_line },
 }
 
 impl Reader {
-    ghost use Rattle.std.specs.Prelude.{◌≡◌, ◌≢◌, ◌<◌, ◌≤◌, ◌+◌, ◌++◌, [], true, false, IfOk, IfErr, OnOk, MatchOption, length, take, drop};
+    ghost use Rattle.std.specs.Prelude.{◌≡◌, ◌≢◌, ◌<◌, ◌≤◌, ◌+◌, ◌++◌, [], true, false, IfOk, IfErr, OnOk, OnErr, MatchOption, length, take, drop};
     ghost use Rattle.mg_feed.specs.Lines.{NoFeed, with_feed};
-    ghost use Rattle.mg_feed.specs.Accepted.{longest_line};
     ghost use Rattle.mg_feed.specs.Code.LineEnd.{EndsLine};
     ghost use Rattle.mg_feed.specs.Code.Readers.{left_of, reading_of};
     ghost use Rattle.mg_feed.specs.Code.Filled.{Filled};
 
     /// Makes a reader that has read nothing yet.
     pub fn new(alloc: Global) -> Result<Reader, AllocError>
-        ensures { IfOk result (λ reader. reading_of reader ≡ record { kept = []; ended = false }) }
+        ensures unread { IfOk result (λ reader. reading_of reader ≡ record { kept = []; ended = false }) }
+        ensures cut { IfOk result (λ reader. reader.cut.items ≡ []) }
     {
         let block = zeros(alloc, LONGEST_BLOCK)?;
         Ok(Reader {
@@ -96,17 +94,19 @@ impl Reader {
         self.at += count;
     }
 
-    /// Passes `count` bytes of the block, and holds them for the next line. Returns an error if the line gets too long or memory
-    /// runs out.
-    pub fn hold(&mut self, count: usize) -> Result<(), LineFault>
+    /// Passes `count` bytes of the block, and holds them for the next line. Returns an error if the line gets longer than `longest`
+    /// bytes, or memory runs out.
+    pub fn hold(&mut self, count: usize, longest: usize) -> Result<(), LineFault>
         requires within { count ≤ length (left_of self.old) }
         requires none { NoFeed (take count (left_of self.old)) }
         ensures reading { reading_of self.new ≡ reading_of self.old }
         ensures held { OnOk result (self.new.cut.items ≡ self.old.cut.items ++ take count (left_of self.old)) }
         ensures left { OnOk result (left_of self.new ≡ drop count (left_of self.old)) }
-        ensures fault { IfErr result (λ fault. fault ≢ LineFault.OutOfMemory → (fault ≡ LineFault.TooLong) × (longest_line < length self.old.cut.items + count)) }
+        ensures short { OnOk result (length self.new.cut.items ≤ longest) }
+        ensures cut { OnErr result (self.new.cut.items ≡ self.old.cut.items) }
+        ensures fault { IfErr result (λ fault. fault ≢ LineFault.OutOfMemory → (fault ≡ LineFault.TooLong) × (longest < length self.old.cut.items + count)) }
     {
-        if self.cut.len() + count > LONGEST_LINE {
+        if self.cut.len() + count > longest {
             return Err(LineFault::TooLong);
         }
         let piece = &self.block[self.at..self.at + count];
@@ -116,15 +116,17 @@ impl Reader {
     }
 
     /// Passes all that is left of the block, which has no line feed, and holds it for the next line. Returns an error if the line
-    /// gets too long or memory runs out.
-    pub fn hold_rest(&mut self) -> Result<(), LineFault>
+    /// gets longer than `longest` bytes, or memory runs out.
+    pub fn hold_rest(&mut self, longest: usize) -> Result<(), LineFault>
         requires { NoFeed (left_of self.old) }
         ensures reading { reading_of self.new ≡ reading_of self.old }
         ensures left { OnOk result (left_of self.new ≡ []) }
-        ensures fault { IfErr result (λ fault. fault ≢ LineFault.OutOfMemory → (fault ≡ LineFault.TooLong) × (longest_line < length (reading_of self.old).kept)) }
+        ensures short { OnOk result (length self.new.cut.items ≤ longest) }
+        ensures cut { OnErr result (self.new.cut.items ≡ self.old.cut.items) }
+        ensures fault { IfErr result (λ fault. fault ≢ LineFault.OutOfMemory → (fault ≡ LineFault.TooLong) × (longest < length (reading_of self.old).kept)) }
     {
         let count = self.filled - self.at;
-        self.hold(count)?;
+        self.hold(count, longest)?;
         Ok(())
     }
 
@@ -157,6 +159,7 @@ impl Reader {
         requires passed { left_of self.old ≡ [] }
         requires open { self.old.ended ≡ false }
         ensures filled { Filled result (reading_of self.old) (reading_of self.new) (S.told source.old) (S.told source.new) }
+        ensures cut { self.new.cut.items ≡ self.old.cut.items }
     {
         let got = source.read(&mut self.block);
         match got {
@@ -174,6 +177,7 @@ impl Reader {
     fn finish(&mut self)
         requires { left_of self.old ≡ [] }
         ensures ended { self.new.ended ≡ true }
+        ensures cut { self.new.cut.items ≡ self.old.cut.items }
         ensures kept { (reading_of self.new).kept ≡ with_feed (reading_of self.old).kept (reading_of self.old).kept }
     {
         self.ended = true;

@@ -15,7 +15,8 @@ use Rattle.mg_feed.specs.Ran.{EndCame}
 use Rattle.mg_feed.specs.declared.feed_end.FeedEnd.TheVariants.{Ended}
 use Rattle.mg_answer.specs.Answer.{RunAnswer, by_lines, answer_of, failed_notes}
 use Rattle.mg_answer.specs.Frozen.{frozen_answer}
-use Rattle.mg_answer.specs.Devices.{Device, RunDevices, Untouched, TookText, HasRisen, Unrisen, NoneFailed}
+use Rattle.mg_answer.specs.Notes.{memory_note}
+use Rattle.mg_answer.specs.Devices.{Device, RunDevices, Untouched, TookText, TookNotes, HasRisen, Unrisen, NoneFailed}
 use Rattle.mg_answer.specs.Told.{ended_status}
 use Rattle.mg_answer.specs.Wrote.{Meets, WroteBy}
 use Rattle.mg_answer.specs.Status.{IsOneOf}
@@ -23,6 +24,7 @@ use Rattle.mg_answer.specs.declared.status.Status.{Status}
 use Rattle.mg_answer.specs.declared.status.Status.TheVariants.{Good, StoreFault, Usage, GraphRefused, LineRefused, NodeFault, Stalled, ReadFault, WriteFault, OutOfMemory}
 use Rattle.mg_answer.proofs.Answering.{WriteRisen, ended_statuses, read_statuses, no-one, steady-risen, one-unrisen, rose-unrisen, none-left}
 use Rattle.mg_answer.specs.declared.run.Reporting.{Reporting}
+use Rattle.mg_drive.proofs.TracesRan.{met_steady}
 use Rattle.mg_replay.specs.Replay.{CameAs, FailsAs, LinesComeTo, WasRead}
 use Rattle.mg_replay.specs.Note.{trace_note, trace_status, WroteNote}
 use Rattle.mg_replay.specs.Replayed.{job_over, AnswersJob, AnswersEnd, AnswersTrace, WroteJob, WroteEnd, Replayed, ReplayedBy}
@@ -112,16 +114,36 @@ end_met {laws} (Failed lines) report plan job status output notes wrote =
 
 -- memory ran out, or all lines were read
 out_or : {laws : Laws} (status : Status) (report : Reporting) (plan : Plan) (all : RunDevices) (boxes : Device (List BoxTold)) → ReplayedBy laws status report plan all boxes → (status ≡ OutOfMemory) ⊎ Replayed laws report plan status all boxes
-out_or {laws} Good report plan all boxes ran = inr ran
-out_or {laws} StoreFault report plan all boxes ran = inr ran
-out_or {laws} Usage report plan all boxes ran = inr ran
-out_or {laws} GraphRefused report plan all boxes ran = inr ran
-out_or {laws} LineRefused report plan all boxes ran = inr ran
-out_or {laws} NodeFault report plan all boxes ran = inr ran
-out_or {laws} Stalled report plan all boxes ran = inr ran
-out_or {laws} ReadFault report plan all boxes ran = inr ran
-out_or {laws} WriteFault report plan all boxes ran = inr ran
-out_or {laws} OutOfMemory report plan all boxes ran = inl refl
+out_or {laws} status report plan all boxes (inl whole) = inr whole
+out_or {laws} status report plan all boxes (inr out) = inl out.is
+
+-- No status of a whole replay tells that memory ran out --
+
+no_want : (fs : List Fault) (ns : List ℕ) → OutOfMemory ≡ ended_status fs ns → ⊥
+no_want [] [] is = cc
+no_want [] (n ∷ ns) is = cc
+no_want (f ∷ fs) ns is = cc
+
+job_wants_none : (ended : Bool) (report : Reporting) (job : Job) (output notes : Device SinkTold) → WroteJob ended report job OutOfMemory output notes → ⊥
+job_wants_none true report job output notes wrote = no_want (faults job wrote.streams) (stalled wrote.streams) wrote.by.told
+job_wants_none false report job output notes wrote = no_want (faults job wrote.streams) [] wrote.by.told
+
+note_wants_none : (end : TraceEnd) (notes : Device SinkTold) → WroteNote end OutOfMemory notes → ⊥
+note_wants_none Accepted notes (inl whole) = absurd (let e = whole.0 in cc)
+note_wants_none (Refused line cause) notes (inl whole) = absurd (let e = whole.0 in cc)
+note_wants_none (Failed lines) notes (inl whole) = absurd (let e = whole.0 in cc)
+note_wants_none end notes (inr part) = absurd (let e = part.0 in cc)
+
+wants_none : (laws : Laws) (end : TraceEnd) (report : Reporting) (plan : Plan) (job : Option Inputs) (output notes : Device SinkTold) → WroteEnd laws end report plan job OutOfMemory output notes → ⊥
+wants_none laws Accepted report plan None output notes wrote = wrote
+wants_none laws Accepted report plan (Some inputs) output notes wrote = job_wants_none inputs.ended report (job_over laws plan inputs) output notes wrote
+wants_none laws (Refused line cause) report plan job output notes wrote = note_wants_none (Refused line cause) notes wrote.1
+wants_none laws (Failed lines) report plan job output notes wrote = note_wants_none (Failed lines) notes wrote.1
+
+-- if memory ran out, the notes say so
+pub replayed_noted : (laws : Laws) (report : Reporting) (plan : Plan) (all : RunDevices) (boxes : Device (List BoxTold)) → ReplayedBy laws OutOfMemory report plan all boxes → TookNotes all.notes memory_note
+replayed_noted laws report plan all boxes (inl whole) = absurd (wants_none laws whole.end report plan whole.job all.output all.notes whole.wrote)
+replayed_noted laws report plan all boxes (inr out) = out.noted
 
 -- The status --
 
@@ -205,10 +227,6 @@ replayed_read_risen laws report plan status all boxes ran risen = by (out_or sta
           | inr met ↦ failed_read whole.end status e.fs e.ns all.input.before all.input.now (met.told ∙ e.says) whole.read.faults risen
         ]
 
-met_unrisen : (answer : RunAnswer) (status : Status) (all : RunDevices) → Meets answer status all.output all.notes → WriteRisen all → ⊥
-met_unrisen answer status all met (inl risen) = steady-risen _ _ met.text.steady risen
-met_unrisen answer status all met (inr risen) = steady-risen _ _ met.noted.steady risen
-
 pub replayed_write_risen : (laws : Laws) (report : Reporting) (plan : Plan) (status : Status) (all : RunDevices) (boxes : Device (List BoxTold)) → ReplayedBy laws status report plan all boxes → WriteRisen all
     → IsOneOf status (WriteFault ∷ OutOfMemory ∷ [])
 replayed_write_risen laws report plan status all boxes ran risen = by (out_or status report plan all boxes ran)
@@ -219,7 +237,7 @@ replayed_write_risen laws report plan status all boxes ran risen = by (out_or st
         let e = end_met whole.end report plan whole.job status all.output all.notes whole.wrote in
         elim e.met [
           | inl failed ↦ inl failed.0
-          | inr met ↦ absurd (met_unrisen e.answer status all met risen)
+          | inr met ↦ absurd (met_steady e.answer status all met risen)
         ]
 
 -- The whole input --

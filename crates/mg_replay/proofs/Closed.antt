@@ -28,8 +28,8 @@ use Rattle.mg_drive.specs.Nets.{Keeps}
 use Rattle.mg_drive.specs.Batches.{logged}
 use Rattle.mg_drive.specs.Leaves.{first_calls, IsRelatedAt}
 use Rattle.mg_drive.proofs.Jobs.{valid_plan, plan_stood}
-use Rattle.mg_drive.proofs.BoxesBack.{box_at, log_was, all_had_now}
-use Rattle.mg_drive.proofs.FrontsBack.{none_had, kept_now, state_kept}
+use Rattle.mg_drive.proofs.BoxesBack.{box_at, log_was, state_kept, all_had_now}
+use Rattle.mg_drive.proofs.FrontsBack.{none_had, kept_now}
 use Rattle.mg_replay.specs.Leaves.{HadAClose, HadCloses}
 use Rattle.mg_replay.specs.Replayed.{job_over, HadEnd}
 use Rattle.mg_replay.specs.Reading.{BeginsWithJob}
@@ -83,14 +83,12 @@ closed_at {laws} plan inputs boxes net streams number place node fit there has c
       is = back.1;
       holds = record {
         keeps = record {
-          front = record {
-            count = front.count;
-            close = front.close;
-            opened = front.opened;
-            log = front.log ∙ ap (option_map (λ (calls : List Call). calls ++ first_calls (job_over laws plan inputs) streams node front.count front.close)) (log_was (job_of laws plan inputs boxes) boxes place node box.0 refl has box.1);
-            law = front.fits.same_law ∙ sym box.2.fits.same_law;
-            shape = front.fits.same_shape ∙ sym box.2.fits.same_shape;
-          };
+          count = front.count;
+          close = front.close;
+          opened = front.opened;
+          log = front.log ∙ ap (option_map (λ (calls : List Call). calls ++ first_calls (job_over laws plan inputs) streams node front.count front.close)) (log_was (job_of laws plan inputs boxes) boxes place node box.0 refl has box.1);
+          law = front.fits.same_law ∙ sym box.2.fits.same_law;
+          shape = front.fits.same_shape ∙ sym box.2.fits.same_shape;
           unopened = λ none. front.unopened none place box.0 has box.1;
           state = λ shown is. front.state shown is ∙ state_kept (job_over laws plan inputs) streams node shown front.close outer;
         };

@@ -5,34 +5,31 @@ use Rattle.mg_value.specs.Payload.{Plain}
 use Rattle.mg_settled.specs.Prefix.{StreamPrefix}
 use Rattle.mg_calc.specs.Rules.{Laws}
 use Rattle.mg_calc.specs.declared.inputs.Inputs.{Inputs}
-use Rattle.mg_calc.specs.declared.node_fault.NodeFault.{NodeFault as Fault}
 use Rattle.mg_calc.specs.declared.plan.Plan.{Plan}
-use Rattle.mg_calc.specs.Equations.{Job, IsJob, IsSolution}
-use Rattle.mg_calc.specs.Meaning.{faults, stalled}
+use Rattle.mg_calc.specs.Equations.{IsJob, IsSolution}
 use Rattle.mg_calc.specs.Plan.{IsValid}
 use Rattle.mg_calc.specs.Told.{BoxTold}
 use Rattle.mg_feed.specs.Graph.{GraphInputs, inputs_of}
 use Rattle.mg_feed.specs.Accepted.{State, given_by}
 use Rattle.mg_feed.specs.Given.{ended_streams}
 use Rattle.mg_feed.specs.View.{View}
-use Rattle.mg_feed.specs.Stands.{AllGood, HasAccepted, nothing_taken}
+use Rattle.mg_feed.specs.Stands.{HasAccepted, nothing_taken}
+use Rattle.mg_feed.specs.Recorded.{AllRecorded}
 use Rattle.mg_feed.specs.Fed.{Reading}
 use Rattle.mg_feed.specs.Ran.{MetEnd}
 use Rattle.mg_feed.specs.Handed.{HasHanded}
 use Rattle.mg_feed.specs.declared.feed_end.FeedEnd.{FeedEnd}
 use Rattle.mg_feed.specs.declared.feed_end.FeedEnd.TheVariants.{Ended, Failed as failing}
 use Rattle.mg_edge.proofs.Runs.{Gave-start}
-use Rattle.mg_feed.proofs.Holding.{given-untaken}
+use Rattle.mg_feed.proofs.Recording.{accepted-recorded}
 use Rattle.mg_feed.proofs.Moving.{unfailed-same}
 use Rattle.mg_feed.specs.Lines.{all_lines}
 use Rattle.mg_trace.specs.Job.{end_word}
 use Rattle.mg_answer.specs.Answer.{Read, is_ended, inputs_by}
-use Rattle.mg_answer.specs.Told.{ended_status}
 use Rattle.mg_answer.specs.Text.{output_text_of}
 use Rattle.mg_answer.specs.Devices.{Device, device, RunDevices, run_devices, Untouched, TookFront}
 use Rattle.mg_answer.specs.declared.status.Status.{Status}
-use Rattle.mg_answer.specs.declared.status.Status.TheVariants.{Good, StoreFault, Usage, GraphRefused, LineRefused, NodeFault, Stalled, ReadFault, WriteFault, OutOfMemory}
-use Rattle.mg_answer.proofs.Fitting.{inputs-fit}
+use Rattle.mg_answer.proofs.Fitting.{recorded-fit}
 use Rattle.mg_answer.specs.declared.run.Reporting.{Reporting}
 use Rattle.mg_node.specs.Job.{LoggedJob}
 use Rattle.mg_sched.specs.Views.{NetView}
@@ -52,7 +49,7 @@ use Rattle.mg_drive.proofs.RecordedRuns.{begun_at}
 use Rattle.mg_replay.specs.Opening.{inputs_with}
 use Rattle.mg_replay.specs.Replay.{StopsEarly, StopsEarlyAt, WasRead}
 use Rattle.mg_replay.specs.Note.{WroteNote}
-use Rattle.mg_replay.specs.Replayed.{job_over, WroteJob, WroteEnd, Replayed, ReplayedSome, ReplayedBy}
+use Rattle.mg_replay.specs.Replayed.{job_over, WroteJob, Replayed, ReplayedSome}
 use Rattle.mg_replay.specs.Reading.{BeginsWithJob, IsReading, IsOpening, HasJob, IsMaking}
 use Rattle.mg_replay.specs.Code.Reading.{HasReadInputs}
 use Rattle.mg_drive.specs.Code.Tracing.{IsSomeMade}
@@ -77,7 +74,7 @@ opening_none plan told read number view unread none graph stands = record {
     counted = none;
   };
   graph = graph;
-  stands = stands;
+  stands = accepted-recorded [] view (subst (λ (g : GraphInputs). HasAccepted [] (nothing_taken g) view) (sym graph) stands);
   packets = tt;
 }
 
@@ -88,8 +85,7 @@ inputs_same inputs ss sides ended a b c = λ i. record { streams = a i; sides = 
 abbrev pub has_inputs : (plan : Plan) (ended : Bool) (first now : SourceTold) (read : Reading) (number : ℕ) (view : View) (inputs : Inputs) → HasJob plan ended first now read number view → inputs.streams ≡ ended_streams ended view.given.streams → inputs.sides ≡ view.given.sides
     → inputs.ended ≡ ended → HasReadInputs plan inputs first now read number
 has_inputs plan ended first now read number view inputs h streams sides is =
-    let stands : HasAccepted h.given (nothing_taken view.graph) view = subst (λ (g : GraphInputs). HasAccepted h.given (nothing_taken g) view) (sym h.graph) h.stands in
-    let given : view.given ≡ given_by (inputs_of plan) h.given = given-untaken h.given view stands ∙ ap (λ (g : GraphInputs). given_by g h.given) h.graph in
+    let given : view.given ≡ given_by (inputs_of plan) h.given = h.stands.given ∙ ap (λ (g : GraphInputs). given_by g h.given) h.graph in
     record {
       given = h.given;
       reading = subst (λ (b : Bool). IsReading first now read number (h.given ++ end_word b ∷ [])) (sym is) h.reading;
@@ -115,7 +111,7 @@ is_job laws plan ended first now read number view inputs valid h streams sides i
     let same : inputs_with plan h.given inputs.ended ≡ inputs_by (inputs_of plan) as_read = ap (inputs_with plan h.given) (sym (ends_for inputs.ended)) in
     record {
       plan = valid;
-      inputs = inputs-fit plan as_read inputs valid (subst (λ (g : GraphInputs). AllGood g [] h.given) h.graph h.stands.good) (i.inputs_are ∙ same);
+      inputs = recorded-fit plan as_read inputs valid (subst (λ (g : GraphInputs). AllRecorded g [] h.given) h.graph h.stands.good) (i.inputs_are ∙ same);
     }
 
 -- the nodes were begun
@@ -233,14 +229,11 @@ pub of_short : {laws : Laws} (plan : Plan) (inputs : Inputs) (devices : RunDevic
 of_short {laws} plan inputs devices boxes h = inr (record {
   inputs = inputs;
   opened = h.opened;
-  is_job = h.fronts.is_job;
-  streams = h.fronts.streams;
-  solution = h.fronts.solution;
+  had = h.fronts;
   took = elim h.took [
     | inl untouched ↦ inl untouched
     | inr took ↦ inr (took.0, took.1 h.fronts.streams h.fronts.solution)
   ];
-  each = h.fronts.each;
 })
 
 -- the lines ended before the job was told
@@ -256,38 +249,3 @@ pub of_early : {laws : Laws} (report : Reporting) (plan : Plan) (end : TraceEnd)
 of_early {laws} report plan Accepted status input output notes boxes read untouched wrote = absurd (never_accepted plan _ read.by.1)
 of_early {laws} report plan (Refused line cause) status input output notes boxes read untouched wrote = record { job = None; end = Refused line cause; read = read; wrote = (untouched, wrote); had = refl }
 of_early {laws} report plan (Failed lines) status input output notes boxes read untouched wrote = record { job = None; end = Failed lines; read = read; wrote = (untouched, wrote); had = refl }
-
--- No status of it tells that memory ran out --
-
-no_want : (fs : List Fault) (ns : List ℕ) → OutOfMemory ≡ ended_status fs ns → ⊥
-no_want [] [] is = cc
-no_want [] (n ∷ ns) is = cc
-no_want (f ∷ fs) ns is = cc
-
-job_wants_none : (ended : Bool) (report : Reporting) (job : Job) (output notes : Device SinkTold) → WroteJob ended report job OutOfMemory output notes → ⊥
-job_wants_none true report job output notes wrote = no_want (faults job wrote.streams) (stalled wrote.streams) wrote.by.told
-job_wants_none false report job output notes wrote = no_want (faults job wrote.streams) [] wrote.by.told
-
-note_wants_none : (end : TraceEnd) (notes : Device SinkTold) → WroteNote end OutOfMemory notes → ⊥
-note_wants_none Accepted notes (inl whole) = absurd (let e = whole.0 in cc)
-note_wants_none (Refused line cause) notes (inl whole) = absurd (let e = whole.0 in cc)
-note_wants_none (Failed lines) notes (inl whole) = absurd (let e = whole.0 in cc)
-note_wants_none end notes (inr part) = absurd (let e = part.0 in cc)
-
-wants_none : (laws : Laws) (end : TraceEnd) (report : Reporting) (plan : Plan) (job : Option Inputs) (output notes : Device SinkTold) → WroteEnd laws end report plan job OutOfMemory output notes → ⊥
-wants_none laws Accepted report plan None output notes wrote = wrote
-wants_none laws Accepted report plan (Some inputs) output notes wrote = job_wants_none inputs.ended report (job_over laws plan inputs) output notes wrote
-wants_none laws (Refused line cause) report plan job output notes wrote = note_wants_none (Refused line cause) notes wrote.1
-wants_none laws (Failed lines) report plan job output notes wrote = note_wants_none (Failed lines) notes wrote.1
-
-pub replayed_by : {laws : Laws} (status : Status) (report : Reporting) (plan : Plan) (devices : RunDevices) (boxes : Device (List BoxTold)) → Replayed laws report plan status devices boxes → ReplayedBy laws status report plan devices boxes
-replayed_by {laws} Good report plan devices boxes h = h
-replayed_by {laws} StoreFault report plan devices boxes h = h
-replayed_by {laws} Usage report plan devices boxes h = h
-replayed_by {laws} GraphRefused report plan devices boxes h = h
-replayed_by {laws} LineRefused report plan devices boxes h = h
-replayed_by {laws} NodeFault report plan devices boxes h = h
-replayed_by {laws} Stalled report plan devices boxes h = h
-replayed_by {laws} ReadFault report plan devices boxes h = h
-replayed_by {laws} WriteFault report plan devices boxes h = h
-replayed_by {laws} OutOfMemory report plan devices boxes h = absurd (wants_none laws h.end report plan h.job devices.output devices.notes h.wrote)

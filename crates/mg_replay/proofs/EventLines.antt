@@ -15,6 +15,7 @@ use Rattle.mg_calc.specs.Told.{BoxTold}
 use Rattle.mg_feed.specs.Lines.{all_lines, unended_line}
 use Rattle.mg_feed.specs.Fed.{Reading}
 use Rattle.mg_feed.specs.Ran.{MetEnd}
+use Rattle.mg_feed.specs.Accepted.{longest_line}
 use Rattle.mg_feed.specs.Handed.{ComesAs, NextComes, MovesOn, counted_with}
 use Rattle.mg_feed.specs.declared.lines.NextLine.{NextLine}
 use Rattle.mg_feed.specs.declared.lines.NextLine.TheVariants.{Line, TooLong, Ended, Failed}
@@ -76,7 +77,7 @@ behind_itself told read = behind_moves told told read read (moves-same told read
 
 -- a further line was asked for
 module _ (line : List ℕ) (lines : List (List ℕ)) (new : Reading) where
-  in_front_of : (next : NextLine) (came : List ℕ) → ComesAs next line came lines new → (more : List ℕ) → (new.ended ≡ true → more ≡ []) → (rest : List (List ℕ)) × (all_lines (came ++ more) ≡ lines ++ rest)
+  in_front_of : (next : NextLine) (came : List ℕ) → ComesAs longest_line next line came lines new → (more : List ℕ) → (new.ended ≡ true → more ≡ []) → (rest : List (List ℕ)) × (all_lines (came ++ more) ≡ lines ++ rest)
   in_front_of Line came comes more fits = (
     line ∷ all_lines (new.kept ++ more),
     lines-by new.ended came (lines ++ line ∷ []) new.kept more comes.0 fits ∙ append_assoc lines (line ∷ []) (all_lines (new.kept ++ more)),
@@ -85,7 +86,7 @@ module _ (line : List ℕ) (lines : List (List ℕ)) (new : Reading) where
   in_front_of Ended came comes more fits = ([], ap (λ (l : List ℕ). all_lines (came ++ l)) (fits comes.0) ∙ ap all_lines (append-nil came) ∙ sym comes.1 ∙ sym (append-nil lines))
   in_front_of Failed came comes more fits = (all_lines (unended_line came ++ more), whole_then came more ∙ ap (λ (l : List (List ℕ)). l ++ all_lines (unended_line came ++ more)) (sym comes))
 
-pub behind_next : (next : NextLine) (line : List ℕ) (before now : SourceTold) (old new : Reading) → NextComes next line before now old new → ComesBehind before now old new
+pub behind_next : (next : NextLine) (line : List ℕ) (before now : SourceTold) (old new : Reading) → NextComes longest_line next line before now old new → ComesBehind before now old new
 behind_next next line before now old new n = record {
   came = n.came;
   gave = n.gave;
@@ -102,7 +103,7 @@ opened_by {laws} plan boxes inputs first now later read new number net m b =
 
 -- after one more line, whatever it is
 pub opened_behind : {laws : Laws} (line : List ℕ) (plan : Plan) (boxes : List BoxTold) (inputs : Inputs) (first before now later : SourceTold) (old read new : Reading) (number : ℕ) (net : NetView) → IsMaking laws plan boxes inputs first before old number net
-    → NextComes Line line before now old read → ComesBehind now later read new → BeginsWithJob plan (device first later) inputs
+    → NextComes longest_line Line line before now old read → ComesBehind now later read new → BeginsWithJob plan (device first later) inputs
 opened_behind {laws} line plan boxes inputs first before now later old read new number net m n b =
     let r = reading_line line first before now old read number (number + 1) m.lines m.reading n refl in
     opened_with plan boxes inputs m.lines net m.has_run (r.came ++ b.came) new.ended first later
@@ -116,7 +117,7 @@ place_of number count cause same = ap (λ (k : ℕ). Refused (k + 1) cause) same
 
 -- no further line is handed out
 pub stops_later : {laws : Laws} (next : NextLine) (line : List ℕ) (plan : Plan) (boxes : List BoxTold) (inputs : Inputs) (end : TraceEnd) (first before now : SourceTold) (old new : Reading) (number : ℕ) (net : NetView) → IsMaking laws plan boxes inputs first before old number net
-    → NextComes next line before now old new → StopsBy next number BadEvent (Some end) → WasRead laws plan boxes (device first now) (Some inputs) end
+    → NextComes longest_line next line before now old new → StopsBy next number (Some end) → WasRead laws plan boxes (device first now) (Some inputs) end
 stops_later {laws} Line line plan boxes inputs end first before now old new number net m n is = absurd cc
 stops_later {laws} TooLong line plan boxes inputs end first before now old new number net m n is =
     let c = came_behind TooLong line first before now old new number m.lines m.reading n in
@@ -203,7 +204,7 @@ run_more {laws} event line plan boxes lines inputs net now same h of is acts = r
 
 -- the line is refused
 refused_line : {laws : Laws} (line : List ℕ) (plan : Plan) (boxes : List BoxTold) (inputs : Inputs) (end : TraceEnd) (first before now : SourceTold) (old new : Reading) (number count : ℕ) (net : NetView) → IsMaking laws plan boxes inputs first before old number net
-    → NextComes Line line before now old new → count ≡ number + 1 → line ≢ codes "end"
+    → NextComes longest_line Line line before now old new → count ≡ number + 1 → line ≢ codes "end"
     → (((event : Event) → ¬ (IsEventOf plan event × (line ≡ event_line event))) × (end ≡ Refused count BadEvent)) ⊎ IsIdleEvent laws plan net count line end → WasRead laws plan boxes (device first now) (Some inputs) end
 refused_line {laws} line plan boxes inputs end first before now old new number count net m n is other (inl (none, end_is)) =
     let r = reading_line line first before now old new number count m.lines m.reading n is in
@@ -251,7 +252,7 @@ refused_line {laws} line plan boxes inputs end first before now old new number c
     })
 
 pub makes_line : {laws : Laws} (stop : Option TraceEnd) (line : List ℕ) (plan : Plan) (boxes : List BoxTold) (inputs : Inputs) (first before now : SourceTold) (old new : Reading) (number count : ℕ) (net later : NetView) → net.plan ≡ plan
-    → IsMaking laws plan boxes inputs first before old number net → NextComes Line line before now old new → count ≡ number + 1 → bytes_eq line (codes "end") ≡ false → MakesLine laws stop plan line count net later
+    → IsMaking laws plan boxes inputs first before old number net → NextComes longest_line Line line before now old new → count ≡ number + 1 → bytes_eq line (codes "end") ≡ false → MakesLine laws stop plan line count net later
     → MakesOn laws stop plan boxes inputs first now new count later
 makes_line {laws} None line plan boxes inputs first before now old new number count net later same m n is other (event, of, line_is, acts) = record {
   lines = m.lines ++ line ∷ [];
@@ -268,7 +269,7 @@ makes_line {laws} (Some end) line plan boxes inputs first before now old new num
 
 -- if the net may go on
 pub ends_early : {laws : Laws} (line : List ℕ) (plan : Plan) (boxes : List BoxTold) (inputs : Inputs) (first before now : SourceTold) (old new : Reading) (number count : ℕ) (net : NetView) → IsMaking laws plan boxes inputs first before old number net
-    → NextComes Line line before now old new → count ≡ number + 1 → line ≡ codes "end" → MayGoOn laws net → WasRead laws plan boxes (device first now) (Some inputs) (Refused count NotAtRest)
+    → NextComes longest_line Line line before now old new → count ≡ number + 1 → line ≡ codes "end" → MayGoOn laws net → WasRead laws plan boxes (device first now) (Some inputs) (Refused count NotAtRest)
 ends_early {laws} line plan boxes inputs first before now old new number count net m n is line_is may =
     let r = reading_line line first before now old new number count m.lines m.reading n is in
     let counted = m.reading.counted in
@@ -294,7 +295,7 @@ ends_early {laws} line plan boxes inputs first before now old new number count n
 
 -- if it is at rest, by what comes next
 module _ {laws : Laws} (line : List ℕ) (plan : Plan) (boxes : List BoxTold) (inputs : Inputs) (first before now later : SourceTold) (old read new : Reading) (number count : ℕ) (net : NetView) (m : IsMaking laws plan boxes inputs first before old number net)
-    (n : NextComes Line line before now old read) (is : count ≡ number + 1) (line_is : line ≡ codes "end") (rests : IsAtRest laws net) where
+    (n : NextComes longest_line Line line before now old read) (is : count ≡ number + 1) (line_is : line ≡ codes "end") (rests : IsAtRest laws net) where
   behind : (rest : List (List ℕ)) (all : List (List ℕ)) → all ≡ (m.lines ++ line ∷ []) ++ rest → (end : TraceEnd) → EndsAt (length m.lines + 1) rest end → StopsAfterJob laws plan boxes all inputs end
   behind rest all all_are end ends = record {
     front = m.lines;
@@ -314,7 +315,7 @@ module _ {laws : Laws} (line : List ℕ) (plan : Plan) (boxes : List BoxTold) (i
   after_end : (end : TraceEnd) → end ≡ Refused (count + 1) AfterEnd → end ≡ Refused (length m.lines + 1 + 1) AfterEnd
   after_end end same = same ∙ ap (λ (k : ℕ). Refused (k + 1) AfterEnd) place
 
-  ended : (next : NextLine) (l : List ℕ) (end : TraceEnd) → NextComes next l now later read new → StopsBehind next count end → WasRead laws plan boxes (device first later) (Some inputs) end
+  ended : (next : NextLine) (l : List ℕ) (end : TraceEnd) → NextComes longest_line next l now later read new → StopsBehind next count end → WasRead laws plan boxes (device first later) (Some inputs) end
   ended Line l end c stop =
       let r = reading_line l first now later read new count (count + 1) (m.lines ++ line ∷ []) here c refl in
       subst (WasRead laws plan boxes (device first later) (Some inputs)) (sym (after_end end stop)) (record {
@@ -369,7 +370,7 @@ module _ {laws : Laws} (line : List ℕ) (plan : Plan) (boxes : List BoxTold) (i
       })
 
 pub ends_run : {laws : Laws} (end : TraceEnd) (line : List ℕ) (plan : Plan) (boxes : List BoxTold) (inputs : Inputs) (first before now later : SourceTold) (old read new : Reading) (number count : ℕ) (net net_now : NetView)
-    → IsMaking laws plan boxes inputs first before old number net → NextComes Line line before now old read → count ≡ number + 1 → line ≡ codes "end" → EndsRun laws end now later read new count net net_now
+    → IsMaking laws plan boxes inputs first before old number net → NextComes longest_line Line line before now old read → count ≡ number + 1 → line ≡ codes "end" → EndsRun laws end now later read new count net net_now
     → WasRead laws plan boxes (device first later) (Some inputs) end
 ends_run {laws} end line plan boxes inputs first before now later old read new number count net net_now m n is line_is (inl (may, end_is, still, same)) =
     subst (WasRead laws plan boxes (device first later) (Some inputs)) (sym end_is)
@@ -387,7 +388,7 @@ pub none_makes : (laws : Laws) (plan : Plan) (line : List ℕ) (number : ℕ) (n
 none_makes laws plan line number net now none = inl (λ event both. absurd (let is : None ≡ Some event = (none event).1 both in cc), refl)
 
 pub takes_event : {laws : Laws} (stop : Option TraceEnd) (line : List ℕ) (plan : Plan) (boxes : List BoxTold) (inputs : Inputs) (first before now later : SourceTold) (old read new : Reading) (number count last : ℕ) (net net_now : NetView) → net.plan ≡ plan
-    → IsMaking laws plan boxes inputs first before old number net → NextComes Line line before now old read → count ≡ number + 1 → TakesEvent laws stop plan line count now later read new last net net_now → MakesOn laws stop plan boxes inputs first later new last net_now
+    → IsMaking laws plan boxes inputs first before old number net → NextComes longest_line Line line before now old read → count ≡ number + 1 → TakesEvent laws stop plan line count now later read new last net net_now → MakesOn laws stop plan boxes inputs first later new last net_now
 takes_event {laws} stop line plan boxes inputs first before now later old read new number count last net net_now same m n is (inl (line_is, (end, stop_is, ends))) =
     subst (λ (s : Option TraceEnd). MakesOn laws s plan boxes inputs first later new last net_now) (sym stop_is)
     (ends_run end line plan boxes inputs first before now later old read new number count net net_now m n is line_is ends)
@@ -428,23 +429,23 @@ less_taken {laws} stop plan line number before now old new last net net_now same
 
 -- Whatever comes next --
 
-pub takes_next : {laws : Laws} (stop : Option TraceEnd) (next : NextLine) (plan : Plan) (boxes : List BoxTold) (inputs : Inputs) (first before now later : SourceTold) (line : List ℕ) (old read new : Reading) (number stopped count last : ℕ) (long : TraceFault) (net net_now : NetView)
-    → net.plan ≡ plan → IsMaking laws plan boxes inputs first before old number net → NextComes next line before now old read → count ≡ counted_with next number → StopsBy next stopped long None
+pub takes_next : {laws : Laws} (stop : Option TraceEnd) (next : NextLine) (plan : Plan) (boxes : List BoxTold) (inputs : Inputs) (first before now later : SourceTold) (line : List ℕ) (old read new : Reading) (number stopped count last : ℕ) (net net_now : NetView)
+    → net.plan ≡ plan → IsMaking laws plan boxes inputs first before old number net → NextComes longest_line next line before now old read → count ≡ counted_with next number → StopsBy next stopped None
     → TakesEvent laws stop plan line count now later read new last net net_now → MakesOn laws stop plan boxes inputs first later new last net_now
-takes_next {laws} stop next plan boxes inputs first before now later line old read new number stopped count last long net net_now same m n counted is takes =
-    takes_event stop line plan boxes inputs first before now later old read new number count last net net_now same m (line_comes next line before now old read number stopped long n is) (one_more next count number stopped long counted is) takes
+takes_next {laws} stop next plan boxes inputs first before now later line old read new number stopped count last net net_now same m n counted is takes =
+    takes_event stop line plan boxes inputs first before now later old read new number count last net net_now same m (line_comes next line before now old read stopped n is) (one_more next count number stopped counted is) takes
 
-pub opened_next : {laws : Laws} (next : NextLine) (line : List ℕ) (plan : Plan) (boxes : List BoxTold) (inputs : Inputs) (first before now later : SourceTold) (old read new : Reading) (number stopped : ℕ) (long : TraceFault) (net : NetView) → IsMaking laws plan boxes inputs first before old number net
-    → NextComes next line before now old read → StopsBy next stopped long None → ComesBehind now later read new → BeginsWithJob plan (device first later) inputs
-opened_next {laws} next line plan boxes inputs first before now later old read new number stopped long net m n is behind =
-    opened_behind line plan boxes inputs first before now later old read new number net m (line_comes next line before now old read number stopped long n is) behind
+pub opened_next : {laws : Laws} (next : NextLine) (line : List ℕ) (plan : Plan) (boxes : List BoxTold) (inputs : Inputs) (first before now later : SourceTold) (old read new : Reading) (number stopped : ℕ) (net : NetView) → IsMaking laws plan boxes inputs first before old number net
+    → NextComes longest_line next line before now old read → StopsBy next stopped None → ComesBehind now later read new → BeginsWithJob plan (device first later) inputs
+opened_next {laws} next line plan boxes inputs first before now later old read new number stopped net m n is behind =
+    opened_behind line plan boxes inputs first before now later old read new number net m (line_comes next line before now old read stopped n is) behind
 
 -- if the reading stops because there is no line, no run is accepted
-pub stops_not : (next : NextLine) (lines : ℕ) (long : TraceFault) (stop : Option TraceEnd) → StopsBy next lines long stop → stop ≡ Some Accepted → ⊥
-stops_not Line lines long stop is same = (let clash : None ≡ Some Accepted = sym is ∙ same in cc)
-stops_not TooLong lines long stop is same = (let clash : Some (Refused (lines + 1) long) ≡ Some Accepted = sym is ∙ same in cc)
-stops_not Ended lines long stop is same = (let clash : Some (Refused (lines + 1) NoEnd) ≡ Some Accepted = sym is ∙ same in cc)
-stops_not Failed lines long stop is same = (let clash : Some (Failed_at lines) ≡ Some Accepted = sym is ∙ same in cc)
+pub stops_not : (next : NextLine) (lines : ℕ) (stop : Option TraceEnd) → StopsBy next lines stop → stop ≡ Some Accepted → ⊥
+stops_not Line lines stop is same = (let clash : None ≡ Some Accepted = sym is ∙ same in cc)
+stops_not TooLong lines stop is same = (let clash : Some (Refused (lines + 1) BadEvent) ≡ Some Accepted = sym is ∙ same in cc)
+stops_not Ended lines stop is same = (let clash : Some (Refused (lines + 1) NoEnd) ≡ Some Accepted = sym is ∙ same in cc)
+stops_not Failed lines stop is same = (let clash : Some (Failed_at lines) ≡ Some Accepted = sym is ∙ same in cc)
 
 -- a reading went on, or ended
 pub making_on : {laws : Laws} (stop : Option TraceEnd) (plan : Plan) (boxes : List BoxTold) (inputs : Inputs) (first now : SourceTold) (read : Reading) (number : ℕ) (net : NetView) → MakesOn laws stop plan boxes inputs first now read number net → stop ≡ None

@@ -7,3 +7,5 @@ pub mod Ended
 pub mod Accepting
 pub mod Answered
 pub mod OneReading
+pub mod JobsTold
+pub mod TraceRead

@@ -1,13 +1,13 @@
 -- The lines of a recorded run that tell its job: packet lines, and after them a line that says how the job's input ended.
-use Rattle.std.specs.Prelude.{◌≡◌, ℕ, ◌==◌, Bool, true, false, ◌||◌, List, [], ◌∷◌, ◌++◌, length, nat_lt, Option, None, Some, option_map, codes, if◌then◌else◌, ⊤}
+use Rattle.std.specs.Prelude.{◌≡◌, ℕ, ◌==◌, Bool, true, false, ◌||◌, List, [], ◌∷◌, ◌++◌, Option, None, Some, option_map, codes, if◌then◌else◌, ⊤}
 use Rattle.std.specs.Str.{bytes_eq}
 use Rattle.mg_calc.specs.declared.inputs.Inputs.{Inputs}
 use Rattle.mg_calc.specs.declared.plan.Plan.{Plan}
 use Rattle.mg_feed.specs.Graph.{GraphInputs, inputs_of}
 use Rattle.mg_feed.specs.Form.{is_blank}
 use Rattle.mg_feed.specs.Given.{ended_streams}
-use Rattle.mg_feed.specs.Accepted.{longest_line, given_by, refusal}
-use Rattle.mg_feed.specs.declared.line_fault.LineFault.TheVariants.{TooLong}
+use Rattle.mg_feed.specs.Accepted.{given_by}
+use Rattle.mg_feed.specs.Recorded.{recorded_refusal}
 use Rattle.mg_replay.specs.declared.trace_end.TraceFault.{TraceFault}
 use Rattle.mg_replay.specs.declared.trace_end.TraceFault.TheVariants.{Line, BadEvent}
 
@@ -20,13 +20,10 @@ abbrev pub may_say_packet : List ℕ → Bool
 may_say_packet [] = true
 may_say_packet (b ∷ line) = if is_blank b then may_say_packet line else b == 123
 
--- Why a line that stands where packet lines do isn't good after the lines before it. If the line is too long, that goes before all
--- else.
+-- Why a line that stands where packet lines do isn't good after the lines before it. It may have any length, and any number of lines
+-- may come before it.
 abbrev pub packet_refusal : GraphInputs → List (List ℕ) → List ℕ → Option TraceFault
-packet_refusal graph before line =
-    if nat_lt longest_line (length line) then Some (Line TooLong)
-    else (if may_say_packet line then option_map Line (refusal graph before line)
-    else Some BadEvent)
+packet_refusal graph before line = if may_say_packet line then option_map Line (recorded_refusal graph before line) else Some BadEvent
 
 -- a line is a packet line that is good after those before it
 abbrev pub IsPacket : GraphInputs → List (List ℕ) → List ℕ → Type 0

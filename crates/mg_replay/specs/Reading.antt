@@ -8,7 +8,7 @@ use Rattle.mg_calc.specs.declared.plan.Plan.{Plan}
 use Rattle.mg_calc.specs.Told.{BoxTold}
 use Rattle.mg_feed.specs.Graph.{inputs_of}
 use Rattle.mg_feed.specs.View.{View}
-use Rattle.mg_feed.specs.Stands.{HasAccepted, nothing_taken}
+use Rattle.mg_feed.specs.Recorded.{HasRecorded}
 use Rattle.mg_feed.specs.Lines.{all_lines}
 use Rattle.mg_feed.specs.Fed.{Reading}
 use Rattle.mg_feed.specs.Ran.{MetEnd, Unfailed}
@@ -35,7 +35,7 @@ pub record IsOpening (plan : Plan) (first now : SourceTold) (read : Reading) (nu
   pub lines : List (List ℕ)
   pub reading : IsReading first now read number lines
   pub graph : view.graph ≡ inputs_of plan
-  pub stands : HasAccepted lines (nothing_taken (inputs_of plan)) view
+  pub stands : HasRecorded lines view
   pub packets : ArePackets (inputs_of plan) [] lines
 
 -- the lines that were handed out are packet lines for some plan, from some source
@@ -49,7 +49,7 @@ pub record HasJob (plan : Plan) (ended : Bool) (first now : SourceTold) (read : 
   pub given : List (List ℕ)
   pub reading : IsReading first now read number (given ++ end_word ended ∷ [])
   pub graph : view.graph ≡ inputs_of plan
-  pub stands : HasAccepted given (nothing_taken (inputs_of plan)) view
+  pub stands : HasRecorded given view
   pub packets : ArePackets (inputs_of plan) [] given
 
 -- The result of reading a job's lines: the job, or where the reading stopped, with no node begun.

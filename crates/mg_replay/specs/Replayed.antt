@@ -1,25 +1,23 @@
 -- What a call that makes a recorded run again did, by its status.
-use Rattle.std.specs.Prelude.{◌≡◌, ◌⊎◌, ℕ, Bool, true, false, List, [], Option, None, Some, slice_get}
+use Rattle.std.specs.Prelude.{◌≡◌, ◌⊎◌, ℕ, Bool, true, false, List, [], Option, None, Some}
 use Rattle.mg_edge.specs.Edge.{SourceTold, SinkTold}
 use Rattle.mg_value.specs.Payload.{Plain}
 use Rattle.mg_settled.specs.Prefix.{StreamPrefix}
 use Rattle.mg_calc.specs.Rules.{Laws}
 use Rattle.mg_calc.specs.declared.inputs.Inputs.{Inputs}
 use Rattle.mg_calc.specs.declared.plan.Plan.{Plan}
-use Rattle.mg_calc.specs.declared.plan_node.PlanNode.{PlanNode}
-use Rattle.mg_calc.specs.Equations.{Job, IsJob, IsSolution}
+use Rattle.mg_calc.specs.Equations.{Job}
 use Rattle.mg_calc.specs.Told.{BoxTold}
 use Rattle.mg_feed.specs.declared.feed_end.FeedEnd.TheVariants.{Ended}
 use Rattle.mg_answer.specs.Text.{output_text_of}
-use Rattle.mg_answer.specs.Notes.{memory_note}
 use Rattle.mg_answer.specs.Answer.{by_lines, RunAnswer, IsAnswerOf}
 use Rattle.mg_answer.specs.Frozen.{IsFrozenAnswer, WroteFrozen}
 use Rattle.mg_answer.specs.Wrote.{Wrote}
-use Rattle.mg_answer.specs.Devices.{Device, RunDevices, Untouched, TookFront, TookNotes}
+use Rattle.mg_answer.specs.Devices.{Device, RunDevices, Untouched, TookFront}
 use Rattle.mg_answer.specs.declared.status.Status.{Status}
-use Rattle.mg_answer.specs.declared.status.Status.TheVariants.{OutOfMemory}
 use Rattle.mg_answer.specs.declared.run.Reporting.{Reporting}
-use Rattle.mg_drive.specs.Leaves.{HadCallsOf, IsRelatedAt, KeepsAFront}
+use Rattle.mg_drive.specs.Over.{MemoryRanOut}
+use Rattle.mg_drive.specs.Leaves.{HadCallsOf, HadFronts}
 use Rattle.mg_replay.specs.Replay.{LinesComeTo, WasRead}
 use Rattle.mg_replay.specs.Note.{trace_note, trace_status, WroteNote}
 use Rattle.mg_replay.specs.Reading.{BeginsWithJob}
@@ -94,24 +92,19 @@ pub record Replayed (laws : Laws) (report : Reporting) (plan : Plan) (status : S
 abbrev pub TookOutput : Laws → Plan → Inputs → List (StreamPrefix Plain) → List BoxTold → Device SourceTold → Device SinkTold → Type 0
 TookOutput laws plan inputs streams boxes input output = WasRead laws plan boxes input (Some inputs) Accepted × TookFront output (output_text_of plan streams)
 
--- Memory ran out once the lines of a job were read. The job has a valid plan, and inputs that fit it. The rest is said of one
--- solution of that job. The output took nothing, or a prefix of the solution's text if the run is accepted. Each calculator had a
--- prefix of its calls, and keeps what its node has reached after these calls.
-pub record ReplayedShort (laws : Laws) (plan : Plan) (input : Device SourceTold) (output : Device SinkTold) (boxes : Device (List BoxTold)) : Type 0 where
+-- Memory ran out once the lines of a job were read. In the one solution of that job each calculator had a prefix of its calls, and keeps
+-- what its node has reached after these calls. The output took nothing, or a prefix of the solution's text if the run is accepted.
+pub record ReplayedOut (laws : Laws) (plan : Plan) (input : Device SourceTold) (output : Device SinkTold) (boxes : Device (List BoxTold)) : Type 0 where
   pub inputs : Inputs
   pub opened : BeginsWithJob plan input inputs
-  pub is_job : IsJob (job_over laws plan inputs)
-  pub streams : List (StreamPrefix Plain)
-  pub solution : IsSolution (job_over laws plan inputs) streams
-  pub took : Untouched output ⊎ TookOutput laws plan inputs streams boxes.before input output
-  pub each : (number place : ℕ) (node : PlanNode) → slice_get plan.nodes number ≡ Some node → node.box_number ≡ Some place
-      → IsRelatedAt place (KeepsAFront (job_over laws plan inputs) streams node) boxes
+  pub had : HadFronts (job_over laws plan inputs) boxes
+  pub took : Untouched output ⊎ TookOutput laws plan inputs had.streams boxes.before input output
 
 -- Memory ran out: nothing was written and no calculator had a call, or the lines of a job were read.
 abbrev pub ReplayedSome : Laws → Plan → RunDevices → Device (List BoxTold) → Type 0
-ReplayedSome laws plan devices boxes = (Untouched devices.output × Untouched boxes) ⊎ ReplayedShort laws plan devices.input devices.output boxes
+ReplayedSome laws plan devices boxes = (Untouched devices.output × Untouched boxes) ⊎ ReplayedOut laws plan devices.input devices.output boxes
 
 -- A call ended with this status. If memory ran out, the notes say that alone.
 abbrev pub ReplayedBy : Laws → Status → Reporting → Plan → RunDevices → Device (List BoxTold) → Type 0
-ReplayedBy laws OutOfMemory report plan devices boxes = ReplayedSome laws plan devices boxes × TookNotes devices.notes memory_note
-ReplayedBy laws status report plan devices boxes = Replayed laws report plan status devices boxes
+ReplayedBy laws status report plan devices boxes =
+    Replayed laws report plan status devices boxes ⊎ MemoryRanOut status devices.notes (ReplayedSome laws plan devices boxes)

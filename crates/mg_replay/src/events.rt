@@ -18,7 +18,7 @@ use crate::opening::stopped_at;
 use crate::{TraceEnd, TraceFault};
 use mg_calc::{Effect, Event, NodeCalculator, Plan};
 use mg_edge::{Gate, Source};
-use mg_feed::{Lines, NextLine};
+use mg_feed::{LONGEST_LINE, Lines, NextLine};
 use mg_sched::Net;
 use mg_trace::event_of;
 use std::alloc::AllocError;
@@ -79,8 +79,8 @@ fn next_event<G: Gate, C: NodeCalculator, S: Source>(
     ensures becomes { Becomes C.laws net.old net.new }
 {
     let before = lines.number();
-    let next = lines.next(input)?;
-    match stopped_at(next, before, TraceFault::BadEvent) {
+    let next = lines.next(input, LONGEST_LINE)?;
+    match stopped_at(next, before) {
         Some(end) => Ok(Some(end)),
         None => {
             let stop = take_event(plan, net, gate, lines, input)?;
@@ -181,7 +181,7 @@ fn end_run<C: NodeCalculator, S: Source>(
             cause: TraceFault::NotAtRest,
         });
     }
-    let next = lines.next(input)?;
+    let next = lines.next(input, LONGEST_LINE)?;
     Ok(behind_end(next, number))
 }
 

@@ -1,6 +1,5 @@
 //! The lines of a recorded run that may be packet lines.
-ghost use Rattle.std.specs.Prelude.{◌≡◌, ◌≢◌, ◌≤◌, Some, IfOk, length};
-ghost use Rattle.mg_feed.specs.Accepted.{longest_line};
+ghost use Rattle.std.specs.Prelude.{◌≡◌, ◌≢◌, Some, IfOk};
 ghost use Rattle.mg_feed.specs.Form.{is_blank};
 ghost use Rattle.mg_feed.specs.FeedSeen.{seen};
 ghost use Rattle.mg_replay.specs.Opening.{may_say_packet};
@@ -44,13 +43,12 @@ pub fn end_word(line: &[u8]) -> Option<bool>
 
 /// Takes a line that stands where packet lines do, or returns why it isn't good.
 pub fn take_packet(feed: &mut Feed, line: &[u8]) -> Result<Option<TraceFault>, AllocError>
-    requires { length line.now ≤ longest_line }
     ensures { IfOk result (λ fault. TakesPackets fault line.now (seen feed.old) (seen feed.new)) }
 {
     if !may_say_packet(line) {
         return Ok(Some(TraceFault::BadEvent));
     }
-    match feed.line(line) {
+    match feed.recorded_line(line) {
         Ok(()) => Ok(None),
         Err(fault) => {
             let cause = refused(fault)?;

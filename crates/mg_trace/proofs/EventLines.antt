@@ -19,11 +19,11 @@ use Rattle.mg_trace.proofs.Reading.{one_event}
 
 -- Line feeds --
 
-abbrev has_feed : List ℕ → Bool
+abbrev pub has_feed : List ℕ → Bool
 has_feed [] = false
 has_feed (b ∷ bs) = (b == 10) || has_feed bs
 
-both_not : (a b : Bool) → (a || b) ≡ false → (a ≡ false) × (b ≡ false)
+pub both_not : (a b : Bool) → (a || b) ≡ false → (a ≡ false) × (b ≡ false)
 both_not false b none = (refl, none)
 both_not true b none = absurd (false≢true (sym none))
 
@@ -39,13 +39,13 @@ feed_digits : (ds : List ℕ) → AllDigits 10 ds → has_feed ds ≡ false
 feed_digits [] all = refl
 feed_digits (d ∷ ds) all = neither (d == 10) (has_feed ds) (let r = digit_from_value d all.0 in grind (arith, r)) (feed_digits ds all.1)
 
-feed_decimal : (n : ℕ) → n < 2 ^ 64 → has_feed (decimal n) ≡ false
+pub feed_decimal : (n : ℕ) → n < 2 ^ 64 → has_feed (decimal n) ≡ false
 feed_decimal n fits = feed_digits (decimal n) (decimal_is_IsNumeral n fits).0.1
 
 feed_pair : (word : List ℕ) (n k : ℕ) → has_feed word ≡ false → n < 2 ^ 64 → k < 2 ^ 64 → has_feed (word ++ (decimal n ++ (codes " " ++ decimal k))) ≡ false
 feed_pair word n k none fits fit = feed_append word (decimal n ++ (codes " " ++ decimal k)) none (feed_append (decimal n) (codes " " ++ decimal k) (feed_decimal n fits) (feed_append (codes " ") (decimal k) refl (feed_decimal k fit)))
 
-feed_line : (plan : Plan) (event : Event) → IsValid plan → IsEventOf plan event → has_feed (event_line event) ≡ false
+pub feed_line : (plan : Plan) (event : Event) → IsValid plan → IsEventOf plan event → has_feed (event_line event) ≡ false
 feed_line plan (Deliver n) valid of = feed_append (codes "deliver ") (decimal n) refl (feed_decimal n (let r = valid.ranges.edges in omega (arith, of, r)))
 feed_line plan (Advance n) valid of = feed_append (codes "advance ") (decimal n) refl (feed_decimal n (let r = valid.ranges.nodes in omega (arith, of, r)))
 feed_line plan (Claim n) valid of = feed_append (codes "claim ") (decimal n) refl (feed_decimal n (let r = valid.ranges.nodes in omega (arith, of, r)))

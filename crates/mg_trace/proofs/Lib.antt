@@ -6,3 +6,8 @@ pub mod Saying
 pub mod Giving
 pub mod Welcome
 pub mod EventLines
+pub mod Unbroken
+pub mod TextsRead
+pub mod ValuesRead
+pub mod Tellable
+pub mod LinesTold

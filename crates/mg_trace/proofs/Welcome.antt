@@ -1,7 +1,6 @@
 -- The canonical lines of a job are good, one after the other.
 use Rattle.std.proofs.Common.{◌≡◌, ◌<◌, ◌≤◌, ◌+◌, ◌==◌, ◌&&◌, ℕ, suc, List, [], ◌∷◌, ◌++◌, Bool, true, false, not, Option, Some, None, IfSome, is_some, unwrap_or, slice_get, map, fold, length, replicate, nat_lt, nat_le, inl, inr, refl, sym, ap, ap₂, subst, ◌∙◌, arith, append_assoc, length-append, drop, ◌⊎◌, ◌||◌, All}
 use Rattle.std.specs.List.{range_with_len, cons_option}
-use Rattle.std.proofs.lemmas.List.{length-map}
 use Rattle.std.proofs.lemmas.Bool.{cases_Bool, eqb-true}
 use Rattle.serde_json.specs.Data.{Data, object}
 use Rattle.serde_json.specs.Data as serde
@@ -22,14 +21,15 @@ use Rattle.mg_feed.specs.Graph.{GraphInputs, place_of, inputs_of}
 use Rattle.mg_feed.specs.Form.{form_of}
 use Rattle.mg_feed.specs.Value.{plain_of, takes}
 use Rattle.mg_feed.specs.Output.{packet_data}
-use Rattle.mg_feed.specs.Accepted.{State, Before, before, fresh, given_by, with_line, line_refusal, json_refusal, shape_refusal, first_refusal, when, packet_refusals, side_refusals, standing, no_stream, placed, has_some, longest_line, most_lines}
+use Rattle.mg_feed.specs.Accepted.{State, Before, before, fresh, given_by, with_line, line_refusal, words_refusal, json_refusal, shape_refusal, first_refusal, when, packet_refusals, side_refusals, standing, no_stream, placed, has_some, longest_line, most_lines}
 use Rattle.mg_feed.specs.Stands.{AllGood}
+use Rattle.mg_feed.specs.Recorded.{AllRecorded}
 use Rattle.mg_feed.specs.declared.standing.Standing.{Standing}
 use Rattle.mg_feed.specs.declared.line_fault.LineFault.TheVariants.{UnknownStream, BadTimestamp, Closed}
 use Rattle.mg_feed.proofs.Values.{plain_of-json}
 use Rattle.mg_trace.specs.Readable.{IsReadable}
 use Rattle.mg_trace.specs.Job.{side_handed_in, said, side_lines, bound_after, end_lines, stream_lines, all_stream_lines, input_names, job_data, job_lines}
-use Rattle.mg_trace.specs.Told.{IsTellable, IsFound, IsToldBound, IsToldStream, IsTold, FitsInput}
+use Rattle.mg_trace.specs.Told.{IsTellable, IsFound, IsToldBound, IsToldStream, IsTold, HasKinds, FitsInput}
 use Rattle.mg_trace.proofs.ReadBack.{value_back}
 use Rattle.mg_trace.proofs.Saying.{with_data, IsLineOf, AreLines, line_is_data, packet_says, of_packets, packets_say, appended_are, left_of, stream_says, time_back}
 use Rattle.mg_trace.proofs.Giving.{ArePlaced, are_placed, AreTold, are_told, AreFound, are_found, places, Hands, said_hands, handed_is_told, slot_there, named_at, head_or, job_is_lines, Parts, parts_of}
@@ -48,19 +48,15 @@ both_welcome graph given (d ∷ ds) es a b = (a.0, both_welcome graph (with_data
 
 -- Lines --
 
-object_is_good : (b : Before) (ms : serde.Members) → IsReadable (object ms) → serde.depth (object ms) ≤ 127 → length (compact_text (object ms)) ≤ longest_line → b.lines < most_lines
-    → shape_refusal b (form_of (object ms)) ≡ None → line_refusal b (compact_text (object ms)) ≡ None
-object_is_good b ms readable shallow short few good =
-    let within : nat_lt longest_line (length (compact_text (object ms))) ≡ false = grind arith in
-    let room : nat_le most_lines b.lines ≡ false = grind arith in
-    rw (within, room) (ap (json_refusal b) (value_back (object ms) readable shallow) ∙ good)
+object_is_good : (b : Before) (ms : serde.Members) → IsReadable (object ms) → serde.depth (object ms) ≤ 127 → shape_refusal b (form_of (object ms)) ≡ None
+    → words_refusal b (compact_text (object ms)) ≡ None
+object_is_good b ms readable shallow good = ap (json_refusal b) (value_back (object ms) readable shallow) ∙ good
 
-line_is_good : (b : Before) (d : Data) → IsLineOf d → length (compact_text d) ≤ longest_line → b.lines < most_lines → shape_refusal b (form_of d) ≡ None
-    → line_refusal b (compact_text d) ≡ None
-line_is_good b d is short few good =
-    subst (λ e. line_refusal b (compact_text e) ≡ None) (sym is.an_object)
+line_is_good : (b : Before) (d : Data) → IsLineOf d → shape_refusal b (form_of d) ≡ None → words_refusal b (compact_text d) ≡ None
+line_is_good b d is good =
+    subst (λ e. words_refusal b (compact_text e) ≡ None) (sym is.an_object)
     (object_is_good b is.members (subst IsReadable is.an_object is.readable) (omega (arith, is.shallow, ap serde.depth is.an_object))
-    (omega (arith, short, ap (λ e. length (compact_text e)) is.an_object)) few (subst (λ e. shape_refusal b (form_of e) ≡ None) is.an_object good))
+    (subst (λ e. shape_refusal b (form_of e) ≡ None) is.an_object good))
 
 given_by-push : (graph : GraphInputs) (past : List (List ℕ)) (line : List ℕ) → given_by graph (past ++ line ∷ []) ≡ with_line graph (given_by graph past) line
 given_by-push graph past line = from (fresh graph) past
@@ -70,23 +66,28 @@ given_by-push graph past line = from (fresh graph) past
     from given [] = refl
     from given (l ∷ past) = from (with_line graph given l) past
 
-abbrev AreShort : List Data → Type 0
-AreShort [] = Unit {0}
-AreShort (d ∷ ds) = (length (compact_text d) ≤ longest_line) × AreShort ds
+lines_are_recorded : (graph : GraphInputs) (past : List (List ℕ)) (given : State) (ds : List Data) → given_by graph past ≡ given → AreLines ds → AreWelcome graph given ds
+    → AllRecorded graph past (map compact_text ds)
+lines_are_recorded graph past given [] is lines good = tt
+lines_are_recorded graph past given (d ∷ ds) is lines good = (
+  ap (λ g. words_refusal (before graph (length past) g) (compact_text d)) is ∙ line_is_good (before graph (length past) given) d lines.0 (good.0 (length past)),
+  lines_are_recorded graph (past ++ compact_text d ∷ []) (with_data graph given d) ds
+      (given_by-push graph past (compact_text d) ∙ ap (λ g. with_line graph g (compact_text d)) is ∙ line_is_data graph given d lines.0) lines.1 good.1,
+)
 
-are_short : (ds : List Data) → All (λ line. length line ≤ longest_line) (map compact_text ds) → AreShort ds
-are_short [] all = tt
-are_short (d ∷ ds) all = (all 0 [] (omega arith), are_short ds (λ k e lt. all (suc k) e (omega arith)))
+-- Lines of a recorded job that are as short and as few as packet lines may be are good packet lines.
+short_is_good : (b : Before) (line : List ℕ) → length line ≤ longest_line → b.lines < most_lines → words_refusal b line ≡ None → line_refusal b line ≡ None
+short_is_good b line short few good =
+    let within : nat_lt longest_line (length line) ≡ false = grind arith in
+    let room : nat_le most_lines b.lines ≡ false = grind arith in
+    rw (within, room) good
 
-lines_are_good : (graph : GraphInputs) (past : List (List ℕ)) (given : State) (ds : List Data) → given_by graph past ≡ given → AreLines ds → AreShort ds → length past + length ds ≤ most_lines
-    → AreWelcome graph given ds → AllGood graph past (map compact_text ds)
-lines_are_good graph past given [] is lines short few good = tt
-lines_are_good graph past given (d ∷ ds) is lines short few good = (
-  ap (λ g. line_refusal (before graph (length past) g) (compact_text d)) is
-      ∙ line_is_good (before graph (length past) given) d lines.0 short.0 (omega (arith, few)) (good.0 (length past)),
-  lines_are_good graph (past ++ compact_text d ∷ []) (with_data graph given d) ds
-      (given_by-push graph past (compact_text d) ∙ ap (λ g. with_line graph g (compact_text d)) is ∙ line_is_data graph given d lines.0) lines.1 short.1
-      (omega (arith, few, length-append past (compact_text d ∷ []))) good.1,
+recorded_are_good : (graph : GraphInputs) (past lines : List (List ℕ)) → All (λ line. length line ≤ longest_line) lines → length past + length lines ≤ most_lines → AllRecorded graph past lines
+    → AllGood graph past lines
+recorded_are_good graph past [] short few good = tt
+recorded_are_good graph past (line ∷ lines) short few good = (
+  short_is_good (before graph (length past) (given_by graph past)) line (short 0 [] (omega arith)) (omega (arith, few)) good.0,
+  recorded_are_good graph (past ++ line ∷ []) lines (λ k e lt. short (suc k) e (omega arith)) (omega (arith, few, length-append past (line ∷ []))) good.1,
 )
 
 -- Packets --
@@ -299,10 +300,9 @@ sides_welcome plan (side ∷ sides) found given first slots in_order is unnamed 
 
 -- The whole job --
 
-pub job_is_good : (plan : Plan) (inputs : Inputs) → IsTold plan inputs → FitsInput plan inputs → AllGood (inputs_of plan) [] (job_lines plan inputs)
-job_is_good plan inputs told fits =
-    lines_are_good (inputs_of plan) [] (fresh (inputs_of plan)) (job_data plan inputs) refl (job_is_lines plan inputs told) (are_short (job_data plan inputs) fits.short)
-    (omega (arith, fits.few, length-map (job_data plan inputs) compact_text))
+pub job_is_recorded : (plan : Plan) (inputs : Inputs) → IsTold plan inputs → HasKinds plan inputs → AllRecorded (inputs_of plan) [] (job_lines plan inputs)
+job_is_recorded plan inputs told taken =
+    lines_are_recorded (inputs_of plan) [] (fresh (inputs_of plan)) (job_data plan inputs) refl (job_is_lines plan inputs told)
     (both_welcome (inputs_of plan) (fresh (inputs_of plan)) (side_lines inputs.sides plan.sides) (all_stream_lines inputs.ended (input_names plan) inputs.streams)
     (sides_welcome plan plan.sides (are_found plan plan.sides told.names.sides) (fresh (inputs_of plan)) [] inputs.sides parts.in_order parts.sides refl told.sides)
     (streams_welcome (inputs_of plan) _ inputs.ended [] (input_names plan) inputs.streams (are_placed (inputs_of plan) 0 (input_names plan) (named_at told.names))
@@ -312,7 +312,10 @@ job_is_good plan inputs told fits =
     parts = parts_of plan inputs told
 
     kinds : (input : ℕ) (s : StreamPrefix Plain) → slice_get inputs.streams input ≡ Some s → All (λ p. takes (unwrap_or (slice_get (inputs_of plan).kinds (0 + input)) Any) p.value ≡ true) s.packets
-    kinds input s e = subst (λ k. All (λ p. takes (unwrap_or (slice_get (inputs_of plan).kinds k) Any) p.value ≡ true) s.packets) (zero_more input) (fits.kinds input s e)
+    kinds input s e = subst (λ k. All (λ p. takes (unwrap_or (slice_get (inputs_of plan).kinds k) Any) p.value ≡ true) s.packets) (zero_more input) (taken input s e)
       where
         zero_more : (n : ℕ) → n ≡ 0 + n
         zero_more n = omega arith
+
+pub job_is_good : (plan : Plan) (inputs : Inputs) → IsTold plan inputs → FitsInput plan inputs → AllGood (inputs_of plan) [] (job_lines plan inputs)
+job_is_good plan inputs told fits = recorded_are_good (inputs_of plan) [] (job_lines plan inputs) fits.short (let few = fits.few in omega (arith, few)) (job_is_recorded plan inputs told fits.kinds)

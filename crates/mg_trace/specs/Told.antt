@@ -58,8 +58,12 @@ pub record IsTold (plan : Plan) (inputs : Inputs) : Type 0 where
 abbrev pub kind_of : Plan → ℕ → Kind
 kind_of plan input = unwrap_or (slice_get (inputs_of plan).kinds input) Any
 
+-- each packet is of its stream's kind
+abbrev pub HasKinds : Plan → Inputs → Type 0
+HasKinds plan inputs = (input : ℕ) (s : StreamPrefix Plain) → slice_get inputs.streams input ≡ Some s → All (λ p. takes (kind_of plan input) p.value ≡ true) s.packets
+
 -- the canonical lines of a job are no longer and no more than those of an input may be. Each packet is of its stream's kind
 pub record FitsInput (plan : Plan) (inputs : Inputs) : Type 0 where
   pub short : All (λ line. length line ≤ longest_line) (job_lines plan inputs)
   pub few : length (job_lines plan inputs) ≤ most_lines
-  pub kinds : (input : ℕ) (s : StreamPrefix Plain) → slice_get inputs.streams input ≡ Some s → All (λ p. takes (kind_of plan input) p.value ≡ true) s.packets
+  pub kinds : HasKinds plan inputs

@@ -8,9 +8,10 @@ ghost use Rattle.mg_feed.specs.Graph.{inputs_of};
 ghost use Rattle.mg_feed.specs.Accepted.{given_by};
 ghost use Rattle.mg_feed.specs.Given.{ended_streams};
 ghost use Rattle.mg_feed.specs.Stands.{AllGood};
+ghost use Rattle.mg_feed.specs.Recorded.{AllRecorded};
 ghost use Rattle.mg_trace.specs.Event.{IsEventOf, event_text};
 ghost use Rattle.mg_trace.specs.Job.{job_lines, end_word};
-ghost use Rattle.mg_trace.specs.Told.{IsTold, FitsInput};
+ghost use Rattle.mg_trace.specs.Told.{IsTold, HasKinds, FitsInput};
 ghost use Rattle.mg_trace.specs.Trace.{trace_text};
 
 /// Two events of a plan with the same text are the same event.
@@ -31,10 +32,12 @@ pub fn canonical_lines_give_the_job()
     ensures sides { (plan : Plan) (inputs : Inputs) → IsTold plan inputs → (given_by (inputs_of plan) (job_lines plan inputs)).sides ≡ inputs.sides }
 {}
 
-/// The canonical lines of a job are good, each after the lines before it. They have to be no longer and no more than those of an
-/// input may be. Each packet has to be of its stream's kind.
+/// The canonical lines of a job are good lines of a recorded job, each after the lines before it, whatever their length and number.
+/// Each packet has to be of its stream's kind. They are good packet lines too, if they are no longer and no more than those of an
+/// input may be.
 pub fn canonical_lines_are_good()
-    ensures { (plan : Plan) (inputs : Inputs) → IsTold plan inputs → FitsInput plan inputs → AllGood (inputs_of plan) [] (job_lines plan inputs) }
+    ensures recorded { (plan : Plan) (inputs : Inputs) → IsTold plan inputs → HasKinds plan inputs → AllRecorded (inputs_of plan) [] (job_lines plan inputs) }
+    ensures good { (plan : Plan) (inputs : Inputs) → IsTold plan inputs → FitsInput plan inputs → AllGood (inputs_of plan) [] (job_lines plan inputs) }
 {}
 
 /// Two jobs with the same canonical lines, the last one included, are the same job.

@@ -1,5 +1,5 @@
 -- A recorded run while it is read.
-use Rattle.std.specs.Prelude.{◌≡◌, ◌⊎◌, ℕ, ◌+◌, ◌≤◌, true, false, List, [], ◌∷◌, ◌++◌, codes, Option, None, Some}
+use Rattle.std.specs.Prelude.{◌≡◌, ◌⊎◌, ℕ, ◌+◌, true, false, List, [], ◌∷◌, ◌++◌, codes, Option, None, Some}
 use Rattle.std.specs.Str.{bytes_eq}
 use Rattle.mg_edge.specs.Edge.{SourceTold}
 use Rattle.mg_edge.specs.Runs.{Gave}
@@ -15,7 +15,7 @@ use Rattle.mg_feed.specs.Lines.{all_lines}
 use Rattle.mg_feed.specs.Fed.{Reading}
 use Rattle.mg_feed.specs.Ran.{MetEnd}
 use Rattle.mg_feed.specs.Handed.{HasHanded, NextComes}
-use Rattle.mg_feed.specs.Accepted.{most_lines}
+use Rattle.mg_feed.specs.Accepted.{longest_line}
 use Rattle.mg_feed.specs.declared.lines.NextLine.{NextLine}
 use Rattle.mg_feed.specs.declared.lines.NextLine.TheVariants.{Line, TooLong, Ended, Failed}
 use Rattle.mg_trace.specs.Event.{IsEventOf, event_line}
@@ -43,11 +43,11 @@ pub record ComesBehind (before now : SourceTold) (old new : Reading) : Type 0 wh
   pub in_front : (past : List ℕ) (lines : List (List ℕ)) → HasHanded past lines old → (more : List ℕ) → (new.ended ≡ true → more ≡ []) → (rest : List (List ℕ)) × (all_lines ((past ++ came) ++ more) ≡ lines ++ rest)
 
 -- how the reading stops after this number of lines, if the next line is too long, the lines end or a read fails. Else it goes on
-abbrev pub StopsBy : NextLine → ℕ → TraceFault → Option TraceEnd → Type 0
-StopsBy Line lines long stop = stop ≡ None
-StopsBy TooLong lines long stop = stop ≡ Some (Refused (lines + 1) long)
-StopsBy Ended lines long stop = stop ≡ Some (Refused (lines + 1) NoEnd)
-StopsBy Failed lines long stop = stop ≡ Some (Failed_at lines)
+abbrev pub StopsBy : NextLine → ℕ → Option TraceEnd → Type 0
+StopsBy Line lines stop = stop ≡ None
+StopsBy TooLong lines stop = stop ≡ Some (Refused (lines + 1) BadEvent)
+StopsBy Ended lines stop = stop ≡ Some (Refused (lines + 1) NoEnd)
+StopsBy Failed lines stop = stop ≡ Some (Failed_at lines)
 
 -- the result of a line that doesn't end the packet lines
 abbrev pub TakesOther : Option Opened → List ℕ → ℕ → View → View → Type 0
@@ -63,9 +63,9 @@ TakesLine (Some (Job ended)) line number old new = (line ≡ end_word ended) × 
 TakesLine (Some (Stopped end)) line number old new = (is_end_word line ≡ false) × ((cause : TraceFault) × (end ≡ Refused number cause) × TakesPackets (Some cause) line old new)
 
 -- one line more of a job was read: it is a packet line, or the job's lines ended with it, or the reading stopped
-abbrev pub OpensOn : Laws → Option Opened → Plan → SourceTold → SourceTold → Reading → ℕ → View → View → Type 0
-OpensOn laws None plan first now read number old view = IsOpening plan first now read number view × (view.lines ≡ old.lines + 1) × (view.lines ≤ most_lines)
-OpensOn laws (Some opened) plan first now read number old view = Opens laws opened plan first now read number view
+abbrev pub OpensOn : Laws → Option Opened → Plan → SourceTold → SourceTold → Reading → ℕ → View → Type 0
+OpensOn laws None plan first now read number view = IsOpening plan first now read number view
+OpensOn laws (Some opened) plan first now read number view = Opens laws opened plan first now read number view
 
 -- The lines of a job that has these inputs were read.
 pub record HasReadInputs (plan : Plan) (inputs : Inputs) (first now : SourceTold) (read : Reading) (number : ℕ) : Type 0 where
@@ -97,7 +97,7 @@ StopsBehind Failed number end = end ≡ Failed_at number
 abbrev pub EndsRun : Laws → TraceEnd → SourceTold → SourceTold → Reading → Reading → ℕ → NetView → NetView → Type 0
 EndsRun laws end before now old new number net net_now =
     (MayGoOn laws net × (end ≡ Refused number NotAtRest) × (now ≡ before) × (new ≡ old))
-    ⊎ (IsAtRest laws net × (net_now ≡ net) × ((next : NextLine) × (line : List ℕ) × NextComes next line before now old new × StopsBehind next number end))
+    ⊎ (IsAtRest laws net × (net_now ≡ net) × ((next : NextLine) × (line : List ℕ) × NextComes longest_line next line before now old new × StopsBehind next number end))
 
 -- the result of making an event: it did something; or it did nothing, and its line is refused
 abbrev pub MakesEvent : Laws → Option TraceEnd → Event → ℕ → NetView → NetView → Type 0

@@ -13,14 +13,14 @@ packets-init g c = (c.requires, λ plan first o. o)
 pub packets-preserved : goal.packets-preserved
 packets-preserved g c =
     let some = c.packets.invariant.0 in (
-      record { plan = some.plan; first = some.first; opening = opening_then no_laws c.in_ok-read.read some.plan some.first _ _ _ (seen c.packets.feed) _ (c.in_ok-read.ensures.opens no_laws some.plan some.first some.opening) c.in-None.is },
-      λ plan first o. opening_then no_laws c.in_ok-read.read plan first _ _ _ (seen c.packets.feed) _ (c.in_ok-read.ensures.opens no_laws plan first (c.packets.invariant.1 plan first o)) c.in-None.is,
+      record { plan = some.plan; first = some.first; opening = opening_then no_laws c.in_ok-read.read some.plan some.first _ _ _ _ (c.in_ok-read.ensures.opens no_laws some.plan some.first some.opening) c.in-None.is },
+      λ plan first o. opening_then no_laws c.in_ok-read.read plan first _ _ _ _ (c.in_ok-read.ensures.opens no_laws plan first (c.packets.invariant.1 plan first o)) c.in-None.is,
     )
 
 pub packets-smaller : goal.packets-smaller
-packets-smaller g c = (let less = c.in_ok-read.ensures.fewer c.in-None.is in omega (arith, less.0, less.1))
+packets-smaller g c = (let less = c.in_ok-read.ensures.more c.in-None.is in omega (arith, less.0, less.1))
 
 pub returns-in-Some : goal.returns-in-Some
 returns-in-Some g c = λ laws plan first o.
-    subst (λ (r : Option Opened). OpensOn laws r plan first (g.S.Source.told c.next_packet.new.input) (reading c.next_packet.new.lines) (number_of c.next_packet.new.lines) (seen c.packets.feed) (seen c.next_packet.new.feed)) c.in-Some.is
+    subst (λ (r : Option Opened). OpensOn laws r plan first (g.S.Source.told c.next_packet.new.input) (reading c.next_packet.new.lines) (number_of c.next_packet.new.lines) (seen c.next_packet.new.feed)) c.in-Some.is
     (c.in_ok-read.ensures.opens laws plan first (c.packets.invariant.1 plan first o))

@@ -1,8 +1,7 @@
 -- Packet lines were read.
-use Rattle.std.proofs.Common.{◌+◌, ◌-◌}
+use Rattle.std.proofs.Common.{◌-◌, ◌^◌}
 use Rattle.mg_edge.specs.Edge.{SourceTold}
 use Rattle.mg_calc.specs.declared.plan.Plan.{Plan}
-use Rattle.mg_feed.specs.Accepted.{most_lines}
 use Rattle.mg_feed.specs.FeedSeen.{seen}
 use Rattle.mg_feed.specs.LinesSeen.{reading, number_of}
 use Rattle.mg_replay.specs.Reading.{IsOpening, IsSomeOpening}
@@ -15,4 +14,4 @@ invariant-packets g l =
     → IsOpening plan first (g.S.Source.told l.input) (reading l.lines) (number_of l.lines) (seen l.feed))
 
 abbrev pub decreases-packets : goal.decreases-packets
-decreases-packets g l = (most_lines + 1) - (seen l.feed).lines
+decreases-packets g l = 2 ^ 64 - number_of l.lines

@@ -14,7 +14,7 @@ pub returns-in-Bytes : goal.returns-in-Bytes
 returns-in-Bytes g c =
     let got = c.in-Bytes.ensures.filled in
     let none = kept-none _ _ c.args.self.now.reader.none (subst NoFeed (sym c.requires.passed) tt) in
-    let short = kept-short _ _ c.requires.passed c.args.self.now.reader.short in (
+    let short = kept-short _ _ c.requires.passed c.args.self.now.short in (
       got.bytes,
       moved-bytes (fed c.args.self.now) (reading (seen c.args.self.now) _) _ _ refl c.requires.open none short got,
       heavier-bytes (fed c.args.self.now) (reading (seen c.args.self.now) _) got.bytes refl c.requires.open got.ended got.kept got.some,
