@@ -15,8 +15,9 @@ const LOOKS: u32 = 16;
 pub(crate) struct Board {
     news: CachePadded<AtomicU64>,
     idle: CachePadded<AtomicU64>,
-    // How many workers sleep, or are about to.
+    // How many workers sleep, or are about to; and how many of these were woken since one of them last noticed that.
     asleep: CachePadded<AtomicU64>,
+    called: CachePadded<AtomicU64>,
     begun: AtomicU64,
     // Whether a worker is looking over all nodes, and whether one has done that and found nothing.
     looking: AtomicBool,
@@ -36,6 +37,7 @@ impl Board {
             news: CachePadded::new(AtomicU64::new(0)),
             idle: CachePadded::new(AtomicU64::new(0)),
             asleep: CachePadded::new(AtomicU64::new(0)),
+            called: CachePadded::new(AtomicU64::new(0)),
             begun: AtomicU64::new(0),
             looking: AtomicBool::new(false),
             over: AtomicBool::new(false),
@@ -55,17 +57,18 @@ impl Board {
         self.news.load(SeqCst)
     }
 
-    /// Tells idle workers that there is something new, and wakes one of those that sleep.
+    /// Tells idle workers that there is something new, and wakes one of those that sleep, unless all of them were woken.
     pub(crate) fn tell(&self) {
         self.news.fetch_add(1, SeqCst);
-        if self.asleep.load(SeqCst) > 0 {
+        if self.has_sleeper() {
+            self.called.fetch_add(1, SeqCst);
             self.news.wake_one();
         }
     }
 
-    /// Whether some worker has nothing to do.
-    pub(crate) fn has_idle(&self) -> bool {
-        self.idle.load(SeqCst) > 0
+    /// Whether some worker sleeps that wasn't woken since.
+    pub(crate) fn has_sleeper(&self) -> bool {
+        self.asleep.load(SeqCst) > self.called.load(SeqCst)
     }
 
     /// Notes that a worker has nothing to do. Returns whether the worker is to look over all nodes. It is if all workers that
@@ -94,6 +97,7 @@ impl Board {
         self.asleep.fetch_add(1, SeqCst);
         self.news.park(rt, (seen & 0xffff_ffff) as u32);
         self.asleep.fetch_sub(1, SeqCst);
+        self.called.store(0, SeqCst);
     }
 
     // Waits until the count of news isn't `seen` any more. After some looks the worker sleeps.

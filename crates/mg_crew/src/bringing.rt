@@ -42,21 +42,29 @@ impl Stop {
     }
 }
 
-// Brings packets along an edge, unless another worker was found to have the turn of its consumer. If that did anything at a node, notes how
-// many packets wait there. The number is noted anew when the node is served.
+// Whether packets are to be brought along an edge: along any one, or if not `all`, along those that are late. The further edges to the consumer
+// of a late edge are as late. If another worker was found to have the consumer's turn, none are to be brought.
+fn is_due(tools: &Tools, edge: u32, all: bool, stop: &Stop) -> bool {
+    let late = tools.marks.late.is_set(edge) && tools.marks.late.clear(edge);
+    !stop.out && (all || late || stop.had)
+}
+
+// Brings packets along an edge if it is due. If that did anything at a node, notes how many packets wait there. The number is noted anew when
+// the node is served.
 fn wake<C: NodeCalculator, R: Wait, G: Gate>(
     rt: &R,
     shop: &Shop<'_, C, G>,
     seat: &mut NetSeat<C>,
     place: &mut Place,
     edge: u32,
+    all: bool,
     stop: &mut Stop,
 ) -> Came
     requires at_work { IsWithoutWork C.laws shop.now.net.now shop.now.tools.now seat.old place.old }
     requires edge { edge < shop.now.tools.now.chart.from.edges }
     ensures { StaysAtWork C.laws shop.now.net.now shop.now.tools.now seat.old seat.new place.new }
 {
-    if stop.out {
+    if !is_due(shop.tools, edge, all, stop) {
         return Came::nothing();
     }
     let came = bring(rt, shop, seat, edge);
@@ -117,13 +125,15 @@ fn list_of(nodes: u32, source: usize) -> usize {
     }
 }
 
-/// Brings packets along the edges that lead from a node, or from a graph input, by its place in the chart.
+/// Brings packets along the edges that lead from a node, or from a graph input, by its place in the chart. `all` says whether it does so along
+/// all of them, or only along those that are late.
 pub(crate) fn wake_all<C: NodeCalculator, R: Wait, G: Gate>(
     rt: &R,
     shop: &Shop<'_, C, G>,
     seat: &mut NetSeat<C>,
     place: &mut Place,
     source: usize,
+    all: bool,
 ) -> Came
     requires at_work { IsWithoutWork C.laws shop.now.net.now shop.now.tools.now seat.old place.old }
     requires source { source < shop.now.tools.now.chart.from.places }
@@ -134,7 +144,7 @@ pub(crate) fn wake_all<C: NodeCalculator, R: Wait, G: Gate>(
     let mut cursor = shop.tools.chart.from.first(source);
     'edges: while let Some(edge) = cursor {
         let next = shop.tools.chart.from.next(edge);
-        let more = wake(rt, shop, seat, place, edge, &mut stop);
+        let more = wake(rt, shop, seat, place, edge, all, &mut stop);
         go_past(rt, shop, place, edge, next, &mut stop);
         came = came.and(&more);
         cursor = next;

@@ -9,7 +9,7 @@ use mg_edge::Gate;
 use std::sync::Wait;
 
 // Calls an edge or a node that waited: puts the node into the levels, or the node from which the edge leads. For an edge from a graph input
-// it tells workers to bring packets from the graph inputs.
+// it tells workers to bring packets from the graph inputs. Along this edge they bring them even if the input is throttled.
 fn call<C: NodeCalculator, R: Wait, G: Gate>(
     rt: &R,
     shop: &Shop<'_, C, G>,
@@ -24,6 +24,8 @@ fn call<C: NodeCalculator, R: Wait, G: Gate>(
     if node < shop.net.nodes() {
         put(rt, shop.tools, place, node);
     } else {
+        shop.tools.marks.late.set(number);
+        shop.tools.marks.late_from.set(node);
         shop.tools.board.leave_inputs();
         shop.tools.board.tell();
     }

@@ -4,17 +4,16 @@ ghost use Rattle.mg_calc.specs.Reaching.{producer_of};
 ghost use Rattle.mg_throttle.specs.Code.Reach.{sources_among};
 ghost use Rattle.mg_sched.specs.Places.{source_of};
 
+use crate::kinds::{NodeKind, kinds_of};
 use crate::leads::Leads;
-use mg_calc::{Edge, Law, Plan, PlanNode, Producer};
+use mg_calc::{Edge, Plan, PlanNode, Producer};
 use std::alloc::{AllocError, Global};
 
 /// What workers look up of a plan.
 #[derive(Drop)]
 pub(crate) struct Chart {
-    // For each node whether several of its works may run at once.
-    flies: Vec<bool>,
-    // For each node whether its calls may take long.
-    slow: Vec<bool>,
+    // How the works of each node are done.
+    kinds: Vec<NodeKind>,
     /// The edges by the places from which they lead: places are the nodes, and then the graph inputs.
     pub from: Leads,
     /// The edges by their consumers: these are the nodes, and then the collector.
@@ -30,25 +29,6 @@ pub(crate) struct Chart {
     /// How many feeders there are.
     pub feeder_count: usize,
     ghost counted: { vec_len consumers ≡ from.edges },
-}
-
-// Returns for each node of a plan whether several of its works may run at once.
-fn flies_of(alloc: Global, plan: &Plan) -> Result<Vec<bool>, AllocError> {
-    let mut flies = Vec::new(alloc);
-    for node in plan.nodes.as_slice() {
-        flies.push(node.in_flight > 1)?;
-    }
-    Ok(flies)
-}
-
-// Returns for each node of a plan whether its calls may take long: whether its calculator is its author's own. Each law of the table does a
-// set in less than a microsecond.
-fn slow_of(alloc: Global, plan: &Plan) -> Result<Vec<bool>, AllocError> {
-    let mut slow = Vec::new(alloc);
-    for node in plan.nodes.as_slice() {
-        slow.push(matches!(node.law, Law::Stated { .. }))?;
-    }
-    Ok(slow)
 }
 
 // Returns what writes the stream of an edge: a node or a graph input.
@@ -225,15 +205,13 @@ impl Chart {
         ensures sources { IfOk result (λ c. c.sources.items ≡ sources plan.now) }
         ensures feeders { IfOk result (λ c. c.feeder_count ≡ length (feeders plan.now)) }
     {
-        let flies = flies_of(alloc, plan)?;
-        let slow = slow_of(alloc, plan)?;
         let Exits { starts, from } = exits_of(alloc, plan)?;
         let Entries { consumers, into } = entries_of(alloc, plan)?;
         let Sources { sources, feeders } = sources_of(alloc, plan)?;
         let feeder_count = feeders_in(plan, sources.as_slice());
+        let kinds = kinds_of(alloc, plan, starts.as_slice(), consumers.as_slice())?;
         Ok(Chart {
-            flies,
-            slow,
+            kinds,
             from,
             into,
             starts,
@@ -265,14 +243,17 @@ impl Chart {
         }
     }
 
-    /// Whether several works of a node may run at once.
-    pub(crate) fn flies(&self, node: u32) -> bool {
-        self.flies.get(node as usize) == Some(&true)
+    /// Returns how the works of a node are done.
+    pub(crate) fn kind(&self, node: u32) -> NodeKind {
+        match self.kinds.get(node as usize) {
+            Some(kind) => *kind,
+            None => NodeKind::Together { most: 1 },
+        }
     }
 
-    /// Whether the calls of a node may take long.
-    pub(crate) fn is_slow(&self, node: u32) -> bool {
-        self.slow.get(node as usize) == Some(&true)
+    /// Whether several works of a node may run at once.
+    pub(crate) fn flies(&self, node: u32) -> bool {
+        matches!(self.kind(node), NodeKind::Flies)
     }
 
     /// Returns how many edges there are.

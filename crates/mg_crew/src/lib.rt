@@ -9,6 +9,7 @@ mod chart;
 mod commits;
 mod crew;
 mod gauge;
+mod kinds;
 mod leads;
 mod marks;
 mod putting;

@@ -27,7 +27,7 @@ fn bring_laid<C: NodeCalculator, R: Wait, G: Gate>(
     requires node { node < nodes_in (key_of shop.now.net.now) }
     ensures { StaysAtWork C.laws shop.now.net.now shop.now.tools.now seat.old seat.new place.new }
 {
-    let came = wake_all(rt, shop, seat, place, node as usize);
+    let came = wake_all(rt, shop, seat, place, node as usize, true);
     shop.tools.marks.behind.put(node, !came.is_all());
     came
 }

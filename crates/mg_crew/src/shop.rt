@@ -27,7 +27,7 @@ pub(crate) struct Tools {
     pub board: Board,
 }
 
-/// Marks of nodes. No contract rests on them.
+/// Marks of nodes, and of edges from graph inputs. No contract rests on them.
 #[derive(Drop)]
 pub(crate) struct NodeMarks {
     /// The nodes that are in the levels, or about to be, or with a worker that serves or keeps them. So none is in twice, and none is
@@ -39,6 +39,11 @@ pub(crate) struct NodeMarks {
     pub held: Marks,
     /// The nodes that laid packets which couldn't all be brought yet.
     pub behind: Marks,
+    /// The edges from graph inputs that are late. Another worker had the consumer's turn before, and has called the edge since. So packets are
+    /// brought along it even if the input is throttled.
+    pub late: Marks,
+    /// The places from which late edges lead.
+    pub late_from: Marks,
 }
 
 /// What all workers that run a net have in common.
@@ -139,17 +144,23 @@ fn throttle_of(alloc: Global, plan: &Plan, count: usize) -> Result<Option<Thrott
     Ok(Some(throttle))
 }
 
-// Returns the first marks of `nodes` nodes: none is in the levels, all are held, and none is behind.
-fn marks_of(alloc: Global, nodes: u32) -> Result<NodeMarks, AllocError> {
+// Returns the first marks for a plan: no node is in the levels, all are held, none is behind, and no edge is late.
+fn marks_of(alloc: Global, plan: &Plan) -> Result<NodeMarks, AllocError> {
+    let nodes = plan.nodes.len();
+    let places = nodes.checked_add(plan.inputs.len()).ok_or(AllocError)?;
     let inside = Marks::new(alloc, nodes, false)?;
     let again = Marks::new(alloc, nodes, false)?;
     let held = Marks::new(alloc, nodes, true)?;
     let behind = Marks::new(alloc, nodes, false)?;
+    let late = Marks::new(alloc, plan.edges.len(), false)?;
+    let late_from = Marks::new(alloc, places, false)?;
     Ok(NodeMarks {
         inside,
         again,
         held,
         behind,
+        late,
+        late_from,
     })
 }
 
@@ -173,7 +184,7 @@ pub(crate) fn tools_of(alloc: Global, plan: &Plan) -> Result<(Tools, LevelSeat),
 {
     let chart = Chart::new(alloc, plan)?;
     let throttle = throttle_of(alloc, plan, chart.feeder_count)?;
-    let marks = marks_of(alloc, plan.nodes.len())?;
+    let marks = marks_of(alloc, plan)?;
     let waiting = waiting_of(alloc, plan)?;
     let (levels, seat) = Levels::new(alloc, &plan.order)?;
     let tools = Tools {

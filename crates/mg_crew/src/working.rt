@@ -9,6 +9,7 @@ ghost use Rattle.mg_crew.specs.Code.Seats.{FitsWork, IsWithoutWork, StaysAtWork}
 
 use crate::calling::call_waiting;
 use crate::commits::finish;
+use crate::kinds::{NodeKind, WORKS};
 use crate::putting::{Place, put, tell_others};
 use crate::shop::{Came, Shop, Tools};
 use mg_calc::NodeCalculator;
@@ -17,10 +18,7 @@ use mg_node::{Claimed, Delivered, Work};
 use mg_turns::{NetSeat, SharedNet, Tried};
 use std::sync::Wait;
 
-// How many works of a node are done in one visit, at most.
-const WORKS: u32 = 64;
-
-// How many works of a node whose calls may take long are done before the worker looks whether another one is idle.
+// How many works of a node whose calls may take long are done before the worker looks whether another one sleeps.
 const STEP: u32 = 2;
 
 // How many packets are brought along an edge under one pair of turns, at most. `try_append` has this number.
@@ -48,8 +46,8 @@ fn run<C: NodeCalculator, G: Gate>(
     }
 }
 
-// Does works of a node whose calls may take long, a few under each pair of turns. Ends early if another worker is idle, which may then do
-// what comes of these works. It also ends early if another worker has a turn of the node. Returns what came of it.
+// Does works of a node whose calls may take long, a few under each pair of turns. Ends early if another worker sleeps and wasn't woken, which
+// may then do what comes of these works. It also ends early if another worker has a turn of the node. Returns what came of it.
 #[tactic(auto, using(crate::proofs::Sharing::stays_on))]
 fn run_in_steps<C: NodeCalculator, G: Gate>(
     shop: &Shop<'_, C, G>,
@@ -62,7 +60,7 @@ fn run_in_steps<C: NodeCalculator, G: Gate>(
 {
     let mut came = run(shop, seat, node, STEP);
     'steps: for _ in 1..WORKS / STEP {
-        if !came.more || shop.tools.board.has_idle() {
+        if !came.more || shop.tools.board.has_sleeper() {
             return came;
         }
         let further = run(shop, seat, node, STEP);
@@ -147,12 +145,10 @@ fn try_work<C: NodeCalculator, R: Wait, G: Gate>(
     requires node { node < nodes_in (key_of shop.now.net.now) }
     ensures { StaysAtWork C.laws shop.now.net.now shop.now.tools.now seat.old seat.new place.new }
 {
-    if shop.tools.chart.flies(node) {
-        fly(rt, shop, seat, place, node)
-    } else if shop.tools.chart.is_slow(node) {
-        run_in_steps(shop, seat, node)
-    } else {
-        run(shop, seat, node, WORKS)
+    match shop.tools.chart.kind(node) {
+        NodeKind::Flies => fly(rt, shop, seat, place, node),
+        NodeKind::Steps => run_in_steps(shop, seat, node),
+        NodeKind::Together { most } => run(shop, seat, node, most),
     }
 }
 

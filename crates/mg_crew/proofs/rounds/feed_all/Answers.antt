@@ -5,4 +5,4 @@ pub loop-input-init : goal.loop-input-init
 loop-input-init g c = stays_at_work _ _ _ _ c.requires.at_work
 
 pub loop-input-preserved : goal.loop-input-preserved
-loop-input-preserved g c = works_on _ _ _ _ _ _ _ c.loop-input.invariant c.wake_all-more.ensures
+loop-input-preserved g c = works_on _ _ _ _ _ _ _ c.loop-input.invariant c.feed_from-more.ensures

@@ -1,7 +1,7 @@
 use Rattle.mg_crew.proofs.working.try_work.Goals as goal
 
-pub returns-then-is_slow : goal.returns-then-is_slow
-returns-then-is_slow g c = record { stays = c.run_in_steps.ensures; placed = c.requires.at_work.placed }
+pub returns-in-Steps : goal.returns-in-Steps
+returns-in-Steps g c = record { stays = c.run_in_steps.ensures; placed = c.requires.at_work.placed }
 
-pub returns-else-is_slow : goal.returns-else-is_slow
-returns-else-is_slow g c = record { stays = c.run.ensures; placed = c.requires.at_work.placed }
+pub returns-in-Together : goal.returns-in-Together
+returns-in-Together g c = record { stays = c.run.ensures; placed = c.requires.at_work.placed }
