@@ -48,7 +48,7 @@ joined_copies fs i d options made more inside same here at view is =
     (joined_more fs i d (fields_view options) (fields_view more) inside same here at view)
 
 -- no options
-none_of : (fs : List Field) → list_any (λ f. is_option (field_view f)) fs ≡ false → options_in (map field_view fs) ≡ none
+pub none_of : (fs : List Field) → list_any (λ f. is_option (field_view f)) fs ≡ false → options_in (map field_view fs) ≡ none
 none_of [] absent = refl
 none_of (f ∷ fs) absent =
     let apart = or_parts (is_option (field_view f)) (list_any (λ f. is_option (field_view f)) fs) absent in

@@ -1,7 +1,9 @@
 pub mod Digits
+pub mod Words
 pub mod Lists
 pub mod Checked
 pub mod Loops
+pub mod ReadNamed
 pub mod Marked
 pub mod Joined
 pub mod Named

@@ -16,7 +16,6 @@ mod options;
 mod path;
 mod ports;
 mod schema;
-mod texts;
 mod value;
 mod word;
 mod writing;

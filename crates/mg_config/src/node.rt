@@ -1,4 +1,5 @@
 ghost use Rattle.std.specs.Prelude.{◌≡◌, ◌≢◌, Ok, Err, IfOk, IfErr, map, codes};
+ghost use Rattle.mg_text.specs.Tree.{none};
 ghost use Rattle.mg_text.specs.View.{field_view, view};
 ghost use Rattle.mg_config.specs.Values.{text_in};
 ghost use Rattle.mg_config.specs.Config as config;
@@ -55,7 +56,8 @@ pub struct NodeTexts {
     pub options: Tree,
 }
 
-fn texts_of(alloc: Global, fields: &[Field]) -> Result<NodeTexts, AllocError>
+fn texts_of(alloc: Global, no_fields: &Tree, fields: &[Field]) -> Result<NodeTexts, AllocError>
+    requires { view no_fields.now ≡ none }
     ensures name { IfOk result (λ texts. texts.name ≡ text_in (codes "name") (map field_view fields.now)) }
     ensures calculator { IfOk result (λ texts. texts.calculator ≡ text_in (codes "calculator") (map field_view fields.now)) }
     ensures handler { IfOk result (λ texts. texts.handler ≡ config.handler_in (map field_view fields.now)) }
@@ -65,7 +67,7 @@ fn texts_of(alloc: Global, fields: &[Field]) -> Result<NodeTexts, AllocError>
     let calculator = text_named(alloc, fields, b"calculator")?;
     let handler = message_named(fields, b"input_stream_handler");
     let handler = text_named(alloc, handler, b"input_stream_handler")?;
-    let options = options_of(alloc, fields)?;
+    let options = options_of(alloc, no_fields, fields)?;
     Ok(NodeTexts {
         name,
         calculator,
@@ -76,14 +78,16 @@ fn texts_of(alloc: Global, fields: &[Field]) -> Result<NodeTexts, AllocError>
 
 fn node_with(
     alloc: Global,
+    no_fields: &Tree,
     fields: &[Field],
     streams: PortPair,
     sides: PortPair,
     back_marks: MarkList,
 ) -> Result<NodeConfig, AllocError>
+    requires { view no_fields.now ≡ none }
     ensures { IfOk result (λ node. config.node_view node ≡ config.node_with (map field_view fields.now) streams sides back_marks) }
 {
-    let texts = texts_of(alloc, fields)?;
+    let texts = texts_of(alloc, no_fields, fields)?;
     Ok(NodeConfig {
         name: texts.name,
         calculator: texts.calculator,
@@ -100,13 +104,18 @@ fn node_with(
 }
 
 /// Returns the node of fields in which no fault was found. An error is the fault of the first text or list that spells
-/// no port or back edge.
-pub(crate) fn node_of(alloc: Global, fields: &[Field]) -> Result<NodeConfig, ConfigFault>
+/// no port or back edge. A node without options shares `no_fields`.
+pub(crate) fn node_of(
+    alloc: Global,
+    no_fields: &Tree,
+    fields: &[Field],
+) -> Result<NodeConfig, ConfigFault>
+    requires { view no_fields.now ≡ none }
     ensures ok { IfOk result (λ node. config.node_of (map field_view fields.now) ≡ Ok (config.node_view node)) }
     ensures err { IfErr result (λ fault. fault ≢ ConfigFault.OutOfMemory → config.node_of (map field_view fields.now) ≡ Err fault) }
 {
     let streams = pair_named(alloc, fields, "input_stream", "output_stream")?;
     let sides = pair_named(alloc, fields, "input_side_packet", "output_side_packet")?;
     let back_marks = marks_named(alloc, fields)?;
-    Ok(node_with(alloc, fields, streams, sides, back_marks)?)
+    Ok(node_with(alloc, no_fields, fields, streams, sides, back_marks)?)
 }

@@ -1,6 +1,7 @@
 //! The options of a node: what is in its `options` and `node_options`, in the order of the text.
 ghost use Rattle.std.specs.Prelude.{◌≡◌, ◌++◌, IfOk, IfSome, OnOk, map};
 ghost use Rattle.std.specs.List.{list_any};
+ghost use Rattle.mg_text.specs.Tree.{none};
 ghost use Rattle.mg_text.specs.View.{field_view, fields_view, view};
 ghost use Rattle.mg_config.specs.Config as config;
 
@@ -63,10 +64,16 @@ fn only_options(fields: &[Field]) -> Option<&Tree>
     None
 }
 
-/// Returns the options of a node. They are shared with its only options message, and copied if it has several.
-pub fn options_of(alloc: Global, fields: &[Field]) -> Result<Tree, AllocError>
+/// Returns the options of a node. They are shared with its only options message, and copied if it has several. Without
+/// options, the node is one more owner of `no_fields`.
+#[tactic(auto, using(crate::proofs::Joined::none_of))]
+pub fn options_of(alloc: Global, no_fields: &Tree, fields: &[Field]) -> Result<Tree, AllocError>
+    requires { view no_fields.now ≡ none }
     ensures { IfOk result (λ options. view options ≡ config.options_in (map field_view fields.now)) }
 {
+    if !has_options(fields) {
+        return no_fields.try_clone();
+    }
     match only_options(fields) {
         Some(tree) => tree.try_clone(),
         None => Tree::new(alloc, joined_options(alloc, fields)?),

@@ -1,12 +1,14 @@
 //! The ports that the fields of a name spell.
 ghost use Rattle.std.specs.Prelude.{◌≡◌, ◌≢◌, Ok, Err, IfOk, IfErr, map};
 ghost use Rattle.mg_text.specs.View.{field_view};
+ghost use Rattle.mg_names.specs.Ports.{placed_ports_of};
+ghost use Rattle.mg_config.specs.Values.{texts_in};
 ghost use Rattle.mg_config.specs.Config as config;
 
 use crate::fault::ConfigFault;
 use crate::path::numbered;
-use crate::texts::texts_named;
-use mg_names::{PlacedFault, PortMap};
+use crate::value::{has_name, lent_text};
+use mg_names::{PlacedFault, PortMap, PortReader};
 use mg_text::Field;
 use mg_value::MgText;
 use std::alloc::{AllocError, Global};
@@ -30,13 +32,28 @@ fn port_fault(alloc: Global, name: &str, fault: PlacedFault) -> Result<ConfigFau
     Ok(fault)
 }
 
+/// Reads the ports of the fields of a name, one text after another.
+fn read_named(alloc: Global, fields: &[Field], name: &[u8]) -> Result<PortMap, PlacedFault>
+    ensures ok { IfOk result (λ ports. placed_ports_of (texts_in name.now (map field_view fields.now)) ≡ Ok ports) }
+    ensures err { IfErr result (λ fault. fault ≢ PlacedFault.OutOfMemory → placed_ports_of (texts_in name.now (map field_view fields.now)) ≡ Err fault) }
+{
+    let mut reader = PortReader::new(alloc);
+    for field in fields {
+        if !has_name(field, name) {
+            continue;
+        }
+        reader.read(alloc, lent_text(&field.value))?;
+    }
+    let ports = reader.ports(alloc)?;
+    Ok(ports)
+}
+
 /// Returns the ports that the fields of a name spell.
 pub fn ports_named(alloc: Global, fields: &[Field], name: &str) -> Result<PortMap, ConfigFault>
     ensures ok { IfOk result (λ ports. config.ports_in name.now (map field_view fields.now) ≡ Ok ports) }
     ensures err { IfErr result (λ fault. fault ≢ ConfigFault.OutOfMemory → config.ports_in name.now (map field_view fields.now) ≡ Err fault) }
 {
-    let texts = texts_named(alloc, fields, name.as_bytes())?;
-    match PortMap::read_placed(alloc, texts.as_slice()) {
+    match read_named(alloc, fields, name.as_bytes()) {
         Ok(ports) => Ok(ports),
         Err(fault) => Err(port_fault(alloc, name, fault)?),
     }

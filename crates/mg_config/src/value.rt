@@ -6,6 +6,7 @@ ghost use Rattle.mg_config.specs.Faults as faults;
 
 use crate::number::{long_number_of, number_of, truth_of_number, truth_of_word};
 use crate::schema::Shape;
+use crate::word::is;
 use mg_text::{Field, Scalar, TreeValue};
 use mg_value::MgText;
 use std::alloc::{AllocError, Global};
@@ -53,21 +54,14 @@ pub fn truth_in_value(value: &TreeValue) -> Option<bool>
     }
 }
 
-// Returns the text of a value, or the empty text if the value is no quoted text.
-fn lent_text(value: &TreeValue) -> &str
+/// Returns the text of a value, or the empty text if the value is no quoted text.
+pub fn lent_text(value: &TreeValue) -> &str
     ensures { result.now ≡ values.text_of_value (value_view value.now) }
 {
     match value {
         TreeValue::Scalar(Scalar::Quoted(text)) => text.as_str(),
         _ => "",
     }
-}
-
-/// Returns a copy of the text of a value, or the empty text if the value is no quoted text.
-pub fn text_of_value(alloc: Global, value: &TreeValue) -> Result<MgText, AllocError>
-    ensures { IfOk result (λ text. text ≡ values.text_of_value (value_view value.now)) }
-{
-    MgText::new(alloc, lent_text(value))
 }
 
 /// Returns the fields of a value that is a message, or no fields if the value is no message.
@@ -81,10 +75,11 @@ pub fn fields_of_value(value: &TreeValue) -> &[Field]
 }
 
 /// Whether a field has this name.
+#[inline(always)]
 pub fn has_name(field: &Field, name: &[u8]) -> bool
     ensures { result ≡ values.has_name name.now (field_view field.now) }
 {
-    field.name.is(name)
+    is(field.name.as_bytes(), name)
 }
 
 /// Returns the value of the first field of a name, or none if no field has the name.

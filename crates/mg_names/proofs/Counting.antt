@@ -1,13 +1,13 @@
 -- The ports of texts, one text after another.
-use Rattle.std.proofs.Common.{Bool, Err, List, None, Ok, Option, Result, Some, [], add-one, ap, append_assoc, arith, count_by, drop, drop-cons, false, get_or, if◌then◌else◌, length, nat_le, refl, sym, take, true, ℕ, ◌&&◌, ◌++◌, ◌+◌, ◌<◌, ◌∙◌, ◌∷◌, ◌≡◌, ◌≤◌}
+use Rattle.std.proofs.Common.{Bool, Err, List, None, Ok, Option, Result, Some, [], ap, ap₂, append-nil, append_assoc, arith, cond, count_by, drop, false, get_or, if◌then◌else◌, length, nat_le, refl, subst, suc, sym, take, true, ℕ, ◌&&◌, ◌++◌, ◌+◌, ◌<◌, ◌∙◌, ◌∷◌, ◌≡◌, ◌≤◌}
 use Rattle.std.specs.Str.{bytes_eq}
 use Rattle.std.proofs.lemmas.Bool.Decides.{nat_tests}
 use Rattle.std.proofs.lemmas.Bool.{false≢true}
-use Rattle.std.proofs.lemmas.List.{take_more, length-take-le}
-use Rattle.std.proofs.lemmas.List.Sums.{count_by_more_yes, count_by_more_no}
+use Rattle.std.proofs.lemmas.List.{take_more, take_all, drop_more, take-append-drop}
+use Rattle.std.proofs.lemmas.List.Sums.{sum_by-append, sum_by-cons}
 use Rattle.mg_names.specs.Grammar.{is_tag, index_of}
 use Rattle.mg_names.specs.Spelling.{parts_of, spelling_of, spelling_of_parts, named, tagged, named_at, indexed, is_untagged, is_one}
-use Rattle.mg_names.specs.Ports.{after, port_of, lacks_index, port_at, port_after, placed_at, ports_after}
+use Rattle.mg_names.specs.Ports.{after, port_of, lacks_index, port_at, port_after, placed_at, ports_after, checked, placed_ports_of}
 use Rattle.mg_names.specs.declared.spelling.Spelling.{Spelling}
 use Rattle.mg_names.specs.declared.fault.NameFault.{NameFault}
 use Rattle.mg_names.specs.declared.placed_fault.PlacedFault.{PlacedFault}
@@ -99,77 +99,117 @@ placed_ok place (Ok first) value made =
     ap Ok same
 placed_ok place (Err cause) value made = cc
 
--- the ports of texts, with the next text read
-ports_cons : (before : List (List ℕ)) (text : List ℕ) (rest : List (List ℕ)) (port : Port) (made : List Port) → port_after before text ≡ Ok port
-    → after (ports_after before (text ∷ rest)) (λ more. Ok (made ++ more)) ≡ after (ports_after (before ++ text ∷ []) rest) (λ more. Ok ((made ++ port ∷ []) ++ more))
-ports_cons before text rest port made read =
-    ap (λ r. after (after (placed_at (length before) r) (λ p. after (ports_after (before ++ text ∷ []) rest) (λ ports. Ok (p ∷ ports)))) (λ more. Ok (made ++ more))) read
-    ∙ joined (ports_after (before ++ text ∷ []) rest) port made
+-- the ports of a text and of the texts after it
+record Goes (before : List (List ℕ)) (text : List ℕ) (texts : List (List ℕ)) (made : List Port) (port : Port) (ports : List Port) : Type 0 where
+  first : port_after before text ≡ Ok port
+  rest : ports_after (before ++ text ∷ []) texts ≡ Ok ports
+  all : port ∷ ports ≡ made
+
+abbrev okays : List Port → Result (List Port) PlacedFault
+okays ports = Ok ports
+
+same_ports : (first second : List Port) → okays first ≡ okays second → first ≡ second
+same_ports first second same = cc
+
+goes : (before : List (List ℕ)) (text : List ℕ) (texts : List (List ℕ)) (made : List Port) → ports_after before (text ∷ texts) ≡ Ok made
+    → (port : Port) × (ports : List Port) × Goes before text texts made port ports
+goes before text texts made read =
+    let first = after_ok (placed_at (length before) (port_after before text)) (λ port. after (ports_after (before ++ text ∷ []) texts) (λ ports. Ok (port ∷ ports))) made read in
+    let rest = after_ok (ports_after (before ++ text ∷ []) texts) (λ ports. Ok (first.0 ∷ ports)) made first.2 in
+    let both : Goes before text texts made first.0 rest.0 = record {
+      first = placed_ok (length before) (port_after before text) first.0 first.1;
+      rest = rest.1;
+      all = same_ports (first.0 ∷ rest.0) made rest.2;
+    } in
+    (first.0, rest.0, both)
+
+-- the ports of texts that spell ports, and then those of further texts
+ports_behind : (texts before more : List (List ℕ)) (made : List Port) → ports_after before texts ≡ Ok made
+    → ports_after before (texts ++ more) ≡ after (ports_after (before ++ texts) more) (λ ports. Ok (made ++ ports))
+ports_behind [] before more made read =
+    sym (kept (ports_after before more))
+    ∙ ap (λ b. after (ports_after b more) (λ ports. Ok ([] ++ ports))) (sym (append-nil before))
+    ∙ ap (λ m. after (ports_after (before ++ []) more) (λ ports. Ok (m ++ ports))) (same_ports [] made read)
   where
-    joined : (others : Result (List Port) PlacedFault) (p : Port) (m : List Port) → after (after others (λ ports. Ok (p ∷ ports))) (λ more. Ok (m ++ more)) ≡ after others (λ more. Ok ((m ++ p ∷ []) ++ more))
-    joined (Ok ports) p m = ap Ok (sym (append_assoc m (p ∷ []) ports))
+    kept : (r : Result (List Port) PlacedFault) → after r (λ ports. Ok ([] ++ ports)) ≡ r
+    kept (Ok ports) = refl
+    kept (Err fault) = refl
+ports_behind (text ∷ texts) before more made read =
+    let step = goes before text texts made read in
+    let here = step.2 in
+    ap (λ r. after (placed_at (length before) r) (λ p. after (ports_after (before ++ text ∷ []) (texts ++ more)) (λ ports. Ok (p ∷ ports)))) here.first
+    ∙ ap (λ r. after r (λ ports. Ok (step.0 ∷ ports))) (ports_behind texts (before ++ text ∷ []) more step.1 here.rest)
+    ∙ ap (λ b. after (after (ports_after b more) (λ ports. Ok (step.1 ++ ports))) (λ ports. Ok (step.0 ∷ ports))) (append_assoc before (text ∷ []) texts)
+    ∙ joined (ports_after (before ++ text ∷ texts) more) step.0 step.1
+    ∙ ap (λ m. after (ports_after (before ++ text ∷ texts) more) (λ ports. Ok (m ++ ports))) here.all
+  where
+    joined : (r : Result (List Port) PlacedFault) (p : Port) (m : List Port) → after (after r (λ ports. Ok (m ++ ports))) (λ ports. Ok (p ∷ ports)) ≡ after r (λ ports. Ok ((p ∷ m) ++ ports))
+    joined (Ok ports) p m = refl
     joined (Err fault) p m = refl
 
-ports_cons_refused : (before : List (List ℕ)) (text : List ℕ) (rest : List (List ℕ)) (fault : PlacedFault) (made : List Port) → placed_at (length before) (port_after before text) ≡ Err fault
-    → after (ports_after before (text ∷ rest)) (λ more. Ok (made ++ more)) ≡ Err fault
-ports_cons_refused before text rest fault made read =
-    ap (λ r. after (after r (λ p. after (ports_after (before ++ text ∷ []) rest) (λ ports. Ok (p ∷ ports)))) (λ more. Ok (made ++ more))) read
+-- how many ports there are, and how many of them are untagged
+ports_known : (texts before : List (List ℕ)) (made : List Port) → ports_after before texts ≡ Ok made
+    → (length made ≡ length texts) × (count_by (λ port. bytes_eq port.tag []) made ≡ count_by is_untagged texts)
+ports_known [] before made read =
+    subst (λ ports. (length ports ≡ 0) × (count_by (λ port. bytes_eq port.tag []) ports ≡ 0)) (same_ports [] made read) (refl, refl)
+ports_known (text ∷ texts) before made read =
+    let step = goes before text texts made read in
+    let here = step.2 in
+    let known = ports_known texts (before ++ text ∷ []) step.1 here.rest in
+    subst (λ ports. (length ports ≡ suc (length texts)) × (count_by (λ port. bytes_eq port.tag []) ports ≡ count_by is_untagged (text ∷ texts))) here.all (
+      ap suc known.0,
+      sum_by-cons (λ port. cond (bytes_eq port.tag []) 1 0) step.0 step.1
+          ∙ ap₂ (λ one more. cond {A = ℕ} one 1 0 + more) (untagged_is_empty (count_by is_untagged before) text step.0 here.first) known.1
+          ∙ sym (sum_by-cons (λ t. cond (is_untagged t) 1 0) text texts),
+    )
 
-pub ports_step : (texts : List (List ℕ)) (i : ℕ) (d : List ℕ) (port : Port) (made : List Port) → i < length texts
-    → port_after (take i texts) (get_or texts i d) ≡ Ok port
-    → ports_after [] texts ≡ after (ports_after (take i texts) (drop i texts)) (λ more. Ok (made ++ more))
-    → ports_after [] texts ≡ after (ports_after (take (i + 1) texts) (drop (i + 1) texts)) (λ more. Ok ((made ++ port ∷ []) ++ more))
-ports_step texts i d port made inside read whole =
-    let rest : drop i texts ≡ get_or texts i d ∷ drop (i + 1) texts = rw (add-one, drop-cons texts i d) refl in
-    let front : take i texts ++ get_or texts i d ∷ [] ≡ take (i + 1) texts = sym (take_more texts i d inside) in
-    whole ∙ (ap (λ r. after (ports_after (take i texts) r) (λ more. Ok (made ++ more))) rest
-    ∙ (ports_cons (take i texts) (get_or texts i d) (drop (i + 1) texts) port made read
-    ∙ ap (λ f. after (ports_after f (drop (i + 1) texts)) (λ more. Ok ((made ++ port ∷ []) ++ more))) front))
+-- the next text spells a port
+pub ports_next : (texts : List (List ℕ)) (text : List ℕ) (made more : List Port) (untagged : ℕ) (port : Port) → untagged ≡ count_by (λ p. bytes_eq p.tag []) made
+    → port_at untagged text ≡ Ok port → more ≡ made ++ port ∷ [] → ports_after [] texts ≡ Ok made → ports_after [] (texts ++ text ∷ []) ≡ Ok more
+ports_next texts text made more untagged port counted read are before =
+    let known = ports_known texts [] made before in
+    let here : port_after texts text ≡ Ok port = ap (λ n. port_at n text) (sym (counted ∙ known.1)) ∙ read in
+    ports_behind texts [] (text ∷ []) made before
+    ∙ ap (λ r. after (after (placed_at (length texts) r) (λ p. after (ports_after (texts ++ text ∷ []) []) (λ ports. Ok (p ∷ ports)))) (λ ports. Ok (made ++ ports))) here
+    ∙ ap Ok (sym are)
 
-pub ports_refused : (texts : List (List ℕ)) (i : ℕ) (d : List ℕ) (fault : PlacedFault) (made : List Port) → i < length texts
-    → placed_at i (port_after (take i texts) (get_or texts i d)) ≡ Err fault
-    → ports_after [] texts ≡ after (ports_after (take i texts) (drop i texts)) (λ more. Ok (made ++ more))
-    → ports_after [] texts ≡ Err fault
-ports_refused texts i d fault made inside read whole =
-    let rest : drop i texts ≡ get_or texts i d ∷ drop (i + 1) texts = rw (add-one, drop-cons texts i d) refl in
-    let place : length (take i texts) ≡ i = length-take-le i texts (omega arith) in
-    whole ∙ (ap (λ r. after (ports_after (take i texts) r) (λ more. Ok (made ++ more))) rest
-    ∙ ports_cons_refused (take i texts) (get_or texts i d) (drop (i + 1) texts) fault made (ap (λ n. placed_at n (port_after (take i texts) (get_or texts i d))) place ∙ read))
+-- it spells none, and is the first refusal
+pub ports_stop : (texts more : List (List ℕ)) (text : List ℕ) (made : List Port) (place untagged : ℕ) (fault : PlacedFault) → untagged ≡ count_by (λ p. bytes_eq p.tag []) made
+    → place ≡ length made → placed_at place (port_at untagged text) ≡ Err fault → ports_after [] texts ≡ Ok made → ports_after [] (texts ++ text ∷ more) ≡ Err fault
+ports_stop texts more text made place untagged fault counted at refused before =
+    let known = ports_known texts [] made before in
+    let here : placed_at (length texts) (port_after texts text) ≡ Err fault =
+    ap₂ (λ n k. placed_at n (port_at k text)) (sym (at ∙ known.0)) (sym (counted ∙ known.1)) ∙ refused in
+    ports_behind texts [] (text ∷ more) made before
+    ∙ ap (λ r. after (after r (λ p. after (ports_after (texts ++ text ∷ []) more) (λ ports. Ok (p ∷ ports)))) (λ ports. Ok (made ++ ports))) here
 
--- the count of untagged ports, one more text
-pub count_step : (texts : List (List ℕ)) (i : ℕ) (d : List ℕ) (empty : Bool) → i < length texts → empty ≡ is_untagged (get_or texts i d)
-    → count_by is_untagged (take i texts) + (if empty then 1 else 0) ≡ count_by is_untagged (take (i + 1) texts)
-count_step texts i d true inside same = sym (count_by_more_yes is_untagged texts i d inside (sym same))
-count_step texts i d false inside same = omega (arith, count_by_more_no is_untagged texts i d inside (sym same))
-
--- what the loop keeps: the ports of all texts are those made and those of the texts that are left
-pub record IsRead (texts : List (List ℕ)) (i : ℕ) (made : List Port) (untagged : ℕ) : Type 0 where
-  pub whole : ports_after [] texts ≡ after (ports_after (take i texts) (drop i texts)) (λ more. Ok (made ++ more))
-  pub count : untagged ≡ count_by is_untagged (take i texts)
-  pub room : untagged ≤ 64
-
--- the text at i spells a port
-pub read_more : (texts : List (List ℕ)) (i untagged count : ℕ) (text : List ℕ) (port : Port) (made all : List Port) → i < length texts → text ≡ get_or texts i text
-    → IsRead texts i made untagged → port_at untagged text ≡ Ok port → bytes_eq port.tag [] ≡ is_untagged text → (bytes_eq port.tag [] ≡ true → untagged < 64)
-    → all ≡ made ++ port ∷ [] → count ≡ untagged + (if bytes_eq port.tag [] then 1 else 0) → IsRead texts (i + 1) all count
-read_more texts i untagged count text port made all inside same so_far read empty few are counted =
-    let after_front : port_after (take i texts) (get_or texts i text) ≡ Ok port = ap (λ n. port_at n (get_or texts i text)) (sym so_far.count) ∙ ap (port_at untagged) (sym same) ∙ read in
-    record {
-      whole = ports_step texts i text port made inside after_front so_far.whole
-          ∙ ap (λ ports. after (ports_after (take (i + 1) texts) (drop (i + 1) texts)) (λ more. Ok (ports ++ more))) (sym are);
-      count = counted ∙ ap (λ n. n + (if bytes_eq port.tag [] then 1 else 0)) so_far.count ∙ count_step texts i text (bytes_eq port.tag []) inside (empty ∙ ap is_untagged same);
-      room = at_most (bytes_eq port.tag []) few so_far.room counted;
-    }
+-- how many untagged ports there are with one port more
+pub counted_more : (made more : List Port) (port : Port) (untagged count : ℕ) → untagged ≡ count_by (λ p. bytes_eq p.tag []) made → more ≡ made ++ port ∷ []
+    → count ≡ untagged + (if bytes_eq port.tag [] then 1 else 0) → count ≡ count_by (λ p. bytes_eq p.tag []) more
+counted_more made more port untagged count counted are one =
+    one ∙ (ap (λ n. n + (if bytes_eq port.tag [] then 1 else 0)) counted
+    ∙ (ap (λ n. count_by (λ p. bytes_eq p.tag []) made + n) (alone (bytes_eq port.tag []))
+    ∙ (sym (sum_by-append (λ p. cond (bytes_eq p.tag []) 1 0) made (port ∷ []))
+    ∙ ap (count_by (λ p. bytes_eq p.tag [])) (sym are))))
   where
-    at_most : (test : Bool) → (test ≡ true → untagged < 64) → untagged ≤ 64 → count ≡ untagged + (if test then 1 else 0) → count ≤ 64
-    at_most true few room counted =
-        let below : untagged < 64 = few refl in
-        omega arith
-    at_most false few room counted = omega arith
+    alone : (here : Bool) → (if here then 1 else 0) ≡ 0 + cond {A = ℕ} here 1 0
+    alone true = refl
+    alone false = refl
 
--- a text that spells no port is the first refusal
-pub read_refused : (texts : List (List ℕ)) (i untagged : ℕ) (text : List ℕ) (refusal : PlacedFault) (made : List Port) → i < length texts → text ≡ get_or texts i text
-    → IsRead texts i made untagged → placed_at i (port_at untagged text) ≡ Err refusal → ports_after [] texts ≡ Err refusal
-read_refused texts i untagged text refusal made inside same so_far read =
-    ports_refused texts i text refusal made inside
-    (ap (λ n. placed_at i (port_at n (get_or texts i text))) (sym so_far.count) ∙ ap (λ t. placed_at i (port_at untagged t)) (sym same) ∙ read) so_far.whole
+-- The texts of a list up to a place spell ports: so do those with the next text.
+pub placed_more : (texts : List (List ℕ)) (i : ℕ) (d text : List ℕ) (ports : List Port) → i < length texts → text ≡ get_or texts i d
+    → ports_after [] (take i texts ++ text ∷ []) ≡ Ok ports → ports_after [] (take (i + 1) texts) ≡ Ok ports
+placed_more texts i d text ports inside same read =
+    ap (ports_after []) (take_more texts i d inside) ∙ ap (λ t. ports_after [] (take i texts ++ t ∷ [])) (sym same) ∙ read
+
+-- or the next text is the first refusal
+pub placed_stop : (texts : List (List ℕ)) (i : ℕ) (d text : List ℕ) (fault : PlacedFault) → i < length texts → text ≡ get_or texts i d
+    → ports_after [] (take i texts ++ text ∷ drop (i + 1) texts) ≡ Err fault → placed_ports_of texts ≡ Err fault
+placed_stop texts i d text fault inside same read =
+    let whole : texts ≡ take i texts ++ text ∷ drop (i + 1) texts =
+    sym (take-append-drop i texts) ∙ ap (λ rest. take i texts ++ rest) (drop_more texts i d inside ∙ ap (λ t. t ∷ drop (i + 1) texts) (sym same)) in
+    ap (λ ts. after (ports_after [] ts) checked) whole ∙ ap (λ r. after r checked) read
+
+-- all texts have been read
+pub placed_all : (texts : List (List ℕ)) (i : ℕ) (ports : List Port) → length texts ≤ i → ports_after [] (take i texts) ≡ Ok ports → placed_ports_of texts ≡ checked ports
+placed_all texts i ports past read = ap (λ ts. after (ports_after [] ts) checked) (sym (take_all i texts past)) ∙ ap (λ r. after r checked) read

@@ -1,9 +1,29 @@
 -- Where a tag and index stand, and whether they stand twice, from one port on.
-use Rattle.std.proofs.Common.{◌≡◌, ℕ, ◌+◌, ◌<◌, ◌≤◌, List, ◌∷◌, None, Some, true, false, ◌||◌, cond, length, get_or, drop, sym, ap, ◌∙◌}
+use Rattle.std.proofs.Common.{◌≡◌, ◌≢◌, ℕ, ◌+◌, ◌<◌, ◌≤◌, ◌==◌, List, ◌∷◌, None, Some, Bool, true, false, ◌&&◌, ◌||◌, cond, length, get_or, drop, refl, sym, ap, ◌∙◌, arith}
+use Rattle.std.specs.Str.{bytes_eq}
+use Rattle.std.proofs.lemmas.Bool.Decides.{nat_tests}
 use Rattle.std.proofs.lemmas.List.{drop_more, drop_all}
 use Rattle.std.specs.List.{position_from}
 use Rattle.mg_names.specs.Ports.{is_at, has_port, stands_twice}
 use Rattle.mg_names.specs.declared.port.Port.{Port}
+
+-- a port of another index, and one of the same index
+pub at_other_index : (tag : List ℕ) (index : ℕ) (port : Port) → index ≢ port.index → false ≡ is_at tag index port
+at_other_index tag index port apart = by (bytes_eq tag port.tag) (index == port.index) refl
+  where
+    by : (same here : Bool) → (index == port.index) ≡ here → false ≡ (same && here)
+    by same true here = absurd (apart (grind (arith, nat_tests)))
+    by true false here = refl
+    by false false here = refl
+
+pub at_same_index : (tag : List ℕ) (index : ℕ) (port : Port) → index ≡ port.index → bytes_eq tag port.tag ≡ is_at tag index port
+at_same_index tag index port same = by (bytes_eq tag port.tag) (index == port.index) refl
+  where
+    by : (tags here : Bool) → (index == port.index) ≡ here → tags ≡ (tags && here)
+    by true true here = refl
+    by false true here = refl
+    by true false here = grind (arith, nat_tests)
+    by false false here = refl
 
 twins_from : (ports : List Port) (i : ℕ) (port : Port) → i < length ports → port ≡ get_or ports i port
     → stands_twice (drop i ports) ≡ (has_port port.tag port.index (drop (i + 1) ports) || stands_twice (drop (i + 1) ports))

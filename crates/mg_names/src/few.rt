@@ -19,12 +19,16 @@ fn is(text: &[u8], other: &[u8]) -> bool
     text == other
 }
 
-/// Whether a port has this tag and this index.
-#[inline]
+/// Whether a port has this tag and this index. Most ports of a list have other indexes, so that their tags aren't compared.
+#[inline(always)]
+#[tactic(auto, using(crate::proofs::Searched::at_other_index, crate::proofs::Searched::at_same_index))]
 fn is_at(tag: &[u8], index: u8, port: &Port) -> bool
     ensures { result ≡ is_at tag.now index port.now }
 {
-    is(tag, port.tag.as_bytes()) && index == port.index
+    if index != port.index {
+        return false;
+    }
+    is(tag, port.tag.as_bytes())
 }
 
 /// Whether one of the ports has this tag and this index.

@@ -122,8 +122,7 @@ pub(crate) fn owned(alloc: Global, bytes: &[u8]) -> Result<MgText, AllocError>
     requires { IsAscii bytes.now }
     ensures { IfOk result (λ text. text ≡ bytes.now) }
 {
-    match str::from_utf8(bytes) {
-        Ok(text) => MgText::new(alloc, text),
-        Err(_) => unreachable!(),
-    }
+    // The bytes needn't be judged again: `requires` says that they are ASCII.
+    let text = unsafe { str::from_utf8_unchecked(bytes) };
+    MgText::new(alloc, text)
 }

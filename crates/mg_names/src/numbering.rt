@@ -9,7 +9,6 @@ use crate::placed_fault::PlacedFault;
 use crate::port::Port;
 use crate::reading::read_port;
 use crate::spelling::Spelling;
-use mg_value::MgText;
 use std::alloc::Global;
 
 /// Returns the port that a spelling makes with `number` untagged ports before it.
@@ -41,7 +40,7 @@ fn port_at(alloc: Global, number: u8, text: &[u8]) -> Result<Port, NameFault>
 }
 
 /// Returns how many untagged ports stand before the next text. `untagged` of them stand before this port.
-fn count_after(untagged: u8, port: &Port) -> u8
+pub(crate) fn count_after(untagged: u8, port: &Port) -> u8
     requires { bytes_eq port.now.tag [] ≡ true → untagged < 64 }
     ensures { result ≡ untagged + (if bytes_eq port.now.tag [] then 1 else 0) }
 {
@@ -63,7 +62,12 @@ fn refused_at(place: usize, cause: NameFault) -> PlacedFault
 }
 
 /// Reads the port of the text at a place, with `number` untagged ports before it.
-fn placed_port(alloc: Global, place: usize, number: u8, text: &[u8]) -> Result<Port, PlacedFault>
+pub(crate) fn placed_port(
+    alloc: Global,
+    place: usize,
+    number: u8,
+    text: &[u8],
+) -> Result<Port, PlacedFault>
     ensures ok { IfOk result (λ port. ports.port_at number text.now ≡ Ok port) }
     ensures err { IfErr result (λ fault. fault ≢ PlacedFault.OutOfMemory → ports.placed_at place (ports.port_at number text.now) ≡ Err fault) }
     ensures untagged { IfOk result (λ port. bytes_eq port.tag [] ≡ is_untagged text.now) }
@@ -73,20 +77,4 @@ fn placed_port(alloc: Global, place: usize, number: u8, text: &[u8]) -> Result<P
         Ok(port) => Ok(port),
         Err(cause) => Err(refused_at(place, cause)),
     }
-}
-
-/// Reads the ports of texts, with the indexes that the texts leave out, or refuses the first text that spells no port.
-pub(crate) fn read_ports(alloc: Global, texts: &[MgText]) -> Result<Vec<Port>, PlacedFault>
-    ensures ok { IfOk result (λ made. ports.ports_after [] texts.now ≡ Ok made.items) }
-    ensures err { IfErr result (λ fault. fault ≢ PlacedFault.OutOfMemory → ports.ports_after [] texts.now ≡ Err fault) }
-{
-    let mut made = Vec::new(alloc);
-    let mut untagged = 0;
-    for (place, text) in texts.iter().enumerate() {
-        let port = placed_port(alloc, place, untagged, text.as_bytes())?;
-        let count = count_after(untagged, &port);
-        made.push(port)?;
-        untagged = count;
-    }
-    Ok(made)
 }

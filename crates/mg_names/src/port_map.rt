@@ -3,10 +3,10 @@ ghost use Rattle.std.specs.Prelude.{◌≡◌, ◌≢◌, [], IfOk, IfErr, lengt
 use crate::fault::NameFault;
 use crate::few::place_among;
 use crate::indexing::{copied_places, judged_places};
-use crate::numbering::read_ports;
 use crate::placed_fault::PlacedFault;
 use crate::places::Places;
 use crate::port::Port;
+use crate::port_reader::PortReader;
 use crate::renaming::{copies_of, named};
 use mg_value::{BlockList, MgText};
 use std::alloc::{AllocError, Global};
@@ -35,7 +35,7 @@ impl Model for PortMap {
 }
 
 impl PortMap {
-    ghost use Rattle.mg_names.specs.Ports.{ports_of, placed_ports_of, HasCause, place_of};
+    ghost use Rattle.mg_names.specs.Ports.{ports_of, placed_ports_of, checked, HasCause, place_of};
     ghost use Rattle.mg_names.specs.Renaming as renaming;
 
     /// Returns a list of no ports.
@@ -67,7 +67,20 @@ impl PortMap {
         // The cause of an `At` or `Whole` is never out of memory, which is a fault of its own.
         ensures cause { IfErr result HasCause }
     {
-        let ports = BlockList::from_vec(read_ports(alloc, texts)?)?;
+        let mut reader = PortReader::new(alloc);
+        for text in texts {
+            reader.read(alloc, text.as_str())?;
+        }
+        let map = reader.ports(alloc)?;
+        Ok(map)
+    }
+
+    /// Returns the list of these ports, unless the ports are refused as a whole.
+    pub(crate) fn of(alloc: Global, made: Vec<Port>) -> Result<PortMap, PlacedFault>
+        ensures ok { IfOk result (λ map. checked made.items ≡ Ok map) }
+        ensures err { IfErr result (λ fault. fault ≢ PlacedFault.OutOfMemory → checked made.items ≡ Err fault) }
+    {
+        let ports = BlockList::from_vec(made)?;
         let places = judged_places(alloc, ports.as_slice())?;
         Ok(PortMap { ports, places })
     }

@@ -40,7 +40,9 @@ pub fn text_of(alloc: Global, bytes: &[u8]) -> Result<MgText, AllocError>
     requires { IsUtf8 bytes.now }
     ensures { IfOk result (λ text. text ≡ bytes.now) }
 {
-    MgText::new(alloc, str::from_utf8(bytes).unwrap())
+    // The bytes needn't be judged again: the classes of the bytes have done it, as `requires` says.
+    let text = unsafe { str::from_utf8_unchecked(bytes) };
+    MgText::new(alloc, text)
 }
 
 fn scalar_of(kind: Kind, text: MgText) -> TreeValue

@@ -40,11 +40,10 @@ pub enum Scalar {
 }
 
 impl Tree {
-    /// Returns the tree of fields. Room in the list for more fields is given back.
-    pub fn new(alloc: Global, mut fields: Vec<Field>) -> Result<Tree, AllocError>
+    /// Returns the tree of fields.
+    pub fn new(alloc: Global, fields: Vec<Field>) -> Result<Tree, AllocError>
         ensures { IfOk result (λ tree. view tree ≡ fields_view fields.items) }
     {
-        fields.shrink_to_fit();
         let fields = Arc::new(alloc, fields)?;
         Ok(Tree { fields })
     }

@@ -5,7 +5,7 @@ use Rattle.mg_config.specs.Values.{has_name}
 use Rattle.mg_config.specs.Config.{node_view}
 use Rattle.mg_config.proofs.Named.{node_name}
 use Rattle.mg_config.proofs.Noded.{AreNodes, nodes_first, nodes_skip, nodes_fault, nodes_more, nodes_all}
-use Rattle.mg_config.proofs.nodes.nodes_named.Goals as goal
+use Rattle.mg_config.proofs.nodes.nodes_sharing.Goals as goal
 
 pub returns-in_err-node-clause-err : goal.returns-in_err-node-clause-err
 returns-in_err-node-clause-err c =
