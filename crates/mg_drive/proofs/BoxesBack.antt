@@ -1,6 +1,8 @@
 -- What a run leaves of the user-supplied calculators.
-use Rattle.std.proofs.Common.{◌≡◌, ◌<◌, inl, inr, ℕ, List, ◌++◌, length, All, Option, Some, None, IfSome, IsSomeAnd, Result, Ok, Err, IfOk, OnErr, slice_get, option_map, option_and_then, refl, sym, ap, ◌∙◌, subst, arith}
+use Rattle.std.proofs.Common.{◌≡◌, ◌<◌, inl, inr, ℕ, Bool, List, ◌++◌, length, All, Option, Some, None, IfSome, IsSomeAnd, Result, Ok, Err, IfOk, OnErr, slice_get, option_map, option_and_then, refl, sym, ap, ◌∙◌, subst, arith, if◌then◌else◌}
 use Rattle.std.proofs.lemmas.Option.{slice_get_cases}
+use Rattle.mg_value.specs.Payload.{Plain}
+use Rattle.mg_settled.specs.Prefix.{StreamPrefix}
 use Rattle.mg_edge.specs.Edge.{SourceTold}
 use Rattle.mg_calc.specs.Rules.{Laws}
 use Rattle.mg_calc.specs.declared.call.Call.{Call}
@@ -9,9 +11,14 @@ use Rattle.mg_calc.specs.declared.plan.Plan.{Plan}
 use Rattle.mg_calc.specs.declared.plan_node.PlanNode.{PlanNode}
 use Rattle.mg_calc.specs.Shape.{IsOuter}
 use Rattle.mg_calc.specs.Told.{BoxTold}
-use Rattle.mg_calc.specs.Meaning.{log_of}
+use Rattle.mg_calc.specs.Outcome.{Outcome}
+use Rattle.mg_calc.specs.Equations.{Job, outcome_of, rules_at}
+use Rattle.mg_calc.specs.Meaning.{log_of, count_of}
 use Rattle.mg_answer.specs.Devices.{Device, device, run_devices}
 use Rattle.mg_node.specs.Job.{LoggedJob, first_log}
+use Rattle.mg_node.specs.Lawful.{kept_after}
+use Rattle.mg_node.specs.Had.{state_by, had_close}
+use Rattle.mg_node.proofs.Stages.{outer_stage}
 use Rattle.mg_sched.specs.Views.{NetView}
 use Rattle.mg_sched.specs.Made.{job_of as made_job, FitsNew, BoxesFit, IsMade}
 use Rattle.mg_sched.specs.GivesBack.{given_back}
@@ -21,7 +28,7 @@ use Rattle.mg_answer.specs.Answer.{OutputForm}
 use Rattle.mg_answer.specs.declared.status.Status.{Status}
 use Rattle.mg_answer.specs.declared.run.Reporting.{Reporting}
 use Rattle.mg_edge.specs.Edge.{SinkTold}
-use Rattle.mg_drive.specs.Leaves.{HadCallsOf}
+use Rattle.mg_drive.specs.Leaves.{kept_by, HadCallsOf}
 use Rattle.mg_drive.specs.Nets.{Keeps}
 use Rattle.mg_drive.specs.Batches.{logged}
 use Rattle.mg_drive.specs.Code.Running.{Giving, ReadingOn, TellingSets, Start, start_of, job_with, IsShort}
@@ -84,6 +91,10 @@ log_was {laws} job boxes place node told same has there =
     ∙ ap (λ (bs : List BoxTold). option_and_then (λ box. box.log) (slice_get bs place)) same
     ∙ ap (λ (o : Option BoxTold). option_and_then (λ box. box.log) o) there
 
+-- what a node's calculator keeps, by its node's outcome after some sets
+pub state_kept : (job : Job) (streams : List (StreamPrefix Plain)) (node : PlanNode) (shown : ℕ) (close : Bool) → IsOuter node.law → state_by job streams node shown close ≡ kept_by job streams node shown close
+state_kept job streams node shown close outer = ap (λ (o : Outcome). if close then kept_after ((rules_at job node).finish o.state) o.state else o.state) (outer_stage node.law job streams node shown outer)
+
 -- each calculator that a node uses had the calls of its node
 all_had : {laws : Laws} (job : LoggedJob laws) (boxes : List BoxTold) (net : NetView) → BoxesFit job.job.plan boxes → job.boxes ≡ boxes → HadAllOf job net → HadCallsOf job.job (device boxes (given_back net))
 all_had {laws} job boxes net fit same had = record {
@@ -101,7 +112,7 @@ all_had {laws} job boxes net fit same had = record {
         is = back.there;
         holds = record {
           log = back.had.log ∙ ap (option_map (λ (calls : List Call). calls ++ log_of job.job had.streams node)) (log_was job boxes place node box.0 same has box.1);
-          state = back.had.state;
+          state = back.had.state ∙ state_kept job.job had.streams node (count_of job.job had.streams node) (had_close (outcome_of job.job had.streams node).fault) outer;
           law = back.had.fits.same_law ∙ sym box.2.fits.same_law;
           shape = back.had.fits.same_shape ∙ sym box.2.fits.same_shape;
         };

@@ -15,15 +15,13 @@ use Rattle.mg_calc.specs.declared.plan.Plan.{Plan}
 use Rattle.mg_calc.specs.declared.plan_node.PlanNode.{PlanNode}
 use Rattle.mg_calc.specs.Shape.{IsOuter}
 use Rattle.mg_calc.specs.Told.{BoxTold}
-use Rattle.mg_calc.specs.Outcome.{Failure, Outcome}
-use Rattle.mg_calc.specs.Equations.{Job, IsJob, inputs_of, outcome_of, rules_at}
+use Rattle.mg_calc.specs.Outcome.{Failure}
+use Rattle.mg_calc.specs.Equations.{Job, IsJob, inputs_of, outcome_of}
 use Rattle.mg_calc.specs.Meaning.{count_of, shown_sets, last_call, log_of}
 use Rattle.mg_answer.specs.Devices.{Device, device}
-use Rattle.mg_node.specs.Had.{opens_well, had_close, state_by}
+use Rattle.mg_node.specs.Had.{opens_well, had_close}
 use Rattle.mg_node.specs.Job.{LoggedJob, Solves}
 use Rattle.mg_node.specs.Batches.{Grows}
-use Rattle.mg_node.proofs.Stages.{outer_stage}
-use Rattle.mg_node.specs.Lawful.{kept_after}
 use Rattle.mg_sched.specs.Views.{NetView}
 use Rattle.mg_sched.specs.Made.{BoxesFit}
 use Rattle.mg_sched.specs.GivesBack.{given_back, StoodFor}
@@ -31,13 +29,9 @@ use Rattle.mg_sched.proofs.CountedBack.{knows_back}
 use Rattle.mg_sched.proofs.FrontsBack.{front_back}
 use Rattle.mg_sched.proofs.Solved.{solved}
 use Rattle.mg_drive.specs.Leaves.{first_calls, kept_by, KeepsAFront, IsRelatedAt, HadCallsOf, HadFronts}
-use Rattle.mg_drive.proofs.BoxesBack.{box_at, log_was}
+use Rattle.mg_drive.proofs.BoxesBack.{box_at, log_was, state_kept}
 
 -- Calculators of a net --
-
--- what a node's calculator keeps, by its node's outcome after some sets
-pub state_kept : (job : Job) (streams : List (StreamPrefix Plain)) (node : PlanNode) (shown : ℕ) (close : Bool) → IsOuter node.law → state_by job streams node shown close ≡ kept_by job streams node shown close
-state_kept job streams node shown close outer = ap (λ (o : Outcome). if close then kept_after ((rules_at job node).finish o.state) o.state else o.state) (outer_stage node.law job streams node shown outer)
 
 -- a calculator comes back with a prefix of its calls
 kept_front : {laws : Laws} (boxes : List BoxTold) (job later : LoggedJob laws) (net : NetView) (streams : List (StreamPrefix Plain)) (number place : ℕ) (node : PlanNode) → BoxesFit later.job.plan boxes → later.boxes ≡ boxes → StoodFor job net
@@ -52,14 +46,12 @@ kept_front {laws} boxes job later net streams number place node fit same stood m
       was = box.1;
       is = back.1;
       holds = record {
-        front = record {
-          count = back.2.count;
-          close = back.2.close;
-          opened = back.2.opened;
-          log = back.2.log ∙ ap (option_map (λ (calls : List Call). calls ++ first_calls later.job streams node back.2.count back.2.close)) (log_was later boxes place node box.0 same has box.1);
-          law = back.2.fits.same_law ∙ sym box.2.fits.same_law;
-          shape = back.2.fits.same_shape ∙ sym box.2.fits.same_shape;
-        };
+        count = back.2.count;
+        close = back.2.close;
+        opened = back.2.opened;
+        log = back.2.log ∙ ap (option_map (λ (calls : List Call). calls ++ first_calls later.job streams node back.2.count back.2.close)) (log_was later boxes place node box.0 same has box.1);
+        law = back.2.fits.same_law ∙ sym box.2.fits.same_law;
+        shape = back.2.fits.same_shape ∙ sym box.2.fits.same_shape;
         unopened = λ none. back.2.unopened none place box.0 has (ap (λ (bs : List BoxTold). slice_get bs place) same ∙ box.1);
         state = λ shown is. back.2.state shown is ∙ state_kept later.job streams node shown back.2.close outer;
       };
@@ -103,7 +95,12 @@ none_had job boxes is fit =
             was = box.1;
             is = box.1;
             holds = record {
-              front = record { count = 0; close = false; opened = λ closed. absurd cc; log = none_more box.0.log; law = refl; shape = refl };
+              count = 0;
+              close = false;
+              opened = λ closed. absurd cc;
+              log = none_more box.0.log;
+              law = refl;
+              shape = refl;
               unopened = λ none. refl;
               state = λ shown is. absurd cc;
             };
@@ -141,7 +138,6 @@ all_are_fronts job boxes fit had = record {
   solution = had.solution;
   each = λ number place node there has.
       (let at = had.each number place node there has in
-      let box = box_at job.plan boxes.before number place node fit there has in
       let close = had_close (outcome_of job had.streams node).fault in
       record {
         before = at.before;
@@ -149,17 +145,14 @@ all_are_fronts job boxes fit had = record {
         was = at.was;
         is = at.is;
         holds = record {
-          front = record {
-            count = suc (count_of job had.streams node);
-            close = close;
-            opened = λ closed. omega arith;
-            log = at.holds.log ∙ ap (λ (more : List Call). option_map (λ (calls : List Call). calls ++ more) at.before.log) (all_first job had.streams node);
-            law = at.holds.law;
-            shape = at.holds.shape;
-          };
+          count = suc (count_of job had.streams node);
+          close = close;
+          opened = λ closed. omega arith;
+          log = at.holds.log ∙ ap (λ (more : List Call). option_map (λ (calls : List Call). calls ++ more) at.before.log) (all_first job had.streams node);
+          law = at.holds.law;
+          shape = at.holds.shape;
           unopened = λ none. absurd cc;
-          state = λ shown is. at.holds.state ∙ (let same : count_of job had.streams node ≡ shown = omega (arith, is) in ap (λ (n : ℕ). state_by job had.streams node n close) same)
-              ∙ state_kept job had.streams node shown close (subst IsOuter box.2.fits.same_law box.2.outer);
+          state = λ shown is. at.holds.state ∙ (let same : count_of job had.streams node ≡ shown = omega (arith, is) in ap (λ (n : ℕ). kept_by job had.streams node n close) same);
         };
       });
 }

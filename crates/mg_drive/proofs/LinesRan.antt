@@ -48,7 +48,8 @@ use Rattle.mg_sched.proofs.OutputsTaken.{outputs_by_default}
 use Rattle.mg_drive.specs.Batches.{IsMore, logged}
 use Rattle.mg_drive.specs.Told.{HasLines}
 use Rattle.mg_drive.specs.Leaves.{HadCallsOf, HadFronts}
-use Rattle.mg_drive.specs.OneRun.{CalculatorsCameBack, OneRun, OneShort, OneReading, ShortAtEnd, ShortBefore}
+use Rattle.mg_drive.specs.Over.{OverInput, OverFirst}
+use Rattle.mg_drive.specs.OneRun.{CalculatorsCameBack, OneRun, OneOut, OneReading}
 use Rattle.mg_drive.specs.Code.Running.{IsToldSome, FrontIn}
 use Rattle.mg_drive.specs.Code.Lines.{inputs_at, HasReadOn, ReadsOn, IsNew, LinesGave}
 use Rattle.mg_drive.proofs.Jobs.{valid_plan}
@@ -158,7 +159,7 @@ pub lines_ran : {laws : Laws} (report : Reporting) (plan : Plan) (devices : RunD
 lines_ran {laws} report plan devices boxes status fed end inputs u back wrote had = record {
   read = record { lines = u.lines; end = end };
   came = came_at plan devices.input.before devices.input.now fed end inputs u;
-  run = subst (λ (i : Inputs). OneRun (by_lines report) (record { plan = plan; inputs = i; laws = laws }) end status devices.output devices.notes boxes) u.inputs_are
+  holds = subst (λ (i : Inputs). OneRun (by_lines report) (record { plan = plan; inputs = i; laws = laws }) end status devices.output devices.notes boxes) u.inputs_are
       (one_run (by_lines report) (record { plan = plan; inputs = inputs; laws = laws }) end status devices.output devices.notes boxes back wrote had);
 }
 
@@ -188,7 +189,8 @@ first_given plan input fed (End end) inputs u =
 
 pub lines_short : {laws : Laws} (plan : Plan) (input : Device SourceTold) (output : Device SinkTold) (boxes now : List BoxTold) (net : NetView) (fed : Fed) (end : BatchEnd) (at : SourceTold) (inputs : Inputs) → BoxesFit plan boxes → LinesGave fed plan input.before at end inputs
     → (at ≡ input.now) ⊎ (IsMore end × ReadsOn fed plan input.before at input.now) → IsJob (record { plan = plan; inputs = inputs; laws = laws }) → FrontIn packet_lines output.before output.now (record { plan = plan; inputs = inputs; laws = laws })
-    → StoodFor (logged laws plan inputs boxes) net → now ≡ given_back net → CalculatorsCameBack plan boxes now → ShortAtEnd laws plan input output (device boxes now) ⊎ ShortBefore laws plan input output (device boxes now)
+    → StoodFor (logged laws plan inputs boxes) net → now ≡ given_back net → CalculatorsCameBack plan boxes now
+    → OverInput (inputs_of plan) input (λ read. OneOut packet_lines (job_of laws plan read) output (device boxes now)) ⊎ OverFirst (inputs_of plan) input (λ read. OneOut packet_lines (job_of laws plan read) output (device boxes now))
 lines_short {laws} plan input output boxes now net fed More at inputs fit u last is_job put stood back came = inr (record {
   read = (read_on plan input fed at inputs u last).read;
   first = u.past;
@@ -199,7 +201,7 @@ lines_short {laws} plan input output boxes now net fed More at inputs fit u last
     subst (λ (s : SourceTold). EndCame input.before s) (sym ((read_on plan input fed at inputs u last).none is).0) (end_came fed.read.ended input.before at u.is_read.met is),
     ((read_on plan input fed at inputs u last).none is).1,
   );
-  short = λ rest fits. one_short packet_lines (job_of laws plan (ended_input (inputs_of plan) (u.past ++ rest))) output (device boxes now) came
+  holds = λ rest fits. one_short packet_lines (job_of laws plan (ended_input (inputs_of plan) (u.past ++ rest))) output (device boxes now) came
       (fronts_more plan input.before at fed inputs boxes now net fit u rest is_job.plan fits stood back)
       (front_more laws plan input.before at fed inputs output u rest is_job fits put);
 })
@@ -209,7 +211,7 @@ lines_short {laws} plan input output boxes now net fed (End end) at inputs fit u
     inl (record {
       read = read;
       came = subst (λ (s : SourceTold). CameTo (inputs_of plan) (device input.before s) read) same (came_at plan input.before at fed end inputs u);
-      short = subst (λ (i : Inputs). OneShort packet_lines (record { plan = plan; inputs = i; laws = laws }) output (device boxes now)) u.inputs_are
+      holds = subst (λ (i : Inputs). OneOut packet_lines (record { plan = plan; inputs = i; laws = laws }) output (device boxes now)) u.inputs_are
           (one_short packet_lines (record { plan = plan; inputs = inputs; laws = laws }) output (device boxes now) came
           (kept_now boxes now (logged laws plan inputs boxes) net fit refl stood is_job back) put);
     })

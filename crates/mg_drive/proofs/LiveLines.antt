@@ -30,7 +30,8 @@ use Rattle.mg_drive.specs.InBatches.{inputs_at, batch_size, InBatches, last, mor
 use Rattle.mg_drive.specs.Batches.{IsMore, logged}
 use Rattle.mg_drive.specs.Leaves.{KeepsAFront}
 use Rattle.mg_drive.specs.OneRun.{AllHad}
-use Rattle.mg_drive.specs.OneLive.{OneLive, OneLiveReading, LiveShort, LiveShortAtEnd, LiveShortBefore}
+use Rattle.mg_drive.specs.Over.{OverInput, OverFirst}
+use Rattle.mg_drive.specs.OneLive.{AreBatchesOf, OneLive, OneLiveReading, LiveOut}
 use Rattle.mg_drive.specs.Told.{HasLines}
 use Rattle.mg_drive.specs.Code.Running.{IsToldSome, FrontIn}
 use Rattle.mg_drive.specs.Code.Live.{end_by}
@@ -87,14 +88,16 @@ live_lines {laws} report early whole status devices boxes fed end base earlier f
     record {
       read = record { lines = lines_of came.earlier ++ came.newest; end = end };
       came = came_at whole devices.input.before devices.input.now fed end (inputs_at graph (lines_of came.earlier ++ came.newest) (is_ended end)) (gave_as early whole devices.input.before devices.input.now fed (End end) base earlier came);
-      first = first;
-      later = later;
-      batches = record {
-        lines = reverse came.earlier ++ came.newest ∷ [];
-        in_batches = all_in_batches early whole devices.input.before devices.input.now fed end (base ∷ earlier) came;
-        are = came_after_all graph end came.newest came.earlier (base ∷ earlier) came.history_is ∙ order;
+      holds = record {
+        first = first;
+        later = later;
+        batches = record {
+          lines = reverse came.earlier ++ came.newest ∷ [];
+          in_batches = all_in_batches early whole devices.input.before devices.input.now fed end (base ∷ earlier) came;
+          are = came_after_all graph end came.newest came.earlier (base ∷ earlier) came.history_is ∙ order;
+        };
+        run = run;
       };
-      run = run;
     }
 
 -- More lines --
@@ -111,7 +114,7 @@ come_of early graph end batches rest later cut front (more {batch = one} {batche
 short_of : {laws : Laws} (whole : Plan) (output : Device SinkTold) (boxes : Device (List BoxTold)) (base : Inputs) (earlier : List Inputs) (takens : List Taken) (streams : List (StreamPrefix Plain)) → SoFar laws (split_of whole) (base ∷ earlier) takens
     → IsJob (core_job laws (split_of whole) base takens) → IsSolution (core_job laws (split_of whole) base takens) streams
     → IsToldSome HasLines (core_job laws (split_of whole) base takens) output.before output.now ⊎ FrontIn packet_lines output.before output.now (core_job laws (split_of whole) base takens)
-    → AllHad (split_of whole).core (KeepsAFront (core_job laws (split_of whole) base takens) streams) boxes → (later batches : List Inputs) → batches ≡ reverse (base ∷ earlier) ++ later → LiveShort laws packet_lines whole batches output boxes
+    → AllHad (split_of whole).core (KeepsAFront (core_job laws (split_of whole) base takens) streams) boxes → (later batches : List Inputs) → batches ≡ reverse (base ∷ earlier) ++ later → LiveOut laws packet_lines whole batches output boxes
 short_of {laws} whole output boxes base earlier takens streams so_far is_job solution front had later batches first = record {
   base = base;
   earlier = earlier;
@@ -126,9 +129,13 @@ short_of {laws} whole output boxes base earlier takens streams so_far is_job sol
   had = had;
 }
 
+-- batches of the whole input, and a prefix of what belongs to these
+abbrev BatchesOut : Laws → Bool → Plan → Device SinkTold → Device (List BoxTold) → Read → Type 0
+BatchesOut laws early whole output boxes read = (batches : List Inputs) × AreBatchesOf early whole read batches × LiveOut laws packet_lines whole batches output boxes
+
 short_lines : {laws : Laws} (early : Bool) (whole : Plan) (input : Device SourceTold) (output : Device SinkTold) (boxes : Device (List BoxTold)) (fed : Fed) (ended : Option FeedEnd) (at : SourceTold) (base : Inputs) (earlier : List Inputs) → LinesCame early fed whole input.before at (end_by ended) (base ∷ earlier)
-    → (at ≡ input.now) ⊎ (IsMore (end_by ended) × ReadsOn fed whole input.before at input.now) → ((later batches : List Inputs) → batches ≡ reverse (base ∷ earlier) ++ later → LiveShort laws packet_lines whole batches output boxes)
-    → LiveShortAtEnd laws early whole input output boxes ⊎ LiveShortBefore laws early whole input output boxes
+    → (at ≡ input.now) ⊎ (IsMore (end_by ended) × ReadsOn fed whole input.before at input.now) → ((later batches : List Inputs) → batches ≡ reverse (base ∷ earlier) ++ later → LiveOut laws packet_lines whole batches output boxes)
+    → OverInput (inputs_of whole) input (BatchesOut laws early whole output boxes) ⊎ OverFirst (inputs_of whole) input (BatchesOut laws early whole output boxes)
 short_lines {laws} early whole input output boxes fed None at base earlier came read_last short =
     let graph = inputs_of whole in
     let given = inputs_at graph (lines_of came.earlier ++ came.newest) false in
@@ -144,7 +151,7 @@ short_lines {laws} early whole input output boxes fed None at base earlier came 
         subst (λ (s : SourceTold). EndCame input.before s) (sym (on.none is).0) (end_came fed.read.ended input.before at came.is_read.met is),
         (on.none is).1,
       );
-      short = λ rest fits.
+      holds = λ rest fits.
           (let front = lines_in_front whole input.before at fed given gave rest fits in
           let end = (ended_input graph (came.past ++ rest)).end in
           let so_far = came.newest ∷ came.earlier in
@@ -169,20 +176,23 @@ short_lines {laws} early whole input output boxes fed (Some end) at base earlier
       read = read;
       came = subst (λ (s : SourceTold). CameTo graph (device input.before s) read) same
           (came_at whole input.before at fed end (inputs_at graph (lines_of came.earlier ++ came.newest) (is_ended end)) (gave_as early whole input.before at fed (End end) base earlier came));
-      batches = come_after graph end [] cut;
-      are = record {
-        lines = cut;
-        in_batches = all_in_batches early whole input.before at fed end (base ∷ earlier) came;
-        are = refl;
-      };
-      short = short [] (come_after graph end [] cut) (came_after_all graph end came.newest came.earlier (base ∷ earlier) came.history_is ∙ sym (append-nil (reverse (base ∷ earlier))));
+      holds = (
+        come_after graph end [] cut,
+        record {
+          lines = cut;
+          in_batches = all_in_batches early whole input.before at fed end (base ∷ earlier) came;
+          are = refl;
+        },
+        short [] (come_after graph end [] cut) (came_after_all graph end came.newest came.earlier (base ∷ earlier) came.history_is ∙ sym (append-nil (reverse (base ∷ earlier)))),
+      );
     })
 
 pub live_lines_short : {laws : Laws} (early : Bool) (whole : Plan) (input : Device SourceTold) (output : Device SinkTold) (boxes : Device (List BoxTold)) (fed : Fed) (ended : Option FeedEnd) (at : SourceTold) (base : Inputs) (earlier : List Inputs) (takens : List Taken) (streams : List (StreamPrefix Plain))
     → LinesCame early fed whole input.before at (end_by ended) (base ∷ earlier) → (at ≡ input.now) ⊎ (IsMore (end_by ended) × ReadsOn fed whole input.before at input.now) → SoFar laws (split_of whole) (base ∷ earlier) takens
     → IsJob (core_job laws (split_of whole) base takens) → IsSolution (core_job laws (split_of whole) base takens) streams
     → IsToldSome HasLines (core_job laws (split_of whole) base takens) output.before output.now ⊎ FrontIn packet_lines output.before output.now (core_job laws (split_of whole) base takens)
-    → AllHad (split_of whole).core (KeepsAFront (core_job laws (split_of whole) base takens) streams) boxes → LiveShortAtEnd laws early whole input output boxes ⊎ LiveShortBefore laws early whole input output boxes
+    → AllHad (split_of whole).core (KeepsAFront (core_job laws (split_of whole) base takens) streams) boxes
+    → OverInput (inputs_of whole) input (BatchesOut laws early whole output boxes) ⊎ OverFirst (inputs_of whole) input (BatchesOut laws early whole output boxes)
 live_lines_short {laws} early whole input output boxes fed ended at base earlier takens streams came read_last so_far is_job solution front had =
     short_lines early whole input output boxes fed ended at base earlier came read_last (short_of whole output boxes base earlier takens streams so_far is_job solution front had)
 

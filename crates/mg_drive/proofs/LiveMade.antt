@@ -23,7 +23,7 @@ use Rattle.mg_answer.specs.declared.run.Reporting.{Reporting}
 use Rattle.mg_drive.specs.Batches.{logged}
 use Rattle.mg_drive.specs.Leaves.{KeepsAFront}
 use Rattle.mg_drive.specs.OneRun.{AllHad}
-use Rattle.mg_drive.specs.OneLive.{OneLive, LiveShort, OneLiveMade}
+use Rattle.mg_drive.specs.OneLive.{OneLive, LiveOut, OneLiveMade}
 use Rattle.mg_drive.specs.Code.Running.{IsToldSome, FrontIn}
 use Rattle.mg_drive.specs.Code.Live.{end_by}
 use Rattle.mg_drive.specs.Code.InPieces.{made_inputs, HaveComeInPieces}
@@ -53,7 +53,7 @@ pub short_made : {laws : Laws} (whole : Plan) (number most now : ℕ) (m : Makin
     → number ≤ most → HaveComeInPieces whole number most now m (end_by ended) (base ∷ earlier) → SoFar laws (split_of whole) (base ∷ earlier) takens → IsJob (core_job laws (split_of whole) base takens)
     → IsSolution (core_job laws (split_of whole) base takens) streams
     → IsToldSome HasSums (core_job laws (split_of whole) base takens) output.before output.now ⊎ FrontIn totals output.before output.now (core_job laws (split_of whole) base takens)
-    → AllHad (split_of whole).core (KeepsAFront (core_job laws (split_of whole) base takens) streams) boxes → LiveShort laws totals whole ((generated_job laws whole number).inputs ∷ []) output boxes
+    → AllHad (split_of whole).core (KeepsAFront (core_job laws (split_of whole) base takens) streams) boxes → LiveOut laws totals whole ((generated_job laws whole number).inputs ∷ []) output boxes
 short_made {laws} whole number most now m output boxes ended base earlier takens streams le came so_far is_job solution front had = record {
   base = base;
   earlier = earlier;

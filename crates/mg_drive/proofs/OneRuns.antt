@@ -13,7 +13,7 @@ use Rattle.mg_answer.specs.Devices.{Device, TookFront}
 use Rattle.mg_answer.specs.Wrote.{Wrote}
 use Rattle.mg_answer.specs.declared.status.Status.{Status}
 use Rattle.mg_drive.specs.Leaves.{HadItsCalls, IsRelatedAt, HadCallsOf, HadFronts}
-use Rattle.mg_drive.specs.OneRun.{CalculatorsCameBack, OneRun, OneShort}
+use Rattle.mg_drive.specs.OneRun.{CalculatorsCameBack, OneRun, OneOut}
 
 abbrev EachHad : Job → Device (List BoxTold) → List (StreamPrefix Plain) → Type 0
 EachHad job boxes streams = (number place : ℕ) (node : PlanNode) → slice_get job.plan.nodes number ≡ Some node → node.box_number ≡ Some place → IsRelatedAt place (HadItsCalls job streams node) boxes
@@ -30,7 +30,7 @@ one_run telling job end status output notes boxes back wrote had = record {
 
 -- memory ran out in a run
 pub one_short : (form : OutputForm) (job : Job) (output : Device SinkTold) (boxes : Device (List BoxTold)) → CalculatorsCameBack job.plan boxes.before boxes.now → HadFronts job boxes
-    → ((streams : List (StreamPrefix Plain)) → IsSolution job streams → TookFront output (output_in form job.plan streams)) → OneShort form job output boxes
+    → ((streams : List (StreamPrefix Plain)) → IsSolution job streams → TookFront output (output_in form job.plan streams)) → OneOut form job output boxes
 one_short form job output boxes back had front = record {
   is_job = had.is_job;
   streams = had.streams;

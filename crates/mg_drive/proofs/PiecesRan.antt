@@ -31,7 +31,7 @@ use Rattle.mg_sched.proofs.Solved.{solved}
 use Rattle.mg_drive.specs.Batches.{IsMore, logged}
 use Rattle.mg_drive.specs.Told.{HasSums}
 use Rattle.mg_drive.specs.Leaves.{HadCallsOf, HadFronts}
-use Rattle.mg_drive.specs.OneRun.{CalculatorsCameBack, OneRun, OneShort, OneMade}
+use Rattle.mg_drive.specs.OneRun.{CalculatorsCameBack, OneRun, OneOut, OneMade}
 use Rattle.mg_drive.specs.Code.Running.{IsToldSome, FrontIn}
 use Rattle.mg_drive.specs.Code.InPieces.{made_inputs, piece_end, WereMade}
 use Rattle.mg_drive.proofs.LinesGoOn.{not_ended}
@@ -98,7 +98,7 @@ pub pieces_short : {laws : Laws} (plan : Plan) (number : ℕ) (m : Making) (outp
     → IsJob (record { plan = plan; inputs = inputs; laws = laws })
     → IsToldSome HasSums (record { plan = plan; inputs = inputs; laws = laws }) output.before output.now ⊎ FrontIn totals output.before output.now (record { plan = plan; inputs = inputs; laws = laws })
     → (IsMore end → IsToldSome HasSums (record { plan = plan; inputs = inputs; laws = laws }) output.before output.now)
-    → StoodFor (logged laws plan inputs boxes) net → now ≡ given_back net → CalculatorsCameBack plan boxes now → OneShort totals (generated_job laws plan number) output (device boxes now)
+    → StoodFor (logged laws plan inputs boxes) net → now ≡ given_back net → CalculatorsCameBack plan boxes now → OneOut totals (generated_job laws plan number) output (device boxes now)
 pieces_short {laws} plan number m output boxes now net More inputs fit was is front unended stood back came =
     let so_far = made_inputs (inputs_of plan) m.made false in
     let grows = goes_on_to plan number m inputs boxes is.plan was in
@@ -108,6 +108,6 @@ pieces_short {laws} plan number m output boxes now net More inputs fit was is fr
     (kept_fronts boxes (logged laws plan so_far boxes) (logged laws plan (generated_inputs (inputs_of plan) number) boxes) net fit refl then refl (inr grows) grows.is_job))
     (unwritten_yet laws plan number inputs output.before output.now is (unended tt))
 pieces_short {laws} plan number m output boxes now net (End end) inputs fit was is front unended stood back came =
-    subst (λ (i : Inputs). OneShort totals (record { plan = plan; inputs = i; laws = laws }) output (device boxes now)) (all_made plan number m end inputs was).0
+    subst (λ (i : Inputs). OneOut totals (record { plan = plan; inputs = i; laws = laws }) output (device boxes now)) (all_made plan number m end inputs was).0
     (one_short totals (record { plan = plan; inputs = inputs; laws = laws }) output (device boxes now) came (kept_now boxes now (logged laws plan inputs boxes) net fit refl stood is back)
     (front_sums (logged laws plan inputs []) output.before output.now is front))

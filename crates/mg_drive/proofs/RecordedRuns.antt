@@ -12,20 +12,17 @@ use Rattle.mg_feed.specs.Graph.{inputs_of}
 use Rattle.mg_feed.specs.declared.feed_end.FeedEnd.{FeedEnd}
 use Rattle.mg_trace.specs.Job.{job_text}
 use Rattle.mg_trace.specs.Trace.{events_text, trace_text}
-use Rattle.mg_answer.specs.Answer.{OutputForm, in_place, by_lines, by_text, inputs_by, answer_of, failed_notes}
+use Rattle.mg_answer.specs.Answer.{OutputForm, in_place, by_lines, by_text, inputs_by, answer_of}
 use Rattle.mg_answer.specs.Answer as answers
 use Rattle.mg_answer.specs.Devices.{Device, device, run_devices, Untouched, TookFront}
 use Rattle.mg_answer.specs.Put.{TextView, BlockView, HasPutIn}
 use Rattle.mg_answer.specs.Gathered.{GatheredInputs}
-use Rattle.mg_answer.specs.Wrote.{Meets, MetShort, Wrote}
+use Rattle.mg_answer.specs.Wrote.{Wrote}
 use Rattle.mg_answer.specs.Ran.{ReadSome}
 use Rattle.mg_answer.specs.declared.status.Status.{Status}
-use Rattle.mg_answer.specs.declared.status.Status.TheVariants.{Good, StoreFault, Usage, GraphRefused, LineRefused, NodeFault, Stalled, ReadFault, WriteFault, OutOfMemory}
 use Rattle.mg_answer.proofs.Writing.{put-front}
-use Rattle.mg_answer.proofs.Answering.{no-want}
 use Rattle.mg_answer.proofs.Gathering.{read-came}
 use Rattle.mg_answer.specs.declared.run.Reporting.{Reporting}
-use Rattle.mg_calc.specs.Meaning.{faults, stalled}
 use Rattle.mg_node.specs.Job.{LoggedJob}
 use Rattle.mg_sched.specs.Views.{NetView}
 use Rattle.mg_sched.specs.StandsFor.{StandsFor, IsRunning}
@@ -40,7 +37,7 @@ use Rattle.mg_sched.proofs.Solved.{solved}
 use Rattle.mg_drive.specs.Batches.{logged}
 use Rattle.mg_drive.specs.Recorded.{HasPutUnless, HasEvents}
 use Rattle.mg_drive.specs.Leaves.{AllHadCalls, HadSome, HadFronts, HadCallsOf}
-use Rattle.mg_drive.specs.Traced.{IsTrace, TookSomeTrace, TracedAll, TracedShort, TracedOut, Traced}
+use Rattle.mg_drive.specs.Traced.{IsTrace, TookSomeTrace, TracedOut, Traced}
 use Rattle.mg_drive.specs.Code.Running.{HasRested, SomeRested, FrontIn}
 use Rattle.mg_drive.specs.Code.Ending.{IsWhole, StoodWith}
 use Rattle.mg_drive.specs.Code.Tracing.{plan_job, HasRecorded, HasRecordedSome, NetTraced, NetShort, JobTraced, JobShort}
@@ -227,56 +224,23 @@ stood_untraced {laws} plan inputs boxes handed before output net same h = record
 
 -- Over what was read of the input --
 
-traced_all : {laws : Laws} (report : Reporting) (plan : Plan) (inputs : Inputs) (input : Device SourceTold) (end : FeedEnd) (status : Status) (output notes : Device SinkTold) (boxes : Device (List BoxTold)) (gathered : GatheredInputs (inputs_of plan) input end inputs)
-    → (j : JobTraced laws report plan (inputs_by (inputs_of plan) gathered.read) gathered.read.end status output notes boxes)
-    → Meets (answer_of (by_text j.text report) (answers.job_of laws plan gathered.read) gathered.read.end j.wrote.streams) status output notes
-    → TracedAll laws report plan boxes.before status (run_devices input output notes)
-traced_all {laws} report plan inputs input end status output notes boxes gathered j met = record {
-  read = gathered.read;
-  input = gathered.came;
-  answer = answer_of (by_text j.text report) (answers.job_of laws plan gathered.read) gathered.read.end j.wrote.streams;
-  is = record {
-    text = j.text;
-    trace = j.trace;
-    of_run = answer_of (by_lines report) (answers.job_of laws plan gathered.read) gathered.read.end j.wrote.streams;
-    is_answer = record { streams = j.wrote.streams; solution = j.wrote.solution; is = refl };
-    is = refl;
-  };
-  met = record { text = met.text; noted = met.noted; told = met.told };
-}
-
-traced_short : {laws : Laws} (report : Reporting) (plan : Plan) (inputs : Inputs) (input : Device SourceTold) (end : FeedEnd) (status : Status) (output notes : Device SinkTold) (boxes : Device (List BoxTold)) (gathered : GatheredInputs (inputs_of plan) input end inputs)
-    → (j : JobTraced laws report plan (inputs_by (inputs_of plan) gathered.read) gathered.read.end status output notes boxes)
-    → MetShort (answer_of (by_text j.text report) (answers.job_of laws plan gathered.read) gathered.read.end j.wrote.streams)
-    (failed_notes (by_text j.text report) (answers.job_of laws plan gathered.read) gathered.read.end j.wrote.streams) output notes
-    → TracedShort laws report plan boxes.before (run_devices input output notes)
-traced_short {laws} report plan inputs input end status output notes boxes gathered j short = record {
-  read = gathered.read;
-  input = gathered.came;
-  answer = answer_of (by_text j.text report) (answers.job_of laws plan gathered.read) gathered.read.end j.wrote.streams;
-  is = record {
-    text = j.text;
-    trace = j.trace;
-    of_run = answer_of (by_lines report) (answers.job_of laws plan gathered.read) gathered.read.end j.wrote.streams;
-    is_answer = record { streams = j.wrote.streams; solution = j.wrote.solution; is = refl };
-    is = refl;
-  };
-  short = short;
-}
-
 traced_of : {laws : Laws} (report : Reporting) (plan : Plan) (inputs : Inputs) (input : Device SourceTold) (end : FeedEnd) (status : Status) (output notes : Device SinkTold) (boxes : Device (List BoxTold)) (gathered : GatheredInputs (inputs_of plan) input end inputs)
     → JobTraced laws report plan (inputs_by (inputs_of plan) gathered.read) gathered.read.end status output notes boxes → Traced laws report plan boxes.before status (run_devices input output notes)
-traced_of {laws} report plan inputs input end Good output notes boxes gathered j = traced_all report plan inputs input end Good output notes boxes gathered j j.wrote.by
-traced_of {laws} report plan inputs input end StoreFault output notes boxes gathered j = traced_all report plan inputs input end StoreFault output notes boxes gathered j j.wrote.by
-traced_of {laws} report plan inputs input end Usage output notes boxes gathered j = traced_all report plan inputs input end Usage output notes boxes gathered j j.wrote.by
-traced_of {laws} report plan inputs input end GraphRefused output notes boxes gathered j = traced_all report plan inputs input end GraphRefused output notes boxes gathered j j.wrote.by
-traced_of {laws} report plan inputs input end LineRefused output notes boxes gathered j = traced_all report plan inputs input end LineRefused output notes boxes gathered j j.wrote.by
-traced_of {laws} report plan inputs input end NodeFault output notes boxes gathered j = traced_all report plan inputs input end NodeFault output notes boxes gathered j j.wrote.by
-traced_of {laws} report plan inputs input end Stalled output notes boxes gathered j = traced_all report plan inputs input end Stalled output notes boxes gathered j j.wrote.by
-traced_of {laws} report plan inputs input end ReadFault output notes boxes gathered j = traced_all report plan inputs input end ReadFault output notes boxes gathered j j.wrote.by
-traced_of {laws} report plan inputs input end WriteFault output notes boxes gathered j = traced_short report plan inputs input end WriteFault output notes boxes gathered j j.wrote.by
-traced_of {laws} report plan inputs input end OutOfMemory output notes boxes gathered j =
-    absurd (no-want plan input gathered.read.end (faults (answers.job_of laws plan gathered.read) j.wrote.streams) (stalled j.wrote.streams) gathered.came.came gathered.read gathered.came.by j.wrote.by.told)
+traced_of {laws} report plan inputs input end status output notes boxes gathered j = inl (record {
+  read = gathered.read;
+  came = gathered.came;
+  holds = record {
+    answer = answer_of (by_text j.text report) (answers.job_of laws plan gathered.read) gathered.read.end j.wrote.streams;
+    is = record {
+      text = j.text;
+      trace = j.trace;
+      of_run = answer_of (by_lines report) (answers.job_of laws plan gathered.read) gathered.read.end j.wrote.streams;
+      is_answer = record { streams = j.wrote.streams; solution = j.wrote.solution; is = refl };
+      is = refl;
+    };
+    by = j.wrote.by;
+  };
+})
 
 -- the job is that of what was read
 job_read : {laws : Laws} (report : Reporting) (plan : Plan) (inputs : Inputs) (input : Device SourceTold) (end : FeedEnd) (status : Status) (output notes : Device SinkTold) (boxes : Device (List BoxTold)) (gathered : GatheredInputs (inputs_of plan) input end inputs)
@@ -294,7 +258,7 @@ pub had_read : {laws : Laws} (report : Reporting) (plan : Plan) (inputs : Inputs
 had_read {laws} report plan inputs input end status output notes boxes gathered j = record {
   read = gathered.read;
   came = gathered.came;
-  had = subst (λ (i : Inputs). HadCallsOf (plan_job laws plan i) boxes) gathered.given j.had;
+  holds = subst (λ (i : Inputs). HadCallsOf (plan_job laws plan i) boxes) gathered.given j.had;
 }
 
 -- so much was read
@@ -311,7 +275,7 @@ short_read {laws} plan inputs input end output notes boxes gathered j = by j.too
     by (inr took) = inr (record {
       read = gathered.read;
       came = gathered.came;
-      took = subst (λ (i : Inputs). TookSomeTrace laws plan i boxes.before output) gathered.given took;
+      holds = subst (λ (i : Inputs). TookSomeTrace laws plan i boxes.before output) gathered.given took;
     })
 
 pub some_read : {laws : Laws} (plan : Plan) (inputs : Inputs) (input : Device SourceTold) (end : FeedEnd) (output : Device SinkTold) (boxes now : List BoxTold) → BoxesFit plan boxes → IsJob (plan_job laws plan inputs) → GatheredInputs (inputs_of plan) input end inputs
@@ -319,12 +283,12 @@ pub some_read : {laws : Laws} (plan : Plan) (inputs : Inputs) (input : Device So
 some_read {laws} plan inputs input end output boxes now fit is gathered j = inr (record {
   read = gathered.read;
   came = gathered.came;
-  fronts = subst (λ (i : Inputs). HadFronts (plan_job laws plan i) (device boxes now)) gathered.given
+  holds = subst (λ (i : Inputs). HadFronts (plan_job laws plan i) (device boxes now)) gathered.given
       (kept_now boxes now (logged laws plan inputs boxes) j.net fit refl j.stood is j.back);
 })
 
 pub all_are_some : {laws : Laws} (plan : Plan) (input : Device SourceTold) (boxes : Device (List BoxTold)) → BoxesFit plan boxes.before → AllHadCalls laws plan input boxes → HadSome laws plan input boxes
-all_are_some {laws} plan input boxes fit h = inr (record { read = h.read; came = h.came; fronts = all_are_fronts (answers.job_of laws plan h.read) boxes fit h.had })
+all_are_some {laws} plan input boxes fit h = inr (record { read = h.read; came = h.came; holds = all_are_fronts (answers.job_of laws plan h.read) boxes fit h.holds })
 
 -- a text that was put whole and isn't written yet
 pub opened : (sink : SinkTold) (blocks : BlockView) (text : List ℕ) → blocks ≡ record { kept = text; failed = false } → HasPutIn sink sink blocks text

@@ -2,6 +2,7 @@ pub mod Nets
 pub mod Batches
 pub mod Told
 pub mod Recorded
+pub mod Over
 pub mod Leaves
 pub mod OneRun
 pub mod Traced

@@ -1,7 +1,7 @@
 -- What a recorded run came to, by its status. Its output is a trace: the text of the job, and of the events that brought a net to rest once
 -- its nodes had begun. All else is as in a run that writes its outputs.
 use Rattle.std.specs.Prelude.{◌≡◌, ◌⊎◌, ℕ, List, ◌++◌}
-use Rattle.mg_edge.specs.Edge.{SourceTold, SinkTold}
+use Rattle.mg_edge.specs.Edge.{SinkTold}
 use Rattle.mg_calc.specs.Rules.{Laws}
 use Rattle.mg_calc.specs.declared.event.Event.{Event}
 use Rattle.mg_calc.specs.declared.inputs.Inputs.{Inputs}
@@ -10,14 +10,13 @@ use Rattle.mg_calc.specs.Told.{BoxTold}
 use Rattle.mg_feed.specs.Graph.{inputs_of}
 use Rattle.mg_trace.specs.Job.{job_text}
 use Rattle.mg_trace.specs.Trace.{events_text, trace_text}
-use Rattle.mg_answer.specs.Notes.{memory_note}
 use Rattle.mg_answer.specs.Answer.{Read, RunAnswer, by_lines, inputs_by, ended_input, job_of, failed_notes, IsAnswer}
-use Rattle.mg_answer.specs.Devices.{Device, RunDevices, Untouched, TookFront, TookNotes}
-use Rattle.mg_answer.specs.Wrote.{Meets, MetShort}
-use Rattle.mg_answer.specs.Ran.{CameTo, ReadSome}
+use Rattle.mg_answer.specs.Devices.{Device, RunDevices, Untouched, TookFront}
+use Rattle.mg_answer.specs.Wrote.{WroteBy}
+use Rattle.mg_answer.specs.Ran.{ReadSome}
 use Rattle.mg_answer.specs.declared.status.Status.{Status}
-use Rattle.mg_answer.specs.declared.status.Status.TheVariants.{WriteFault, OutOfMemory}
 use Rattle.mg_answer.specs.declared.run.Reporting.{Reporting}
+use Rattle.mg_drive.specs.Over.{OverInput, MemoryRanOut}
 use Rattle.mg_sched.specs.Views.{NetView}
 use Rattle.mg_sched.specs.Runs.{IsRun, IsBegun, IsRunAtRest}
 
@@ -55,34 +54,24 @@ TracesEnded laws report plan boxes bytes answer = IsTraced laws report plan boxe
 
 -- The run --
 
--- The recorded run wrote its answer.
-pub record TracedAll (laws : Laws) (report : Reporting) (plan : Plan) (boxes : List BoxTold) (status : Status) (devices : RunDevices) : Type 0 where
-  pub read : Read
-  pub input : CameTo (inputs_of plan) devices.input read
+-- The answer of a recorded run was written. If a write failed, what was written belongs to this answer.
+pub record WroteTrace (laws : Laws) (report : Reporting) (plan : Plan) (boxes : List BoxTold) (read : Read) (status : Status) (output notes : Device SinkTold) : Type 0 where
   pub answer : RunAnswer
   pub is : IsTraced laws report plan boxes read answer
-  pub met : Meets answer status devices.output devices.notes
+  pub by : WroteBy status answer (failed_notes (by_lines report) (job_of laws plan read) read.end is.is_answer.streams) output notes
 
--- A write failed after the input was read. The text that was written belongs to the recorded run's answer.
-pub record TracedShort (laws : Laws) (report : Reporting) (plan : Plan) (boxes : List BoxTold) (devices : RunDevices) : Type 0 where
-  pub read : Read
-  pub input : CameTo (inputs_of plan) devices.input read
-  pub answer : RunAnswer
-  pub is : IsTraced laws report plan boxes read answer
-  pub short : MetShort answer (failed_notes (by_lines report) (job_of laws plan read) read.end is.is_answer.streams) devices.output devices.notes
+-- The input was read, and the answer of a recorded run over it was written.
+abbrev pub TracedAll : Laws → Reporting → Plan → List BoxTold → Status → RunDevices → Type 0
+TracedAll laws report plan boxes status devices =
+    OverInput (inputs_of plan) devices.input (λ read. WroteTrace laws report plan boxes read status devices.output devices.notes)
 
--- The output took some of a trace of the job of what was read of the input.
-pub record TracedSome (laws : Laws) (plan : Plan) (boxes : List BoxTold) (input : Device SourceTold) (output : Device SinkTold) : Type 0 where
-  pub read : Read
-  pub came : CameTo (inputs_of plan) input read
-  pub took : TookSomeTrace laws plan (inputs_by (inputs_of plan) read) boxes output
-
--- Memory ran out, before anything was written or after the input was read.
+-- Memory ran out before anything was written, or after the input was read. In that case the output took some of a trace of the
+-- input's job.
 abbrev pub TracedOut : Laws → Plan → List BoxTold → RunDevices → Type 0
-TracedOut laws plan boxes devices = Untouched devices.output ⊎ TracedSome laws plan boxes devices.input devices.output
+TracedOut laws plan boxes devices =
+    Untouched devices.output ⊎ OverInput (inputs_of plan) devices.input (λ read. TookSomeTrace laws plan (inputs_by (inputs_of plan) read) boxes devices.output)
 
 -- A recorded run ended with this status. If memory ran out, the notes say only that, and what was read of the input was read once.
 abbrev pub Traced : Laws → Reporting → Plan → List BoxTold → Status → RunDevices → Type 0
-Traced laws report plan boxes WriteFault devices = TracedShort laws report plan boxes devices
-Traced laws report plan boxes OutOfMemory devices = TracedOut laws plan boxes devices × TookNotes devices.notes memory_note × ReadSome (inputs_of plan) devices.input
-Traced laws report plan boxes status devices = TracedAll laws report plan boxes status devices
+Traced laws report plan boxes status devices =
+    TracedAll laws report plan boxes status devices ⊎ MemoryRanOut status devices.notes (TracedOut laws plan boxes devices × ReadSome (inputs_of plan) devices.input)

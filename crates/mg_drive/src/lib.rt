@@ -1,8 +1,8 @@
 //! Drives a net over the batches of an input. After each batch it brings the net to rest, and tells the sets of the net's outputs as they
 //! come. At the end it winds the nodes up and writes the notes. A step of a run is written once (`make_step`), over three small traits: the
 //! net, where batches come from, and what tells the sets. A caller without a runtime only loops over the step. A caller with a runtime lets
-//! workers run the net before each step. Answers to the definitions of `specs/OneRun.antt`, `specs/OneLive.antt`, `specs/Traced.antt` and
-//! `specs/Leaves.antt`, and, of what is written, to those of mg_answer.
+//! workers run the net before each step. Answers to the definitions of `specs/OneRun.antt`, `specs/OneLive.antt`, `specs/Traced.antt`,
+//! `specs/Over.antt` and `specs/Leaves.antt`, and, of what is written, to those of mg_answer.
 #![tactic(auto)]
 
 mod batches;

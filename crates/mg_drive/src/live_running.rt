@@ -8,7 +8,7 @@ ghost use Rattle.mg_free.specs.Core.{split_of};
 ghost use Rattle.mg_answer.specs.Devices.{device};
 ghost use Rattle.mg_answer.specs.Held.{told_by, SameDevices};
 ghost use Rattle.mg_sched.specs.Made.{BoxesFit};
-ghost use Rattle.mg_drive.specs.OneLive.{OneLiveMade, OneLiveReading, LiveShortIn, LiveShortInMade, RanLive, RanLiveMade};
+ghost use Rattle.mg_drive.specs.OneLive.{OneLiveMade, OneLiveReading, LiveReadingOut, LiveMadeOut, RanLive, RanLiveMade};
 ghost use Rattle.mg_drive.specs.Code.LiveRunning.{HasRunLive, HasRunLiveShort, ReadsWhere};
 
 use crate::in_plan::InPlan;
@@ -76,7 +76,7 @@ fn lines_whole<
     requires valid { IsValidWithFree run.now.plan.now }
     requires boxes { BoxesFit (split_of run.now.plan.now).core (map C.told boxes.old.items) }
     ensures ran { IfOk result (λ status. OneLiveReading C.laws run.now.report early run.now.plan.now status (told_by S.told K.told E.told devices.old devices.new) (device (map C.told boxes.old.items) (map C.told boxes.new.items))) }
-    ensures short { OnErr result (LiveShortIn C.laws early run.now.plan.now (told_by S.told K.told E.told devices.old devices.new).input (told_by S.told K.told E.told devices.old devices.new).output (device (map C.told boxes.old.items) (map C.told boxes.new.items))) }
+    ensures short { OnErr result (LiveReadingOut C.laws early run.now.plan.now (told_by S.told K.told E.told devices.old devices.new).input (told_by S.told K.told E.told devices.old devices.new).output (device (map C.told boxes.old.items) (map C.told boxes.new.items))) }
     ensures unnoted { OnErr result (E.told devices.new.notes.now ≡ E.told devices.old.notes.now) }
     ensures same { SameDevices devices.old devices.new }
 {
@@ -137,7 +137,7 @@ fn made_whole<
     requires valid { IsValidWithFree run.now.plan.now }
     requires boxes { BoxesFit (split_of run.now.plan.now).core (map C.told boxes.old.items) }
     ensures ran { IfOk result (λ status. OneLiveMade C.laws run.now.report run.now.plan.now number status (told_by S.told K.told E.told devices.old devices.new).output (told_by S.told K.told E.told devices.old devices.new).notes (device (map C.told boxes.old.items) (map C.told boxes.new.items))) }
-    ensures short { OnErr result (LiveShortInMade C.laws run.now.plan.now number (told_by S.told K.told E.told devices.old devices.new).output (device (map C.told boxes.old.items) (map C.told boxes.new.items))) }
+    ensures short { OnErr result (LiveMadeOut C.laws run.now.plan.now number (told_by S.told K.told E.told devices.old devices.new).output (device (map C.told boxes.old.items) (map C.told boxes.new.items))) }
     ensures unnoted { OnErr result (E.told devices.new.notes.now ≡ E.told devices.old.notes.now) }
     ensures unread { S.told devices.new.input.now ≡ S.told devices.old.input.now }
     ensures same { SameDevices devices.old devices.new }
@@ -245,7 +245,7 @@ fn lines_whole_alone<G: Gate, C: NodeCalculator, S: Source, K: Sink, E: Sink>(
     requires valid { IsValidWithFree run.now.plan.now }
     requires boxes { BoxesFit (split_of run.now.plan.now).core (map C.told boxes.old.items) }
     ensures ran { IfOk result (λ status. OneLiveReading C.laws run.now.report early run.now.plan.now status (told_by S.told K.told E.told devices.old devices.new) (device (map C.told boxes.old.items) (map C.told boxes.new.items))) }
-    ensures short { OnErr result (LiveShortIn C.laws early run.now.plan.now (told_by S.told K.told E.told devices.old devices.new).input (told_by S.told K.told E.told devices.old devices.new).output (device (map C.told boxes.old.items) (map C.told boxes.new.items))) }
+    ensures short { OnErr result (LiveReadingOut C.laws early run.now.plan.now (told_by S.told K.told E.told devices.old devices.new).input (told_by S.told K.told E.told devices.old devices.new).output (device (map C.told boxes.old.items) (map C.told boxes.new.items))) }
     ensures unnoted { OnErr result (E.told devices.new.notes.now ≡ E.told devices.old.notes.now) }
     ensures same { SameDevices devices.old devices.new }
 {
@@ -291,7 +291,7 @@ fn made_whole_alone<G: Gate, C: NodeCalculator, S: Source, K: Sink, E: Sink>(
     requires valid { IsValidWithFree run.now.plan.now }
     requires boxes { BoxesFit (split_of run.now.plan.now).core (map C.told boxes.old.items) }
     ensures ran { IfOk result (λ status. OneLiveMade C.laws run.now.report run.now.plan.now number status (told_by S.told K.told E.told devices.old devices.new).output (told_by S.told K.told E.told devices.old devices.new).notes (device (map C.told boxes.old.items) (map C.told boxes.new.items))) }
-    ensures short { OnErr result (LiveShortInMade C.laws run.now.plan.now number (told_by S.told K.told E.told devices.old devices.new).output (device (map C.told boxes.old.items) (map C.told boxes.new.items))) }
+    ensures short { OnErr result (LiveMadeOut C.laws run.now.plan.now number (told_by S.told K.told E.told devices.old devices.new).output (device (map C.told boxes.old.items) (map C.told boxes.new.items))) }
     ensures unnoted { OnErr result (E.told devices.new.notes.now ≡ E.told devices.old.notes.now) }
     ensures unread { S.told devices.new.input.now ≡ S.told devices.old.input.now }
     ensures same { SameDevices devices.old devices.new }

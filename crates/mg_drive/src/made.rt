@@ -6,7 +6,7 @@ ghost use Rattle.mg_answer.specs.Summary.{HasSummed};
 ghost use Rattle.mg_answer.specs.Devices.{device};
 ghost use Rattle.mg_answer.specs.Held.{told_by, SameDevices};
 ghost use Rattle.mg_sched.specs.Made.{BoxesFit};
-ghost use Rattle.mg_drive.specs.OneRun.{OneMade, ShortInMade, RanOverPackets};
+ghost use Rattle.mg_drive.specs.OneRun.{OneMade, MadeOut, RanOverPackets};
 ghost use Rattle.mg_feed.specs.GeneratorSeen.{making};
 ghost use Rattle.mg_drive.specs.Code.InPieces.{AreToCome};
 
@@ -71,7 +71,7 @@ fn run_whole<
     requires valid { IsValid run.now.plan.now }
     requires boxes { BoxesFit run.now.plan.now (map C.told boxes.old.items) }
     ensures ran { IfOk result (λ status. OneMade C.laws run.now.report run.now.plan.now number status (told_by S.told K.told E.told devices.old devices.new).output (told_by S.told K.told E.told devices.old devices.new).notes (device (map C.told boxes.old.items) (map C.told boxes.new.items))) }
-    ensures short { OnErr result (ShortInMade C.laws run.now.plan.now number (told_by S.told K.told E.told devices.old devices.new).output (device (map C.told boxes.old.items) (map C.told boxes.new.items))) }
+    ensures short { OnErr result (MadeOut C.laws run.now.plan.now number (told_by S.told K.told E.told devices.old devices.new).output (device (map C.told boxes.old.items) (map C.told boxes.new.items))) }
     ensures unnoted { OnErr result (E.told devices.new.notes.now ≡ E.told devices.old.notes.now) }
     ensures unread { S.told devices.new.input.now ≡ S.told devices.old.input.now }
     ensures same { SameDevices devices.old devices.new }
@@ -114,7 +114,7 @@ fn run_whole_alone<G: Gate, C: NodeCalculator, S: Source, K: Sink, E: Sink>(
     requires valid { IsValid run.now.plan.now }
     requires boxes { BoxesFit run.now.plan.now (map C.told boxes.old.items) }
     ensures ran { IfOk result (λ status. OneMade C.laws run.now.report run.now.plan.now number status (told_by S.told K.told E.told devices.old devices.new).output (told_by S.told K.told E.told devices.old devices.new).notes (device (map C.told boxes.old.items) (map C.told boxes.new.items))) }
-    ensures short { OnErr result (ShortInMade C.laws run.now.plan.now number (told_by S.told K.told E.told devices.old devices.new).output (device (map C.told boxes.old.items) (map C.told boxes.new.items))) }
+    ensures short { OnErr result (MadeOut C.laws run.now.plan.now number (told_by S.told K.told E.told devices.old devices.new).output (device (map C.told boxes.old.items) (map C.told boxes.new.items))) }
     ensures unnoted { OnErr result (E.told devices.new.notes.now ≡ E.told devices.old.notes.now) }
     ensures unread { S.told devices.new.input.now ≡ S.told devices.old.input.now }
     ensures same { SameDevices devices.old devices.new }

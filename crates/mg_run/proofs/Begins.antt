@@ -9,7 +9,7 @@ use Rattle.mg_answer.specs.declared.run.Reporting.{Reporting}
 use Rattle.mg_answer.specs.declared.status.Status.{Status}
 use Rattle.mg_answer.specs.declared.devices.Devices.{Devices as Held}
 use Rattle.mg_run.specs.Devices.{Device, device, RunDevices, CallDevices, devices, with_run, SameDevices}
-use Rattle.mg_run.specs.Call.{DidAction}
+use Rattle.mg_run.specs.Call.{UsedGraph}
 use Rattle.mg_run.specs.Code.Action.{use_action}
 use Rattle.mg_run.specs.Code.Begun.{IsLeft, IsBegun}
 use Rattle.mg_run.specs.declared.action.Use.{Use}
@@ -41,7 +41,7 @@ begun_left laws outers known begun used report plan store run boxes is begins = 
 -- what comes of a use is what comes of the call; the call's devices were the same when the use began
 pub left_came : (laws : Laws) (outers : List OuterShape) (known : Status → CallDevices → Type 0) (used : Use) (report : Reporting) (plan : Plan) (store : Device StoreTold) (i0 i1 i2 : SourceTold) (o0 o1 o2 n0 n1 n2 : SinkTold) (status : Status) (boxes : Device (List BoxTold))
     → IsLeft laws outers known used report plan store (record { input = device i0 i1; output = device o0 o1; notes = device n0 n1 })
-    → DidAction laws (use_action used report plan) status (devices store (device i1 i2) (device o1 o2) (device n1 n2) boxes) → known status (devices store (device i0 i2) (device o0 o2) (device n0 n2) boxes)
+    → UsedGraph laws (use_action used report plan) status (devices store (device i1 i2) (device o1 o2) (device n1 n2) boxes) → known status (devices store (device i0 i2) (device o0 o2) (device n0 n2) boxes)
 left_came laws outers known used report plan store i0 i1 i2 o0 o1 o2 n0 n1 n2 status boxes left did =
     subst (λ (i : SourceTold). known status (devices store (device i i2) (device o0 o2) (device n0 n2) boxes)) left.unread
     (subst (λ (o : SinkTold). known status (devices store (device i1 i2) (device o o2) (device n0 n2) boxes)) left.unwritten

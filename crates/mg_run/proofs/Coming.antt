@@ -20,7 +20,7 @@ use Rattle.mg_run.specs.Devices.{Device, device, CallDevices, devices, run_devic
 use Rattle.mg_answer.specs.Notes.{memory_note}
 use Rattle.mg_answer.proofs.Answering.{noted-from}
 use Rattle.mg_words.specs.Help.{usage_note}
-use Rattle.mg_run.specs.Call.{Written, WasUsage, WasTold, DidAction, IsActionOf, CallDid, DidNothing, CallEnded, Called, IsAnswered, IsOneOf}
+use Rattle.mg_run.specs.Call.{Written, WasUsage, WasTold, UsedGraph, IsActionOf, CallEnded, Called, file_unloaded, graph_refused, text_shown, text_failed, graph_used, memory_out, IsAnswered, IsOneOf}
 use Rattle.mg_words.specs.Command.{reads_input, calls_boxes}
 use Rattle.mg_words.specs.declared.words.Instruction.{Instruction}
 use Rattle.mg_words.specs.declared.words.Verb.{Verb}
@@ -28,12 +28,12 @@ use Rattle.mg_words.specs.declared.words.Verb.TheVariants.{Check, Expand, Use}
 use Rattle.mg_words.specs.declared.words.Way.{Way}
 use Rattle.mg_words.specs.declared.words.Way.TheVariants.{Run, Solve, Generate, Trace, Replay}
 use Rattle.mg_answer.specs.declared.status.Status.{Status}
-use Rattle.mg_answer.specs.declared.status.Status.TheVariants.{Good, StoreFault, Usage, GraphRefused, LineRefused, NodeFault, Stalled, ReadFault, WriteFault, OutOfMemory}
+use Rattle.mg_answer.specs.declared.status.Status.TheVariants.{StoreFault, Usage, GraphRefused, ReadFault, WriteFault, OutOfMemory}
 use Rattle.mg_answer.specs.declared.run.Reporting.{Reporting}
 use Rattle.mg_feed.specs.Sent.{Sent}
 use Rattle.mg_run.proofs.Readings.{lines-boxes, packets-boxes}
 use Rattle.mg_run.proofs.LiveReadings.{live-boxes, live-made-boxes}
-use Rattle.mg_run.proofs.Calling.{short-nothing, answered-from}
+use Rattle.mg_run.proofs.Calling.{called-nothing, called-usage, called-noted, WasUnloaded, called-unloaded, answered-from}
 use Rattle.mg_run.proofs.Planned.{planned}
 use Rattle.mg_run.proofs.Ending.{ended_statuses, called-unread, called-ended}
 use Rattle.mg_run.proofs.Risen.{store-risen, read-risen, write-risen, risen-steady}
@@ -41,9 +41,9 @@ use Rattle.mg_run.proofs.Risen.{store-risen, read-risen, write-risen, risen-stea
 -- There was no memory to judge the words.
 came-short : (laws : Laws) (outers : List OuterShape) (request : Request) (store : StoreTold) (input : SourceTold) (output : SinkTold) (notes : Device SinkTold) (boxes : List BoxTold) → TookNotes notes memory_note
     → CallEnded laws outers request OutOfMemory (devices (device store store) (device input input) (device output output) notes (device boxes boxes))
-came-short laws outers asks_usage store input output notes boxes noted = record { noted = inr (refl, noted); unloaded = refl; unread = refl; unwritten = refl; uncalled = refl }
+came-short laws outers asks_usage store input output notes boxes noted = record { noted = inr (refl, noted); unloaded = refl; nothing = record { unread = refl; unwritten = refl; uncalled = refl } }
 came-short laws outers (asks_text text) store input output notes boxes noted = record { written = inr (refl, refl, noted); unloaded = refl; unread = refl; uncalled = refl }
-came-short laws outers (asks_command command) store input output notes boxes noted = short-nothing laws (invocation command outers) (device store store) input output notes boxes noted
+came-short laws outers (asks_command command) store input output notes boxes noted = called-nothing laws (invocation command outers) store input output notes boxes noted
 
 pub came-nothing : (laws : Laws) (outers : List OuterShape) (request : Request) (status : Status) (store : StoreTold) (input : SourceTold) (output : SinkTold) (notes : Device SinkTold) (boxes : List BoxTold)
     → status ≡ OutOfMemory → TookNotes notes memory_note → CallEnded laws outers request status (devices (device store store) (device input input) (device output output) notes (device boxes boxes))
@@ -56,7 +56,7 @@ pub usage-came : (laws : Laws) (outers : List OuterShape) (request : Request) (a
     → Untouched all.store → Untouched all.input → Untouched all.output → Untouched all.boxes → CallEnded laws outers request Usage all
 usage-came laws outers request all done is sent unloaded unread unwritten uncalled =
     subst (λ (a : Request). CallEnded laws outers a Usage all) (sym is)
-    (record { noted = inl (refl, noted-from done all.notes usage_note sent); unloaded = unloaded; unread = unread; unwritten = unwritten; uncalled = uncalled })
+    (record { noted = inl (refl, noted-from done all.notes usage_note sent); unloaded = unloaded; nothing = record { unread = unread; unwritten = unwritten; uncalled = uncalled } })
 
 -- Usage --
 
@@ -71,7 +71,7 @@ told-status text all told = by told.written
 asks-by-status : (laws : Laws) (outers : List OuterShape) (request : Request) (status : Status) (all : CallDevices) → CallEnded laws outers request status all → status ≡ Usage → request ≡ asks_usage
 asks-by-status laws outers asks_usage status all came is = refl
 asks-by-status laws outers (asks_text text) status all came is = absurd (told-status text all (subst (λ (s : Status). WasTold text s all) is came))
-asks-by-status laws outers (asks_command command) status all came is = absurd (subst (λ (s : Status). Called laws s (invocation command outers) all) is came)
+asks-by-status laws outers (asks_command command) status all came is = absurd (called-usage laws (invocation command outers) all status came is)
 
 usage-status : (status : Status) (all : CallDevices) → WasUsage status all → status ≢ OutOfMemory → status ≡ Usage
 usage-status status all was some = by was.noted
@@ -91,10 +91,16 @@ came-told laws outers request status all came text is = subst (λ (a : Request).
 
 -- A command --
 
-pub came-called : (laws : Laws) (outers : List OuterShape) (request : Request) (status : Status) (all : CallDevices) → CallEnded laws outers request status all → IfSome (command_by request) (λ command. Called laws status (invocation command outers) all)
+pub came-called : (laws : Laws) (outers : List OuterShape) (request : Request) (status : Status) (all : CallDevices) → CallEnded laws outers request status all → IfSome (command_by request) (λ command. Called laws (invocation command outers) all status)
 came-called laws outers asks_usage status all came = tt
 came-called laws outers (asks_text text) status all came = tt
 came-called laws outers (asks_command command) status all came = came
+
+pub came-unloaded : (laws : Laws) (outers : List OuterShape) (request : Request) (status : Status) (all : CallDevices) → CallEnded laws outers request status all
+    → IfSome (command_by request) (λ command. status ≡ StoreFault → WasUnloaded (invocation command outers).files all)
+came-unloaded laws outers asks_usage status all came = tt
+came-unloaded laws outers (asks_text text) status all came = tt
+came-unloaded laws outers (asks_command command) status all came = called-unloaded laws (invocation command outers) all status came
 
 pub came-answered : (laws : Laws) (outers : List OuterShape) (request : Request) (status : Status) (all : CallDevices) → CallEnded laws outers request status all
     → IfSome (command_by request) (λ command. NoneFailed all → status ≢ OutOfMemory → IsAnswered laws status (invocation command outers) all)
@@ -125,7 +131,7 @@ came-store laws outers (asks_command command) status all came risen = store-rise
 
 pub came-read : (laws : Laws) (outers : List OuterShape) (request : Request) (status : Status) (all : CallDevices) → CallEnded laws outers request status all → HasRisen all.input.before.faults all.input.now.faults
     → IsOneOf status (ReadFault ∷ WriteFault ∷ OutOfMemory ∷ [])
-came-read laws outers asks_usage status all came risen = absurd (risen-steady _ _ risen (ap (λ s. s.faults) came.unread))
+came-read laws outers asks_usage status all came risen = absurd (risen-steady _ _ risen (ap (λ s. s.faults) came.nothing.unread))
 came-read laws outers (asks_text text) status all came risen = absurd (risen-steady _ _ risen (ap (λ s. s.faults) came.unread))
 came-read laws outers (asks_command command) status all came risen = read-risen laws status (invocation command outers) all came risen
 
@@ -176,42 +182,34 @@ told-noted text all told = by told.written
 noted-by : (laws : Laws) (outers : List OuterShape) (request : Request) (all : CallDevices) → CallEnded laws outers request OutOfMemory all → TookNotes all.notes memory_note
 noted-by laws outers asks_usage all came = usage-noted all came
 noted-by laws outers (asks_text text) all came = told-noted text all came
-noted-by laws outers (asks_command command) all came = came.noted
+noted-by laws outers (asks_command command) all came = called-noted laws (invocation command outers) all OutOfMemory came refl
 
 pub came-noted : (laws : Laws) (outers : List OuterShape) (request : Request) (status : Status) (all : CallDevices) → CallEnded laws outers request status all → status ≡ OutOfMemory → TookNotes all.notes memory_note
 came-noted laws outers request status all came is = noted-by laws outers request all (subst (λ (s : Status). CallEnded laws outers request s all) is came)
 
 -- The calculators --
 
-did-boxes : (laws : Laws) (action : Action) (status : Status) (all : CallDevices) → DidAction laws action status all → length all.boxes.now ≡ length all.boxes.before
-did-boxes laws (refuse note) status all did = ap length did.uncalled
-did-boxes laws (show text) status all did = ap length did.uncalled
+did-boxes : (laws : Laws) (action : Action) (status : Status) (all : CallDevices) → UsedGraph laws action status all → length all.boxes.now ≡ length all.boxes.before
+did-boxes laws (refuse note) status all did = absurd did
+did-boxes laws (show text) status all did = absurd did
 did-boxes laws (run_plan report plan) status all did = lines-boxes laws report plan status (run_devices_of all) all.boxes did
 did-boxes laws (run_live report early plan) status all did = live-boxes laws report early plan status (run_devices_of all) all.boxes did
-did-boxes laws (solve report plan) status all did = ap length did.uncalled
-did-boxes laws (generate report number plan) status all did = packets-boxes laws report plan number status all.output all.notes all.boxes did.ran
-did-boxes laws (generate_live report number plan) status all did = live-made-boxes laws report plan number status all.output all.notes all.boxes did.ran
-did-boxes laws (trace report plan) status all did = did.left.count
-did-boxes laws (replay report plan) status all did = did.left.count
+did-boxes laws (solve report plan) status all did = ap length did.1
+did-boxes laws (generate report number plan) status all did = packets-boxes laws report plan number status all.output all.notes all.boxes did.0
+did-boxes laws (generate_live report number plan) status all did = live-made-boxes laws report plan number status all.output all.notes all.boxes did.0
+did-boxes laws (trace report plan) status all did = did.1.back.count
+did-boxes laws (replay report plan) status all did = did.1.count
 
-short-boxes : (laws : Laws) (invocation : Invocation) (all : CallDevices) → DidNothing all ⊎ CallDid laws OutOfMemory invocation all → length all.boxes.now ≡ length all.boxes.before
-short-boxes laws invocation all (inl nothing) = ap length nothing.uncalled
-short-boxes laws invocation all (inr called) = did-boxes laws called.action OutOfMemory all called.did
-
-called-boxes : (laws : Laws) (status : Status) (invocation : Invocation) (all : CallDevices) → Called laws status invocation all → length all.boxes.now ≡ length all.boxes.before
-called-boxes laws StoreFault invocation all called = ap length called.uncalled
-called-boxes laws Usage invocation all called = elim called [ ]
-called-boxes laws OutOfMemory invocation all called = short-boxes laws invocation all called.by
-called-boxes laws Good invocation all called = did-boxes laws called.action Good all called.did
-called-boxes laws GraphRefused invocation all called = did-boxes laws called.action GraphRefused all called.did
-called-boxes laws LineRefused invocation all called = did-boxes laws called.action LineRefused all called.did
-called-boxes laws NodeFault invocation all called = did-boxes laws called.action NodeFault all called.did
-called-boxes laws Stalled invocation all called = did-boxes laws called.action Stalled all called.did
-called-boxes laws ReadFault invocation all called = did-boxes laws called.action ReadFault all called.did
-called-boxes laws WriteFault invocation all called = did-boxes laws called.action WriteFault all called.did
+called-boxes : (laws : Laws) (status : Status) (invocation : Invocation) (all : CallDevices) → Called laws invocation all status → length all.boxes.now ≡ length all.boxes.before
+called-boxes laws status invocation all (file_unloaded file failed noted nothing) = ap length nothing.uncalled
+called-boxes laws status invocation all (graph_refused note due noted nothing) = ap length nothing.uncalled
+called-boxes laws status invocation all (text_shown text due took unnoted unread uncalled) = ap length uncalled
+called-boxes laws status invocation all (text_failed text due took noted unread uncalled) = ap length uncalled
+called-boxes laws status invocation all (graph_used action due graph) = did-boxes laws action status all graph
+called-boxes laws status invocation all (memory_out loaded noted nothing) = ap length nothing.uncalled
 
 pub came-boxes : (laws : Laws) (outers : List OuterShape) (request : Request) (status : Status) (all : CallDevices) → CallEnded laws outers request status all → length all.boxes.now ≡ length all.boxes.before
-came-boxes laws outers asks_usage status all came = ap length came.uncalled
+came-boxes laws outers asks_usage status all came = ap length came.nothing.uncalled
 came-boxes laws outers (asks_text text) status all came = ap length came.uncalled
 came-boxes laws outers (asks_command command) status all came = called-boxes laws status (invocation command outers) all came
 
@@ -271,35 +269,24 @@ files-no-run instruction outers (no_graphs note) is runs = runs
 due-no-run : (invocation : Invocation) (contents : List (List ℕ)) (action : Action) → calls_boxes invocation.instruction.verb ≡ false → IsActionOf invocation contents action → IsRun action → ⊥
 due-no-run invocation contents action is (files, are, same) runs = files-no-run invocation.instruction invocation.outers files is (subst IsRun same runs)
 
-did-uncalled : (laws : Laws) (action : Action) (status : Status) (all : CallDevices) → (IsRun action → ⊥) → DidAction laws action status all → Untouched all.boxes
-did-uncalled laws (refuse note) status all none did = did.uncalled
-did-uncalled laws (show text) status all none did = did.uncalled
+did-uncalled : (laws : Laws) (action : Action) (status : Status) (all : CallDevices) → (IsRun action → ⊥) → UsedGraph laws action status all → Untouched all.boxes
+did-uncalled laws (refuse note) status all none did = absurd did
+did-uncalled laws (show text) status all none did = absurd did
 did-uncalled laws (run_plan report plan) status all none did = absurd (none tt)
 did-uncalled laws (run_live report early plan) status all none did = absurd (none tt)
-did-uncalled laws (solve report plan) status all none did = did.uncalled
+did-uncalled laws (solve report plan) status all none did = did.1
 did-uncalled laws (generate report number plan) status all none did = absurd (none tt)
 did-uncalled laws (generate_live report number plan) status all none did = absurd (none tt)
 did-uncalled laws (trace report plan) status all none did = absurd (none tt)
 did-uncalled laws (replay report plan) status all none did = absurd (none tt)
 
-call-uncalled : (laws : Laws) (status : Status) (invocation : Invocation) (all : CallDevices) → calls_boxes invocation.instruction.verb ≡ false → CallDid laws status invocation all → Untouched all.boxes
-call-uncalled laws status invocation all is called = did-uncalled laws called.action status all (due-no-run invocation called.contents called.action is called.due) called.did
-
-short-uncalled : (laws : Laws) (invocation : Invocation) (all : CallDevices) → calls_boxes invocation.instruction.verb ≡ false → DidNothing all ⊎ CallDid laws OutOfMemory invocation all → Untouched all.boxes
-short-uncalled laws invocation all is (inl nothing) = nothing.uncalled
-short-uncalled laws invocation all is (inr called) = call-uncalled laws OutOfMemory invocation all is called
-
-called-uncalled : (laws : Laws) (status : Status) (invocation : Invocation) (all : CallDevices) → calls_boxes invocation.instruction.verb ≡ false → Called laws status invocation all → Untouched all.boxes
-called-uncalled laws StoreFault invocation all is called = called.uncalled
-called-uncalled laws Usage invocation all is called = elim called [ ]
-called-uncalled laws OutOfMemory invocation all is called = short-uncalled laws invocation all is called.by
-called-uncalled laws Good invocation all is called = call-uncalled laws Good invocation all is called
-called-uncalled laws GraphRefused invocation all is called = call-uncalled laws GraphRefused invocation all is called
-called-uncalled laws LineRefused invocation all is called = call-uncalled laws LineRefused invocation all is called
-called-uncalled laws NodeFault invocation all is called = call-uncalled laws NodeFault invocation all is called
-called-uncalled laws Stalled invocation all is called = call-uncalled laws Stalled invocation all is called
-called-uncalled laws ReadFault invocation all is called = call-uncalled laws ReadFault invocation all is called
-called-uncalled laws WriteFault invocation all is called = call-uncalled laws WriteFault invocation all is called
+called-uncalled : (laws : Laws) (status : Status) (invocation : Invocation) (all : CallDevices) → calls_boxes invocation.instruction.verb ≡ false → Called laws invocation all status → Untouched all.boxes
+called-uncalled laws status invocation all is (file_unloaded file failed noted nothing) = nothing.uncalled
+called-uncalled laws status invocation all is (graph_refused note due noted nothing) = nothing.uncalled
+called-uncalled laws status invocation all is (text_shown text due took unnoted unread uncalled) = uncalled
+called-uncalled laws status invocation all is (text_failed text due took noted unread uncalled) = uncalled
+called-uncalled laws status invocation all is (graph_used action due graph) = did-uncalled laws action status all (due-no-run invocation due.contents action is due.due) graph
+called-uncalled laws status invocation all is (memory_out loaded noted nothing) = nothing.uncalled
 
 pub came-uncalled : (laws : Laws) (outers : List OuterShape) (request : Request) (status : Status) (all : CallDevices) → CallEnded laws outers request status all
     → IfSome (command_by request) (λ command. calls_boxes command.instruction.verb ≡ false → Untouched all.boxes)

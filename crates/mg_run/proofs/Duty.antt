@@ -10,8 +10,7 @@ use Rattle.mg_run.specs.Invocation.{invocation}
 use Rattle.mg_run.specs.Boxes.{outers_told}
 use Rattle.mg_run.specs.Devices.{Device}
 use Rattle.mg_run.specs.Answer.{Action}
-use Rattle.mg_run.specs.Call.{IsActionOf}
-use Rattle.mg_run.specs.Code.Action.{IsDue}
+use Rattle.mg_run.specs.Call.{IsActionOf, IsDue}
 
 pub due_by : (request : Command) (known outers : List OuterShape) (contents : List (List ℕ)) (store : Device StoreTold) (action : Action) → known ≡ outers → All IsOuterShape known
     → LoadedAll request.files contents store → IsActionOf (invocation request known) contents action → IsDue (invocation request outers) store action

@@ -22,7 +22,7 @@ use Rattle.mg_run.specs.Invocation.{Invocation}
 use Rattle.mg_files.specs.Files.{Files, graphs, no_graphs}
 use Rattle.mg_run.specs.Answer.{reporting, Action, refuse, show, run_plan, run_live, solve, generate, generate_live, trace, replay, check_action, solve_action, first_stated, way_action, live_action, verb_action, expanded_action, files_action}
 use Rattle.mg_run.specs.Devices.{Device, CallDevices, run_devices_of, Untouched, InputHasEnded}
-use Rattle.mg_run.specs.Call.{DidAction, IsActionOf, DidNothing, CallDid, Called, IsOneOf}
+use Rattle.mg_run.specs.Call.{UsedGraph, IsActionOf, Called, file_unloaded, graph_refused, text_shown, text_failed, graph_used, memory_out, IsOneOf}
 use Rattle.mg_run.proofs.Planned.{planned}
 use Rattle.mg_words.specs.declared.words.Instruction.{Instruction}
 use Rattle.mg_words.specs.declared.words.Verb.{Verb}
@@ -30,7 +30,7 @@ use Rattle.mg_words.specs.declared.words.Verb.TheVariants.{Check, Expand, Use}
 use Rattle.mg_words.specs.declared.words.Way.{Way}
 use Rattle.mg_words.specs.declared.words.Way.TheVariants.{Run, Solve, Generate, Trace, Replay}
 use Rattle.mg_answer.specs.declared.status.Status.{Status}
-use Rattle.mg_answer.specs.declared.status.Status.TheVariants.{Good, StoreFault, Usage, GraphRefused, LineRefused, NodeFault, Stalled, ReadFault, WriteFault, OutOfMemory}
+use Rattle.mg_answer.specs.declared.status.Status.TheVariants.{Good, StoreFault, GraphRefused, NodeFault, Stalled, WriteFault, OutOfMemory}
 use Rattle.mg_answer.specs.declared.run.Reporting.{Reporting}
 
 -- the input may be read if this action is done
@@ -82,35 +82,24 @@ files-unread instruction outers (no_graphs note) is may = may
 due-unread : (invocation : Invocation) (contents : List (List ℕ)) (action : Action) → IsActionOf invocation contents action → reads_input invocation.instruction.verb ≡ false → MayRead action → ⊥
 due-unread invocation contents action (files, are, same) is may = files-unread invocation.instruction invocation.outers files is (subst MayRead same may)
 
-did-unread : (laws : Laws) (action : Action) (status : Status) (all : CallDevices) → (MayRead action → ⊥) → DidAction laws action status all → Untouched all.input
-did-unread laws (refuse note) status all none did = did.unread
-did-unread laws (show text) status all none did = did.unread
+did-unread : (laws : Laws) (action : Action) (status : Status) (all : CallDevices) → (MayRead action → ⊥) → UsedGraph laws action status all → Untouched all.input
+did-unread laws (refuse note) status all none did = absurd did
+did-unread laws (show text) status all none did = absurd did
 did-unread laws (run_plan report plan) status all none did = absurd (none tt)
 did-unread laws (run_live report early plan) status all none did = absurd (none tt)
 did-unread laws (solve report plan) status all none did = absurd (none tt)
-did-unread laws (generate report number plan) status all none did = did.unread
-did-unread laws (generate_live report number plan) status all none did = did.unread
+did-unread laws (generate report number plan) status all none did = did.1
+did-unread laws (generate_live report number plan) status all none did = did.1
 did-unread laws (trace report plan) status all none did = absurd (none tt)
 did-unread laws (replay report plan) status all none did = absurd (none tt)
 
-call-unread : (laws : Laws) (status : Status) (invocation : Invocation) (all : CallDevices) → reads_input invocation.instruction.verb ≡ false → CallDid laws status invocation all → Untouched all.input
-call-unread laws status invocation all is called = did-unread laws called.action status all (due-unread invocation called.contents called.action called.due is) called.did
-
-short-unread : (laws : Laws) (invocation : Invocation) (all : CallDevices) → reads_input invocation.instruction.verb ≡ false → DidNothing all ⊎ CallDid laws OutOfMemory invocation all → Untouched all.input
-short-unread laws invocation all is (inl nothing) = nothing.unread
-short-unread laws invocation all is (inr called) = call-unread laws OutOfMemory invocation all is called
-
-pub called-unread : (laws : Laws) (status : Status) (invocation : Invocation) (all : CallDevices) → reads_input invocation.instruction.verb ≡ false → Called laws status invocation all → Untouched all.input
-called-unread laws StoreFault invocation all is called = called.unread
-called-unread laws Usage invocation all is called = elim called [ ]
-called-unread laws OutOfMemory invocation all is called = short-unread laws invocation all is called.by
-called-unread laws Good invocation all is called = call-unread laws Good invocation all is called
-called-unread laws GraphRefused invocation all is called = call-unread laws GraphRefused invocation all is called
-called-unread laws LineRefused invocation all is called = call-unread laws LineRefused invocation all is called
-called-unread laws NodeFault invocation all is called = call-unread laws NodeFault invocation all is called
-called-unread laws Stalled invocation all is called = call-unread laws Stalled invocation all is called
-called-unread laws ReadFault invocation all is called = call-unread laws ReadFault invocation all is called
-called-unread laws WriteFault invocation all is called = call-unread laws WriteFault invocation all is called
+pub called-unread : (laws : Laws) (status : Status) (invocation : Invocation) (all : CallDevices) → reads_input invocation.instruction.verb ≡ false → Called laws invocation all status → Untouched all.input
+called-unread laws status invocation all is (file_unloaded file failed noted nothing) = nothing.unread
+called-unread laws status invocation all is (graph_refused note due noted nothing) = nothing.unread
+called-unread laws status invocation all is (text_shown text due took unnoted unread uncalled) = unread
+called-unread laws status invocation all is (text_failed text due took noted unread uncalled) = unread
+called-unread laws status invocation all is (graph_used action due graph) = did-unread laws action status all (due-unread invocation due.contents action due.due is) graph
+called-unread laws status invocation all is (memory_out loaded noted nothing) = nothing.unread
 
 -- An action needs no input if it shows a text or makes packets. A command that reads the input has no such action.
 abbrev NeedsNone : Action → Type 0
@@ -165,12 +154,6 @@ due-reads invocation contents action (files, are, same) reads none = files-read 
 abbrev pub ended_statuses : List Status
 ended_statuses = Good ∷ NodeFault ∷ Stalled ∷ []
 
-refused-ended : (status : Status) → status ≡ GraphRefused → IsOneOf status ended_statuses → ⊥
-refused-ended status is (inl e) = cc
-refused-ended status is (inr (inl e)) = cc
-refused-ended status is (inr (inr (inl e))) = cc
-refused-ended status is (inr (inr (inr e))) = e
-
 short-ended : (status : Status) → status ≡ OutOfMemory → IsOneOf status ended_statuses → ⊥
 short-ended status is (inl e) = cc
 short-ended status is (inr (inl e)) = cc
@@ -180,40 +163,42 @@ short-ended status is (inr (inr (inr e))) = e
 end-came : (input : Device SourceTold) → EndCame input.before input.now → InputHasEnded input
 end-came input came = record { rose = rises-after input.before.ends input.before.ends input.now.ends refl came.rose; none = came.none }
 
-did-ended : (laws : Laws) (invocation : Invocation) (contents : List (List ℕ)) (action : Action) (status : Status) (all : CallDevices) → IsActionOf invocation contents action → DidAction laws action status all → reads_input invocation.instruction.verb ≡ true
+did-ended : (laws : Laws) (invocation : Invocation) (contents : List (List ℕ)) (action : Action) (status : Status) (all : CallDevices) → IsActionOf invocation contents action → UsedGraph laws action status all → reads_input invocation.instruction.verb ≡ true
     → IsOneOf status ended_statuses → InputHasEnded all.input
-did-ended laws invocation contents (refuse note) status all due did reads one = absurd (refused-ended status did.ended one)
-did-ended laws invocation contents (show text) status all due did reads one = absurd (due-reads invocation contents (show text) due reads tt)
+did-ended laws invocation contents (refuse note) status all due did reads one = absurd did
+did-ended laws invocation contents (show text) status all due did reads one = absurd did
 did-ended laws invocation contents (run_plan report plan) status all due did reads one =
     end-came all.input (lines-ended laws report plan status (run_devices_of all) all.boxes did (short-ended status) one)
 did-ended laws invocation contents (run_live report early plan) status all due did reads one =
     end-came all.input (live-ended laws report early plan status (run_devices_of all) all.boxes did (short-ended status) one)
 did-ended laws invocation contents (solve report plan) status all due did reads one =
-    end-came all.input (ran-ended laws report plan status (run_devices_of all) did.ran one)
+    end-came all.input (ran-ended laws report plan status (run_devices_of all) did.0 one)
 did-ended laws invocation contents (generate report number plan) status all due did reads one = absurd (due-reads invocation contents (generate report number plan) due reads tt)
 did-ended laws invocation contents (generate_live report number plan) status all due did reads one = absurd (due-reads invocation contents (generate_live report number plan) due reads tt)
 did-ended laws invocation contents (trace report plan) status all due did reads one =
-    end-came all.input (traced_ended laws report plan all.boxes.before status (run_devices_of all) did.ran one)
+    end-came all.input (traced_ended laws report plan all.boxes.before status (run_devices_of all) did.0 one)
 did-ended laws invocation contents (replay report plan) status all due did reads one =
-    end-came all.input (replayed_ended laws report plan status (run_devices_of all) all.boxes did.replayed one)
+    end-came all.input (replayed_ended laws report plan status (run_devices_of all) all.boxes did.0 one)
 
-call-ended : (laws : Laws) (status : Status) (invocation : Invocation) (all : CallDevices) → CallDid laws status invocation all → reads_input invocation.instruction.verb ≡ true → IsOneOf status ended_statuses → InputHasEnded all.input
-call-ended laws status invocation all called reads one = did-ended laws invocation called.contents called.action status all called.due called.did reads one
+-- no such status is one of these
+not-ended : (status : Status) → (status ≡ StoreFault) ⊎ ((status ≡ GraphRefused) ⊎ (status ≡ WriteFault)) → IsOneOf status ended_statuses → ⊥
+not-ended status (inl is) (inl e) = cc
+not-ended status (inl is) (inr (inl e)) = cc
+not-ended status (inl is) (inr (inr (inl e))) = cc
+not-ended status (inl is) (inr (inr (inr e))) = e
+not-ended status (inr (inl is)) (inl e) = cc
+not-ended status (inr (inl is)) (inr (inl e)) = cc
+not-ended status (inr (inl is)) (inr (inr (inl e))) = cc
+not-ended status (inr (inl is)) (inr (inr (inr e))) = e
+not-ended status (inr (inr is)) (inl e) = cc
+not-ended status (inr (inr is)) (inr (inl e)) = cc
+not-ended status (inr (inr is)) (inr (inr (inl e))) = cc
+not-ended status (inr (inr is)) (inr (inr (inr e))) = e
 
-store-ended : IsOneOf StoreFault ended_statuses → ⊥
-store-ended (inl e) = cc
-store-ended (inr (inl e)) = cc
-store-ended (inr (inr (inl e))) = cc
-store-ended (inr (inr (inr e))) = e
-
-pub called-ended : (laws : Laws) (status : Status) (invocation : Invocation) (all : CallDevices) → Called laws status invocation all → reads_input invocation.instruction.verb ≡ true → IsOneOf status ended_statuses → InputHasEnded all.input
-called-ended laws Good invocation all called reads one = call-ended laws Good invocation all called reads one
-called-ended laws StoreFault invocation all called reads one = absurd (store-ended one)
-called-ended laws Usage invocation all called reads one = elim called [ ]
-called-ended laws GraphRefused invocation all called reads one = call-ended laws GraphRefused invocation all called reads one
-called-ended laws LineRefused invocation all called reads one = call-ended laws LineRefused invocation all called reads one
-called-ended laws NodeFault invocation all called reads one = call-ended laws NodeFault invocation all called reads one
-called-ended laws Stalled invocation all called reads one = call-ended laws Stalled invocation all called reads one
-called-ended laws ReadFault invocation all called reads one = call-ended laws ReadFault invocation all called reads one
-called-ended laws WriteFault invocation all called reads one = call-ended laws WriteFault invocation all called reads one
-called-ended laws OutOfMemory invocation all called reads one = absurd (short-ended OutOfMemory refl one)
+pub called-ended : (laws : Laws) (status : Status) (invocation : Invocation) (all : CallDevices) → Called laws invocation all status → reads_input invocation.instruction.verb ≡ true → IsOneOf status ended_statuses → InputHasEnded all.input
+called-ended laws status invocation all (file_unloaded file failed noted nothing) reads one = absurd (not-ended StoreFault (inl refl) one)
+called-ended laws status invocation all (graph_refused note due noted nothing) reads one = absurd (not-ended GraphRefused (inr (inl refl)) one)
+called-ended laws status invocation all (text_shown text due took unnoted unread uncalled) reads one = absurd (due-reads invocation due.contents (show text) due.due reads tt)
+called-ended laws status invocation all (text_failed text due took noted unread uncalled) reads one = absurd (not-ended WriteFault (inr (inr refl)) one)
+called-ended laws status invocation all (graph_used action due graph) reads one = did-ended laws invocation due.contents action status all due.due graph reads one
+called-ended laws status invocation all (memory_out loaded noted nothing) reads one = absurd (short-ended OutOfMemory refl one)

@@ -1,11 +1,13 @@
 -- A run or a run over packets that are made, as one thing.
-use Rattle.std.proofs.Common.{◌≡◌, ◌≢◌, ◌⊎◌, inl, inr, ℕ, ℤ, List, [], ◌∷◌, All, Option, None, Some, IfSome, Result, Ok, Err, refl, sym, ap, ◌∙◌, subst, arith}
+use Rattle.std.proofs.Common.{◌≡◌, ◌≢◌, ◌⊎◌, inl, inr, ℕ, ℤ, Bool, true, false, List, [], ◌∷◌, All, Option, None, Some, IfSome, Result, Ok, Err, refl, sym, ap, ◌∙◌, subst, arith}
+use Rattle.std.proofs.lemmas.Bool.{false≢true}
 use Rattle.mg_edge.specs.Edge.{SourceTold, SinkTold, StoreTold}
 use Rattle.mg_config.specs.Config.{GraphView}
 use Rattle.mg_calc.specs.Rules.{Laws}
 use Rattle.mg_calc.specs.declared.inputs.Inputs.{Inputs}
 use Rattle.mg_calc.specs.declared.plan.Plan.{Plan}
 use Rattle.mg_calc.specs.declared.shape.OuterShape.{OuterShape}
+use Rattle.mg_calc.specs.Plan.{IsValid, IsValidWithFree}
 use Rattle.mg_calc.specs.Equations as equations
 use Rattle.mg_calc.specs.Told.{BoxTold}
 use Rattle.mg_calc.proofs.Solutions.{one_solution}
@@ -17,11 +19,11 @@ use Rattle.mg_free.specs.Core.{first_free}
 use Rattle.mg_feed.specs.Graph.{inputs_of}
 use Rattle.mg_feed.specs.declared.feed_end.FeedEnd.TheVariants.{Ended}
 use Rattle.mg_answer.specs.Answer as answers
-use Rattle.mg_answer.specs.Answer.{Read, by_lines, by_summary, ended_input, generated_job}
+use Rattle.mg_answer.specs.Answer.{OutputForm, Read, by_lines, by_summary, ended_input, generated_job}
 use Rattle.mg_answer.specs.Ran.{CameTo}
 use Rattle.mg_answer.proofs.Answering.{whole-read}
 use Rattle.mg_answer.specs.declared.status.Status.{Status}
-use Rattle.mg_answer.specs.declared.status.Status.TheVariants.{Good, StoreFault, Usage, GraphRefused, LineRefused, NodeFault, Stalled, ReadFault, WriteFault, OutOfMemory}
+use Rattle.mg_answer.specs.declared.status.Status.TheVariants.{StoreFault, GraphRefused, OutOfMemory}
 use Rattle.mg_drive.specs.OneRun.{OneRun, RanOverLines, RanOverPackets}
 use Rattle.mg_drive.specs.OneLive.{OneLive, AreBatchesOf, RanLive, RanLiveMade}
 use Rattle.mg_run.specs.Invocation.{Invocation, invocation}
@@ -31,9 +33,9 @@ use Rattle.mg_files.specs.CheckNotes.{check_note}
 use Rattle.mg_files.specs.Files.{Files, graphs, no_graphs, AreGraphs, AreFiles}
 use Rattle.mg_files.specs.Loads.{LoadedAll, loads_of}
 use Rattle.mg_run.specs.Devices.{Device, CallDevices, run_devices_of, Untouched, Unrisen}
-use Rattle.mg_run.specs.Answer.{reporting, Action, refuse, run_plan, run_live, generate, generate_live, with_limit, with_workers, as_asked, way_action, live_action, used_action, plan_action, verb_action, expanded_action, action_of}
-use Rattle.mg_run.specs.Call.{GeneratedGraph, GeneratedLive, DidAction, IsActionOf, CallDid, Called, CallEnded, IsOneOf}
-use Rattle.mg_run.specs.Headline.{RunsGraph, ran_statuses, IsGraph, Origin, from_input, from_number, IsOrigin, job_from, end_from, telling_from, bare, Headline, IsLiveGraph, form_from, LiveHeadline, RanGraph}
+use Rattle.mg_run.specs.Answer.{reporting, Action, refuse, show, run_plan, run_live, generate, generate_live, with_limit, with_workers, as_asked, way_action, live_action, used_action, plan_action, verb_action, expanded_action, action_of}
+use Rattle.mg_run.specs.Call.{UsedGraph, IsActionOf, IsDue, Called, file_unloaded, graph_refused, text_shown, text_failed, graph_used, memory_out, CallEnded, IsOneOf}
+use Rattle.mg_run.specs.Headline.{RunsGraph, ran_statuses, IsGraph, Origin, from_input, from_number, IsOrigin, job_from, end_from, telling_from, bare, Headline, LiveHeadline, RanGraph}
 use Rattle.mg_words.specs.declared.words.Instruction.{Instruction}
 use Rattle.mg_words.specs.declared.words.Verb.{Verb}
 use Rattle.mg_words.specs.declared.words.Verb.TheVariants.{Use}
@@ -51,31 +53,32 @@ use Rattle.mg_run.proofs.LiveUnlimited.{batches_same, unlimited_live}
 record Finds (invocation : Invocation) (contents : List (List ℕ)) (way : Way) (job : Action) : Type 0 where
   plan : Plan
   graph : IsGraph invocation contents plan
+  valid : IsValid plan
+  unfree : first_free plan ≡ None
   is : job ≡ way_action way invocation.instruction plan
 
 -- a graph with a free node is found, and this is to be done with its plan
 record FindsLive (invocation : Invocation) (contents : List (List ℕ)) (way : Way) (job : Action) : Type 0 where
   plan : Plan
-  graph : IsLiveGraph invocation contents plan
-  is : job ≡ live_action way invocation.instruction graph.first plan
+  graph : IsGraph invocation contents plan
+  valid : IsValidWithFree plan
+  first : ℕ
+  free : first_free plan ≡ Some first
+  is : job ≡ live_action way invocation.instruction first plan
 
 abbrev Due : Invocation → List (List ℕ) → Way → Action → Type 0
 Due invocation contents way job = ((note : List ℕ) × (job ≡ refuse note)) ⊎ (Finds invocation contents way job ⊎ FindsLive invocation contents way job)
 
 -- by whether a node is free
-by_free : (invocation : Invocation) (contents : List (List ℕ)) (way : Way) (plan : Plan) (o : Option ℕ) → first_free plan ≡ o → (first_free plan ≡ None → IsGraph invocation contents plan)
-    → ((first : ℕ) → first_free plan ≡ Some first → (graph : IsLiveGraph invocation contents plan) × (graph.first ≡ first)) → Due invocation contents way (used_action o way invocation.instruction plan)
-by_free invocation contents way plan None is found live = inr (inl (record { plan = plan; graph = found is; is = refl }))
-by_free invocation contents way plan (Some node) is found live =
-    let graph = live node is in
-    inr (inr (record { plan = plan; graph = graph.0; is = ap (λ (first : ℕ). live_action way invocation.instruction first plan) (sym graph.1) }))
+by_free : (invocation : Invocation) (contents : List (List ℕ)) (way : Way) (plan : Plan) (o : Option ℕ) → first_free plan ≡ o → IsGraph invocation contents plan → IsValidWithFree plan → Due invocation contents way (used_action o way invocation.instruction plan)
+by_free invocation contents way plan None is graph valid = inr (inl (record { plan = plan; graph = graph; valid = valid_unfree plan valid is; unfree = is; is = refl }))
+by_free invocation contents way plan (Some node) is graph valid = inr (inr (record { plan = plan; graph = graph; valid = valid; first = node; free = is; is = refl }))
 
 -- by what the check answers
 by_check : (invocation : Invocation) (contents : List (List ℕ)) (way : Way) (g : GraphView) (checked : Result Plan CheckFault) → check_of invocation.outers g ≡ checked
-    → ((plan : Plan) → check_of invocation.outers g ≡ Ok plan → first_free plan ≡ None → IsGraph invocation contents plan)
-    → ((plan : Plan) → check_of invocation.outers g ≡ Ok plan → (first : ℕ) → first_free plan ≡ Some first → (graph : IsLiveGraph invocation contents plan) × (graph.first ≡ first)) → Due invocation contents way (plan_action way invocation.instruction checked)
-by_check invocation contents way g (Ok plan) is found live = by_free invocation contents way plan (first_free plan) refl (found plan is) (live plan is)
-by_check invocation contents way g (Err fault) is found live = inl (check_note fault, refl)
+    → ((plan : Plan) → check_of invocation.outers g ≡ Ok plan → IsGraph invocation contents plan × IsValidWithFree plan) → Due invocation contents way (plan_action way invocation.instruction checked)
+by_check invocation contents way g (Ok plan) is found = by_free invocation contents way plan (first_free plan) refl (found plan is).0 (found plan is).1
+by_check invocation contents way g (Err fault) is found = inl (check_note fault, refl)
 
 -- by what the expansion answers
 by_expansion : (invocation : Invocation) → All IsOuterShape invocation.outers → (contents : List (List ℕ)) (way : Way) (main : GraphView) (library : List GraphView) (expanded : Result GraphView ExpandFault) → invocation.instruction.verb ≡ Use way → AreGraphs contents (main ∷ library) → expansion_of main library ≡ expanded
@@ -83,17 +86,7 @@ by_expansion : (invocation : Invocation) → All IsOuterShape invocation.outers 
 by_expansion invocation shaped contents way main library (Ok g) verb are is =
     subst (λ (v : Verb). Due invocation contents way (verb_action v invocation.instruction invocation.outers g)) (sym verb)
     (by_check invocation contents way g (check_of invocation.outers g) refl
-    (λ plan checked unfree. record {
-      main = main;
-      library = library;
-      files = are;
-      graph = g;
-      expanded = is;
-      checked = checked;
-      valid = valid_unfree plan (valid_checked invocation.outers main library g plan shaped is checked) unfree;
-      unfree = unfree;
-    })
-    (λ plan checked first free. (
+    (λ plan checked. (
       record {
         main = main;
         library = library;
@@ -101,11 +94,8 @@ by_expansion invocation shaped contents way main library (Ok g) verb are is =
         graph = g;
         expanded = is;
         checked = checked;
-        valid = valid_checked invocation.outers main library g plan shaped is checked;
-        first = first;
-        free = free;
       },
-      refl,
+      valid_checked invocation.outers main library g plan shaped is checked,
     )))
 by_expansion invocation shaped contents way main library (Err fault) verb are is = inl (expand_note fault, refl)
 
@@ -138,11 +128,15 @@ bare_run laws instruction plan from status output notes boxes run =
     by (from_input read) run = unlimited_run (by_lines (reporting instruction)) (answers.job_of laws (bare plan) read) (as_asked instruction plan).limit (as_asked instruction plan).workers read.end status output notes boxes (λ e. cc) (omega arith) run
     by (from_number number) run = unlimited_run (by_summary (reporting instruction)) (generated_job laws (bare plan) number) (as_asked instruction plan).limit (as_asked instruction plan).workers Ended status output notes boxes (λ e. cc) (omega arith) run
 
+-- the form in which a run is told
+abbrev form_from : Instruction → Origin → OutputForm
+form_from instruction from = (telling_from (reporting instruction) from).form
+
 bare_live : (laws : Laws) (instruction : Instruction) (plan : Plan) (from : Origin) (first : Inputs) (later : List Inputs) (status : Status) (output notes : Device SinkTold) (boxes : Device (List BoxTold))
-    → OneLive laws (form_from from) (reporting instruction) (as_asked instruction plan) first later (end_from from) status output notes boxes → OneLive laws (form_from from) (reporting instruction) (bare plan) first later (end_from from) status output notes boxes
+    → OneLive laws (form_from instruction from) (reporting instruction) (as_asked instruction plan) first later (end_from from) status output notes boxes → OneLive laws (form_from instruction from) (reporting instruction) (bare plan) first later (end_from from) status output notes boxes
 bare_live laws instruction plan from first later status output notes boxes run =
-    unlimited_live laws (form_from from) (reporting instruction) (bare plan) (as_asked instruction plan).limit (as_asked instruction plan).workers first later (end_from from) status output notes boxes (λ e. cc) (omega arith)
-    (subst (λ (p : Plan). OneLive laws (form_from from) (reporting instruction) p first later (end_from from) status output notes boxes) (request_is instruction instruction.limit instruction.workers plan) run)
+    unlimited_live laws (form_from instruction from) (reporting instruction) (bare plan) (as_asked instruction plan).limit (as_asked instruction plan).workers first later (end_from from) status output notes boxes (λ e. cc) (omega arith)
+    (subst (λ (p : Plan). OneLive laws (form_from instruction from) (reporting instruction) p first later (end_from from) status output notes boxes) (request_is instruction instruction.limit instruction.workers plan) run)
 
 bare_batches : (instruction : Instruction) (plan : Plan) (read : Read) (batches : List Inputs) → AreBatchesOf instruction.unbuffered (as_asked instruction plan) read batches → AreBatchesOf instruction.unbuffered (bare plan) read batches
 bare_batches instruction plan read batches are =
@@ -157,17 +151,19 @@ made_asked laws (Some limit) (Some workers) plan number = refl
 
 -- The headline --
 
--- a graph was found, and its run came from this
-headline : (laws : Laws) (invocation : Invocation) (contents : List (List ℕ)) (plan : Plan) (status : Status) (all : CallDevices) (from : Origin) → LoadedAll invocation.files contents all.store → IsGraph invocation contents plan → IsOrigin invocation.instruction plan all.input from
-    → OneRun (telling_from (reporting invocation.instruction) from) (job_from laws (as_asked invocation.instruction plan) from) (end_from from) status all.output all.notes all.boxes → Headline laws invocation status all
-headline laws invocation contents plan status all from loaded graph origin run = record {
-  contents = contents;
-  loaded = loaded;
-  plan = plan;
-  graph = graph;
+-- a graph without free nodes was found, and its run came from this
+headline : (laws : Laws) (invocation : Invocation) (action : Action) (status : Status) (all : CallDevices) (from : Origin) (due : IsDue invocation all.store action) (way : Way) (found : Finds invocation due.contents way action) → IsOrigin invocation.instruction found.plan all.input from
+    → OneRun (telling_from (reporting invocation.instruction) from) (job_from laws (as_asked invocation.instruction found.plan) from) (end_from from) status all.output all.notes all.boxes → Headline laws invocation status all
+headline laws invocation action status all from due way found origin run = record {
+  contents = due.contents;
+  loaded = due.loaded;
+  plan = found.plan;
+  graph = found.graph;
+  valid = found.valid;
+  unfree = found.unfree;
   from = from;
   origin = origin;
-  run = bare_run laws invocation.instruction plan from status all.output all.notes all.boxes run;
+  run = bare_run laws invocation.instruction found.plan from status all.output all.notes all.boxes run;
 }
 
 -- the inputs of a plan's graph don't depend on its limit and workers
@@ -177,73 +173,93 @@ came_asked None (Some workers) plan input read came = came
 came_asked (Some limit) None plan input read came = came
 came_asked (Some limit) (Some workers) plan input read came = came
 
-lines_headline : (laws : Laws) (invocation : Invocation) (contents : List (List ℕ)) (plan : Plan) (status : Status) (all : CallDevices) → invocation.instruction.verb ≡ Use Run → status ≢ OutOfMemory → LoadedAll invocation.files contents all.store → IsGraph invocation contents plan
-    → RanOverLines laws (reporting invocation.instruction) (as_asked invocation.instruction plan) status (run_devices_of all) all.boxes → Headline laws invocation status all
-lines_headline laws invocation contents plan status all verb some loaded graph (inl one) =
-    headline laws invocation contents plan status all (from_input one.read) loaded graph (verb, came_asked invocation.instruction.limit invocation.instruction.workers plan all.input one.read one.came) one.run
-lines_headline laws invocation contents plan status all verb some loaded graph (inr short) = absurd (some short.is)
+lines_headline : (laws : Laws) (invocation : Invocation) (action : Action) (status : Status) (all : CallDevices) (due : IsDue invocation all.store action) (way : Way) (found : Finds invocation due.contents way action) → invocation.instruction.verb ≡ Use Run → status ≢ OutOfMemory
+    → RanOverLines laws (reporting invocation.instruction) (as_asked invocation.instruction found.plan) status (run_devices_of all) all.boxes → Headline laws invocation status all
+lines_headline laws invocation action status all due way found verb some (inl one) =
+    headline laws invocation action status all (from_input one.read) due way found (verb, came_asked invocation.instruction.limit invocation.instruction.workers found.plan all.input one.read one.came) one.holds
+lines_headline laws invocation action status all due way found verb some (inr out) = absurd (some out.is)
 
-packets_headline : (laws : Laws) (invocation : Invocation) (contents : List (List ℕ)) (plan : Plan) (status : Status) (all : CallDevices) → invocation.instruction.verb ≡ Use Generate → status ≢ OutOfMemory → LoadedAll invocation.files contents all.store → IsGraph invocation contents plan
-    → Untouched all.input → RanOverPackets laws (reporting invocation.instruction) (as_asked invocation.instruction plan) invocation.instruction.number status all.output all.notes all.boxes → Headline laws invocation status all
-packets_headline laws invocation contents plan status all verb some loaded graph unread (inl one) = headline laws invocation contents plan status all (from_number invocation.instruction.number) loaded graph (verb, refl, unread) one
-packets_headline laws invocation contents plan status all verb some loaded graph unread (inr short) = absurd (some short.is)
+packets_headline : (laws : Laws) (invocation : Invocation) (action : Action) (status : Status) (all : CallDevices) (due : IsDue invocation all.store action) (way : Way) (found : Finds invocation due.contents way action) → invocation.instruction.verb ≡ Use Generate → status ≢ OutOfMemory
+    → Untouched all.input → RanOverPackets laws (reporting invocation.instruction) (as_asked invocation.instruction found.plan) invocation.instruction.number status all.output all.notes all.boxes → Headline laws invocation status all
+packets_headline laws invocation action status all due way found verb some unread (inl one) = headline laws invocation action status all (from_number invocation.instruction.number) due way found (verb, refl, unread) one
+packets_headline laws invocation action status all due way found verb some unread (inr out) = absurd (some out.is)
 
-live_lines_headline : (laws : Laws) (invocation : Invocation) (contents : List (List ℕ)) (plan : Plan) (status : Status) (all : CallDevices) → invocation.instruction.verb ≡ Use Run → status ≢ OutOfMemory → LoadedAll invocation.files contents all.store → IsLiveGraph invocation contents plan
-    → RanLive laws (reporting invocation.instruction) invocation.instruction.unbuffered (as_asked invocation.instruction plan) status (run_devices_of all) all.boxes → LiveHeadline laws invocation status all
-live_lines_headline laws invocation contents plan status all verb some loaded graph (inl one) = record {
-  contents = contents;
-  loaded = loaded;
-  plan = plan;
-  graph = graph;
+live_lines_headline : (laws : Laws) (invocation : Invocation) (action : Action) (status : Status) (all : CallDevices) (due : IsDue invocation all.store action) (way : Way) (found : FindsLive invocation due.contents way action) → invocation.instruction.verb ≡ Use Run → status ≢ OutOfMemory
+    → RanLive laws (reporting invocation.instruction) invocation.instruction.unbuffered (as_asked invocation.instruction found.plan) status (run_devices_of all) all.boxes → LiveHeadline laws invocation status all
+live_lines_headline laws invocation action status all due way found verb some (inl one) = record {
+  contents = due.contents;
+  loaded = due.loaded;
+  plan = found.plan;
+  graph = found.graph;
+  valid = found.valid;
+  free = (found.first, found.free);
   from = from_input one.read;
-  origin = (verb, came_asked invocation.instruction.limit invocation.instruction.workers plan all.input one.read one.came);
-  first = one.first;
-  later = one.later;
-  batches = bare_batches invocation.instruction plan one.read (one.first ∷ one.later) one.batches;
-  run = bare_live laws invocation.instruction plan (from_input one.read) one.first one.later status all.output all.notes all.boxes one.run;
+  origin = (verb, came_asked invocation.instruction.limit invocation.instruction.workers found.plan all.input one.read one.came);
+  first = one.holds.first;
+  later = one.holds.later;
+  batches = bare_batches invocation.instruction found.plan one.read (one.holds.first ∷ one.holds.later) one.holds.batches;
+  run = bare_live laws invocation.instruction found.plan (from_input one.read) one.holds.first one.holds.later status all.output all.notes all.boxes one.holds.run;
 }
-live_lines_headline laws invocation contents plan status all verb some loaded graph (inr short) = absurd (some short.is)
+live_lines_headline laws invocation action status all due way found verb some (inr out) = absurd (some out.is)
 
-live_packets_headline : (laws : Laws) (invocation : Invocation) (contents : List (List ℕ)) (plan : Plan) (status : Status) (all : CallDevices) → invocation.instruction.verb ≡ Use Generate → status ≢ OutOfMemory → LoadedAll invocation.files contents all.store → IsLiveGraph invocation contents plan
-    → Untouched all.input → RanLiveMade laws (reporting invocation.instruction) (as_asked invocation.instruction plan) invocation.instruction.number status all.output all.notes all.boxes → LiveHeadline laws invocation status all
-live_packets_headline laws invocation contents plan status all verb some loaded graph unread (inl one) = record {
-  contents = contents;
-  loaded = loaded;
-  plan = plan;
-  graph = graph;
+live_packets_headline : (laws : Laws) (invocation : Invocation) (action : Action) (status : Status) (all : CallDevices) (due : IsDue invocation all.store action) (way : Way) (found : FindsLive invocation due.contents way action) → invocation.instruction.verb ≡ Use Generate → status ≢ OutOfMemory
+    → Untouched all.input → RanLiveMade laws (reporting invocation.instruction) (as_asked invocation.instruction found.plan) invocation.instruction.number status all.output all.notes all.boxes → LiveHeadline laws invocation status all
+live_packets_headline laws invocation action status all due way found verb some unread (inl one) = record {
+  contents = due.contents;
+  loaded = due.loaded;
+  plan = found.plan;
+  graph = found.graph;
+  valid = found.valid;
+  free = (found.first, found.free);
   from = from_number invocation.instruction.number;
   origin = (verb, refl, unread);
-  first = (generated_job laws (as_asked invocation.instruction plan) invocation.instruction.number).inputs;
+  first = (generated_job laws (as_asked invocation.instruction found.plan) invocation.instruction.number).inputs;
   later = [];
-  batches = ap (λ (i : Inputs). i ∷ []) (made_asked laws invocation.instruction.limit invocation.instruction.workers plan invocation.instruction.number);
-  run = bare_live laws invocation.instruction plan (from_number invocation.instruction.number) (generated_job laws (as_asked invocation.instruction plan) invocation.instruction.number).inputs [] status all.output all.notes all.boxes one;
+  batches = ap (λ (i : Inputs). i ∷ []) (made_asked laws invocation.instruction.limit invocation.instruction.workers found.plan invocation.instruction.number);
+  run = bare_live laws invocation.instruction found.plan (from_number invocation.instruction.number) (generated_job laws (as_asked invocation.instruction found.plan) invocation.instruction.number).inputs [] status all.output all.notes all.boxes one;
 }
-live_packets_headline laws invocation contents plan status all verb some loaded graph unread (inr short) = absurd (some short.is)
+live_packets_headline laws invocation action status all due way found verb some unread (inr out) = absurd (some out.is)
 
--- a call did what there was to do, and the graph wasn't refused
-did_headline : (laws : Laws) (invocation : Invocation) (status : Status) (all : CallDevices) (called : CallDid laws status invocation all) (way : Way) → (way ≡ Run) ⊎ (way ≡ Generate) → invocation.instruction.verb ≡ Use way → status ≢ GraphRefused → status ≢ OutOfMemory
-    → Due invocation called.contents way called.action → RanGraph laws invocation status all
-did_headline laws invocation status all called way used verb good some (inl refused) = absurd (good (let d : DidAction laws (refuse refused.0) status all = subst (λ (j : Action). DidAction laws j status all) refused.1 called.did in d.ended))
-did_headline laws invocation status all called way (inl is) verb good some (inr (inl found)) =
-    let same : called.action ≡ run_plan (reporting invocation.instruction) (as_asked invocation.instruction found.plan) = found.is ∙ ap (λ (w : Way). way_action w invocation.instruction found.plan) is in
-    inl (lines_headline laws invocation called.contents found.plan status all (verb ∙ ap Use is) some called.loaded found.graph (subst (λ (j : Action). DidAction laws j status all) same called.did))
-did_headline laws invocation status all called way (inr is) verb good some (inr (inl found)) =
-    let same : called.action ≡ generate (reporting invocation.instruction) invocation.instruction.number (as_asked invocation.instruction found.plan) = found.is ∙ ap (λ (w : Way). way_action w invocation.instruction found.plan) is in
-    let d : GeneratedGraph laws (reporting invocation.instruction) invocation.instruction.number (as_asked invocation.instruction found.plan) status all = subst (λ (j : Action). DidAction laws j status all) same called.did in
-    inl (packets_headline laws invocation called.contents found.plan status all (verb ∙ ap Use is) some called.loaded found.graph d.unread d.ran)
-did_headline laws invocation status all called way (inl is) verb good some (inr (inr found)) =
-    let same : called.action ≡ run_live (reporting invocation.instruction) invocation.instruction.unbuffered (as_asked invocation.instruction found.plan) = found.is ∙ ap (λ (w : Way). live_action w invocation.instruction found.graph.first found.plan) is in
-    inr (live_lines_headline laws invocation called.contents found.plan status all (verb ∙ ap Use is) some called.loaded found.graph (subst (λ (j : Action). DidAction laws j status all) same called.did))
-did_headline laws invocation status all called way (inr is) verb good some (inr (inr found)) =
-    let same : called.action ≡ generate_live (reporting invocation.instruction) invocation.instruction.number (as_asked invocation.instruction found.plan) = found.is ∙ ap (λ (w : Way). live_action w invocation.instruction found.graph.first found.plan) is in
-    let d : GeneratedLive laws (reporting invocation.instruction) invocation.instruction.number (as_asked invocation.instruction found.plan) status all = subst (λ (j : Action). DidAction laws j status all) same called.did in
-    inr (live_packets_headline laws invocation called.contents found.plan status all (verb ∙ ap Use is) some called.loaded found.graph d.unread d.ran)
+-- the graph of an action was used
+used_headline : (laws : Laws) (invocation : Invocation) (action : Action) (status : Status) (all : CallDevices) (due : IsDue invocation all.store action) → UsedGraph laws action status all → (way : Way) → (way ≡ Run) ⊎ (way ≡ Generate) → invocation.instruction.verb ≡ Use way → status ≢ OutOfMemory
+    → Due invocation due.contents way action → RanGraph laws invocation status all
+used_headline laws invocation action status all due did way used verb some (inl refused) = absurd (subst (λ (j : Action). UsedGraph laws j status all) refused.1 did)
+used_headline laws invocation action status all due did way (inl is) verb some (inr (inl found)) =
+    let same : action ≡ run_plan (reporting invocation.instruction) (as_asked invocation.instruction found.plan) = found.is ∙ ap (λ (w : Way). way_action w invocation.instruction found.plan) is in
+    inl (lines_headline laws invocation action status all due way found (verb ∙ ap Use is) some (subst (λ (j : Action). UsedGraph laws j status all) same did))
+used_headline laws invocation action status all due did way (inr is) verb some (inr (inl found)) =
+    let same : action ≡ generate (reporting invocation.instruction) invocation.instruction.number (as_asked invocation.instruction found.plan) = found.is ∙ ap (λ (w : Way). way_action w invocation.instruction found.plan) is in
+    let d : UsedGraph laws (generate (reporting invocation.instruction) invocation.instruction.number (as_asked invocation.instruction found.plan)) status all = subst (λ (j : Action). UsedGraph laws j status all) same did in
+    inl (packets_headline laws invocation action status all due way found (verb ∙ ap Use is) some d.1 d.0)
+used_headline laws invocation action status all due did way (inl is) verb some (inr (inr found)) =
+    let same : action ≡ run_live (reporting invocation.instruction) invocation.instruction.unbuffered (as_asked invocation.instruction found.plan) = found.is ∙ ap (λ (w : Way). live_action w invocation.instruction found.first found.plan) is in
+    inr (live_lines_headline laws invocation action status all due way found (verb ∙ ap Use is) some (subst (λ (j : Action). UsedGraph laws j status all) same did))
+used_headline laws invocation action status all due did way (inr is) verb some (inr (inr found)) =
+    let same : action ≡ generate_live (reporting invocation.instruction) invocation.instruction.number (as_asked invocation.instruction found.plan) = found.is ∙ ap (λ (w : Way). live_action w invocation.instruction found.first found.plan) is in
+    let d : UsedGraph laws (generate_live (reporting invocation.instruction) invocation.instruction.number (as_asked invocation.instruction found.plan)) status all = subst (λ (j : Action). UsedGraph laws j status all) same did in
+    inr (live_packets_headline laws invocation action status all due way found (verb ∙ ap Use is) some d.1 d.0)
 
-call_headline : (laws : Laws) (status : Status) (invocation : Invocation) (all : CallDevices) → CallDid laws status invocation all → RunsGraph invocation.instruction.verb → status ≢ GraphRefused → status ≢ OutOfMemory → RanGraph laws invocation status all
-call_headline laws status invocation all called (inl verb) good some =
-    did_headline laws invocation status all called Run (inl refl) verb good some (due_by invocation called.shaped called.contents Run called.action verb called.due)
-call_headline laws status invocation all called (inr verb) good some =
-    did_headline laws invocation status all called Generate (inr refl) verb good some (due_by invocation called.shaped called.contents Generate called.action verb called.due)
+graph_headline : (laws : Laws) (status : Status) (invocation : Invocation) (all : CallDevices) (action : Action) → IsDue invocation all.store action → UsedGraph laws action status all → RunsGraph invocation.instruction.verb → status ≢ OutOfMemory → RanGraph laws invocation status all
+graph_headline laws status invocation all action due did (inl verb) some =
+    used_headline laws invocation action status all due did Run (inl refl) verb some (due_by invocation due.shaped due.contents Run action verb due.due)
+graph_headline laws status invocation all action due did (inr verb) some =
+    used_headline laws invocation action status all due did Generate (inr refl) verb some (due_by invocation due.shaped due.contents Generate action verb due.due)
+
+-- a command that runs a graph writes no text of a plan
+abbrev is_shown : Action → Bool
+is_shown (show text) = true
+is_shown _ = false
+
+shows_none : (invocation : Invocation) (contents : List (List ℕ)) (text : List ℕ) (way : Way) → (way ≡ Run) ⊎ (way ≡ Generate) → Due invocation contents way (show text) → ⊥
+shows_none invocation contents text way either (inl refused) = false≢true (sym (ap is_shown refused.1))
+shows_none invocation contents text way (inl is) (inr (inl found)) = false≢true (sym (ap is_shown (found.is ∙ ap (λ (w : Way). way_action w invocation.instruction found.plan) is)))
+shows_none invocation contents text way (inr is) (inr (inl found)) = false≢true (sym (ap is_shown (found.is ∙ ap (λ (w : Way). way_action w invocation.instruction found.plan) is)))
+shows_none invocation contents text way (inl is) (inr (inr found)) = false≢true (sym (ap is_shown (found.is ∙ ap (λ (w : Way). live_action w invocation.instruction found.first found.plan) is)))
+shows_none invocation contents text way (inr is) (inr (inr found)) = false≢true (sym (ap is_shown (found.is ∙ ap (λ (w : Way). live_action w invocation.instruction found.first found.plan) is)))
+
+no_text : (invocation : Invocation) (store : Device StoreTold) (text : List ℕ) → IsDue invocation store (show text) → RunsGraph invocation.instruction.verb → ⊥
+no_text invocation store text due (inl verb) = shows_none invocation due.contents text Run (inl refl) (due_by invocation due.shaped due.contents Run (show text) verb due.due)
+no_text invocation store text due (inr verb) = shows_none invocation due.contents text Generate (inr refl) (due_by invocation due.shaped due.contents Generate (show text) verb due.due)
 
 -- no call that ran its graph ends with a fault of the store
 store_ran : IsOneOf StoreFault ran_statuses → ⊥
@@ -273,17 +289,13 @@ memory_ran (inr (inr (inr (inr (inl e))))) = cc
 memory_ran (inr (inr (inr (inr (inr (inl e)))))) = cc
 memory_ran (inr (inr (inr (inr (inr (inr none)))))) = none
 
-called_headline : (laws : Laws) (status : Status) (invocation : Invocation) (all : CallDevices) → Called laws status invocation all → RunsGraph invocation.instruction.verb → IsOneOf status ran_statuses → RanGraph laws invocation status all
-called_headline laws Good invocation all called runs one = call_headline laws Good invocation all called runs (λ e. cc) (λ e. cc)
-called_headline laws StoreFault invocation all called runs one = absurd (store_ran one)
-called_headline laws Usage invocation all called runs one = elim called [ ]
-called_headline laws GraphRefused invocation all called runs one = absurd (refused_ran one)
-called_headline laws LineRefused invocation all called runs one = call_headline laws LineRefused invocation all called runs (λ e. cc) (λ e. cc)
-called_headline laws NodeFault invocation all called runs one = call_headline laws NodeFault invocation all called runs (λ e. cc) (λ e. cc)
-called_headline laws Stalled invocation all called runs one = call_headline laws Stalled invocation all called runs (λ e. cc) (λ e. cc)
-called_headline laws ReadFault invocation all called runs one = call_headline laws ReadFault invocation all called runs (λ e. cc) (λ e. cc)
-called_headline laws WriteFault invocation all called runs one = call_headline laws WriteFault invocation all called runs (λ e. cc) (λ e. cc)
-called_headline laws OutOfMemory invocation all called runs one = absurd (memory_ran one)
+called_headline : (laws : Laws) (status : Status) (invocation : Invocation) (all : CallDevices) → Called laws invocation all status → RunsGraph invocation.instruction.verb → IsOneOf status ran_statuses → RanGraph laws invocation status all
+called_headline laws status invocation all (file_unloaded file failed noted nothing) runs one = absurd (store_ran one)
+called_headline laws status invocation all (graph_refused note due noted nothing) runs one = absurd (refused_ran one)
+called_headline laws status invocation all (text_shown text due took unnoted unread uncalled) runs one = absurd (no_text invocation all.store text due runs)
+called_headline laws status invocation all (text_failed text due took noted unread uncalled) runs one = absurd (no_text invocation all.store text due runs)
+called_headline laws status invocation all (graph_used action due graph) runs one = graph_headline laws status invocation all action due graph runs (λ is. memory_ran (subst (λ (s : Status). IsOneOf s ran_statuses) is one))
+called_headline laws status invocation all (memory_out loaded noted nothing) runs one = absurd (memory_ran one)
 
 pub came-headline : (laws : Laws) (outers : List OuterShape) (request : Request) (status : Status) (all : CallDevices) → CallEnded laws outers request status all
     → IfSome (command_by request) (λ command. RunsGraph command.instruction.verb → IsOneOf status ran_statuses → RanGraph laws (invocation command outers) status all)

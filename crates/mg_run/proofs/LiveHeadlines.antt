@@ -6,33 +6,20 @@ use Rattle.mg_calc.specs.declared.inputs.Inputs.{Inputs}
 use Rattle.mg_calc.specs.declared.plan.Plan.{Plan}
 use Rattle.mg_calc.specs.Equations.{Job, IsSolution}
 use Rattle.mg_calc.proofs.Solutions.{one_solution}
-use Rattle.mg_check.specs.Check.{check_of}
-use Rattle.mg_subgraph.specs.Expansion.{expansion_of}
-use Rattle.mg_config.specs.Config.{GraphView}
 use Rattle.mg_free.specs.Core.{split_of}
 use Rattle.mg_free.specs.Rounds.{none_taken, core_job, AllRounds}
 use Rattle.mg_free.specs.Turns.{last_batch}
 use Rattle.mg_free.proofs.RoundsEnd.{all_rounds_one}
 use Rattle.mg_answer.specs.declared.status.Status.{Status}
-use Rattle.mg_files.specs.Files.{graphs}
 use Rattle.mg_files.specs.Loads.{loads_of}
-use Rattle.mg_files.proofs.Together.{one-reading}
 use Rattle.mg_run.specs.Invocation.{Invocation}
 use Rattle.mg_run.specs.Devices.{Device, CallDevices, Unrisen}
-use Rattle.mg_run.specs.Headline.{Origin, from_input, from_number, IsOrigin, AreBatchesFrom, bare, IsLiveGraph, LiveHeadline}
+use Rattle.mg_run.specs.Headline.{Origin, from_input, from_number, IsOrigin, AreBatchesFrom, bare, IsGraph, LiveHeadline}
 use Rattle.mg_words.specs.declared.words.Instruction.{Instruction}
 use Rattle.mg_words.specs.declared.words.Verb.TheVariants.{Use}
 use Rattle.mg_words.specs.declared.words.Way.TheVariants.{Run}
-use Rattle.mg_run.proofs.Headlines.{told_contents, one_origin, same_graphs, same_expansion, same_check}
+use Rattle.mg_run.proofs.Headlines.{told_contents, one_plan, one_origin}
 use Rattle.mg_run.proofs.OneLiveAnswer.{one-batches}
-
--- of the same contents there is one graph, and one plan
-one_live_plan : (invocation : Invocation) (contents : List (List ℕ)) (plan other : Plan) → IsLiveGraph invocation contents plan → IsLiveGraph invocation contents other → plan ≡ other
-one_live_plan invocation contents plan other a b =
-    let files = same_graphs a.main b.main a.library b.library (one-reading invocation.files contents (graphs (a.main ∷ a.library)) (graphs (b.main ∷ b.library)) a.files b.files) in
-    let expansion : expansion_of a.main a.library ≡ expansion_of b.main b.library = ap (λ (m : GraphView). expansion_of m a.library) files.0 ∙ ap (expansion_of b.main) files.1 in
-    let graph = same_expansion a.graph b.graph (sym a.expanded ∙ expansion ∙ b.expanded) in
-    same_check plan other (sym a.checked ∙ ap (check_of invocation.outers) graph ∙ b.checked)
 
 -- of one origin there are the same batches, if batches of lines may not end early
 same_batches : (laws : Laws) (instruction : Instruction) (whole plan : Plan) (input : Device SourceTold) (from : Origin) (batches other : List Inputs) → (instruction.verb ≡ Use Run → instruction.unbuffered ≡ false) → IsOrigin instruction whole input from
@@ -50,9 +37,9 @@ pub one_live_headline : (laws : Laws) (invocation : Invocation) (status other_st
     → Unrisen all.input.before.faults all.input.now.faults → Unrisen other.input.before.faults other.input.now.faults
     → (a.plan ≡ b.plan) × (a.from ≡ b.from) × (a.first ∷ a.later ≡ b.first ∷ b.later) × (a.run.comes.takens ≡ b.run.comes.takens) × (a.run.comes.streams ≡ b.run.comes.streams)
 one_live_headline laws invocation status other_status all other contents bytes a b full loads loads_too left left_too un un_too =
-    let in_a : IsLiveGraph invocation contents a.plan = subst (λ (cs : List (List ℕ)). IsLiveGraph invocation cs a.plan) (told_contents invocation.files a.contents contents all.store a.loaded loads) a.graph in
-    let in_b : IsLiveGraph invocation contents b.plan = subst (λ (cs : List (List ℕ)). IsLiveGraph invocation cs b.plan) (told_contents invocation.files b.contents contents other.store b.loaded loads_too) b.graph in
-    let plans = one_live_plan invocation contents a.plan b.plan in_a in_b in
+    let in_a : IsGraph invocation contents a.plan = subst (λ (cs : List (List ℕ)). IsGraph invocation cs a.plan) (told_contents invocation.files a.contents contents all.store a.loaded loads) a.graph in
+    let in_b : IsGraph invocation contents b.plan = subst (λ (cs : List (List ℕ)). IsGraph invocation cs b.plan) (told_contents invocation.files b.contents contents other.store b.loaded loads_too) b.graph in
+    let plans = one_plan invocation contents a.plan b.plan in_a in_b in
     let origin : IsOrigin invocation.instruction b.plan all.input a.from = subst (λ (p : Plan). IsOrigin invocation.instruction p all.input a.from) plans a.origin in
     let origins = one_origin invocation.instruction b.plan all.input other.input bytes a.from b.from left left_too un un_too origin b.origin in
     let before : AreBatchesFrom laws invocation.instruction (bare b.plan) b.from (a.first ∷ a.later) =

@@ -15,31 +15,19 @@ use Rattle.mg_answer.specs.Devices as answers
 use Rattle.mg_answer.specs.Outcomes.{told_answer, told_failed}
 use Rattle.mg_answer.specs.Notes.{memory_note}
 use Rattle.mg_answer.specs.Report.{open_numbers}
-use Rattle.mg_answer.specs.Wrote.{Meets, MetShort, WroteBy}
+use Rattle.mg_answer.specs.Wrote.{Meets, MetShort}
 use Rattle.mg_answer.specs.declared.outcomes.Outcomes.{Outcomes}
 use Rattle.mg_answer.specs.declared.status.Status.{Status}
-use Rattle.mg_answer.specs.declared.status.Status.TheVariants.{Good, StoreFault, Usage, GraphRefused, LineRefused, NodeFault, Stalled, ReadFault, WriteFault, OutOfMemory}
+use Rattle.mg_answer.specs.declared.status.Status.TheVariants.{Good, StoreFault, Usage, NodeFault, Stalled, ReadFault, WriteFault, OutOfMemory}
 use Rattle.mg_answer.proofs.Answering.{no-want, end-by, no-one, failed-by, steady-risen, rose-unrisen, whole-read}
 use Rattle.mg_answer.specs.declared.run.Reporting.{Reporting}
-use Rattle.mg_drive.specs.OneLive.{OneLive, OneLiveReading, OneLiveMade, AreBatchesOf, IsLiveAnswer, LiveShortIn, LiveShortInMade, RanLive, RanLiveMade, AnswersLive, AnswersLiveMade}
+use Rattle.mg_drive.specs.OneLive.{OneLive, OneLiveReading, OneLiveMade, AreBatchesOf, IsLiveAnswer, LiveReadingOut, LiveMadeOut, RanLive, RanLiveMade, AnswersLive, AnswersLiveMade}
 use Rattle.mg_run.specs.Devices.{Device, RunDevices, HasRisen, TookNotes}
 use Rattle.mg_run.specs.Call.{IsOneOf}
+use Rattle.mg_drive.proofs.TracesRan.{either_wrote}
 use Rattle.mg_run.proofs.Readings.{no-status, no_memory}
 
 -- What was written --
-
--- the answer was written, or a write failed
-either_wrote : (status : Status) (answer : RunAnswer) (failed : List ℕ) (output notes : Device SinkTold) → WroteBy status answer failed output notes → Meets answer status output notes ⊎ ((status ≡ WriteFault) × MetShort answer failed output notes)
-either_wrote Good answer failed output notes wrote = inl wrote
-either_wrote StoreFault answer failed output notes wrote = inl wrote
-either_wrote Usage answer failed output notes wrote = inl wrote
-either_wrote GraphRefused answer failed output notes wrote = inl wrote
-either_wrote LineRefused answer failed output notes wrote = inl wrote
-either_wrote NodeFault answer failed output notes wrote = inl wrote
-either_wrote Stalled answer failed output notes wrote = inl wrote
-either_wrote ReadFault answer failed output notes wrote = inl wrote
-either_wrote WriteFault answer failed output notes wrote = inr (refl, wrote)
-either_wrote OutOfMemory answer failed output notes wrote = inl wrote
 
 -- of a run of a graph with free nodes
 abbrev Ended_so : Reporting → Plan → FeedEnd → Outcomes → List ℕ → Status → Device SinkTold → Device SinkTold → Type 0
@@ -53,8 +41,8 @@ ended_so laws form report whole first later end status output notes boxes run =
 
 -- over an input, and over packets that are made
 read_so : (laws : Laws) (report : Reporting) (early : Bool) (whole : Plan) (status : Status) (all : RunDevices) (boxes : Device (List BoxTold)) → (one : OneLiveReading laws report early whole status all boxes)
-    → Ended_so report whole one.read.end one.run.comes.live (output_in packet_lines (split_of whole).core one.run.comes.streams) status all.output all.notes
-read_so laws report early whole status all boxes one = ended_so laws packet_lines report whole one.first one.later one.read.end status all.output all.notes boxes one.run
+    → Ended_so report whole one.read.end one.holds.run.comes.live (output_in packet_lines (split_of whole).core one.holds.run.comes.streams) status all.output all.notes
+read_so laws report early whole status all boxes one = ended_so laws packet_lines report whole one.holds.first one.holds.later one.read.end status all.output all.notes boxes one.holds.run
 
 made_so : (laws : Laws) (report : Reporting) (whole : Plan) (number : ℕ) (status : Status) (output notes : Device SinkTold) (boxes : Device (List BoxTold)) → (one : OneLiveMade laws report whole number status output notes boxes)
     → Ended_so report whole Ended one.comes.live (output_in totals (split_of whole).core one.comes.streams) status output notes
@@ -62,7 +50,7 @@ made_so laws report whole number status output notes boxes one = ended_so laws t
 
 -- Its status --
 
-not_failed : (status : Status) → (status ≡ StoreFault) ⊎ (status ≡ Usage) → status ≡ WriteFault → ⊥
+pub not_failed : (status : Status) → (status ≡ StoreFault) ⊎ (status ≡ Usage) → status ≡ WriteFault → ⊥
 not_failed status (inl store) is = cc
 not_failed status (inr usage) is = cc
 
@@ -70,13 +58,13 @@ no_other : (report : Reporting) (whole : Plan) (end : FeedEnd) (live : Outcomes)
 no_other report whole end live text status output notes other (inl met) = no-status status end live.faults (open_numbers live.ends.items) other met.told
 no_other report whole end live text status output notes other (inr short) = not_failed status other short.0
 
-not_short : (status : Status) → (status ≡ StoreFault) ⊎ (status ≡ Usage) → status ≡ OutOfMemory → ⊥
+pub not_short : (status : Status) → (status ≡ StoreFault) ⊎ (status ≡ Usage) → status ≡ OutOfMemory → ⊥
 not_short status (inl store) is = cc
 not_short status (inr usage) is = cc
 
 pub live-no-other : (laws : Laws) (report : Reporting) (early : Bool) (whole : Plan) (status : Status) (all : RunDevices) (boxes : Device (List BoxTold)) → (status ≡ StoreFault) ⊎ (status ≡ Usage) → RanLive laws report early whole status all boxes → ⊥
 live-no-other laws report early whole status all boxes other (inl one) =
-    no_other report whole one.read.end one.run.comes.live (output_in packet_lines (split_of whole).core one.run.comes.streams) status all.output all.notes other (read_so laws report early whole status all boxes one)
+    no_other report whole one.read.end one.holds.run.comes.live (output_in packet_lines (split_of whole).core one.holds.run.comes.streams) status all.output all.notes other (read_so laws report early whole status all boxes one)
 live-no-other laws report early whole status all boxes other (inr short) = not_short status other short.is
 
 pub live-made-no-other : (laws : Laws) (report : Reporting) (whole : Plan) (number : ℕ) (status : Status) (output notes : Device SinkTold) (boxes : Device (List BoxTold)) → (status ≡ StoreFault) ⊎ (status ≡ Usage) → RanLiveMade laws report whole number status output notes boxes → ⊥
@@ -89,8 +77,8 @@ pub live-noted : (laws : Laws) (report : Reporting) (early : Bool) (whole : Plan
 live-noted laws report early whole all boxes (inr short) = short.noted
 live-noted laws report early whole all boxes (inl one) = absurd (by (read_so laws report early whole OutOfMemory all boxes one))
   where
-    by : Ended_so report whole one.read.end one.run.comes.live (output_in packet_lines (split_of whole).core one.run.comes.streams) OutOfMemory all.output all.notes → ⊥
-    by (inl met) = no-want whole all.input one.read.end one.run.comes.live.faults (open_numbers one.run.comes.live.ends.items) one.came.came one.read one.came.by met.told
+    by : Ended_so report whole one.read.end one.holds.run.comes.live (output_in packet_lines (split_of whole).core one.holds.run.comes.streams) OutOfMemory all.output all.notes → ⊥
+    by (inl met) = no-want whole all.input one.read.end one.holds.run.comes.live.faults (open_numbers one.holds.run.comes.live.ends.items) one.came.came one.read one.came.by met.told
     by (inr short) = let e = short.0 in cc
 
 pub live-made-noted : (laws : Laws) (report : Reporting) (whole : Plan) (number : ℕ) (output notes : Device SinkTold) (boxes : Device (List BoxTold)) → RanLiveMade laws report whole number OutOfMemory output notes boxes → TookNotes notes memory_note
@@ -103,16 +91,16 @@ live-made-noted laws report whole number output notes boxes (inl one) = absurd (
 
 -- The calculators --
 
-short_count : (laws : Laws) (early : Bool) (whole : Plan) (input : Device SourceTold) (output : Device SinkTold) (boxes : Device (List BoxTold)) → LiveShortIn laws early whole input output boxes → length boxes.now ≡ length boxes.before
-short_count laws early whole input output boxes (inl short) = ap length short.nothing.uncalled
-short_count laws early whole input output boxes (inr (inl short)) = short.short.had.back.count
-short_count laws early whole input output boxes (inr (inr short)) = (short.short [] (λ ended. refl)).2.had.back.count
+short_count : (laws : Laws) (early : Bool) (whole : Plan) (input : Device SourceTold) (output : Device SinkTold) (boxes : Device (List BoxTold)) → LiveReadingOut laws early whole input output boxes → length boxes.now ≡ length boxes.before
+short_count laws early whole input output boxes (inl short) = ap length short.1.uncalled
+short_count laws early whole input output boxes (inr (inl short)) = short.holds.2.had.back.count
+short_count laws early whole input output boxes (inr (inr short)) = (short.holds [] (λ ended. refl)).2.had.back.count
 
 pub live-boxes : (laws : Laws) (report : Reporting) (early : Bool) (whole : Plan) (status : Status) (all : RunDevices) (boxes : Device (List BoxTold)) → RanLive laws report early whole status all boxes → length boxes.now ≡ length boxes.before
-live-boxes laws report early whole status all boxes (inl one) = one.run.had.back.count
+live-boxes laws report early whole status all boxes (inl one) = one.holds.run.had.back.count
 live-boxes laws report early whole status all boxes (inr short) = short_count laws early whole all.input all.output boxes short.by
 
-made_count : (laws : Laws) (whole : Plan) (number : ℕ) (output : Device SinkTold) (boxes : Device (List BoxTold)) → LiveShortInMade laws whole number output boxes → length boxes.now ≡ length boxes.before
+made_count : (laws : Laws) (whole : Plan) (number : ℕ) (output : Device SinkTold) (boxes : Device (List BoxTold)) → LiveMadeOut laws whole number output boxes → length boxes.now ≡ length boxes.before
 made_count laws whole number output boxes (inl nothing) = ap length nothing.uncalled
 made_count laws whole number output boxes (inr short) = short.had.back.count
 
@@ -142,16 +130,16 @@ live-answered laws report early whole status all boxes (inl one) none some = by 
     by None is = tt
     by (Some bytes) is =
         let same = whole-read (inputs_of whole) all.input one.read bytes one.came is none.input in
-        let text = output_in packet_lines (split_of whole).core one.run.comes.streams in
-        let answer = told_answer report whole one.read.end one.run.comes.live text in (
+        let text = output_in packet_lines (split_of whole).core one.holds.run.comes.streams in
+        let answer = told_answer report whole one.read.end one.holds.run.comes.live text in (
           answer,
           record {
-            first = one.first;
-            later = one.later;
-            batches = subst (λ (r : Read). AreBatchesOf early whole r (one.first ∷ one.later)) same one.batches;
-            answers = subst (λ (r : Read). IsLiveAnswer laws packet_lines report whole one.first one.later r.end answer) same (record { comes = one.run.comes; is = refl });
+            first = one.holds.first;
+            later = one.holds.later;
+            batches = subst (λ (r : Read). AreBatchesOf early whole r (one.holds.first ∷ one.holds.later)) same one.holds.batches;
+            answers = subst (λ (r : Read). IsLiveAnswer laws packet_lines report whole one.holds.first one.holds.later r.end answer) same (record { comes = one.holds.run.comes; is = refl });
           },
-          met_then report whole one.read.end one.run.comes.live text status all.output all.notes none.output none.notes (read_so laws report early whole status all boxes one),
+          met_then report whole one.read.end one.holds.run.comes.live text status all.output all.notes none.output none.notes (read_so laws report early whole status all boxes one),
         )
 
 pub live-made-answered : (laws : Laws) (report : Reporting) (whole : Plan) (number : ℕ) (status : Status) (all : RunDevices) (boxes : Device (List BoxTold)) → RanLiveMade laws report whole number status all.output all.notes boxes → answers.NoneFailed all → status ≢ OutOfMemory
@@ -169,8 +157,8 @@ pub live-ended : (laws : Laws) (report : Reporting) (early : Bool) (whole : Plan
 live-ended laws report early whole status all boxes (inr out) short one_of = absurd (short out.is one_of)
 live-ended laws report early whole status all boxes (inl one) short one_of = by (read_so laws report early whole status all boxes one)
   where
-    by : Ended_so report whole one.read.end one.run.comes.live (output_in packet_lines (split_of whole).core one.run.comes.streams) status all.output all.notes → EndCame all.input.before all.input.now
-    by (inl met) = end-by one.read.end status one.run.comes.live.faults (open_numbers one.run.comes.live.ends.items) (inputs_of whole) all.input one.came.came one.read met.told one_of one.came.by
+    by : Ended_so report whole one.read.end one.holds.run.comes.live (output_in packet_lines (split_of whole).core one.holds.run.comes.streams) status all.output all.notes → EndCame all.input.before all.input.now
+    by (inl met) = end-by one.read.end status one.holds.run.comes.live.faults (open_numbers one.holds.run.comes.live.ends.items) (inputs_of whole) all.input one.came.came one.read met.told one_of one.came.by
     by (inr failed) = absurd (no-one status (inl failed.0) one_of)
 
 pub live-read-risen : (laws : Laws) (report : Reporting) (early : Bool) (whole : Plan) (status : Status) (all : RunDevices) (boxes : Device (List BoxTold)) → RanLive laws report early whole status all boxes → HasRisen all.input.before.faults all.input.now.faults
@@ -178,8 +166,8 @@ pub live-read-risen : (laws : Laws) (report : Reporting) (early : Bool) (whole :
 live-read-risen laws report early whole status all boxes (inr short) risen = inr (inr (inl short.is))
 live-read-risen laws report early whole status all boxes (inl one) risen = by (read_so laws report early whole status all boxes one)
   where
-    by : Ended_so report whole one.read.end one.run.comes.live (output_in packet_lines (split_of whole).core one.run.comes.streams) status all.output all.notes → IsOneOf status (ReadFault ∷ WriteFault ∷ OutOfMemory ∷ [])
-    by (inl met) = failed-by one.read.end status one.run.comes.live.faults (open_numbers one.run.comes.live.ends.items) all.input.before all.input.now (inputs_of whole) all.input one.came.came one.read met.told one.came.faults one.came.by risen
+    by : Ended_so report whole one.read.end one.holds.run.comes.live (output_in packet_lines (split_of whole).core one.holds.run.comes.streams) status all.output all.notes → IsOneOf status (ReadFault ∷ WriteFault ∷ OutOfMemory ∷ [])
+    by (inl met) = failed-by one.read.end status one.holds.run.comes.live.faults (open_numbers one.holds.run.comes.live.ends.items) all.input.before all.input.now (inputs_of whole) all.input one.came.came one.read met.told one.came.faults one.came.by risen
     by (inr failed) = inr (inl failed.0)
 
 abbrev EitherRisen : RunDevices → Type 0
@@ -192,7 +180,7 @@ write_so report whole end live text status all risen (inr failed) = inl failed.0
 
 pub live-write-risen : (laws : Laws) (report : Reporting) (early : Bool) (whole : Plan) (status : Status) (all : RunDevices) (boxes : Device (List BoxTold)) → RanLive laws report early whole status all boxes → EitherRisen all → IsOneOf status (WriteFault ∷ OutOfMemory ∷ [])
 live-write-risen laws report early whole status all boxes (inl one) risen =
-    write_so report whole one.read.end one.run.comes.live (output_in packet_lines (split_of whole).core one.run.comes.streams) status all risen (read_so laws report early whole status all boxes one)
+    write_so report whole one.read.end one.holds.run.comes.live (output_in packet_lines (split_of whole).core one.holds.run.comes.streams) status all risen (read_so laws report early whole status all boxes one)
 live-write-risen laws report early whole status all boxes (inr short) risen = inr (inl short.is)
 
 pub live-made-write-risen : (laws : Laws) (report : Reporting) (whole : Plan) (number : ℕ) (status : Status) (all : RunDevices) (boxes : Device (List BoxTold)) → RanLiveMade laws report whole number status all.output all.notes boxes → EitherRisen all

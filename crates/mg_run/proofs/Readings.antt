@@ -21,14 +21,14 @@ use Rattle.mg_answer.proofs.Generating.{generated-ran, generated-answered, gener
 use Rattle.mg_answer.specs.declared.status.Status.{Status}
 use Rattle.mg_answer.specs.declared.status.Status.TheVariants.{Good, StoreFault, Usage, NodeFault, Stalled, ReadFault, WriteFault, OutOfMemory}
 use Rattle.mg_answer.specs.declared.run.Reporting.{Reporting}
-use Rattle.mg_drive.specs.OneRun.{OneReading, ShortIn, RanOverLines, OneMade, ShortInMade, RanOverPackets}
+use Rattle.mg_drive.specs.OneRun.{OneReading, ReadingOut, RanOverLines, OneMade, MadeOut, RanOverPackets}
 use Rattle.mg_run.specs.Devices.{Device, RunDevices, HasRisen, TookNotes}
 use Rattle.mg_run.specs.Call.{IsOneOf}
 
 -- If memory suffices, a run is what mg_answer says of a run.
 one_ran : (laws : Laws) (report : Reporting) (plan : Plan) (status : Status) (all : RunDevices) (boxes : Device (List BoxTold)) → OneReading laws report plan status all boxes → runs.RanOn laws report plan status all
 one_ran laws report plan status all boxes one =
-    written-ran laws report plan one.read all status one.came (record { streams = one.run.streams; solution = one.run.solution; by = one.run.wrote })
+    written-ran laws report plan one.read all status one.came (record { streams = one.holds.streams; solution = one.holds.solution; by = one.holds.wrote })
 
 made_ran : (laws : Laws) (report : Reporting) (plan : Plan) (number : ℕ) (status : Status) (all : RunDevices) (boxes : Device (List BoxTold)) → OneMade laws report plan number status all.output all.notes boxes → runs.RanGenerated laws report plan number status all
 made_ran laws report plan number status all boxes one = generated-ran laws report plan number status all (record { streams = one.streams; solution = one.solution; by = one.wrote })
@@ -57,11 +57,11 @@ no_memory [] (n ∷ ns) is = cc
 no_memory (f ∷ fs) ns is = cc
 
 pub lines-no-store : (laws : Laws) (report : Reporting) (plan : Plan) (all : RunDevices) (boxes : Device (List BoxTold)) → RanOverLines laws report plan StoreFault all boxes → ⊥
-lines-no-store laws report plan all boxes (inl one) = no-status StoreFault one.read.end (faults (job_of laws plan one.read) one.run.streams) (stalled one.run.streams) (inl refl) one.run.wrote.told
+lines-no-store laws report plan all boxes (inl one) = no-status StoreFault one.read.end (faults (job_of laws plan one.read) one.holds.streams) (stalled one.holds.streams) (inl refl) one.holds.wrote.told
 lines-no-store laws report plan all boxes (inr short) = let e = short.is in cc
 
 pub lines-no-usage : (laws : Laws) (report : Reporting) (plan : Plan) (all : RunDevices) (boxes : Device (List BoxTold)) → RanOverLines laws report plan Usage all boxes → ⊥
-lines-no-usage laws report plan all boxes (inl one) = no-status Usage one.read.end (faults (job_of laws plan one.read) one.run.streams) (stalled one.run.streams) (inr refl) one.run.wrote.told
+lines-no-usage laws report plan all boxes (inl one) = no-status Usage one.read.end (faults (job_of laws plan one.read) one.holds.streams) (stalled one.holds.streams) (inr refl) one.holds.wrote.told
 lines-no-usage laws report plan all boxes (inr short) = let e = short.is in cc
 
 pub packets-no-store : (laws : Laws) (report : Reporting) (plan : Plan) (number : ℕ) (output notes : Device SinkTold) (boxes : Device (List BoxTold)) → RanOverPackets laws report plan number StoreFault output notes boxes → ⊥
@@ -75,7 +75,7 @@ packets-no-usage laws report plan number output notes boxes (inr short) = let e 
 -- If memory ran out, the notes say so.
 pub lines-noted : (laws : Laws) (report : Reporting) (plan : Plan) (all : RunDevices) (boxes : Device (List BoxTold)) → RanOverLines laws report plan OutOfMemory all boxes → TookNotes all.notes memory_note
 lines-noted laws report plan all boxes (inl one) =
-    absurd (no-want plan all.input one.read.end (faults (job_of laws plan one.read) one.run.streams) (stalled one.run.streams) one.came.came one.read one.came.by one.run.wrote.told)
+    absurd (no-want plan all.input one.read.end (faults (job_of laws plan one.read) one.holds.streams) (stalled one.holds.streams) one.came.came one.read one.came.by one.holds.wrote.told)
 lines-noted laws report plan all boxes (inr short) = short.noted
 
 pub packets-noted : (laws : Laws) (report : Reporting) (plan : Plan) (number : ℕ) (output notes : Device SinkTold) (boxes : Device (List BoxTold)) → RanOverPackets laws report plan number OutOfMemory output notes boxes → TookNotes notes memory_note
@@ -84,16 +84,16 @@ packets-noted laws report plan number output notes boxes (inr short) = short.not
 
 -- The calculators --
 
-short_count : (laws : Laws) (plan : Plan) (input : Device SourceTold) (output : Device SinkTold) (boxes : Device (List BoxTold)) → ShortIn laws plan input output boxes → length boxes.now ≡ length boxes.before
-short_count laws plan input output boxes (inl short) = ap length short.nothing.uncalled
-short_count laws plan input output boxes (inr (inl short)) = short.short.had.back.count
-short_count laws plan input output boxes (inr (inr short)) = (short.short [] (λ ended. refl)).had.back.count
+short_count : (laws : Laws) (plan : Plan) (input : Device SourceTold) (output : Device SinkTold) (boxes : Device (List BoxTold)) → ReadingOut laws plan input output boxes → length boxes.now ≡ length boxes.before
+short_count laws plan input output boxes (inl short) = ap length short.1.uncalled
+short_count laws plan input output boxes (inr (inl short)) = short.holds.had.back.count
+short_count laws plan input output boxes (inr (inr short)) = (short.holds [] (λ ended. refl)).had.back.count
 
 pub lines-boxes : (laws : Laws) (report : Reporting) (plan : Plan) (status : Status) (all : RunDevices) (boxes : Device (List BoxTold)) → RanOverLines laws report plan status all boxes → length boxes.now ≡ length boxes.before
-lines-boxes laws report plan status all boxes (inl one) = one.run.had.back.count
+lines-boxes laws report plan status all boxes (inl one) = one.holds.had.back.count
 lines-boxes laws report plan status all boxes (inr short) = short_count laws plan all.input all.output boxes short.by
 
-made_count : (laws : Laws) (plan : Plan) (number : ℕ) (output : Device SinkTold) (boxes : Device (List BoxTold)) → ShortInMade laws plan number output boxes → length boxes.now ≡ length boxes.before
+made_count : (laws : Laws) (plan : Plan) (number : ℕ) (output : Device SinkTold) (boxes : Device (List BoxTold)) → MadeOut laws plan number output boxes → length boxes.now ≡ length boxes.before
 made_count laws plan number output boxes (inl nothing) = ap length nothing.uncalled
 made_count laws plan number output boxes (inr short) = short.had.back.count
 

@@ -9,10 +9,10 @@ use Rattle.mg_run.proofs.LiveReadings.{live-read-risen, live-write-risen, live-m
 use Rattle.mg_drive.proofs.TracesRan.{traced_read_risen, traced_write_risen}
 use Rattle.mg_replay.proofs.Answered.{replayed_read_risen, replayed_write_risen}
 use Rattle.mg_run.specs.Answer.{Action, refuse, show, run_plan, run_live, solve, generate, generate_live, trace, replay}
-use Rattle.mg_run.specs.Devices.{Device, CallDevices, run_devices_of, Untouched, HasRisen}
-use Rattle.mg_run.specs.Call.{Written, WasShown, DidAction, Called, IsOneOf}
+use Rattle.mg_run.specs.Devices.{Device, CallDevices, run_devices_of, Untouched, HasRisen, TookText}
+use Rattle.mg_run.specs.Call.{UsedGraph, Called, file_unloaded, graph_refused, text_shown, text_failed, graph_used, memory_out, IsOneOf}
 use Rattle.mg_answer.specs.declared.status.Status.{Status}
-use Rattle.mg_answer.specs.declared.status.Status.TheVariants.{Good, StoreFault, Usage, GraphRefused, LineRefused, NodeFault, Stalled, ReadFault, WriteFault, OutOfMemory}
+use Rattle.mg_answer.specs.declared.status.Status.TheVariants.{StoreFault, GraphRefused, ReadFault, WriteFault, OutOfMemory}
 
 pub risen-steady : (a b : ℕ) → HasRisen a b → b ≡ a → ⊥
 risen-steady a b risen steady = risen steady
@@ -24,44 +24,36 @@ risen-unwritten : (sink : Device SinkTold) → HasRisen sink.before.faults sink.
 risen-unwritten sink risen untouched = risen-steady _ _ risen (ap (λ s. s.faults) untouched)
 
 -- The store's count rose.
-pub store-risen : (laws : Laws) (status : Status) (invocation : Invocation) (all : CallDevices) → Called laws status invocation all → HasRisen all.store.before.faults all.store.now.faults → IsOneOf status (StoreFault ∷ OutOfMemory ∷ [])
-store-risen laws Good invocation all called risen = absurd (risen-steady _ _ risen called.loaded.steady)
-store-risen laws StoreFault invocation all called risen = inl refl
-store-risen laws Usage invocation all called risen = elim called [ ]
-store-risen laws GraphRefused invocation all called risen = absurd (risen-steady _ _ risen called.loaded.steady)
-store-risen laws LineRefused invocation all called risen = absurd (risen-steady _ _ risen called.loaded.steady)
-store-risen laws NodeFault invocation all called risen = absurd (risen-steady _ _ risen called.loaded.steady)
-store-risen laws Stalled invocation all called risen = absurd (risen-steady _ _ risen called.loaded.steady)
-store-risen laws ReadFault invocation all called risen = absurd (risen-steady _ _ risen called.loaded.steady)
-store-risen laws WriteFault invocation all called risen = absurd (risen-steady _ _ risen called.loaded.steady)
-store-risen laws OutOfMemory invocation all called risen = inr (inl refl)
+pub store-risen : (laws : Laws) (status : Status) (invocation : Invocation) (all : CallDevices) → Called laws invocation all status → HasRisen all.store.before.faults all.store.now.faults → IsOneOf status (StoreFault ∷ OutOfMemory ∷ [])
+store-risen laws status invocation all (file_unloaded file failed noted nothing) risen = inl refl
+store-risen laws status invocation all (graph_refused note due noted nothing) risen = absurd (risen-steady _ _ risen due.loaded.steady)
+store-risen laws status invocation all (text_shown text due took unnoted unread uncalled) risen = absurd (risen-steady _ _ risen due.loaded.steady)
+store-risen laws status invocation all (text_failed text due took noted unread uncalled) risen = absurd (risen-steady _ _ risen due.loaded.steady)
+store-risen laws status invocation all (graph_used action due graph) risen = absurd (risen-steady _ _ risen due.loaded.steady)
+store-risen laws status invocation all (memory_out loaded noted nothing) risen = inr (inl refl)
 
 -- The input's count rose.
 abbrev read_statuses : List Status
 read_statuses = ReadFault ∷ WriteFault ∷ OutOfMemory ∷ []
 
-read-did : (laws : Laws) (action : Action) (status : Status) (all : CallDevices) → DidAction laws action status all → HasRisen all.input.before.faults all.input.now.faults → IsOneOf status read_statuses
-read-did laws (refuse note) status all did risen = absurd (risen-unread all.input risen did.unread)
-read-did laws (show text) status all did risen = absurd (risen-unread all.input risen did.unread)
+read-did : (laws : Laws) (action : Action) (status : Status) (all : CallDevices) → UsedGraph laws action status all → HasRisen all.input.before.faults all.input.now.faults → IsOneOf status read_statuses
+read-did laws (refuse note) status all did risen = absurd did
+read-did laws (show text) status all did risen = absurd did
 read-did laws (run_plan report plan) status all did risen = lines-read-risen laws report plan status (run_devices_of all) all.boxes did risen
 read-did laws (run_live report early plan) status all did risen = live-read-risen laws report early plan status (run_devices_of all) all.boxes did risen
-read-did laws (solve report plan) status all did risen = run-read-risen laws report plan status (run_devices_of all) did.ran risen
-read-did laws (generate report number plan) status all did risen = absurd (risen-unread all.input risen did.unread)
-read-did laws (generate_live report number plan) status all did risen = absurd (risen-unread all.input risen did.unread)
-read-did laws (trace report plan) status all did risen = traced_read_risen laws report plan all.boxes.before status (run_devices_of all) did.ran risen
-read-did laws (replay report plan) status all did risen = replayed_read_risen laws report plan status (run_devices_of all) all.boxes did.replayed risen
+read-did laws (solve report plan) status all did risen = run-read-risen laws report plan status (run_devices_of all) did.0 risen
+read-did laws (generate report number plan) status all did risen = absurd (risen-unread all.input risen did.1)
+read-did laws (generate_live report number plan) status all did risen = absurd (risen-unread all.input risen did.1)
+read-did laws (trace report plan) status all did risen = traced_read_risen laws report plan all.boxes.before status (run_devices_of all) did.0 risen
+read-did laws (replay report plan) status all did risen = replayed_read_risen laws report plan status (run_devices_of all) all.boxes did.0 risen
 
-pub read-risen : (laws : Laws) (status : Status) (invocation : Invocation) (all : CallDevices) → Called laws status invocation all → HasRisen all.input.before.faults all.input.now.faults → IsOneOf status read_statuses
-read-risen laws Good invocation all called risen = read-did laws called.action Good all called.did risen
-read-risen laws StoreFault invocation all called risen = absurd (risen-unread all.input risen called.unread)
-read-risen laws Usage invocation all called risen = elim called [ ]
-read-risen laws GraphRefused invocation all called risen = read-did laws called.action GraphRefused all called.did risen
-read-risen laws LineRefused invocation all called risen = read-did laws called.action LineRefused all called.did risen
-read-risen laws NodeFault invocation all called risen = read-did laws called.action NodeFault all called.did risen
-read-risen laws Stalled invocation all called risen = read-did laws called.action Stalled all called.did risen
-read-risen laws ReadFault invocation all called risen = inl refl
-read-risen laws WriteFault invocation all called risen = inr (inl refl)
-read-risen laws OutOfMemory invocation all called risen = inr (inr (inl refl))
+pub read-risen : (laws : Laws) (status : Status) (invocation : Invocation) (all : CallDevices) → Called laws invocation all status → HasRisen all.input.before.faults all.input.now.faults → IsOneOf status read_statuses
+read-risen laws status invocation all (file_unloaded file failed noted nothing) risen = absurd (risen-unread all.input risen nothing.unread)
+read-risen laws status invocation all (graph_refused note due noted nothing) risen = absurd (risen-unread all.input risen nothing.unread)
+read-risen laws status invocation all (text_shown text due took unnoted unread uncalled) risen = absurd (risen-unread all.input risen unread)
+read-risen laws status invocation all (text_failed text due took noted unread uncalled) risen = absurd (risen-unread all.input risen unread)
+read-risen laws status invocation all (graph_used action due graph) risen = read-did laws action status all graph risen
+read-risen laws status invocation all (memory_out loaded noted nothing) risen = absurd (risen-unread all.input risen nothing.unread)
 
 -- The output's count or the notes' rose.
 abbrev write_statuses : List Status
@@ -70,38 +62,30 @@ write_statuses = StoreFault ∷ GraphRefused ∷ WriteFault ∷ OutOfMemory ∷ 
 abbrev EitherRisen : CallDevices → Type 0
 EitherRisen all = HasRisen all.output.before.faults all.output.now.faults ⊎ HasRisen all.notes.before.faults all.notes.now.faults
 
-write-shown : (text : List ℕ) (status : Status) (all : CallDevices) → WasShown text status all → EitherRisen all → IsOneOf status write_statuses
-write-shown text status all shown risen = by shown.written risen
-  where
-    by : Written text status all → EitherRisen all → IsOneOf status write_statuses
-    by (inr failed) risen = inr (inr (inl failed.0))
-    by (inl good) (inl risen) = absurd (risen-steady _ _ risen good.1.steady)
-    by (inl good) (inr risen) = absurd (risen-unwritten all.notes risen good.2)
-
 write-status : (status : Status) → IsOneOf status (WriteFault ∷ OutOfMemory ∷ []) → IsOneOf status write_statuses
 write-status status one = inr (inr one)
 
-write-did : (laws : Laws) (action : Action) (status : Status) (all : CallDevices) → DidAction laws action status all → EitherRisen all → IsOneOf status write_statuses
-write-did laws (refuse note) status all did risen = inr (inl did.ended)
-write-did laws (show text) status all did risen = write-shown text status all did risen
+write-did : (laws : Laws) (action : Action) (status : Status) (all : CallDevices) → UsedGraph laws action status all → EitherRisen all → IsOneOf status write_statuses
+write-did laws (refuse note) status all did risen = absurd did
+write-did laws (show text) status all did risen = absurd did
 write-did laws (run_plan report plan) status all did risen = write-status status (lines-write-risen laws report plan status (run_devices_of all) all.boxes did risen)
 write-did laws (run_live report early plan) status all did risen = write-status status (live-write-risen laws report early plan status (run_devices_of all) all.boxes did risen)
-write-did laws (solve report plan) status all did risen = write-status status (run-write-risen laws report plan status (run_devices_of all) did.ran risen)
+write-did laws (solve report plan) status all did risen = write-status status (run-write-risen laws report plan status (run_devices_of all) did.0 risen)
 write-did laws (generate report number plan) status all did risen =
-    write-status status (packets-write-risen laws report plan number status (run_devices_of all) all.boxes did.ran risen)
+    write-status status (packets-write-risen laws report plan number status (run_devices_of all) all.boxes did.0 risen)
 write-did laws (generate_live report number plan) status all did risen =
-    write-status status (live-made-write-risen laws report plan number status (run_devices_of all) all.boxes did.ran risen)
-write-did laws (trace report plan) status all did risen = write-status status (traced_write_risen laws report plan all.boxes.before status (run_devices_of all) did.ran risen)
-write-did laws (replay report plan) status all did risen = write-status status (replayed_write_risen laws report plan status (run_devices_of all) all.boxes did.replayed risen)
+    write-status status (live-made-write-risen laws report plan number status (run_devices_of all) all.boxes did.0 risen)
+write-did laws (trace report plan) status all did risen = write-status status (traced_write_risen laws report plan all.boxes.before status (run_devices_of all) did.0 risen)
+write-did laws (replay report plan) status all did risen = write-status status (replayed_write_risen laws report plan status (run_devices_of all) all.boxes did.0 risen)
 
-pub write-risen : (laws : Laws) (status : Status) (invocation : Invocation) (all : CallDevices) → Called laws status invocation all → EitherRisen all → IsOneOf status write_statuses
-write-risen laws Good invocation all called risen = write-did laws called.action Good all called.did risen
-write-risen laws StoreFault invocation all called risen = inl refl
-write-risen laws Usage invocation all called risen = elim called [ ]
-write-risen laws GraphRefused invocation all called risen = write-did laws called.action GraphRefused all called.did risen
-write-risen laws LineRefused invocation all called risen = write-did laws called.action LineRefused all called.did risen
-write-risen laws NodeFault invocation all called risen = write-did laws called.action NodeFault all called.did risen
-write-risen laws Stalled invocation all called risen = write-did laws called.action Stalled all called.did risen
-write-risen laws ReadFault invocation all called risen = write-did laws called.action ReadFault all called.did risen
-write-risen laws WriteFault invocation all called risen = inr (inr (inl refl))
-write-risen laws OutOfMemory invocation all called risen = inr (inr (inr (inl refl)))
+write-shown : (text : List ℕ) (all : CallDevices) → TookText all.output text → Untouched all.notes → EitherRisen all → ⊥
+write-shown text all took unnoted (inl risen) = risen-steady _ _ risen took.steady
+write-shown text all took unnoted (inr risen) = risen-unwritten all.notes risen unnoted
+
+pub write-risen : (laws : Laws) (status : Status) (invocation : Invocation) (all : CallDevices) → Called laws invocation all status → EitherRisen all → IsOneOf status write_statuses
+write-risen laws status invocation all (file_unloaded file failed noted nothing) risen = inl refl
+write-risen laws status invocation all (graph_refused note due noted nothing) risen = inr (inl refl)
+write-risen laws status invocation all (text_shown text due took unnoted unread uncalled) risen = absurd (write-shown text all took unnoted risen)
+write-risen laws status invocation all (text_failed text due took noted unread uncalled) risen = inr (inr (inl refl))
+write-risen laws status invocation all (graph_used action due graph) risen = write-did laws action status all graph risen
+write-risen laws status invocation all (memory_out loaded noted nothing) risen = inr (inr (inr (inl refl)))

@@ -1,5 +1,5 @@
 -- The equations, and what is told of their solution, depend neither on the limit of a plan's queues nor on the number of its workers.
-use Rattle.std.proofs.Common.{◌≡◌, ◌≢◌, ◌≤◌, ℕ, ℤ, pos, zero, suc, Bool, if◌then◌else◌, List, ◌∷◌, ◌++◌, map, take, option_map, refl, sym, ap, subst, ◌∙◌}
+use Rattle.std.proofs.Common.{◌≡◌, ◌≢◌, ◌≤◌, ℕ, ℤ, pos, zero, suc, List, ◌∷◌, ◌++◌, map, take, option_map, refl, sym, ap, subst, ◌∙◌}
 use Rattle.std.specs.List.{flat_map, filter_map}
 use Rattle.mg_value.specs.Payload.{Plain}
 use Rattle.mg_settled.specs.Prefix.{StreamPrefix}
@@ -11,13 +11,11 @@ use Rattle.mg_calc.specs.declared.plan.Plan.{Plan}
 use Rattle.mg_calc.specs.declared.plan_node.PlanNode.{PlanNode}
 use Rattle.mg_calc.specs.declared.call.Call.{Call}
 use Rattle.mg_calc.specs.declared.call.Call.TheVariants.{Begun, Shown}
-use Rattle.mg_calc.specs.Equations.{Job, IsJob, rules_at, inputs_of, outcome_by, outcome_of, next_round, round, IsSolution, MeetsEquations}
-use Rattle.mg_calc.specs.Meaning.{numbered, faults, count_of, counts, stalled, last_call, log_of}
+use Rattle.mg_calc.specs.Equations.{Job, IsJob, inputs_of, outcome_by, outcome_of, next_round, round, IsSolution, MeetsEquations}
+use Rattle.mg_calc.specs.Meaning.{numbered, faults, counts, stalled, last_call, log_of}
 use Rattle.mg_calc.specs.Outcome.{Outcome}
 use Rattle.mg_calc.specs.Told.{BoxTold}
-use Rattle.mg_node.specs.Job.{stage_by}
-use Rattle.mg_node.specs.Lawful.{kept_after}
-use Rattle.mg_node.specs.Had.{state_by, had_close}
+use Rattle.mg_node.specs.Had.{had_close}
 use Rattle.mg_edge.specs.Edge.{SinkTold}
 use Rattle.mg_feed.specs.declared.feed_end.FeedEnd.{FeedEnd}
 use Rattle.mg_answer.specs.Told.{status_of}
@@ -29,7 +27,7 @@ use Rattle.mg_answer.specs.Devices.{Device}
 use Rattle.mg_answer.specs.Wrote.{WroteBy}
 use Rattle.mg_answer.specs.declared.status.Status.{Status}
 use Rattle.mg_answer.specs.declared.status.Status.TheVariants.{Stalled, WriteFault}
-use Rattle.mg_drive.specs.Leaves.{HadItsCalls}
+use Rattle.mg_drive.specs.Leaves.{kept_by, HadItsCalls}
 use Rattle.mg_drive.specs.OneRun.{OneRun}
 
 -- a plan, and a job, with other limits
@@ -166,23 +164,10 @@ log_same : (job : Job) (limit : ℤ) (workers : ℕ) (xs : List (StreamPrefix Pl
 log_same job limit workers xs node =
     ap (λ (o : Outcome). (Begun ∷ map (λ (e : TimedSet Plain). Shown e.at e.set) (take o.taken (settled_sets node.policy (inputs_of xs node)))) ++ last_call o.fault) (outcome_same job limit workers xs node)
 
--- what a calculator keeps after its first sets, and perhaps Close
-stage_same : (law : Law) (job : Job) (limit : ℤ) (workers : ℕ) (xs : List (StreamPrefix Plain)) (node : PlanNode) (n : ℕ) → stage_by law (limited job limit workers) xs node n ≡ stage_by law job xs node n
-stage_same (Count count start step) job limit workers xs node n = refl
-stage_same (SideOnce at) job limit workers xs node n = refl
-stage_same Constants job limit workers xs node n = refl
-stage_same Loopback job limit workers xs node n = refl
-stage_same law job limit workers xs node n = refl
-
-state_same : (job : Job) (limit : ℤ) (workers : ℕ) (xs : List (StreamPrefix Plain)) (node : PlanNode) (n : ℕ) (close : Bool) → state_by (limited job limit workers) xs node n close ≡ state_by job xs node n close
-state_same job limit workers xs node n close =
-    ap (λ (o : Outcome). if close then kept_after ((rules_at job node).finish o.state) o.state else o.state) (stage_same node.law job limit workers xs node n)
-
 pub had_same : (job : Job) (limit : ℤ) (workers : ℕ) (xs : List (StreamPrefix Plain)) (node : PlanNode) (before now : BoxTold) → HadItsCalls (limited job limit workers) xs node before now → HadItsCalls job xs node before now
 had_same job limit workers xs node before now h = record {
   log = h.log ∙ ap (λ (more : List Call). option_map (λ (calls : List Call). calls ++ more) before.log) (log_same job limit workers xs node);
-  state = h.state ∙ ap (λ (o : Outcome). state_by (limited job limit workers) xs node o.taken (had_close o.fault)) (outcome_same job limit workers xs node)
-      ∙ state_same job limit workers xs node (count_of job xs node) (had_close (outcome_of job xs node).fault);
+  state = h.state ∙ ap (λ (o : Outcome). kept_by (limited job limit workers) xs node o.taken (had_close o.fault)) (outcome_same job limit workers xs node);
   law = h.law;
   shape = h.shape;
 }

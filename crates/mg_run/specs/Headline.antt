@@ -15,7 +15,7 @@ use Rattle.mg_free.specs.Core.{first_free}
 use Rattle.mg_feed.specs.Graph.{inputs_of}
 use Rattle.mg_feed.specs.declared.feed_end.FeedEnd.{FeedEnd}
 use Rattle.mg_feed.specs.declared.feed_end.FeedEnd.TheVariants.{Ended}
-use Rattle.mg_answer.specs.Answer.{OutputForm, packet_lines, totals, Read, Telling, by_lines, by_summary, job_of, generated_job}
+use Rattle.mg_answer.specs.Answer.{Read, Telling, by_lines, by_summary, job_of, generated_job}
 use Rattle.mg_answer.specs.Ran.{CameTo}
 use Rattle.mg_answer.specs.declared.status.Status.{Status}
 use Rattle.mg_answer.specs.declared.status.Status.TheVariants.{Good, LineRefused, NodeFault, Stalled, ReadFault, WriteFault}
@@ -42,7 +42,7 @@ abbrev pub ran_statuses : List Status
 ran_statuses = Good ∷ LineRefused ∷ NodeFault ∷ Stalled ∷ ReadFault ∷ WriteFault ∷ []
 
 -- The contents are graphs. The first expands to a graph, with the others as its library. Checked with the shapes and laws of the
--- user-supplied calculators, the graph has this valid plan. No node of the plan is free.
+-- user-supplied calculators, the graph has this plan.
 pub record IsGraph (invocation : Invocation) (contents : List (List ℕ)) (plan : Plan) : Type 0 where
   pub main : GraphView
   pub library : List GraphView
@@ -50,8 +50,6 @@ pub record IsGraph (invocation : Invocation) (contents : List (List ℕ)) (plan 
   pub graph : GraphView
   pub expanded : expansion_of main library ≡ Ok graph
   pub checked : check_of invocation.outers graph ≡ Ok plan
-  pub valid : IsValid plan
-  pub unfree : first_free plan ≡ None
 
 -- What a graph was run over: what was read of the input, or a number of packets that are made.
 pub data Origin : Type 0 where
@@ -83,31 +81,20 @@ telling_from report (from_number number) = by_summary report
 abbrev pub bare : Plan → Plan
 bare plan = record plan { limit = negsuc 0; workers = 0 }
 
--- A call ran its graph, and no node of the graph is free. There is one content of each file, one plan, one thing that the graph was run
--- over, and one solution.
+-- A call ran its graph, and no node of the graph is free. There is one content of each file, one valid plan, one thing that the graph was
+-- run over, and one solution.
 pub record Headline (laws : Laws) (invocation : Invocation) (status : Status) (devices : CallDevices) : Type 0 where
   pub contents : List (List ℕ)
   pub loaded : LoadedAll invocation.files contents devices.store
   pub plan : Plan
   pub graph : IsGraph invocation contents plan
+  pub valid : IsValid plan
+  pub unfree : first_free plan ≡ None
   pub from : Origin
   pub origin : IsOrigin invocation.instruction plan devices.input from
   pub run : OneRun (telling_from (reporting invocation.instruction) from) (job_from laws (bare plan) from) (end_from from) status devices.output devices.notes devices.boxes
 
 -- Graphs with free nodes --
-
--- The contents are graphs. The first expands to a graph, with the others as its library. Checked with the shapes and laws of the
--- user-supplied calculators, the graph has this valid plan. Some node of the plan is free, and `first` is the first free node.
-pub record IsLiveGraph (invocation : Invocation) (contents : List (List ℕ)) (plan : Plan) : Type 0 where
-  pub main : GraphView
-  pub library : List GraphView
-  pub files : AreGraphs contents (main ∷ library)
-  pub graph : GraphView
-  pub expanded : expansion_of main library ≡ Ok graph
-  pub checked : check_of invocation.outers graph ≡ Ok plan
-  pub valid : IsValidWithFree plan
-  pub first : ℕ
-  pub free : first_free plan ≡ Some first
 
 -- The batches over which a graph was run, each with what had come by its end. They are batches of the lines that were read, or all packets
 -- that are made as one batch. Batches of lines may end early if the instruction says so.
@@ -115,24 +102,22 @@ abbrev pub AreBatchesFrom : Laws → Instruction → Plan → Origin → List In
 AreBatchesFrom laws instruction plan (from_input read) batches = AreBatchesOf instruction.unbuffered plan read batches
 AreBatchesFrom laws instruction plan (from_number number) batches = batches ≡ (generated_job laws plan number).inputs ∷ []
 
-abbrev pub form_from : Origin → OutputForm
-form_from (from_input read) = packet_lines
-form_from (from_number number) = totals
-
--- A call ran its graph, which has free nodes. There is one content of each file, one plan, and one thing that the graph was run over. There
--- are batches of it, the logs that the free nodes' rounds over the batches give, and one solution of the core for these. Unless batches of
+-- A call ran its graph, and some node of it is free. There is one content of each file, one valid plan, and one thing that the graph was run
+-- over. There are batches of it, the logs that the free nodes' rounds over the batches give, and one solution of the core for these. Unless batches of
 -- lines may end early, there is one way to split lines into batches.
 pub record LiveHeadline (laws : Laws) (invocation : Invocation) (status : Status) (devices : CallDevices) : Type 0 where
   pub contents : List (List ℕ)
   pub loaded : LoadedAll invocation.files contents devices.store
   pub plan : Plan
-  pub graph : IsLiveGraph invocation contents plan
+  pub graph : IsGraph invocation contents plan
+  pub valid : IsValidWithFree plan
+  pub free : (number : ℕ) × (first_free plan ≡ Some number)
   pub from : Origin
   pub origin : IsOrigin invocation.instruction plan devices.input from
   pub first : Inputs
   pub later : List Inputs
   pub batches : AreBatchesFrom laws invocation.instruction (bare plan) from (first ∷ later)
-  pub run : OneLive laws (form_from from) (reporting invocation.instruction) (bare plan) first later (end_from from) status devices.output devices.notes devices.boxes
+  pub run : OneLive laws (telling_from (reporting invocation.instruction) from).form (reporting invocation.instruction) (bare plan) first later (end_from from) status devices.output devices.notes devices.boxes
 
 -- a call ran its graph, without free nodes or with
 abbrev pub RanGraph : Laws → Invocation → Status → CallDevices → Type 0

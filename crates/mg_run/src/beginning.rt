@@ -3,17 +3,16 @@ ghost use Rattle.std.specs.Prelude.{◌≡◌, All, List, ◌⊎◌, IfOk, IfErr
 ghost use Rattle.mg_edge.specs.Edge.{StoreTold};
 ghost use Rattle.mg_calc.specs.Rules.{Laws};
 ghost use Rattle.mg_calc.specs.Told.{BoxTold};
-ghost use Rattle.mg_calc.specs.declared.shape.OuterShape.{OuterShape};
 ghost use Rattle.mg_words.specs.Command.{command};
 ghost use Rattle.mg_words.specs.Words.{request_of};
 ghost use Rattle.mg_words.specs.Request.{request_view};
 ghost use Rattle.mg_answer.specs.Notes.{write_note};
 ghost use Rattle.mg_files.specs.Reads.{HasFailed};
 ghost use Rattle.mg_run.specs.Boxes.{outers_told, MayBeHandedIn};
-ghost use Rattle.mg_run.specs.Invocation.{invocation};
+ghost use Rattle.mg_run.specs.Invocation.{Invocation, invocation};
 ghost use Rattle.mg_run.specs.Devices.{Device, device, told_by, SameDevices, Untouched, TookText, TookPart, TookNotes};
-ghost use Rattle.mg_run.specs.Call.{CallEnded, Called, DidAction};
-ghost use Rattle.mg_run.specs.Code.Action.{action_view, CanBeDone, IsDue};
+ghost use Rattle.mg_run.specs.Call.{IsDue, CallEnded, Called};
+ghost use Rattle.mg_run.specs.Code.Action.{action_view, CanBeDone, FailedWith};
 ghost use Rattle.mg_run.specs.Code.Begun.{IsBegun};
 
 use crate::action::{Action, Use, action_of};
@@ -109,17 +108,26 @@ fn begin_command<C: NodeCalculator, S: Source, K: Sink, E: Sink, T: Store>(
     store: &mut T,
     devices: &mut Devices<'_, '_, '_, S, K, E>,
 ) -> Begun
-    ensures begun { IsBegun C.laws (outers_told (map C.told boxes.now.items)) (λ status all. Called C.laws status (invocation (command ordered.now.instruction ordered.now.files.now) (outers_told (map C.told boxes.now.items))) all) result
+    ensures begun { IsBegun C.laws (outers_told (map C.told boxes.now.items)) (λ status all. Called C.laws (invocation (command ordered.now.instruction ordered.now.files.now) (outers_told (map C.told boxes.now.items))) all status) result
         (device (T.told store.old) (T.told store.new)) (told_by S.told K.told E.told devices.old devices.new) (map C.told boxes.now.items) }
     ensures same { SameDevices devices.old devices.new }
 {
     match due_action(alloc, ordered, boxes.as_slice(), store) {
         Ok(action) => begin_action(action, devices),
-        Err(Fault::Noted(note)) => {
-            let _ = put_all(devices.notes, &note);
-            Begun::Ended(Status::StoreFault)
+        Err(fault) => Begun::Ended(failed(fault, devices.notes)),
+    }
+}
+
+// Writes the note of a file that couldn't be loaded, or that memory ran out.
+fn failed<E: Sink>(fault: Fault, notes: &mut E) -> Status
+    ensures ended { FailedWith fault result (device (E.told notes.old) (E.told notes.new)) }
+{
+    match fault {
+        Fault::Noted(note) => {
+            let _ = put_all(notes, &note);
+            Status::StoreFault
         }
-        Err(Fault::OutOfMemory) => Begun::Ended(note_out_of_memory(devices.notes)),
+        Fault::OutOfMemory => note_out_of_memory(notes),
     }
 }
 
@@ -146,8 +154,8 @@ fn begin_action<S: Source, K: Sink, E: Sink>(
     action: Action,
     devices: &mut Devices<'_, '_, '_, S, K, E>,
 ) -> Begun
-    ensures begun { (laws : Laws) (outers : List OuterShape) (store : Device StoreTold) (boxes : List BoxTold) → CanBeDone outers (action_view action) → All MayBeHandedIn outers
-        → IsBegun laws outers (DidAction laws (action_view action)) result store (told_by S.told K.told E.told devices.old devices.new) boxes }
+    ensures begun { (laws : Laws) (invocation : Invocation) (store : Device StoreTold) (boxes : List BoxTold) → IsDue invocation store (action_view action) → CanBeDone invocation.outers (action_view action) → All MayBeHandedIn invocation.outers
+        → IsBegun laws invocation.outers (λ status all. Called laws invocation all status) result store (told_by S.told K.told E.told devices.old devices.new) boxes }
     ensures same { SameDevices devices.old devices.new }
 {
     match action {

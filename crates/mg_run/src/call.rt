@@ -5,7 +5,7 @@ ghost use Rattle.mg_run.specs.Boxes.{outers_told, MayBeHandedIn};
 ghost use Rattle.mg_run.specs.Invocation.{invocation};
 ghost use Rattle.mg_run.specs.Devices.{Device, device, with_run, told_at, told_apart, told_by, SameDevices, NoneFailed};
 ghost use Rattle.mg_run.specs.Headline.{RunsGraph, ran_statuses, RanGraph};
-ghost use Rattle.mg_run.specs.Call.{CallEnded, DidAction, IsAnswered, IsOneOf};
+ghost use Rattle.mg_run.specs.Call.{CallEnded, UsedGraph, IsAnswered, IsOneOf};
 ghost use Rattle.mg_run.specs.Code.Action.{use_action, CanBeDone};
 
 use crate::action::Use;
@@ -194,7 +194,7 @@ fn use_plan<
 ) -> Status
     requires can { CanBeDone (outers_told (map C.told boxes.old.items)) (use_action used run.now.report run.now.plan.now) }
     requires lawful { All MayBeHandedIn (outers_told (map C.told boxes.old.items)) }
-    ensures did { (store : Device StoreTold) → DidAction C.laws (use_action used run.now.report run.now.plan.now) result
+    ensures did { (store : Device StoreTold) → UsedGraph C.laws (use_action used run.now.report run.now.plan.now) result
         (with_run store (told_by S.told K.told E.told devices.old devices.new) (device (map C.told boxes.old.items) (map C.told boxes.new.items))) }
     ensures same { SameDevices devices.old devices.new }
 {
@@ -219,7 +219,7 @@ fn use_plan_alone<G: Gate, C: NodeCalculator, S: Source, K: Sink, E: Sink>(
 ) -> Status
     requires can { CanBeDone (outers_told (map C.told boxes.old.items)) (use_action used run.now.report run.now.plan.now) }
     requires lawful { All MayBeHandedIn (outers_told (map C.told boxes.old.items)) }
-    ensures did { (store : Device StoreTold) → DidAction C.laws (use_action used run.now.report run.now.plan.now) result
+    ensures did { (store : Device StoreTold) → UsedGraph C.laws (use_action used run.now.report run.now.plan.now) result
         (with_run store (told_by S.told K.told E.told devices.old devices.new) (device (map C.told boxes.old.items) (map C.told boxes.new.items))) }
     ensures same { SameDevices devices.old devices.new }
 {

@@ -10,7 +10,9 @@ ghost use Rattle.mg_answer.specs.declared.status.Status.{Status};
 ghost use Rattle.mg_answer.specs.declared.status.Status.TheVariants.{Good, StoreFault, Usage, GraphRefused, NodeFault, Stalled, ReadFault, WriteFault, OutOfMemory};
 ghost use Rattle.mg_run.specs.Invocation.{invocation};
 ghost use Rattle.mg_run.specs.Devices.{CallDevices, Untouched, InputHasEnded, HasRisen, TookNotes};
-ghost use Rattle.mg_run.specs.Call.{WasUsage, WasTold, CallEnded, Called, IsOneOf};
+ghost use Rattle.mg_files.specs.Loads.{FailedAt};
+ghost use Rattle.mg_files.specs.Notes.{store_note};
+ghost use Rattle.mg_run.specs.Call.{DidNothing, WasUsage, WasTold, CallEnded, Called, IsOneOf};
 
 /// States what a program that makes a call may rely on, by what the call came to. It says what each status means, and what was done to the
 /// devices and to the user-supplied calculators.
@@ -27,7 +29,11 @@ pub fn what_a_call_came_to()
 
     // What a call with a command came to, by its status.
     ensures called { (laws : Laws) (outers : List OuterShape) (request : Request) (status : Status) (devices : CallDevices) → CallEnded laws outers request status devices
-        → IfSome (command_by request) (λ command. Called laws status (invocation command outers) devices) }
+        → IfSome (command_by request) (λ command. Called laws (invocation command outers) devices status) }
+
+    // If a file couldn't be loaded, the note names the first such file. Nothing was read from the input, written to the output or called.
+    ensures unloaded { (laws : Laws) (outers : List OuterShape) (request : Request) (status : Status) (devices : CallDevices) → CallEnded laws outers request status devices
+        → IfSome (command_by request) (λ command. status ≡ StoreFault → (file : List ℕ) × FailedAt command.files file devices.store × TookNotes devices.notes (store_note file) × DidNothing devices) }
 
     // If memory ran out, the notes say only that.
     ensures memory_noted { (laws : Laws) (outers : List OuterShape) (request : Request) (status : Status) (devices : CallDevices) → CallEnded laws outers request status devices

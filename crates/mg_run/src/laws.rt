@@ -1,5 +1,5 @@
 //! Laws of the definitions: each function does nothing, and its contract is the law.
-ghost use Rattle.std.specs.Prelude.{◌≡◌, ◌∷◌, ℕ, ℤ, false, List, map, take, length, All, Option, None, Some};
+ghost use Rattle.std.specs.Prelude.{◌≡◌, ◌∷◌, ℕ, ℤ, Bool, false, List, map, take, length, All, Option, None, Some};
 ghost use Rattle.std.specs.List.Sorted.{IsStrictlyIncreasing};
 ghost use Rattle.mg_value.specs.Payload.{Plain};
 ghost use Rattle.mg_settled.specs.Prefix.{StreamPrefix, IsPrefix};
@@ -8,7 +8,8 @@ ghost use Rattle.mg_settled.specs.Settled.{settled_sets, IsBelowBounds};
 ghost use Rattle.mg_calc.specs.Rules.{Laws};
 ghost use Rattle.mg_calc.specs.declared.plan.Plan.{Plan};
 ghost use Rattle.mg_calc.specs.declared.plan_node.PlanNode.{PlanNode};
-ghost use Rattle.mg_calc.specs.Equations.{MeetsEquations, inputs_of as ports_of};
+ghost use Rattle.mg_calc.specs.Shape.{IsOuter};
+ghost use Rattle.mg_calc.specs.Equations.{Job, MeetsEquations, inputs_of as ports_of};
 ghost use Rattle.mg_calc.specs.Meaning.{shown_sets};
 ghost use Rattle.mg_free.specs.Core.{split_of};
 ghost use Rattle.mg_free.specs.Rounds.{core_job};
@@ -21,6 +22,8 @@ ghost use Rattle.mg_answer.specs.Answer.{Read, ended_input};
 ghost use Rattle.mg_answer.specs.Ran.{CameTo};
 ghost use Rattle.mg_answer.specs.declared.status.Status.{Status};
 ghost use Rattle.mg_answer.specs.declared.run.Reporting.{Reporting};
+ghost use Rattle.mg_node.specs.Had.{state_by};
+ghost use Rattle.mg_drive.specs.Leaves.{kept_by};
 ghost use Rattle.mg_run.specs.Invocation.{Invocation};
 ghost use Rattle.mg_run.specs.Devices.{Device, CallDevices, Unrisen};
 ghost use Rattle.mg_files.specs.Loads.{LoadedAll, loads_of};
@@ -126,4 +129,10 @@ pub fn a_live_headline_shows_settled_sets()
     ensures stay { (laws : Laws) (invocation : Invocation) (status : Status) (devices : CallDevices) (h : LiveHeadline laws invocation status devices) (node : PlanNode) (further : List (StreamPrefix Plain))
         → let sets = shown_sets (core_job laws (split_of (bare h.plan)) (last_batch h.first h.later) h.run.comes.takens) h.run.comes.streams node in
         AreExtendedBy h.run.comes.streams further → take (length sets) (settled_sets node.policy (ports_of further node)) ≡ sets }
+{}
+
+/// What a user-supplied calculator keeps after some sets of its node, and perhaps Close, is the state that mg_node says of the node. A node
+/// that is a source or a loopback has no such calculator.
+pub fn a_calculator_keeps_the_state_of_its_node()
+    ensures { (job : Job) (streams : List (StreamPrefix Plain)) (node : PlanNode) (shown : ℕ) (close : Bool) → IsOuter node.law → kept_by job streams node shown close ≡ state_by job streams node shown close }
 {}

@@ -1,21 +1,27 @@
 -- What an `Action` of the code stands for, and whether it can be done.
-use Rattle.std.specs.Prelude.{ℕ, List, All}
+use Rattle.std.specs.Prelude.{◌≡◌, List, All}
+use Rattle.mg_edge.specs.Edge.{SinkTold}
 use Rattle.mg_calc.specs.declared.plan.Plan.{Plan}
 use Rattle.mg_calc.specs.declared.shape.OuterShape.{OuterShape}
 use Rattle.mg_calc.specs.Shape.{IsStated}
 use Rattle.mg_calc.specs.Plan.{IsValid, IsValidWithFree, OutersFit}
 use Rattle.mg_run.specs.Answer.{Action, refuse, show, run_plan, run_live, solve, generate, generate_live, trace, replay}
-use Rattle.mg_check.specs.Check.{IsOuterShape}
-use Rattle.mg_edge.specs.Edge.{StoreTold}
-use Rattle.mg_files.specs.Loads.{LoadedAll}
-use Rattle.mg_run.specs.Invocation.{Invocation}
-use Rattle.mg_run.specs.Devices.{Device}
-use Rattle.mg_run.specs.Call.{IsActionOf}
 use Rattle.mg_run.specs.declared.action.Action as code
 use Rattle.mg_run.specs.declared.action.Action.TheVariants.{Refuse, Show, Graph}
 use Rattle.mg_run.specs.declared.action.Use.{Use}
 use Rattle.mg_run.specs.declared.action.Use.TheVariants.{Run, RunLive, Solve, Generate, GenerateLive, Trace, Replay}
+use Rattle.mg_answer.specs.Notes.{memory_note}
 use Rattle.mg_answer.specs.declared.run.Reporting.{Reporting}
+use Rattle.mg_answer.specs.declared.status.Status.{Status}
+use Rattle.mg_answer.specs.declared.status.Status.TheVariants.{StoreFault, OutOfMemory}
+use Rattle.mg_files.specs.declared.fault.Fault.{Fault}
+use Rattle.mg_files.specs.declared.fault.Fault.TheVariants.{Noted, OutOfMemory as no_memory}
+use Rattle.mg_run.specs.Devices.{Device, TookNotes}
+
+-- The status and the note of a call that ended before it was known what there is to do.
+abbrev pub FailedWith : Fault → Status → Device SinkTold → Type 0
+FailedWith (Noted note) status notes = (status ≡ StoreFault) × TookNotes notes note.items
+FailedWith no_memory status notes = (status ≡ OutOfMemory) × TookNotes notes memory_note
 
 -- the action of using a plan in a way of the code, with a report or without
 abbrev pub use_action : Use → Reporting → Plan → Action
@@ -45,11 +51,3 @@ CanBeDone outers (generate report number plan) = IsValid plan × OutersFit plan 
 CanBeDone outers (generate_live report number plan) = IsValidWithFree plan × OutersFit plan outers
 CanBeDone outers (trace report plan) = IsValid plan × OutersFit plan outers
 CanBeDone outers (replay report plan) = IsValid plan × OutersFit plan outers
-
--- All files of an invocation were loaded, and this action is what there is to do with them. The user-supplied calculators have the shapes
--- of their laws.
-pub record IsDue (invocation : Invocation) (store : Device StoreTold) (action : Action) : Type 0 where
-  pub shaped : All IsOuterShape invocation.outers
-  pub contents : List (List ℕ)
-  pub loaded : LoadedAll invocation.files contents store
-  pub due : IsActionOf invocation contents action

@@ -9,7 +9,7 @@ use Rattle.mg_answer.specs.declared.run.Reporting.{Reporting}
 use Rattle.mg_answer.specs.declared.status.Status.{Status}
 use Rattle.mg_run.specs.Boxes.{MayBeHandedIn}
 use Rattle.mg_run.specs.Devices.{Device, device, RunDevices, CallDevices, with_run}
-use Rattle.mg_run.specs.Call.{DidAction}
+use Rattle.mg_run.specs.Call.{UsedGraph}
 use Rattle.mg_run.specs.Code.Action.{use_action, CanBeDone}
 use Rattle.mg_run.specs.declared.action.Use.{Use}
 use Rattle.mg_run.specs.declared.beginning.Begun.{Begun}
@@ -23,7 +23,7 @@ pub record IsLeft (laws : Laws) (outers : List OuterShape) (known : Status → C
   pub unread : run.input.now ≡ run.input.before
   pub unwritten : run.output.now ≡ run.output.before
   pub unnoted : run.notes.now ≡ run.notes.before
-  pub comes : (status : Status) (later : RunDevices) (boxes : Device (List BoxTold)) → DidAction laws (use_action used report plan) status (with_run store later boxes) → known status (with_run store later boxes)
+  pub comes : (status : Status) (later : RunDevices) (boxes : Device (List BoxTold)) → UsedGraph laws (use_action used report plan) status (with_run store later boxes) → known status (with_run store later boxes)
 
 -- the call has ended, and this is known of it; or a graph is left to be used
 abbrev pub IsBegun : Laws → List OuterShape → (Status → CallDevices → Type 0) → Begun → Device StoreTold → RunDevices → List BoxTold → Type 0

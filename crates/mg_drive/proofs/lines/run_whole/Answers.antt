@@ -12,7 +12,7 @@ use Rattle.mg_drive.proofs.lines.run_whole.Goals as goal
 pub returns-in_err-ends-clause-short : goal.returns-in_err-ends-clause-short
 returns-in_err-ends-clause-short g c =
     let is = err_from_is_err_and c.from_residual.result c.from_residual.ensures.1 in
-    rw is.1 (inl (record { read = read-none (inputs_of c.args.run.now.plan.now) (g.S.Source.told c.args.devices.now.input.now); nothing = record { unwritten = refl; uncalled = refl } }))
+    rw is.1 (inl (read-none (inputs_of c.args.run.now.plan.now) (g.S.Source.told c.args.devices.now.input.now), record { unwritten = refl; uncalled = refl }))
 
 pub run_batches-requires-clause-nothing : goal.run_batches-requires-clause-nothing
 run_batches-requires-clause-nothing g c κs within = λ sink. none_told c.args.run.now.plan.now c.in_ok-ends.ends.1 sink c.in_ok-ends.ensures.text
@@ -21,16 +21,16 @@ pub returns-in_err-status-clause-short : goal.returns-in_err-status-clause-short
 returns-in_err-status-clause-short g c =
     let is = err_from_is_err_and c.from_residual-in_err-status.result c.from_residual-in_err-status.ensures.1 in
     rw is.1 (elim c.in_err-status.ensures.short [
-      | inl nothing ↦ inl (record {
-        read = elim nothing.0 [
+      | inl nothing ↦ inl (
+        elim nothing.0 [
           | inl same ↦ unread_yet c.args.run.now.plan.now (told_by g.S.Source.told g.K.Sink.told g.E.Sink.told c.args.devices.now c.run_batches.new.devices).input same
           | inr read ↦ elim read [
             | inl further ↦ first_call c.args.run.now.plan.now (told_by g.S.Source.told g.K.Sink.told g.E.Sink.told c.args.devices.now c.run_batches.new.devices).input (fed c.in_ok-ends.ends.0.feed) c.in_ok-ends.ensures.feed further
             | inr given ↦ first_given c.args.run.now.plan.now (told_by g.S.Source.told g.K.Sink.told g.E.Sink.told c.args.devices.now c.run_batches.new.devices).input (fed given.batches.feed) given.end given.inputs given.given
           ]
-        ];
-        nothing = nothing.1;
-      })
+        ],
+        nothing.1,
+      )
       | inr was ↦ inr (lines_short c.args.run.now.plan.now (told_by g.S.Source.told g.K.Sink.told g.E.Sink.told c.args.devices.now c.run_batches.new.devices).input (told_by g.S.Source.told g.K.Sink.told g.E.Sink.told c.args.devices.now c.run_batches.new.devices).output (map g.C.NodeCalculator.told c.args.boxes.now.items) (map g.C.NodeCalculator.told c.run_batches.new.boxes.items) was.net (fed was.batches.feed) was.end was.at was.inputs c.requires.boxes was.given was.last (stood_is_job (logged g.C.NodeCalculator.laws c.args.run.now.plan.now was.inputs (map g.C.NodeCalculator.told c.args.boxes.now.items)) was.net was.stood)
           (front_lines (logged g.C.NodeCalculator.laws c.args.run.now.plan.now was.inputs (map g.C.NodeCalculator.told c.args.boxes.now.items)) (told_by g.S.Source.told g.K.Sink.told g.E.Sink.told c.args.devices.now c.run_batches.new.devices).output.before (told_by g.S.Source.told g.K.Sink.told g.E.Sink.told c.args.devices.now c.run_batches.new.devices).output.now (stood_is_job (logged g.C.NodeCalculator.laws c.args.run.now.plan.now was.inputs (map g.C.NodeCalculator.told c.args.boxes.now.items)) was.net was.stood) was.front) was.stood was.back c.in_err-status.ensures.back)
     ])

@@ -14,17 +14,17 @@ use Rattle.mg_drive.proofs.live_running.lines_whole_alone.Goals as goal
 pub returns-in_err-parts-clause-short : goal.returns-in_err-parts-clause-short
 returns-in_err-parts-clause-short g c =
     let is = err_from_is_err_and c.from_residual.result c.from_residual.ensures.1 in
-    rw is.1 (inl (record { read = read-none (inputs_of c.args.run.now.plan.now) (g.S.Source.told c.args.devices.now.input.now); nothing = record { unwritten = refl; uncalled = refl } }))
+    rw is.1 (inl (read-none (inputs_of c.args.run.now.plan.now) (g.S.Source.told c.args.devices.now.input.now), record { unwritten = refl; uncalled = refl }))
 
 pub returns-in_err-feed-clause-short : goal.returns-in_err-feed-clause-short
 returns-in_err-feed-clause-short g c =
     let is = err_from_is_err_and c.from_residual-in_err-feed.result c.from_residual-in_err-feed.ensures.1 in
-    rw is.1 (inl (record { read = read-none (inputs_of c.args.run.now.plan.now) (g.S.Source.told c.args.devices.now.input.now); nothing = record { unwritten = refl; uncalled = refl } }))
+    rw is.1 (inl (read-none (inputs_of c.args.run.now.plan.now) (g.S.Source.told c.args.devices.now.input.now), record { unwritten = refl; uncalled = refl }))
 
 pub returns-in_err-text-clause-short : goal.returns-in_err-text-clause-short
 returns-in_err-text-clause-short g c =
     let is = err_from_is_err_and c.from_residual-in_err-text.result c.from_residual-in_err-text.ensures.1 in
-    rw is.1 (inl (record { read = read-none (inputs_of c.args.run.now.plan.now) (g.S.Source.told c.args.devices.now.input.now); nothing = record { unwritten = refl; uncalled = refl } }))
+    rw is.1 (inl (read-none (inputs_of c.args.run.now.plan.now) (g.S.Source.told c.args.devices.now.input.now), record { unwritten = refl; uncalled = refl }))
 
 pub returns-in_err-status-clause-short : goal.returns-in_err-status-clause-short
 returns-in_err-status-clause-short g c =
@@ -34,16 +34,16 @@ returns-in_err-status-clause-short g c =
     let boxes = device (map g.C.NodeCalculator.told c.args.boxes.now.items) (map g.C.NodeCalculator.told c.run_live_alone.new.boxes.items) in
     let new : IsNew (fed c.in_ok-feed.feed) whole = record { graph = c.in_ok-feed.ensures.graph; stands = c.in_ok-feed.ensures.stands; unread = c.in_ok-feed.ensures.unread } in
     rw is.1 (elim c.in_err-status.ensures.short [
-      | inl nothing ↦ inl (record {
-        read = elim nothing.0 [
+      | inl nothing ↦ inl (
+        elim nothing.0 [
           | inl same ↦ unread_yet whole devices.input same
           | inr read ↦ elim read [
             | inl further ↦ first_call whole devices.input (fed c.in_ok-feed.feed) new (further (inl new))
             | inr given ↦ first_given whole devices.input (fed given.batches.feed) given.end given.inputs given.given
           ]
-        ];
-        nothing = nothing.1;
-      })
+        ],
+        nothing.1,
+      )
       | inr was ↦ inr (live_lines_short c.args.early whole devices.input devices.output boxes (fed was.batches.feed) was.ended was.at was.base was.earlier was.takens was.streams was.in_turn.1
           (may_read whole devices.input (fed was.batches.feed) was.ended was.at (IsNew (fed was.batches.feed) whole ⊎ (Inputs × Unit {0})) (inr (was.base, tt)) was.last) was.so_far was.is_job was.solution was.front was.had)
     ])

@@ -2,12 +2,11 @@ use Rattle.std.proofs.Common.{List, All, ap, map, subst}
 use Rattle.mg_calc.specs.Told.{BoxTold}
 use Rattle.mg_words.specs.Command.{command}
 use Rattle.mg_run.specs.Boxes.{outers_told, MayBeHandedIn}
-use Rattle.mg_run.specs.Call.{Called, DidAction}
+use Rattle.mg_run.specs.Call.{IsDue}
 use Rattle.mg_run.specs.Invocation.{invocation}
-use Rattle.mg_run.specs.Code.Action.{action_view, CanBeDone, IsDue}
-use Rattle.mg_run.specs.Devices.{device, told_by, with_run}
-use Rattle.mg_run.proofs.Begins.{begun_then}
-use Rattle.mg_run.proofs.Calling.{called-did, called-short}
+use Rattle.mg_run.specs.Code.Action.{action_view, CanBeDone}
+use Rattle.mg_run.specs.Devices.{device}
+use Rattle.mg_run.proofs.Calling.{called-failed}
 use Rattle.mg_run.proofs.Duty.{due_among}
 use Rattle.mg_run.proofs.beginning.begin_command.Goals as goal
 
@@ -20,12 +19,10 @@ returns-in-Ok-clause-begun g c =
     due_among done (map g.C.NodeCalculator.told c.as_slice.result.now) boxes store (action_view c.in-Ok.action) (ap (map g.C.NodeCalculator.told) c.as_slice.ensures.value) c.in-Ok.ensures.due in
     let can = subst (λ (boxes : List BoxTold). CanBeDone (outers_told boxes) (action_view c.in-Ok.action)) (ap (map g.C.NodeCalculator.told) c.as_slice.ensures.value) c.in-Ok.ensures.can in
     let lawful = subst (λ (boxes : List BoxTold). All MayBeHandedIn (outers_told boxes)) (ap (map g.C.NodeCalculator.told) c.as_slice.ensures.value) c.in-Ok.ensures.lawful in
-    begun_then g.C.NodeCalculator.laws (outers_told boxes) (DidAction g.C.NodeCalculator.laws (action_view c.in-Ok.action)) (λ status all. Called g.C.NodeCalculator.laws status (invocation done (outers_told boxes)) all) c.begin_action.result store (told_by g.S.Source.told g.K.Sink.told g.E.Sink.told c.args.devices.now c.begin_action.new.devices) boxes
-    (λ status later now did. called-did g.C.NodeCalculator.laws (action_view c.in-Ok.action) status (invocation done (outers_told boxes)) due.shaped due.contents (with_run store later now) due.loaded due.due did)
-    (c.begin_action.ensures.begun g.C.NodeCalculator.laws (outers_told boxes) store boxes can lawful)
+    c.begin_action.ensures.begun g.C.NodeCalculator.laws (invocation done (outers_told boxes)) store boxes due can lawful
 
-pub returns-in-Err-OutOfMemory-clause-begun : goal.returns-in-Err-OutOfMemory-clause-begun
-returns-in-Err-OutOfMemory-clause-begun g c =
-    called-short g.C.NodeCalculator.laws (invocation (command c.args.ordered.now.instruction c.args.ordered.now.files.now) (outers_told (map g.C.NodeCalculator.told c.args.boxes.now.items))) c.note_out_of_memory.result
+pub returns-in-Err-clause-begun : goal.returns-in-Err-clause-begun
+returns-in-Err-clause-begun g c =
+    called-failed g.C.NodeCalculator.laws (invocation (command c.args.ordered.now.instruction c.args.ordered.now.files.now) (outers_told (map g.C.NodeCalculator.told c.args.boxes.now.items))) c.in-Err.fault c.failed.result
     (device (g.T.Store.told c.args.store.now) (g.T.Store.told c.due_action.new.store)) (g.S.Source.told c.args.devices.now.input.now) (g.K.Sink.told c.args.devices.now.output.now)
-    (device (g.E.Sink.told c.args.devices.now.notes.now) (g.E.Sink.told c.note_out_of_memory.new.notes)) (map g.C.NodeCalculator.told c.args.boxes.now.items) c.note_out_of_memory.ensures.status c.note_out_of_memory.ensures.noted
+    (device (g.E.Sink.told c.args.devices.now.notes.now) (g.E.Sink.told c.failed.new.notes)) (map g.C.NodeCalculator.told c.args.boxes.now.items) c.in-Err.ensures.failed c.failed.ensures.ended

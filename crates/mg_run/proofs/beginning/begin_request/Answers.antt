@@ -20,7 +20,7 @@ pub returns-in-Command-clause-begun : goal.returns-in-Command-clause-begun
 returns-in-Command-clause-begun g c =
     let outers = outers_told (map g.C.NodeCalculator.told c.args.boxes.now.items) in
     let store = device (g.T.Store.told c.args.store.now) (g.T.Store.told c.begin_command.new.store) in
-    begun_then g.C.NodeCalculator.laws outers (λ status all. Called g.C.NodeCalculator.laws status (invocation (command c.in-Command.instruction c.deref.result.now) outers) all) (CallEnded g.C.NodeCalculator.laws outers (request_view c.args.request)) c.begin_command.result store
+    begun_then g.C.NodeCalculator.laws outers (λ status all. Called g.C.NodeCalculator.laws (invocation (command c.in-Command.instruction c.deref.result.now) outers) all status) (CallEnded g.C.NodeCalculator.laws outers (request_view c.args.request)) c.begin_command.result store
     (told_by g.S.Source.told g.K.Sink.told g.E.Sink.told c.args.devices.now c.begin_command.new.devices) (map g.C.NodeCalculator.told c.args.boxes.now.items) (λ status later now h.
     subst (λ (request : Request). CallEnded g.C.NodeCalculator.laws outers request status (with_run store later now)) (sym (ap request_view c.in-Command.is))
-    (subst (λ (files : List (List ℕ)). Called g.C.NodeCalculator.laws status (invocation (command c.in-Command.instruction files) outers) (with_run store later now)) c.deref.ensures.value h)) c.begin_command.ensures.begun
+    (subst (λ (files : List (List ℕ)). Called g.C.NodeCalculator.laws (invocation (command c.in-Command.instruction files) outers) (with_run store later now) status) c.deref.ensures.value h)) c.begin_command.ensures.begun

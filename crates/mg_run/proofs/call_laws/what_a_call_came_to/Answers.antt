@@ -1,4 +1,4 @@
-use Rattle.mg_run.proofs.Coming.{came-usage, came-note, came-told, came-called, came-noted, came-unread, came-ended, came-store, came-read, came-write, came-boxes, came-uncalled}
+use Rattle.mg_run.proofs.Coming.{came-usage, came-note, came-told, came-called, came-unloaded, came-noted, came-unread, came-ended, came-store, came-read, came-write, came-boxes, came-uncalled}
 use Rattle.mg_run.proofs.call_laws.what_a_call_came_to.Goals as goal
 
 pub returns-clause-usage : goal.returns-clause-usage
@@ -12,6 +12,9 @@ returns-clause-told c = came-told
 
 pub returns-clause-called : goal.returns-clause-called
 returns-clause-called c = came-called
+
+pub returns-clause-unloaded : goal.returns-clause-unloaded
+returns-clause-unloaded c = came-unloaded
 
 pub returns-clause-memory_noted : goal.returns-clause-memory_noted
 returns-clause-memory_noted c = came-noted
